@@ -1,0 +1,5 @@
+pub mod Bits
+pub mod NumberLaws
+pub mod NumberSteps
+pub mod OperatorLaws
+pub mod OperatorSteps

@@ -1,0 +1,77 @@
+-- What the functions of the operators return, over plain variables.
+use Prim.Native.Nat.{ℕ, zero, suc, _-_, _≤_, _<_}
+use native.Mathlib.Omega.{arith}
+use mathlib.Core.Path.{_≡_, refl, ap, ap₂, _∙_, sym}
+use mathlib.Core.Bool.{Bool, true, false}
+use mathlib.Core.Option.{some}
+use lib.Dec.{leb, ltb, eqb}
+use lib.IntN.{ℤ, pos, natAbs, _-ℤ_}
+use lib.Signed.{ltZ, remZ}
+use borrow.Author.Tests.{leb-true, leb-false, ltb-true, ltb-false, lt-ltb, le-ltb, eq-eqb, ne-eqb}
+use Rattle.language.specs.declared.Numbers.{Numbers}
+use Rattle.language.specs.declared.operator.Outcome.{Outcome}
+use Rattle.language.specs.declared.operator.Outcome.the-variants.{Nothing}
+use Rattle.language.specs.Number.{numbers, code, signed}
+use Rattle.language.specs.Operator.{fit, fitSome, remainder, truth, outcome}
+use Rattle.language.proofs.NumberLaws.{minus-below, by-test}
+
+minus-above : (a b : ℕ) → b ≤ a → pos a -ℤ pos b ≡ pos (a - b)
+minus-above a zero h = ap pos (omega arith)
+minus-above a (suc b) h = simp (le-ltb a (suc b) h)
+
+-- what a code of 16 bits stands for lies from -65535 to 65535
+signed-small : (N : Numbers) (c : ℕ) → N .z < 256 → c < 65536 → natAbs (signed N c) ≤ 65535
+unfolding signed numbers
+signed-small N c h k = by-test (leb c (N .z)) (λ t. rw t (omega arith)) (λ t. rw t (high (numbers N) (omega arith)))
+  where
+    high : (n : ℕ) → n < 65536 → natAbs (pos c -ℤ pos n) ≤ 65535
+    high n l =
+        by-test (ltb c n)
+        (λ u. rw (minus-below c n (ltb-true c n u)) (omega arith))
+        (λ u. rw (minus-above c n (ltb-false c n u)) (omega arith))
+
+-- an operand that was read from its code
+pub operand : (N : Numbers) (c : ℕ) {a : ℤ} → N .z < 256 → c < 65536 → a ≡ signed N c → natAbs a ≤ 65535
+operand N c h k e = rw e (signed-small N c h k)
+
+-- the overflow rule
+module _ (N : Numbers) (v : ℤ) where
+  pub fit-none : {m : ℕ} → m ≡ natAbs v → N .rule ≡ 0 → N .z < m → Nothing ≡ outcome (fit N v)
+  unfolding fit outcome
+  fit-none e h k = rw (eq-eqb (N .rule) 0 h, lt-ltb (N .z) (natAbs v) (omega arith))
+
+  pub fit-kept :
+      {m : ℕ} {r : Outcome} → m ≡ natAbs v → N .rule ≡ 0 → m ≤ N .z →
+      r ≡ outcome (some (code N v)) → r ≡ outcome (fit N v)
+  unfolding fit
+  fit-kept e h k d = rw (eq-eqb (N .rule) 0 h, le-ltb (N .z) (natAbs v) (omega arith)) d
+
+  pub fit-turned :
+      {r : Outcome} → (N .rule ≡ 0 → ⊥) → r ≡ outcome (some (code N v)) → r ≡ outcome (fit N v)
+  unfolding fit
+  fit-turned h d = rw (ne-eqb (N .rule) 0 h) d
+
+module _ (N : Numbers) (x y : ℕ) {a b : ℤ} (p : a ≡ signed N x) (q : b ≡ signed N y) where
+  -- an operation on two operands, and the overflow rule
+  pub result-is :
+      (f : ℤ → ℤ → ℤ) {w : ℤ} {r : Outcome} → w ≡ f a b → r ≡ outcome (fit N w) →
+      r ≡ outcome (fit N (f (signed N x) (signed N y)))
+  result-is f e d = d ∙ ap (λ (u : ℤ). outcome (fit N u)) (e ∙ ap₂ f p q)
+
+  pub less-is :
+      {t : Bool} {r : Outcome} → t ≡ ltZ a b → r ≡ outcome (some (truth t)) →
+      r ≡ outcome (some (truth (ltZ (signed N x) (signed N y))))
+  less-is e d = d ∙ ap (λ (u : Bool). outcome (some (truth u))) (e ∙ ap₂ ltZ p q)
+
+  pub remainder-is :
+      {m : ℕ} {w : ℤ} {r : Outcome} → m ≡ natAbs b → (m ≡ 0 → ⊥) → w ≡ remZ a b → r ≡ outcome (fit N w) →
+      r ≡ outcome (fitSome N (remainder (signed N x) (signed N y)))
+  unfolding fitSome remainder
+  remainder-is e h d g =
+      rw (ne-eqb (natAbs (signed N y)) 0 (λ z. h (e ∙ ap natAbs q ∙ z))) (result-is remZ d g)
+
+pub remainder-none :
+    (N : Numbers) (x y : ℕ) {b : ℤ} {m : ℕ} → b ≡ signed N y → m ≡ natAbs b → m ≡ 0 →
+    Nothing ≡ outcome (fitSome N (remainder (signed N x) (signed N y)))
+unfolding fitSome remainder outcome
+remainder-none N x y q e h = rw (eq-eqb (natAbs (signed N y)) 0 (sym (ap natAbs q) ∙ sym e ∙ h))

@@ -1,0 +1,39 @@
+-- The remainder of the magnitude; below 0, counted down from n - 1.
+use borrow.Author.Needs.{needs}
+use native.Mathlib.Omega.{arith}
+use native.Mathlib.Nat.{mod-lt}
+use Rattle.language.proofs.Bits.{mag-back, test-back}
+use Rattle.language.proofs.NumberSteps.{modulo-neg, modulo-pos}
+use Rattle.language.proofs.number.modulo.Statement.{statement}
+use Rattle.language.proofs.number.modulo.Tie as tie
+
+magnitude-requires : tie.Need-magnitude-requires
+magnitude-requires c κs = search needs
+
+rem-m : tie.Need-rem-m
+rem-m c = search needs
+
+cast-m : tie.Need-cast-m
+cast-m c = record { fits = omega (arith, mod-lt (c .magnitude .result) (c .before .pre)) }
+
+sub-result : tie.Need-sub-result
+sub-result c = search needs
+
+sub-result-2 : tie.Need-sub-result-2
+sub-result-2 c = omega (arith, mod-lt (c .before .magnitude .result) (c .before .before .pre))
+
+returns : tie.Need-returns
+returns c =
+    let f = c .before .before .fits .v in
+    modulo-neg (c .before .before .args .v) (c .before .before .args .n) (mag-back f (c .before .magnitude .ensures))
+    (test-back f (c .if1 .taken))
+
+returns-2 : tie.Need-returns-2
+returns-2 c =
+    let f = c .before .before .fits .v in
+    modulo-pos (c .before .before .args .v) (c .before .before .args .n) (mag-back f (c .before .magnitude .ensures))
+    (test-back f (c .if1 .left))
+
+pub modulo-spec : {M : Type 1} → statement M
+modulo-spec =
+    tie.close (tie.spec magnitude-requires rem-m cast-m sub-result sub-result-2 returns returns-2)

@@ -1,0 +1,19 @@
+-- The code of the result.
+use borrow.Author.Needs.{needs}
+use mathlib.Core.Path.{_∙_, ap}
+use Rattle.language.specs.declared.operator.Outcome.the-variants.{Is}
+use Rattle.language.specs.Number.{code}
+use Rattle.language.specs.Operator.{outcome}
+use Rattle.language.proofs.Bits.{back}
+use Rattle.language.proofs.operator.kept.Statement.{statement}
+use Rattle.language.proofs.operator.kept.Tie as tie
+
+code-requires : tie.Need-code-requires
+code-requires c κs = search needs
+
+returns : tie.Need-returns
+unfolding outcome
+returns c = ap Is (c .code .ensures ∙ ap (code (c .before .args .n)) (back (c .before .fits .v)))
+
+pub kept-spec : {M : Type 1} → statement M
+kept-spec = tie.close (tie.spec code-requires returns)

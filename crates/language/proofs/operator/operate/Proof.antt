@@ -1,0 +1,95 @@
+-- Each number's arm gives what the definition picks; every other number is an equality.
+use borrow.Author.Needs.{needs}
+use borrow.Author.Tests.{ne-eqb}
+use Rattle.language.specs.Operator.{operate}
+use Rattle.language.proofs.operator.operate.Statement.{statement}
+use Rattle.language.proofs.operator.operate.Tie as tie
+
+sum-requires : tie.Need-sum-requires
+sum-requires c κs = search needs
+
+difference-requires : tie.Need-difference-requires
+difference-requires c κs = search needs
+
+product-requires : tie.Need-product-requires
+product-requires c κs = search needs
+
+remainder-requires : tie.Need-remainder-requires
+remainder-requires c κs = search needs
+
+less-requires : tie.Need-less-requires
+less-requires c κs = search needs
+
+both-requires : tie.Need-both-requires
+both-requires c κs = search needs
+
+either-requires : tie.Need-either-requires
+either-requires c κs = search needs
+
+equal-requires : tie.Need-equal-requires
+equal-requires c κs = search needs
+
+returns : tie.Need-returns
+unfolding operate
+returns c = rw (c .before .match .keys1) (c .sum .ensures)
+
+returns-2 : tie.Need-returns-2
+unfolding operate
+returns-2 c = rw (c .before .match .keys2) (c .difference .ensures)
+
+returns-3 : tie.Need-returns-3
+unfolding operate
+returns-3 c = rw (c .before .match .keys3) (c .product .ensures)
+
+returns-4 : tie.Need-returns-4
+unfolding operate
+returns-4 c = rw (c .before .match .keys4) (c .remainder .ensures)
+
+returns-5 : tie.Need-returns-5
+unfolding operate
+returns-5 c = rw (c .before .match .keys5) (c .less .ensures)
+
+returns-6 : tie.Need-returns-6
+unfolding operate
+returns-6 c = rw (c .before .match .keys6) (c .both .ensures)
+
+returns-7 : tie.Need-returns-7
+unfolding operate
+returns-7 c = rw (c .before .match .keys7) (c .either .ensures)
+
+returns-8 : tie.Need-returns-8
+unfolding operate
+returns-8 c =
+    let o = c .before .before .args .op in
+    let h = c .before .match .rest in
+    rw (
+      ne-eqb o 0 (h .0 .0 .0 .0 .0 .0 .1),
+      ne-eqb o 1 (h .0 .0 .0 .0 .0 .1),
+      ne-eqb o 2 (h .0 .0 .0 .0 .1),
+      ne-eqb o 3 (h .0 .0 .0 .1),
+      ne-eqb o 5 (h .0 .0 .1),
+      ne-eqb o 6 (h .0 .1),
+      ne-eqb o 7 (h .1),
+    )
+    (c .equal .ensures)
+
+pub operate-spec : {M : Type 1} → statement M
+operate-spec =
+    tie.close
+    (tie.spec
+    sum-requires
+    difference-requires
+    product-requires
+    remainder-requires
+    less-requires
+    both-requires
+    either-requires
+    equal-requires
+    returns
+    returns-2
+    returns-3
+    returns-4
+    returns-5
+    returns-6
+    returns-7
+    returns-8)

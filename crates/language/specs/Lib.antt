@@ -1,0 +1,9 @@
+pub mod Choice
+pub mod Number
+pub mod Operator
+pub mod Ty
+pub mod Move
+pub mod Term
+pub mod Play
+pub mod Weight
+pub mod Typing

@@ -1,0 +1,35 @@
+-- Terms, with every use resolved: a private variable by its block, a name by its id and type. Document 01, "The sheet, byte by
+-- byte"; document 001, figure 1.
+use mathlib.Core.Option.{Option}
+use Prim.Native.Nat.{ℕ, _<_}
+use Rattle.language.specs.declared.Numbers.{Numbers}
+use Rattle.language.specs.Operator as op
+use Rattle.language.specs.Ty.{Ty}
+
+-- an operator over the numbers of a sheet
+pub record Operation : Type 0 where
+  pub over : Numbers
+  pub operator : ℕ
+
+unfoldable pub apply : Operation → ℕ → ℕ → Option ℕ
+apply o x y = op.operate (o .over) (o .operator) x y
+
+-- The number m of values stands in `operate` (of an operand), `assign` and `new` (of the variable).
+mutual
+  pub data Term : Type 0 where
+    skip diverge : Term
+    const : ℕ → Term
+    -- the private variable of the enclosing block i, counted outwards from 0
+    private : ℕ → Term
+    -- the declared name of this id and result type, with its arguments
+    name : ℕ → Ty → Args → Term
+    fetch : Term → Term
+    operate : ℕ → Operation → Term → Term → Term
+    assign : ℕ → Term → Term → Term
+    seq while : Term → Term → Term
+    cond : Term → Term → Term → Term
+    new : (m : ℕ) → 0 < m → Term → Term
+
+  pub data Args : Type 0 where
+    no-args : Args
+    arg : Ty → Term → Args → Args

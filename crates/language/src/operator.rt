@@ -1,0 +1,163 @@
+// The nine operators on codes.
+use crate::Numbers;
+use crate::number;
+ghost use mathlib.Core.Path.{_≡_};
+ghost use mathlib.Core.Bool.{true, false};
+ghost use mathlib.Core.Option.{some};
+ghost use Prim.Native.Nat.{_≤_};
+ghost use lib.Dec.{eqb};
+ghost use lib.IntN.{pos, natAbs, _+ℤ_, _-ℤ_, _*ℤ_};
+ghost use lib.Signed.{ltZ, remZ};
+ghost use Rattle.language.specs.Choice.{pick};
+ghost use Rattle.language.specs.Number.{code, signed};
+ghost use Rattle.language.specs.Operator.{fit, fitSome, remainder, truth, operate, outcome};
+
+// The code of a result, or no play.
+pub enum Outcome {
+    Is { code: u16 },
+    Nothing,
+}
+
+// The exact sum.
+pub fn add(x: i64, y: i64) -> i64
+    requires { ⌜ (natAbs x ≤ 65535) × (natAbs y ≤ 65535) ⌝ }
+    ensures { λ r. ⌜ r ≡ x +ℤ y ⌝ }
+{
+    x + y
+}
+
+// The exact difference.
+pub fn sub(x: i64, y: i64) -> i64
+    requires { ⌜ (natAbs x ≤ 65535) × (natAbs y ≤ 65535) ⌝ }
+    ensures { λ r. ⌜ r ≡ x -ℤ y ⌝ }
+{
+    x - y
+}
+
+// The exact product.
+pub fn mul(x: i64, y: i64) -> i64
+    requires { ⌜ (natAbs x ≤ 65535) × (natAbs y ≤ 65535) ⌝ }
+    ensures { λ r. ⌜ r ≡ x *ℤ y ⌝ }
+{
+    x * y
+}
+
+// The exact remainder, with the sign of x.
+pub fn rem(x: i64, y: i64) -> i64
+    requires { ⌜ (natAbs x ≤ 65535) × (natAbs y ≤ 65535) ⌝ }
+    requires { ⌜ (natAbs y ≡ 0 → ⊥) ⌝ }
+    ensures { λ r. ⌜ r ≡ remZ x y ⌝ }
+{
+    x % y
+}
+
+// The code of a result.
+fn kept(n: Numbers, v: i64) -> Outcome
+    ensures { λ r. ⌜ r ≡ outcome (some (code n v)) ⌝ }
+{
+    Outcome::Is {
+        code: number::code(n, v),
+    }
+}
+
+// A result as the overflow rule takes it.
+pub fn fit(n: Numbers, v: i64) -> Outcome
+    ensures { λ r. ⌜ r ≡ outcome (fit n v) ⌝ }
+{
+    if n.rule == 0 {
+        if (n.z as u64) < number::absolute(v) {
+            return Outcome::Nothing;
+        }
+        return kept(n, v);
+    }
+    kept(n, v)
+}
+
+fn sum(n: Numbers, x: u16, y: u16) -> Outcome
+    ensures { λ r. ⌜ r ≡ outcome (fit n (signed n x +ℤ signed n y)) ⌝ }
+{
+    fit(n, add(number::signed(n, x), number::signed(n, y)))
+}
+
+fn difference(n: Numbers, x: u16, y: u16) -> Outcome
+    ensures { λ r. ⌜ r ≡ outcome (fit n (signed n x -ℤ signed n y)) ⌝ }
+{
+    fit(n, sub(number::signed(n, x), number::signed(n, y)))
+}
+
+fn product(n: Numbers, x: u16, y: u16) -> Outcome
+    ensures { λ r. ⌜ r ≡ outcome (fit n (signed n x *ℤ signed n y)) ⌝ }
+{
+    fit(n, mul(number::signed(n, x), number::signed(n, y)))
+}
+
+fn remainder(n: Numbers, x: u16, y: u16) -> Outcome
+    ensures { λ r. ⌜ r ≡ outcome (fitSome n (remainder (signed n x) (signed n y))) ⌝ }
+{
+    let d = number::signed(n, y);
+    if number::absolute(d) == 0 {
+        return Outcome::Nothing;
+    }
+    fit(n, rem(number::signed(n, x), d))
+}
+
+fn truth(b: bool) -> Outcome
+    ensures { λ r. ⌜ r ≡ outcome (some (truth b)) ⌝ }
+{
+    if b {
+        return Outcome::Is { code: 1 };
+    }
+    Outcome::Is { code: 0 }
+}
+
+fn below(x: i64, y: i64) -> bool
+    ensures { λ r. ⌜ r ≡ ltZ x y ⌝ }
+{
+    x < y
+}
+
+fn less(n: Numbers, x: u16, y: u16) -> Outcome
+    ensures { λ r. ⌜ r ≡ outcome (some (truth (ltZ (signed n x) (signed n y)))) ⌝ }
+{
+    truth(below(number::signed(n, x), number::signed(n, y)))
+}
+
+fn both(x: u16, y: u16) -> Outcome
+    ensures { λ r. ⌜ r ≡ outcome (some (truth (pick (eqb x 1) (eqb y 1) false))) ⌝ }
+{
+    if x == 1 {
+        return truth(y == 1);
+    }
+    truth(false)
+}
+
+fn either(x: u16, y: u16) -> Outcome
+    ensures { λ r. ⌜ r ≡ outcome (some (truth (pick (eqb x 1) true (eqb y 1)))) ⌝ }
+{
+    if x == 1 {
+        return truth(true);
+    }
+    truth(y == 1)
+}
+
+fn equal(x: u16, y: u16) -> Outcome
+    ensures { λ r. ⌜ r ≡ outcome (some (truth (eqb x y))) ⌝ }
+{
+    truth(x == y)
+}
+
+// The result of an operator: 0 plus, 1 minus, 2 times, 3 remainder, 4 equal, 5 less, 6 and, 7 or, 8 equal on truths.
+pub fn operate(n: Numbers, op: u8, x: u16, y: u16) -> Outcome
+    ensures { λ r. ⌜ r ≡ outcome (operate n op x y) ⌝ }
+{
+    match op {
+        0 => sum(n, x, y),
+        1 => difference(n, x, y),
+        2 => product(n, x, y),
+        3 => remainder(n, x, y),
+        5 => less(n, x, y),
+        6 => both(x, y),
+        7 => either(x, y),
+        _ => equal(x, y),
+    }
+}

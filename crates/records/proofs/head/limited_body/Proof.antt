@@ -1,0 +1,31 @@
+use borrow.Author.Needs.{needs}
+use borrow.Author.Tests.{le-leb, lt-leb, lt-ltb, le-ltb, eq-eqb, ne-eqb, not-true, not-false}
+use Rattle.records.specs.Head.{limited, onByte}
+use Rattle.records.proofs.head.limited_body.Statement.{statement}
+use Rattle.records.proofs.head.limited_body.Tie as tie
+
+add-at : tie.Need-add-at
+add-at c = search needs
+
+byte-below-requires : tie.Need-byte-below-requires
+byte-below-requires c κs = search needs
+
+enum-known-found : tie.Need-enum-known-found
+enum-known-found c = search needs
+
+enum-known-found-2 : tie.Need-enum-known-found-2
+enum-known-found-2 c = search needs
+
+with-body-requires : tie.Need-with-body-requires
+with-body-requires c κs = search needs
+
+returns : tie.Need-returns
+unfolding limited onByte
+returns c = simp (← c .before .before .before .byte-below .ensures, c .before .before .match .keys1)
+
+returns-2 : tie.Need-returns-2
+unfolding limited onByte
+returns-2 c = simp (← c .before .before .before .before .byte-below .ensures, ← c .with-body .ensures, c .before .before .before .match .keys2)
+
+pub limited-body-spec : {M : Type 1} → statement M
+limited-body-spec = tie.close (tie.spec add-at byte-below-requires enum-known-found enum-known-found-2 with-body-requires returns returns-2)

@@ -1,0 +1,18 @@
+use borrow.Author.Needs.{needs}
+use borrow.Author.Tests.{le-leb, lt-leb, lt-ltb, le-ltb, eq-eqb, ne-eqb, not-true, not-false}
+use Rattle.records.specs.Standing.{declaredStanding}
+use Rattle.records.proofs.standing.declared_standing.Statement.{statement}
+use Rattle.records.proofs.standing.declared_standing.Tie as tie
+
+cast-result : tie.Need-cast-result
+cast-result c = search needs
+
+add-result : tie.Need-add-result
+add-result c = search needs
+
+returns : tie.Need-returns
+unfolding declaredStanding
+returns c = search needs
+
+pub declared-standing-spec : {M : Type 1} → statement M
+declared-standing-spec = tie.close (tie.spec cast-result add-result returns)

@@ -1,0 +1,105 @@
+-- The kind byte and the body of a part of a term, or their refusal. Document 01, "Three services": "bytes left to right, each
+-- byte judged before the next is looked for. At one byte range comes first, then depth or the count of records, then 4, 5 or 6".
+use Prim.Native.Nat.{ℕ, _+_, _-_}
+use mathlib.Core.Bool.{Bool, true, false}
+use mathlib.Core.List.{List}
+use lib.ListN.{length, getD}
+use lib.Dec.{eqb, leb}
+use Rattle.language.specs.Choice.{pick}
+use Rattle.language.specs.Number.{inRange}
+use Rattle.language.specs.declared.Numbers.{Numbers}
+use Rattle.records.specs.Kind.{shapeOf}
+use Rattle.records.specs.Standing.{isVariable, recordOf}
+use Rattle.records.specs.declared.kind.Rule.{Rule}
+use Rattle.records.specs.declared.kind.Rule.the-variants.{Skip, Diverge, Truth, Number, Use, Fetch, Operate, Assign, Sequence, If, While, New}
+use Rattle.records.specs.declared.kind.Shape.{Shape}
+use Rattle.records.specs.declared.kind.Shape.the-variants.{Part, Declare, Retire, Unknown}
+use Rattle.records.specs.declared.head.Record.{Record}
+use Rattle.records.specs.declared.head.Head.{Head}
+use Rattle.records.specs.declared.head.Head.the-variants.{Good, Bad}
+use Rattle.records.specs.declared.head.Byte.{Byte}
+use Rattle.records.specs.declared.head.Byte.the-variants.{Is, Not}
+
+-- the byte at a place, which must be below a limit
+unfoldable pub byteOf : List ℕ → ℕ → ℕ → Byte
+byteOf s at limit =
+    pick (leb (length s) at) (Not 2 (length s))
+    (pick (leb limit (getD s at 0)) (Not 3 at) (Is (getD s at 0)))
+
+unfoldable pub onByte : Byte → (ℕ → Head) → Head
+onByte (Is b) k = k b
+onByte (Not n p) k = Bad n p
+
+-- the same record with other body bytes
+unfoldable pub withBody : Record → ℕ → ℕ → Record
+withBody r a b =
+    record { place = r .place; kind = r .kind; rule = r .rule; parts = r .parts; a = a; b = b; next = r .next }
+
+-- a body of one byte, which must be below a limit
+unfoldable pub limited : List ℕ → Record → ℕ → Head
+limited s r limit = onByte (byteOf s (r .place + 1) limit) (λ a. Good (withBody r a 0))
+
+-- "one byte, two's complement, -Z to Z"
+unfoldable pub constant : List ℕ → Numbers → Record → Head
+constant s N r =
+    onByte (byteOf s (r .place + 1) 256) (λ a.
+      pick (inRange N a) (Good (withBody r a 0)) (Bad 3 (r .place + 1)))
+
+-- a use, whose id has the standing c: its parts are as many as its name declares
+unfoldable pub used : List ℕ → Record → ℕ → ℕ → Record
+used s r id c =
+    record { place = r .place; kind = r .kind; rule = r .rule;
+      parts = pick (isVariable c) 0 (getD s (recordOf c + 3) 0); a = id; b = c; next = r .next }
+
+-- "use of an id neither enclosing, declared nor retired: 5", "use of a retired id: 6"
+unfoldable pub useOf : List ℕ → List ℕ → Record → Head
+useOf s st r =
+    onByte (byteOf s (r .place + 1) 255) (λ id.
+      pick (eqb (getD st id 0) 0) (Bad 5 (r .place + 1))
+      (pick (eqb (getD st id 0) 1) (Bad 6 (r .place + 1)) (Good (used s r id (getD st id 0)))))
+
+-- the data of a new: 1 truth, 2 number
+unfoldable pub dataByte : List ℕ → Record → ℕ → Head
+dataByte s r id =
+    onByte (byteOf s (r .place + 2) 3) (λ d. pick (eqb d 0) (Bad 3 (r .place + 2)) (Good (withBody r id d)))
+
+-- "id declared or retired before, or a new on such an id: 4"
+unfoldable pub newOf : List ℕ → List ℕ → Record → Head
+newOf s st r =
+    onByte (byteOf s (r .place + 1) 255) (λ id.
+      pick (eqb (getD st id 0) 1) (Bad 4 (r .place + 1))
+      (pick (isVariable (getD st id 0)) (dataByte s r id) (Bad 4 (r .place + 1))))
+
+-- the body of a record
+unfoldable pub bodyOf : Rule → List ℕ → List ℕ → Numbers → Record → Head
+bodyOf Skip s st N r = Good r
+bodyOf Diverge s st N r = limited s r 5
+bodyOf Truth s st N r = limited s r 2
+bodyOf Number s st N r = constant s N r
+bodyOf Use s st N r = useOf s st r
+bodyOf Fetch s st N r = Good r
+bodyOf Operate s st N r = limited s r 9
+bodyOf Assign s st N r = Good r
+bodyOf Sequence s st N r = Good r
+bodyOf If s st N r = Good r
+bodyOf While s st N r = Good r
+bodyOf New s st N r = newOf s st r
+
+-- a record of which only the kind byte has been read
+unfoldable pub blank : ℕ → ℕ → ℕ → ℕ → Rule → Record
+blank at kind body parts rule =
+    record { place = at; kind = kind; rule = rule; parts = parts; a = 0; b = 0; next = at + 1 + body }
+
+-- "A name record's kind met inside the term is an unknown kind"
+unfoldable pub onShape : Shape → ℕ → (ℕ → ℕ → Rule → Head) → Head
+onShape (Part body parts rule) at k = k body parts rule
+onShape (Declare body) at k = Bad 3 at
+onShape (Retire body) at k = Bad 3 at
+onShape Unknown at k = Bad 3 at
+
+-- the record of the part at a place, with `left` levels of depth left
+unfoldable pub headOf : List ℕ → List ℕ → Numbers → ℕ → ℕ → Head
+headOf s st N left at =
+    pick (leb (length s) at) (Bad 2 (length s))
+    (onShape (shapeOf (getD s at 0)) at (λ body parts rule.
+      pick (eqb left 0) (Bad 8 at) (bodyOf rule s st N (blank at (getD s at 0) body parts rule))))

@@ -1,0 +1,27 @@
+-- The kinds of records. Document 01, "The sheet, byte by byte", the table: "Each record is one byte of kind and a body whose
+-- length the kind fixes".
+use Prim.Native.Nat.{ℕ}
+use mathlib.Core.Bool.{Bool, true, false}
+use lib.Dec.{eqb}
+use Rattle.language.specs.Choice.{pick}
+use Rattle.records.specs.declared.kind.Rule.the-variants.{Skip, Diverge, Truth, Number, Use, Fetch, Operate, Assign, Sequence, If, While, New}
+use Rattle.records.specs.declared.kind.Shape.{Shape}
+use Rattle.records.specs.declared.kind.Shape.the-variants.{Part, Declare, Retire, Unknown}
+
+-- the length of the body and, of a part of a term, the number of its parts (a use's stand in its declaration) and its rule
+unfoldable pub shapeOf : ℕ → Shape
+shapeOf k =
+    pick (eqb k 1) (Declare 7)
+    (pick (eqb k 2) (Retire 1)
+    (pick (eqb k 16) (Part 0 0 Skip)
+    (pick (eqb k 17) (Part 1 0 Diverge)
+    (pick (eqb k 18) (Part 1 0 Truth)
+    (pick (eqb k 19) (Part 1 0 Number)
+    (pick (eqb k 20) (Part 1 0 Use)
+    (pick (eqb k 21) (Part 0 1 Fetch)
+    (pick (eqb k 22) (Part 1 2 Operate)
+    (pick (eqb k 23) (Part 0 2 Assign)
+    (pick (eqb k 24) (Part 0 2 Sequence)
+    (pick (eqb k 25) (Part 0 3 If)
+    (pick (eqb k 26) (Part 0 2 While)
+    (pick (eqb k 27) (Part 2 1 New) Unknown)))))))))))))

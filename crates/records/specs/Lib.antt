@@ -1,0 +1,6 @@
+pub mod Kind
+pub mod Standing
+pub mod Head
+pub mod Rule
+pub mod Scope
+pub mod Row

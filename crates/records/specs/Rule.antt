@@ -1,0 +1,107 @@
+-- How the parts of a record are typed and weighed. Document 01, "The sheet, byte by byte" (types, after figure 1 of document 001)
+-- and "Reckoned size". Types are 0 command, 1 truth expression, 2 number expression, 3 truth variable, 4 number variable.
+use Prim.Native.Nat.{ℕ, _+_, _-_, _*_}
+use mathlib.Core.Bool.{Bool, true, false}
+use mathlib.Core.List.{List}
+use lib.ListN.{getD}
+use lib.Dec.{eqb, ltb, leb}
+use Rattle.language.specs.Choice.{pick}
+use Rattle.language.specs.Number.{numbers}
+use Rattle.language.specs.declared.Numbers.{Numbers}
+use Rattle.records.specs.Standing.{isVariable, dataOf, recordOf}
+use Rattle.records.specs.declared.kind.Rule.{Rule}
+use Rattle.records.specs.declared.kind.Rule.the-variants.{Skip, Diverge, Truth, Number, Use, Fetch, Operate, Assign, Sequence, If, While, New}
+use Rattle.records.specs.declared.head.Record.{Record}
+
+-- K: the number of values of a type's data; of a command it is not used
+unfoldable pub values : Numbers → ℕ → ℕ
+values N ty = pick (eqb ty 1) 2 (pick (eqb ty 3) 2 (numbers N))
+
+-- how many questions a type has, and how many answers they have in all
+unfoldable pub questions : Numbers → ℕ → ℕ
+questions N ty = pick (ltb ty 3) 1 (1 + values N ty)
+
+unfoldable pub answers : Numbers → ℕ → ℕ
+answers N ty = pick (eqb ty 0) 1 (pick (ltb ty 3) (values N ty) (2 * values N ty))
+
+-- operators 0 to 5 take numbers, the others truths; 0 to 3 give a number, the others a truth
+unfoldable pub operandType : ℕ → ℕ
+operandType op = pick (ltb op 6) 2 1
+
+unfoldable pub resultType : ℕ → ℕ
+resultType op = pick (ltb op 4) 2 1
+
+-- whether part j of a record may have type ty, where the part before it has type prev
+unfoldable pub accepts : Rule → List ℕ → Record → ℕ → ℕ → ℕ → Bool
+accepts Skip s r j prev ty = false
+accepts Diverge s r j prev ty = false
+accepts Truth s r j prev ty = false
+accepts Number s r j prev ty = false
+accepts Use s r j prev ty = eqb ty (getD s (recordOf (r .b) + 4 + j) 0)
+accepts Fetch s r j prev ty = leb 3 ty
+accepts Operate s r j prev ty = eqb ty (operandType (r .a))
+accepts Assign s r j prev ty = pick (eqb j 0) (leb 3 ty) (eqb (ty + 2) prev)
+accepts Sequence s r j prev ty = pick (eqb j 0) (eqb ty 0) true
+accepts If s r j prev ty = pick (eqb j 0) (eqb ty 1) (pick (eqb j 1) true (eqb ty prev))
+accepts While s r j prev ty = pick (eqb j 0) (eqb ty 1) (eqb ty 0)
+accepts New s r j prev ty = eqb ty 0
+
+-- the type of a record whose last part has type last
+unfoldable pub typeOf : Rule → List ℕ → Record → ℕ → ℕ
+typeOf Skip s r last = 0
+typeOf Diverge s r last = r .a
+typeOf Truth s r last = 1
+typeOf Number s r last = 2
+typeOf Use s r last = pick (isVariable (r .b)) (2 + dataOf (r .b)) (getD s (recordOf (r .b) + 2) 0)
+typeOf Fetch s r last = last - 2
+typeOf Operate s r last = resultType (r .a)
+typeOf Assign s r last = 0
+typeOf Sequence s r last = last
+typeOf If s r last = last
+typeOf While s r last = 0
+typeOf New s r last = 0
+
+-- by what the weight of part j is multiplied, where the part has type ty and the one before it prev
+unfoldable pub factor : Rule → Numbers → Record → ℕ → ℕ → ℕ → ℕ
+factor Skip N r j prev ty = 1
+factor Diverge N r j prev ty = 1
+factor Truth N r j prev ty = 1
+factor Number N r j prev ty = 1
+factor Use N r j prev ty = questions N ty
+factor Fetch N r j prev ty = 1
+factor Operate N r j prev ty = pick (eqb j 0) 1 (values N prev)
+factor Assign N r j prev ty = pick (eqb j 0) (values N ty) 1
+factor Sequence N r j prev ty = 1
+factor If N r j prev ty = 1
+factor While N r j prev ty = 1
+factor New N r j prev ty = values N (r .b)
+
+-- what a part of type ty adds besides: an argument its answers
+unfoldable pub extra : Rule → Numbers → ℕ → ℕ
+extra Skip N ty = 0
+extra Diverge N ty = 0
+extra Truth N ty = 0
+extra Number N ty = 0
+extra Use N ty = answers N ty
+extra Fetch N ty = 0
+extra Operate N ty = 0
+extra Assign N ty = 0
+extra Sequence N ty = 0
+extra If N ty = 0
+extra While N ty = 0
+extra New N ty = 0
+
+-- the weight of a record without its parts
+unfoldable pub own : Rule → ℕ
+own Skip = 1
+own Diverge = 1
+own Truth = 1
+own Number = 1
+own Use = 2
+own Fetch = 0
+own Operate = 0
+own Assign = 0
+own Sequence = 0
+own If = 0
+own While = 0
+own New = 0

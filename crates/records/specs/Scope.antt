@@ -1,0 +1,10 @@
+-- The scope of a new. Document 01, "The sheet, byte by byte": "A use means the innermost enclosing new with that id".
+use Prim.Native.Nat.{ℕ}
+use mathlib.Core.List.{List}
+use lib.ListN.{set}
+use Rattle.records.specs.Standing.{variableStanding}
+use Rattle.records.specs.declared.head.Record.{Record}
+
+-- the standings inside a new that `level` news enclose
+unfoldable pub entered : List ℕ → Record → ℕ → List ℕ
+entered st r level = set st (r .a) (variableStanding level (r .b))

@@ -1,0 +1,228 @@
+// The kind byte and the body of a part of a term: every judgement of its bytes.
+use crate::kind::{Rule, Shape, shape_of};
+use language::Numbers;
+ghost use mathlib.Core.Path.{_≡_};
+ghost use Prim.Native.Nat.{_+_, _≤_, _<_};
+ghost use lib.ListN.{getD, length};
+ghost use Rattle.records.specs.Head.{byteOf, withBody, limited, constant, used, useOf, dataByte, newOf, bodyOf, blank, headOf};
+
+// A record of a part: its place and kind, the rule and the number of parts that the kind gives, its body and the place after
+// it. Of a use, `a` is the id, `b` its standing, and the parts are its arguments; of a new, `a` is the id and `b` the data; of
+// any other, `a` is the one byte of the body, if it has one.
+pub struct Record {
+    pub place: usize,
+    pub kind: u8,
+    pub rule: Rule,
+    pub parts: u8,
+    pub a: u8,
+    pub b: u16,
+    pub next: usize,
+}
+
+pub enum Head {
+    Good { record: Record },
+    Bad { number: u8, place: usize },
+}
+
+// A byte in its range, or a refusal.
+pub enum Byte {
+    Is { byte: u8 },
+    Not { number: u8, place: usize },
+}
+
+// The byte at a place, 0 past the end.
+pub fn byte_at(s: &[u8], at: usize) -> u8
+    ensures { λ r. ⌜ r ≡ getD (now (s .entry)) at 0 ⌝ }
+{
+    if at < s.len() { s[at] } else { 0 }
+}
+
+// The standing of an id, 0 for 255.
+pub fn standing_of(st: &[u16; 255], id: u8) -> u16
+    ensures { λ r. ⌜ r ≡ getD (now (st .entry)) id 0 ⌝ }
+{
+    let all = *st;
+    if id < 255 {
+        return all[id as usize];
+    }
+    0
+}
+
+// The byte at `at`, which must be below `limit`.
+pub fn byte_below(s: &[u8], at: usize, limit: u16) -> Byte
+    ensures { λ r. ⌜ r ≡ byteOf (now (s .entry)) at limit ⌝ }
+{
+    if s.len() <= at {
+        return Byte::Not { number: 2, place: s.len() };
+    }
+    let b = s[at];
+    if limit <= b as u16 {
+        return Byte::Not { number: 3, place: at };
+    }
+    Byte::Is { byte: b }
+}
+
+// The same record with other body bytes.
+pub fn with_body(r: Record, a: u8, b: u16) -> Record
+    ensures { λ x. ⌜ x ≡ withBody r a b ⌝ }
+{
+    let rule = r.rule;
+    Record { place: r.place, kind: r.kind, rule, parts: r.parts, a, b, next: r.next }
+}
+
+// A body of one byte, which must be below `limit`.
+pub fn limited_body(s: &[u8], r: Record, limit: u16) -> Head
+    requires { ⌜ r .place < 65536 ⌝ }
+    ensures { λ x. ⌜ x ≡ limited (now (s .entry)) r limit ⌝ }
+{
+    let at = r.place + 1;
+    let found = byte_below(s, at, limit);
+    match found {
+        Byte::Not { number, place } => Head::Bad { number, place },
+        Byte::Is { byte } => Head::Good { record: with_body(r, byte, 0) },
+    }
+}
+
+// A number from -Z to Z.
+pub fn constant_body(s: &[u8], n: Numbers, r: Record) -> Head
+    requires { ⌜ r .place < 65536 ⌝ }
+    ensures { λ x. ⌜ x ≡ constant (now (s .entry)) n r ⌝ }
+{
+    let at = r.place + 1;
+    let found = byte_below(s, at, 256);
+    match found {
+        Byte::Not { number, place } => Head::Bad { number, place },
+        Byte::Is { byte } => {
+            if language::number::in_range(n, byte) {
+                return Head::Good { record: with_body(r, byte, 0) };
+            }
+            Head::Bad { number: 3, place: at }
+        }
+    }
+}
+
+// A use of an id whose standing is `c`, neither free nor retired.
+pub fn used_record(s: &[u8], r: Record, id: u8, c: u16) -> Record
+    ensures { λ x. ⌜ x ≡ used (now (s .entry)) r id c ⌝ }
+{
+    let rule = r.rule;
+    if crate::standing::is_variable(c) {
+        return Record { place: r.place, kind: r.kind, rule, parts: 0, a: id, b: c, next: r.next };
+    }
+    let parts = byte_at(s, crate::standing::record_of(c) + 3);
+    Record { place: r.place, kind: r.kind, rule, parts, a: id, b: c, next: r.next }
+}
+
+// A use: refused where the id is free or retired.
+pub fn use_body(s: &[u8], st: &[u16; 255], r: Record) -> Head
+    requires { ⌜ r .place < 65536 ⌝ }
+    ensures { λ x. ⌜ x ≡ useOf (now (s .entry)) (now (st .entry)) r ⌝ }
+{
+    let at = r.place + 1;
+    let found = byte_below(s, at, 255);
+    match found {
+        Byte::Not { number, place } => Head::Bad { number, place },
+        Byte::Is { byte } => {
+            let c = standing_of(st, byte);
+            if c == 0 {
+                return Head::Bad { number: 5, place: at };
+            }
+            if c == 1 {
+                return Head::Bad { number: 6, place: at };
+            }
+            Head::Good { record: used_record(s, r, byte, c) }
+        }
+    }
+}
+
+// The data of a new on an id.
+pub fn data_body(s: &[u8], r: Record, id: u8) -> Head
+    requires { ⌜ r .place < 65536 ⌝ }
+    ensures { λ x. ⌜ x ≡ dataByte (now (s .entry)) r id ⌝ }
+{
+    let at = r.place + 2;
+    let found = byte_below(s, at, 3);
+    match found {
+        Byte::Not { number, place } => Head::Bad { number, place },
+        Byte::Is { byte } => {
+            if byte == 0 {
+                return Head::Bad { number: 3, place: at };
+            }
+            Head::Good { record: with_body(r, id, byte as u16) }
+        }
+    }
+}
+
+// A new: refused where the id is declared or retired.
+pub fn new_body(s: &[u8], st: &[u16; 255], r: Record) -> Head
+    requires { ⌜ r .place < 65536 ⌝ }
+    ensures { λ x. ⌜ x ≡ newOf (now (s .entry)) (now (st .entry)) r ⌝ }
+{
+    let at = r.place + 1;
+    let found = byte_below(s, at, 255);
+    match found {
+        Byte::Not { number, place } => Head::Bad { number, place },
+        Byte::Is { byte } => {
+            let c = standing_of(st, byte);
+            if c == 1 {
+                return Head::Bad { number: 4, place: at };
+            }
+            if crate::standing::is_variable(c) {
+                return data_body(s, r, byte);
+            }
+            Head::Bad { number: 4, place: at }
+        }
+    }
+}
+
+// The body of a record, by its rule.
+pub fn body_at(rule: Rule, s: &[u8], st: &[u16; 255], n: Numbers, r: Record) -> Head
+    requires { ⌜ r .place < 65536 ⌝ }
+    ensures { λ x. ⌜ x ≡ bodyOf rule (now (s .entry)) (now (st .entry)) n r ⌝ }
+{
+    match rule {
+        Rule::Skip => Head::Good { record: r },
+        Rule::Diverge => limited_body(s, r, 5),
+        Rule::Truth => limited_body(s, r, 2),
+        Rule::Number => constant_body(s, n, r),
+        Rule::Use => use_body(s, st, r),
+        Rule::Fetch => Head::Good { record: r },
+        Rule::Operate => limited_body(s, r, 9),
+        Rule::Assign => Head::Good { record: r },
+        Rule::Sequence => Head::Good { record: r },
+        Rule::If => Head::Good { record: r },
+        Rule::While => Head::Good { record: r },
+        Rule::New => new_body(s, st, r),
+    }
+}
+
+// A record of which only the kind byte has been read.
+pub fn blank_record(at: usize, kind: u8, body: u8, parts: u8, rule: Rule) -> Record
+    requires { ⌜ at < 65536 ⌝ }
+    ensures { λ x. ⌜ x ≡ blank at kind body parts rule ⌝ }
+{
+    Record { place: at, kind, rule, parts, a: 0, b: 0, next: at + 1 + body as usize }
+}
+
+// The record of the part at a place, with `left` levels of depth left.
+pub fn head_at(s: &[u8], st: &[u16; 255], n: Numbers, left: u8, at: usize) -> Head
+    requires { ⌜ length (now s) ≤ 4096 ⌝ }
+    ensures { λ x. ⌜ x ≡ headOf (now (s .entry)) (now (st .entry)) n left at ⌝ }
+{
+    if s.len() <= at {
+        return Head::Bad { number: 2, place: s.len() };
+    }
+    let kind = s[at];
+    let shape = shape_of(kind);
+    match shape {
+        Shape::Unknown => Head::Bad { number: 3, place: at },
+        Shape::Declare { body: _ } => Head::Bad { number: 3, place: at },
+        Shape::Retire { body: _ } => Head::Bad { number: 3, place: at },
+        Shape::Part { body, parts, rule } => {
+            if left == 0 {
+                return Head::Bad { number: 8, place: at };
+            }
+            body_at(rule, s, st, n, blank_record(at, kind, body, parts, rule))
+        }
+    }
+}

@@ -1,0 +1,101 @@
+// The table of parts: nine words for each place of a sheet.
+use crate::head::Record;
+use crate::kind::Rule;
+use crate::standing::{is_variable, level_of};
+use crate::weight::values_of;
+use language::Numbers;
+ghost use mathlib.Core.Path.{_≡_};
+ghost use Prim.Native.Nat.{_+_, _≤_, _<_};
+ghost use lib.ListN.{set};
+ghost use Rattle.records.specs.Row.{cell, rowKind, classOf, detail, written, linked};
+
+// Stores v at i, if the table reaches that far.
+pub fn put(t: &mut [u16], i: usize, v: u16)
+    ensures { λ r. ⌜ now (t .exit) ≡ set (now (t .entry)) i v ⌝ }
+{
+    if i < t.len() {
+        t[i] = v;
+    }
+}
+
+// Word i of the row at a place.
+pub fn cell_at(place: usize, i: usize) -> usize
+    requires { ⌜ (place < 65536) × (i < 65536) ⌝ }
+    ensures { λ r. ⌜ r ≡ cell place i ⌝ }
+{
+    9 * place + i
+}
+
+// The kind in a record's row.
+pub fn row_kind(rule: Rule, r: Record) -> u16
+    ensures { λ x. ⌜ x ≡ rowKind rule r ⌝ }
+{
+    let kind = r.kind as u16;
+    match rule {
+        Rule::Skip => kind,
+        Rule::Diverge => kind,
+        Rule::Truth => kind,
+        Rule::Number => kind,
+        Rule::Use => if is_variable(r.b) { 128 } else { kind },
+        Rule::Fetch => kind,
+        Rule::Operate => kind,
+        Rule::Assign => kind,
+        Rule::Sequence => kind,
+        Rule::If => kind,
+        Rule::While => kind,
+        Rule::New => kind,
+    }
+}
+
+// The class of a type: 0 command, 1 expression, 2 variable.
+pub fn class_of(ty: u8) -> u16
+    ensures { λ r. ⌜ r ≡ classOf ty ⌝ }
+{
+    if ty == 0 {
+        return 0;
+    }
+    if ty < 3 { 1 } else { 2 }
+}
+
+// The detail in a record's row.
+pub fn detail_of(rule: Rule, n: Numbers, r: Record) -> u16
+    ensures { λ x. ⌜ x ≡ detail rule n r ⌝ }
+{
+    match rule {
+        Rule::Skip => 0,
+        Rule::Diverge => 0,
+        Rule::Truth => r.a as u16,
+        Rule::Number => language::number::code_of_byte(n, r.a),
+        Rule::Use => if is_variable(r.b) { level_of(r.b) } else { r.a as u16 },
+        Rule::Fetch => 0,
+        Rule::Operate => r.a as u16,
+        Rule::Assign => 0,
+        Rule::Sequence => 0,
+        Rule::If => 0,
+        Rule::While => 0,
+        Rule::New => values_of(n, r.b),
+    }
+}
+
+// Writes the row of a record of type ty and the given weight, but for the places of its parts.
+pub fn write_row(t: &mut [u16], n: Numbers, r: Record, ty: u8, weight: u32)
+    requires { ⌜ r .place < 65536 ⌝ }
+    ensures { λ x. ⌜ now (t .exit) ≡ written n r ty weight (now (t .entry)) ⌝ }
+{
+    let rule = r.rule;
+    let place = r.place;
+    let held = if 4097 <= weight { 4097 } else { weight as u16 };
+    put(t, cell_at(place, 0), row_kind(rule, r));
+    put(t, cell_at(place, 1), held);
+    put(t, cell_at(place, 2), class_of(ty));
+    put(t, cell_at(place, 3), values_of(n, ty as u16));
+    put(t, cell_at(place, 4), detail_of(rule, n, r));
+}
+
+// Writes the place of part j into the row at a place.
+pub fn link(t: &mut [u16], place: usize, j: u8, part: usize)
+    requires { ⌜ (place < 65536) × (part < 65536) ⌝ }
+    ensures { λ x. ⌜ now (t .exit) ≡ linked place j part (now (t .entry)) ⌝ }
+{
+    put(t, cell_at(place, 5 + j as usize), part as u16);
+}

@@ -1,0 +1,162 @@
+// Numbers of values, questions and answers, and weights held at 4,097, so that no sum or product wraps.
+use crate::head::Record;
+use crate::kind::Rule;
+use language::Numbers;
+ghost use mathlib.Core.Path.{_≡_};
+ghost use Prim.Native.Nat.{_+_, _*_, _≤_, _<_, min};
+ghost use Rattle.records.specs.Rule.{values, questions, answers, factor, extra, own};
+
+// a + b, held at 4,097.
+pub fn sat_add(a: u32, b: u32) -> u32
+    ensures { λ r. ⌜ r ≡ min (a + b) 4097 ⌝ }
+{
+    if 4097 <= a {
+        return 4097;
+    }
+    if 4097 <= b {
+        return 4097;
+    }
+    let c = a + b;
+    if 4097 <= c { 4097 } else { c }
+}
+
+// a * b, held at 4,097.
+pub fn sat_mul(a: u32, b: u32) -> u32
+    ensures { λ r. ⌜ r ≡ min (a * b) 4097 ⌝ }
+{
+    if a == 0 {
+        return 0;
+    }
+    if b == 0 {
+        return 0;
+    }
+    if 4097 <= a {
+        return 4097;
+    }
+    if 4097 <= b {
+        return 4097;
+    }
+    let c = a * b;
+    if 4097 <= c { 4097 } else { c }
+}
+
+// The number of values of a type's data.
+pub fn values_of(n: Numbers, ty: u16) -> u16
+    ensures { λ r. ⌜ (r ≡ values n ty) × (r ≤ 511) ⌝ }
+{
+    match ty {
+        1 => 2,
+        3 => 2,
+        _ => language::number::numbers(n),
+    }
+}
+
+// How many questions a type has.
+pub fn questions_of(n: Numbers, ty: u8) -> u32
+    ensures { λ r. ⌜ r ≡ questions n ty ⌝ }
+{
+    if ty < 3 {
+        return 1;
+    }
+    1 + values_of(n, ty as u16) as u32
+}
+
+// How many answers these have in all.
+pub fn answers_of(n: Numbers, ty: u8) -> u32
+    ensures { λ r. ⌜ r ≡ answers n ty ⌝ }
+{
+    if ty == 0 {
+        return 1;
+    }
+    if ty < 3 {
+        return values_of(n, ty as u16) as u32;
+    }
+    2 * (values_of(n, ty as u16) as u32)
+}
+
+// By what the weight of part j is multiplied, where the part has type ty and the one before it prev.
+pub fn factor_of(rule: Rule, n: Numbers, r: Record, j: u8, prev: u8, ty: u8) -> u32
+    ensures { λ x. ⌜ x ≡ factor rule n r j prev ty ⌝ }
+{
+    match rule {
+        Rule::Skip => 1,
+        Rule::Diverge => 1,
+        Rule::Truth => 1,
+        Rule::Number => 1,
+        Rule::Use => questions_of(n, ty),
+        Rule::Fetch => 1,
+        Rule::Operate => {
+            if j == 0 {
+                return 1;
+            }
+            values_of(n, prev as u16) as u32
+        }
+        Rule::Assign => {
+            if j == 0 {
+                return values_of(n, ty as u16) as u32;
+            }
+            1
+        }
+        Rule::Sequence => 1,
+        Rule::If => 1,
+        Rule::While => 1,
+        Rule::New => values_of(n, r.b) as u32,
+    }
+}
+
+// What a part of type ty adds besides.
+pub fn extra_of(rule: Rule, n: Numbers, ty: u8) -> u32
+    ensures { λ x. ⌜ x ≡ extra rule n ty ⌝ }
+{
+    match rule {
+        Rule::Skip => 0,
+        Rule::Diverge => 0,
+        Rule::Truth => 0,
+        Rule::Number => 0,
+        Rule::Use => answers_of(n, ty),
+        Rule::Fetch => 0,
+        Rule::Operate => 0,
+        Rule::Assign => 0,
+        Rule::Sequence => 0,
+        Rule::If => 0,
+        Rule::While => 0,
+        Rule::New => 0,
+    }
+}
+
+// The weight of a record without its parts.
+pub fn own_of(rule: Rule) -> u32
+    ensures { λ x. ⌜ x ≡ own rule ⌝ }
+{
+    match rule {
+        Rule::Skip => 1,
+        Rule::Diverge => 1,
+        Rule::Truth => 1,
+        Rule::Number => 1,
+        Rule::Use => 2,
+        Rule::Fetch => 0,
+        Rule::Operate => 0,
+        Rule::Assign => 0,
+        Rule::Sequence => 0,
+        Rule::If => 0,
+        Rule::While => 0,
+        Rule::New => 0,
+    }
+}
+
+// What part j, of type ty, adds to the weight of a record, with what the parts after it add.
+pub fn part_weight(n: Numbers, r: Record, j: u8, prev: u8, ty: u8, weight: u32, others: u32) -> u32
+    ensures { λ x. ⌜ x ≡ min (factor (r .rule) n r j prev ty * weight + extra (r .rule) n ty + others) 4097 ⌝ }
+{
+    let rule = r.rule;
+    let product = sat_mul(factor_of(rule, n, r, j, prev, ty), weight);
+    sat_add(sat_add(product, extra_of(rule, n, ty)), others)
+}
+
+// The weight of a record whose parts weigh `parts` in all.
+pub fn record_weight(r: Record, parts: u32) -> u32
+    ensures { λ x. ⌜ x ≡ min (own (r .rule) + parts) 4097 ⌝ }
+{
+    let rule = r.rule;
+    sat_add(own_of(rule), parts)
+}

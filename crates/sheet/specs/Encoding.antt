@@ -1,0 +1,42 @@
+-- The bytes of a sheet. Document 01, "The sheet, byte by byte", the table.
+use Prim.Native.Nat.{ℕ, zero, suc}
+use mathlib.Core.List.{List, [], _∷_, _++_}
+use lib.ListN.{length}
+use Rattle.language.specs.declared.Numbers.{Numbers}
+use Rattle.sheet.specs.Written.{Written, skip, diverge, truth, number, call, fetch, operate, assign, sequence, while, choose, new, Writtens, none, more, Name, declare, retire, Sheet}
+
+unfoldable mutual
+  pub encode : Written → List ℕ
+  encode skip = 16 ∷ []
+  encode (diverge ty) = 17 ∷ ty ∷ []
+  encode (truth b) = 18 ∷ b ∷ []
+  encode (number b) = 19 ∷ b ∷ []
+  encode (call id ws) = 20 ∷ id ∷ encodes ws
+  encode (fetch v) = 21 ∷ encode v
+  encode (operate op l r) = 22 ∷ op ∷ (encode l ++ encode r)
+  encode (assign v e) = 23 ∷ (encode v ++ encode e)
+  encode (sequence c m) = 24 ∷ (encode c ++ encode m)
+  encode (choose b m n) = 25 ∷ (encode b ++ (encode m ++ encode n))
+  encode (while b c) = 26 ∷ (encode b ++ encode c)
+  encode (new id d c) = 27 ∷ id ∷ d ∷ encode c
+
+  pub encodes : Writtens → List ℕ
+  encodes none = []
+  encodes (more w ws) = encode w ++ encodes ws
+
+-- the types of n arguments, unused ones 255
+unfoldable pub padded : ℕ → List ℕ → List ℕ
+padded zero tys = []
+padded (suc n) [] = 255 ∷ padded n []
+padded (suc n) (ty ∷ tys) = ty ∷ padded n tys
+
+unfoldable pub encodeName : Name → List ℕ
+encodeName (declare id ty tys) = 1 ∷ id ∷ ty ∷ length tys ∷ padded 4 tys
+encodeName (retire id) = 2 ∷ id ∷ []
+
+unfoldable pub encodeNames : List Name → List ℕ
+encodeNames [] = []
+encodeNames (n ∷ ns) = encodeName n ++ encodeNames ns
+
+unfoldable pub encodeSheet : Sheet → List ℕ
+encodeSheet S = S .numbers .z ∷ S .numbers .rule ∷ (encodeNames (S .names) ++ encode (S .term))

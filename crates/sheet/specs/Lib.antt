@@ -1,0 +1,4 @@
+pub mod Written
+pub mod Encoding
+pub mod Meaning
+pub mod Fine
