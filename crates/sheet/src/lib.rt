@@ -1,1 +1,3 @@
-// The reader.
+// The reader of sheets: from bytes to the parts of a term, or a refusal.
+pub mod heading;
+pub mod part;

@@ -1,0 +1,2 @@
+-- The table of parts: cited by inner contracts only.
+pub mod Fill

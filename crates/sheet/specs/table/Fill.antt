@@ -1,0 +1,49 @@
+-- What the reader answers and what it leaves in the table of parts. Only inner contracts cite it.
+use Prim.Native.Nat.{ℕ, _+_, _*_, _≤_, _<_, min}
+use mathlib.Core.Path.{_≡_}
+use mathlib.Core.List.{List}
+use Rattle.language.specs.declared.Numbers.{Numbers}
+use Rattle.records.specs.Rule.{typeOf, own}
+use Rattle.records.specs.Row as row
+use Rattle.records.specs.Row.{linked}
+use Rattle.records.specs.declared.head.Record.{Record}
+use Rattle.sheet.specs.Reader.{Tree, node, Trees, leaf, branch, Answer, got, refused, Whole, whole}
+use Rattle.sheet.specs.declared.part.Part.{Part}
+use Rattle.sheet.specs.declared.part.Part.the-variants.{Read, Refused}
+
+-- the rows of a part and of its parts, and of parts j, j + 1, .. of the record at p
+unfoldable mutual
+  pub fill : Numbers → Tree → List ℕ → List ℕ
+  fill N (node r ty w ts) t = row.written N r ty w (fills N ts (r .place) 0 t)
+
+  pub fills : Numbers → Trees → ℕ → ℕ → List ℕ → List ℕ
+  fills N leaf p j t = t
+  fills N (branch at x xs) p j t = fills N xs p (j + 1) (fill N x (linked p j at t))
+
+-- the answer as the code gives it: the weight held at 4,097
+unfoldable pub erase : {X : Type 0} → Answer X → Part
+erase (got x ty w next) = Read ty (min w 4097) next
+erase (refused n p) = Refused n p
+
+-- the table after reading, by f from the one before; after a refusal nothing is said of it
+unfoldable pub Leaves : {X : Type 0} → (X → List ℕ → List ℕ) → Answer X → List ℕ → List ℕ → Type 0
+Leaves f (got x ty w next) t u = u ≡ f x t
+Leaves f (refused n p) t u = Unit
+
+pub record Reads {X : Type 0} (f : X → List ℕ → List ℕ) (A : Answer X) (r : Part) (t u : List ℕ) : Type 0 where
+  pub answer : r ≡ erase A
+  pub table : Leaves f A t u
+
+-- the place after a part is beyond its own and within the sheet
+unfoldable pub Beyond : ℕ → ℕ → Part → Type 0
+Beyond at n (Read ty w next) = (at < next) × (next ≤ n)
+Beyond at n (Refused number place) = Unit
+
+-- a record closed after its parts: the answer and the table
+unfoldable pub closedAnswer : List ℕ → Record → Part → Part
+closedAnswer s r (Read last w next) = Read (typeOf (r .rule) s r last) (min (own (r .rule) + w) 4097) next
+closedAnswer s r (Refused n p) = Refused n p
+
+unfoldable pub closedTable : Numbers → List ℕ → Record → Part → List ℕ → List ℕ
+closedTable N s r (Read last w next) t = row.written N r (typeOf (r .rule) s r last) (own (r .rule) + w) t
+closedTable N s r (Refused n p) t = t
