@@ -1,10 +1,10 @@
 -- The table of parts, which the reader leaves for the automaton: nine words for each place of a sheet. Only inner contracts
 -- cite it.
 --
--- The row of the part at a place: 0 kind (128 for the use of a private variable), 1 weight, held at 4,097, 2 class of its type
--- (0 command, 1 expression, 2 variable), 3 number of values of its data, 4 detail, 5 to 8 places of its parts. The detail of a
--- constant is its code, of an operation its operator, of a private variable its level, of a name its id, of a new the number of
--- values of its variable.
+-- The row of the part at a place: 0 kind (18 for every constant, 128 for the use of a private variable), 1 weight, held at
+-- 4,097, 2 class of its type (0 command, 1 expression, 2 variable), 3 number of values of its data, 4 detail, 5 to 8 places of
+-- its parts. The detail of a constant is its code, of an operation its operator, of a private variable its level, of a name
+-- its id and 256 times the number of its arguments, of a new the number of values of its variable.
 use Prim.Native.Nat.{ℕ, _+_, _*_, min}
 use mathlib.Core.Bool.{Bool}
 use mathlib.Core.List.{List}
@@ -27,7 +27,7 @@ unfoldable pub rowKind : Rule → Record → ℕ
 rowKind Skip r = r .kind
 rowKind Diverge r = r .kind
 rowKind Truth r = r .kind
-rowKind Number r = r .kind
+rowKind Number r = 18
 rowKind Use r = pick (isVariable (r .b)) 128 (r .kind)
 rowKind Fetch r = r .kind
 rowKind Operate r = r .kind
@@ -45,7 +45,7 @@ detail Skip N r = 0
 detail Diverge N r = 0
 detail Truth N r = r .a
 detail Number N r = code N (fromByte (r .a))
-detail Use N r = pick (isVariable (r .b)) (levelOf (r .b)) (r .a)
+detail Use N r = pick (isVariable (r .b)) (levelOf (r .b)) (r .a + 256 * r .parts)
 detail Fetch N r = 0
 detail Operate N r = r .a
 detail Assign N r = 0

@@ -35,7 +35,7 @@ pub fn row_kind(rule: Rule, r: Record) -> u16
         Rule::Skip => kind,
         Rule::Diverge => kind,
         Rule::Truth => kind,
-        Rule::Number => kind,
+        Rule::Number => 18,
         Rule::Use => if is_variable(r.b) { 128 } else { kind },
         Rule::Fetch => kind,
         Rule::Operate => kind,
@@ -57,6 +57,17 @@ pub fn class_of(ty: u8) -> u16
     if ty < 3 { 1 } else { 2 }
 }
 
+// The detail of a use: of a private variable its level, of a name its id and 256 times the number of its arguments.
+fn use_detail(r: Record) -> u16
+    ensures { λ x. ⌜ x ≡ pick (isVariable (r .b)) (levelOf (r .b)) (r .a + 256 * r .parts) ⌝ }
+{
+    let b = r.b;
+    if is_variable(b) {
+        return level_of(b);
+    }
+    r.a as u16 + 256 * (r.parts as u16)
+}
+
 // The detail in a record's row.
 pub fn detail_of(rule: Rule, n: Numbers, r: Record) -> u16
     ensures { λ x. ⌜ x ≡ detail rule n r ⌝ }
@@ -66,7 +77,7 @@ pub fn detail_of(rule: Rule, n: Numbers, r: Record) -> u16
         Rule::Diverge => 0,
         Rule::Truth => r.a as u16,
         Rule::Number => language::number::code_of_byte(n, r.a),
-        Rule::Use => if is_variable(r.b) { level_of(r.b) } else { r.a as u16 },
+        Rule::Use => use_detail(r),
         Rule::Fetch => 0,
         Rule::Operate => r.a as u16,
         Rule::Assign => 0,

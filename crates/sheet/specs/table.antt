@@ -1,2 +1,3 @@
 -- The table of parts: cited by inner contracts only.
 pub mod Fill
+pub mod Rep
