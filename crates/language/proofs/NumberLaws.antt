@@ -8,7 +8,6 @@ use lib.Dec.{leb, ltb}
 use lib.IntN.{ℤ, pos, negsuc, natAbs, sucℤ, _+ℤ_, _-ℤ_, _*ℤ_, negℤ, -ℤ-+ℤ-cancel, +ℤ-assoc, +ℤ-comm, sucℤ-*ℤ}
 use borrow.Author.Tests.{lt-ltb, le-ltb, le-leb, lt-leb, leb-true, leb-false, ltb-true, ltb-false}
 use Rattle.language.specs.declared.Numbers.{Numbers}
-use Rattle.language.specs.Choice.{pick}
 use Rattle.language.specs.Number.{numbers, modulo, code, signed, fromByte, toByte, inRange}
 
 -- a difference below 0
@@ -27,11 +26,11 @@ unfolding modulo
 modulo-below (pos a) n h = mod-lt a h
 modulo-below (negsuc a) n h = omega arith
 
-pub modulo-pos : (a n : ℕ) → a < n → modulo (pos a) n ≡ a
+modulo-pos : (a n : ℕ) → a < n → modulo (pos a) n ≡ a
 unfolding modulo
 modulo-pos a n h = mod-eq-of-lt h
 
-pub modulo-neg : (a n : ℕ) → a < n → modulo (negsuc a) n ≡ n - suc a
+modulo-neg : (a n : ℕ) → a < n → modulo (negsuc a) n ≡ n - suc a
 unfolding modulo
 modulo-neg a n h = ap (λ (m : ℕ). n - suc m) (mod-eq-of-lt h)
 
@@ -58,10 +57,10 @@ unfolding code
 code-below N v = modulo-below v (numbers N) (numbers-above N)
 
 -- of c below n: c itself, or c minus n
-pub modulo-back : (c n : ℕ) → c < n → modulo (pos c -ℤ pos n) n ≡ c
+modulo-back : (c n : ℕ) → c < n → modulo (pos c -ℤ pos n) n ≡ c
 modulo-back c n h = rw (minus-below c n h) (modulo-neg (n - suc c) n (omega arith) ∙ omega arith)
 
-pub minus-back : (a n : ℕ) → a < n → pos (n - suc a) -ℤ pos n ≡ negsuc a
+minus-back : (a n : ℕ) → a < n → pos (n - suc a) -ℤ pos n ≡ negsuc a
 minus-back a n h = minus-below (n - suc a) n (omega arith) ∙ ap negsuc (omega arith)
 
 module _ (N : Numbers) where
@@ -78,6 +77,10 @@ module _ (N : Numbers) where
       by-test (leb c (N .z))
       (λ t. rw t (modulo-pos c (numbers N) h))
       (λ t. rw t (modulo-back c (numbers N) h))
+
+  -- numbers are equal exactly if their codes are
+  pub signed-injective : (c d : ℕ) → c < numbers N → d < numbers N → signed N c ≡ signed N d → c ≡ d
+  signed-injective c d h k e = sym (code-signed c h) ∙ ap (code N) e ∙ code-signed d k
 
   pub signed-within : (c : ℕ) → c < numbers N → natAbs (signed N c) ≤ N .z
   unfolding signed numbers
@@ -113,13 +116,13 @@ unfolding fromByte toByte
 number-byte b h =
     by-test (ltb b 128) (λ t. rw t (modulo-pos b 256 h)) (λ t. rw t (modulo-back b 256 h))
 
-byte-low : (b : ℕ) → b < 128 → natAbs (fromByte b) ≡ b
+abs-low : (b : ℕ) → b < 128 → natAbs (fromByte b) ≡ b
 unfolding fromByte
-byte-low b h = rw (lt-ltb b 128 h)
+abs-low b h = rw (lt-ltb b 128 h)
 
-byte-high : (b : ℕ) → b < 256 → 128 ≤ b → natAbs (fromByte b) ≡ 256 - b
+abs-high : (b : ℕ) → b < 256 → 128 ≤ b → natAbs (fromByte b) ≡ 256 - b
 unfolding fromByte
-byte-high b h k = rw (le-ltb b 128 k, minus-below b 256 h) (omega arith)
+abs-high b h k = rw (le-ltb b 128 k, minus-below b 256 h) (omega arith)
 
 module _ (N : Numbers) (b : ℕ) (h : b < 256) (k : N .z ≤ 127) where
   pub in-range : inRange N b ≡ leb (natAbs (fromByte b)) (N .z)
@@ -127,15 +130,15 @@ module _ (N : Numbers) (b : ℕ) (h : b < 256) (k : N .z ≤ 127) where
   in-range = by-test (leb b (N .z)) low (λ t. by-test (ltb b 128) (between t) (high t))
     where
       low : leb b (N .z) ≡ true → inRange N b ≡ leb (natAbs (fromByte b)) (N .z)
-      low t = rw (t, byte-low b (omega (arith, leb-true b (N .z) t))) (sym t)
+      low t = rw (t, abs-low b (omega (arith, leb-true b (N .z) t))) (sym t)
 
       between : leb b (N .z) ≡ false → ltb b 128 ≡ true → inRange N b ≡ leb (natAbs (fromByte b)) (N .z)
       between t u =
-          rw (t, byte-low b (ltb-true b 128 u), lt-leb (256 - N .z) b (omega (arith, ltb-true b 128 u))) (sym t)
+          rw (t, abs-low b (ltb-true b 128 u), lt-leb (256 - N .z) b (omega (arith, ltb-true b 128 u))) (sym t)
 
       high : leb b (N .z) ≡ false → ltb b 128 ≡ false → inRange N b ≡ leb (natAbs (fromByte b)) (N .z)
       high t u =
-          rw (t, byte-high b h (ltb-false b 128 u))
+          rw (t, abs-high b h (ltb-false b 128 u))
           (by-test (leb (256 - N .z) b)
           (λ w. w ∙ sym (le-leb (256 - b) (N .z) (omega (arith, leb-true (256 - N .z) b w))))
           (λ w. w ∙ sym (lt-leb (256 - b) (N .z) (omega (arith, leb-false (256 - N .z) b w)))))

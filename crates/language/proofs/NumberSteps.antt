@@ -1,9 +1,9 @@
 -- What the functions on numbers return, over plain variables.
-use Prim.Native.Nat.{ℕ, suc, _+_, _-_, _%_, _≤_, _<_}
+use Prim.Native.Nat.{ℕ, _-_, _%_, _≤_, _<_}
 use native.Mathlib.Omega.{arith}
-use mathlib.Core.Path.{_≡_, refl, ap, _∙_, sym}
-use mathlib.Core.Bool.{Bool, true, false}
-use lib.Dec.{leb, ltb}
+use mathlib.Core.Path.{_≡_, ap, _∙_}
+use mathlib.Core.Bool.{true, false}
+use lib.Dec.{leb}
 use lib.IntN.{ℤ, pos, negsuc, _-ℤ_}
 use lib.Signed.{mag, ltZ}
 use borrow.Author.Tests.{ltb-true, lt-ltb, le-ltb, le-leb, lt-leb}
@@ -13,15 +13,15 @@ use Rattle.language.specs.declared.Numbers.{Numbers}
 use Rattle.language.specs.Number.{numbers, modulo, code, signed, fromByte, inRange}
 use Rattle.language.proofs.Bits.{nat-back}
 
-pub modulo-neg : (v : ℤ) (n : ℕ) {m : ℕ} → m ≡ mag v → ltZ v (pos 0) ≡ true → n - 1 - m % n ≡ modulo v n
+pub modulo-below-0 : (v : ℤ) (n : ℕ) {m : ℕ} → m ≡ mag v → ltZ v (pos 0) ≡ true → n - 1 - m % n ≡ modulo v n
 unfolding modulo
-modulo-neg (pos a) n e h = absurd (omega (arith, ltb-true a 0 h))
-modulo-neg (negsuc a) n e h = rw e (omega arith)
+modulo-below-0 (pos a) n e h = absurd (omega (arith, ltb-true a 0 h))
+modulo-below-0 (negsuc a) n e h = rw e (omega arith)
 
-pub modulo-pos : (v : ℤ) (n : ℕ) {m : ℕ} → m ≡ mag v → ltZ v (pos 0) ≡ false → m % n ≡ modulo v n
+pub modulo-from-0 : (v : ℤ) (n : ℕ) {m : ℕ} → m ≡ mag v → ltZ v (pos 0) ≡ false → m % n ≡ modulo v n
 unfolding modulo
-modulo-pos (pos a) n e h = ap (λ (x : ℕ). x % n) e
-modulo-pos (negsuc a) n e h = let z : _≡_ {A = ℕ} 0 1 = cc in absurd (omega arith)
+modulo-from-0 (pos a) n e h = ap (λ (x : ℕ). x % n) e
+modulo-from-0 (negsuc a) n e h = let z : _≡_ {A = ℕ} 0 1 = cc in absurd (omega arith)
 
 pub code-is : (N : Numbers) (v : ℤ) {n r : ℕ} → n ≡ numbers N → r ≡ modulo v n → r ≡ code N v
 unfolding code

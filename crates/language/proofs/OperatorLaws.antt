@@ -1,7 +1,7 @@
 -- Results of operators are codes: of a number for plus, minus, times and remainder, of a truth for the others.
 use Prim.Native.Nat.{ℕ, _≤_, _<_}
 use native.Mathlib.Omega.{arith}
-use mathlib.Core.Path.{_≡_, refl, sym, _∙_, subst}
+use mathlib.Core.Path.{_≡_, refl}
 use mathlib.Core.Bool.{Bool, true, false}
 use mathlib.Core.Option.{Option, none, some}
 use lib.Dec.{eqb, ltb}
@@ -10,7 +10,7 @@ use lib.Signed.{ltZ}
 use borrow.Author.Tests.{ne-eqb, eqb-false, ltb-true, ltb-false}
 use Rattle.language.specs.declared.Numbers.{Numbers}
 use Rattle.language.specs.Choice.{pick}
-use Rattle.language.specs.Number.{numbers, code, signed}
+use Rattle.language.specs.Number.{numbers, signed}
 use Rattle.language.specs.Operator.{fit, fitSome, remainder, truth, operate}
 use Rattle.language.proofs.NumberLaws.{code-below, by-test}
 

@@ -3,8 +3,8 @@
 --
 -- Inside, a value is a code. A truth is its own code, 0 or 1. A number v has the code v modulo 2Z + 1: 0 to Z are
 -- themselves, then come -Z to -1. So false and 0 have the code 0, and a truth's code is also that of a number.
-use Prim.Native.Nat.{ℕ, suc, _+_, _-_, _*_, _%_, _≤_}
-use mathlib.Core.Bool.{Bool, true, false}
+use Prim.Native.Nat.{ℕ, suc, _+_, _-_, _*_, _%_}
+use mathlib.Core.Bool.{Bool, true}
 use lib.Dec.{leb, ltb}
 use lib.IntN.{ℤ, pos, negsuc, _-ℤ_}
 use Rattle.language.specs.declared.Numbers.{Numbers}

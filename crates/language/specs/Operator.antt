@@ -1,10 +1,10 @@
 -- The nine operators. Document 01, "The sheet, byte by byte" (their numbers and types) and "Plays" (overflow and
 -- remainder).
-use Prim.Native.Nat.{ℕ, suc}
+use Prim.Native.Nat.{ℕ}
 use mathlib.Core.Bool.{Bool, true, false}
 use mathlib.Core.Option.{Option, none, some}
 use lib.Dec.{eqb, ltb}
-use lib.IntN.{ℤ, pos, negsuc, natAbs, _+ℤ_, _-ℤ_, _*ℤ_}
+use lib.IntN.{ℤ, natAbs, _+ℤ_, _-ℤ_, _*ℤ_}
 use lib.Signed.{ltZ, remZ}
 use Rattle.language.specs.declared.Numbers.{Numbers}
 use Rattle.language.specs.declared.operator.Outcome.{Outcome}

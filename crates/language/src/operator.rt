@@ -6,7 +6,7 @@ ghost use mathlib.Core.Bool.{true, false};
 ghost use mathlib.Core.Option.{some};
 ghost use Prim.Native.Nat.{_≤_};
 ghost use lib.Dec.{eqb};
-ghost use lib.IntN.{pos, natAbs, _+ℤ_, _-ℤ_, _*ℤ_};
+ghost use lib.IntN.{natAbs, _+ℤ_, _-ℤ_, _*ℤ_};
 ghost use lib.Signed.{ltZ, remZ};
 ghost use Rattle.language.specs.Choice.{pick};
 ghost use Rattle.language.specs.Number.{code, signed};
@@ -73,24 +73,28 @@ pub fn fit(n: Numbers, v: i64) -> Outcome
     kept(n, v)
 }
 
+// Plus.
 fn sum(n: Numbers, x: u16, y: u16) -> Outcome
     ensures { λ r. ⌜ r ≡ outcome (fit n (signed n x +ℤ signed n y)) ⌝ }
 {
     fit(n, add(number::signed(n, x), number::signed(n, y)))
 }
 
+// Minus.
 fn difference(n: Numbers, x: u16, y: u16) -> Outcome
     ensures { λ r. ⌜ r ≡ outcome (fit n (signed n x -ℤ signed n y)) ⌝ }
 {
     fit(n, sub(number::signed(n, x), number::signed(n, y)))
 }
 
+// Times.
 fn product(n: Numbers, x: u16, y: u16) -> Outcome
     ensures { λ r. ⌜ r ≡ outcome (fit n (signed n x *ℤ signed n y)) ⌝ }
 {
     fit(n, mul(number::signed(n, x), number::signed(n, y)))
 }
 
+// Remainder: it has the sign of the left operand, and a right operand of 0 has no play.
 fn remainder(n: Numbers, x: u16, y: u16) -> Outcome
     ensures { λ r. ⌜ r ≡ outcome (fitSome n (remainder (signed n x) (signed n y))) ⌝ }
 {
@@ -101,6 +105,7 @@ fn remainder(n: Numbers, x: u16, y: u16) -> Outcome
     fit(n, rem(number::signed(n, x), d))
 }
 
+// The code of a truth.
 fn truth(b: bool) -> Outcome
     ensures { λ r. ⌜ r ≡ outcome (some (truth b)) ⌝ }
 {
@@ -110,18 +115,21 @@ fn truth(b: bool) -> Outcome
     Outcome::Is { code: 0 }
 }
 
+// Whether x is less than y.
 fn below(x: i64, y: i64) -> bool
     ensures { λ r. ⌜ r ≡ ltZ x y ⌝ }
 {
     x < y
 }
 
+// Less, on numbers.
 fn less(n: Numbers, x: u16, y: u16) -> Outcome
     ensures { λ r. ⌜ r ≡ outcome (some (truth (ltZ (signed n x) (signed n y)))) ⌝ }
 {
     truth(below(number::signed(n, x), number::signed(n, y)))
 }
 
+// And.
 fn both(x: u16, y: u16) -> Outcome
     ensures { λ r. ⌜ r ≡ outcome (some (truth (pick (eqb x 1) (eqb y 1) false))) ⌝ }
 {
@@ -131,6 +139,7 @@ fn both(x: u16, y: u16) -> Outcome
     truth(false)
 }
 
+// Or.
 fn either(x: u16, y: u16) -> Outcome
     ensures { λ r. ⌜ r ≡ outcome (some (truth (pick (eqb x 1) true (eqb y 1)))) ⌝ }
 {
@@ -140,13 +149,15 @@ fn either(x: u16, y: u16) -> Outcome
     truth(y == 1)
 }
 
+// Equal, on numbers and on truths: two values are equal exactly if their codes are.
 fn equal(x: u16, y: u16) -> Outcome
     ensures { λ r. ⌜ r ≡ outcome (some (truth (eqb x y))) ⌝ }
 {
     truth(x == y)
 }
 
-// The result of an operator: 0 plus, 1 minus, 2 times, 3 remainder, 4 equal, 5 less, 6 and, 7 or, 8 equal on truths.
+// The code of an operator's result, or no play: 0 plus, 1 minus, 2 times, 3 remainder, 4 equal, 5 less, 6 and, 7 or,
+// 8 equal on truths.
 pub fn operate(n: Numbers, op: u8, x: u16, y: u16) -> Outcome
     ensures { λ r. ⌜ r ≡ outcome (operate n op x y) ⌝ }
 {

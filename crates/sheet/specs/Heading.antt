@@ -30,13 +30,13 @@ fresh s st at = both (below s at 255) (pick (eqb (getD st (getD s at 0) 0) 0) Go
 unfoldable pub argument : List ℕ → ℕ → ℕ → Judged
 argument s at j = pick (ltb j (getD s (at + 3) 0)) (below s (at + 4 + j) 5) (unused s (at + 4 + j))
 
+abbrev pub arguments : List ℕ → ℕ → Judged
+arguments s at = both (argument s at 0) (both (argument s at 1) (both (argument s at 2) (argument s at 3)))
+
 -- the body of the declare record at a place: id, result type, count, four argument types
 unfoldable pub declareOf : List ℕ → List ℕ → ℕ → Judged
 declareOf s st at =
-    both (fresh s st (at + 1))
-    (both (below s (at + 2) 5)
-    (both (below s (at + 3) 5)
-    (both (argument s at 0) (both (argument s at 1) (both (argument s at 2) (argument s at 3))))))
+    both (fresh s st (at + 1)) (both (below s (at + 2) 5) (both (below s (at + 3) 5) (arguments s at)))
 
 -- the body of the retire record at a place: id
 unfoldable pub retireOf : List ℕ → List ℕ → ℕ → Judged

@@ -4,4 +4,5 @@ pub mod Meaning
 pub mod Fine
 pub mod Heading
 pub mod Reader
+pub mod Check
 pub mod table

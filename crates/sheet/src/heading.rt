@@ -1,7 +1,108 @@
 // The judgement of name records.
+use records::head::{byte_at, standing_of};
+ghost use mathlib.Core.Path.{_≡_};
+ghost use Prim.Native.Nat.{_+_, _≤_, _<_};
+ghost use lib.ListN.{getD, set};
+ghost use Rattle.sheet.specs.Heading.{both, below, unused, fresh, argument, arguments, declareOf};
 
 // A judgement of bytes: good, or the refusal's number and place.
 pub enum Judged {
     Good,
     Bad { number: u8, place: usize },
+}
+
+// A byte below a limit.
+fn judge_below(s: &[u8], at: usize, limit: u8) -> Judged
+    ensures { λ r. ⌜ r ≡ below (now (s .entry)) at limit ⌝ }
+{
+    if s.len() <= at {
+        return Judged::Bad { number: 2, place: s.len() };
+    }
+    if limit <= s[at] {
+        return Judged::Bad { number: 3, place: at };
+    }
+    Judged::Good
+}
+
+// The type of an argument that is not there.
+fn judge_unused(s: &[u8], at: usize) -> Judged
+    ensures { λ r. ⌜ r ≡ unused (now (s .entry)) at ⌝ }
+{
+    if s.len() <= at {
+        return Judged::Bad { number: 2, place: s.len() };
+    }
+    if s[at] == 255 {
+        return Judged::Good;
+    }
+    Judged::Bad { number: 3, place: at }
+}
+
+// An id that is neither declared nor retired.
+pub fn judge_fresh(s: &[u8], st: &[u16; 255], at: usize) -> Judged
+    ensures { λ r. ⌜ r ≡ fresh (now (s .entry)) (now (st .entry)) at ⌝ }
+{
+    let range = judge_below(s, at, 255);
+    match range {
+        Judged::Bad { number, place } => Judged::Bad { number, place },
+        Judged::Good => {
+            let id = byte_at(s, at);
+            if standing_of(st, id) == 0 {
+                return Judged::Good;
+            }
+            Judged::Bad { number: 4, place: at }
+        }
+    }
+}
+
+// The type of argument j of the record at a place.
+fn judge_argument(s: &[u8], at: usize, j: u8) -> Judged
+    requires { ⌜ at < 65536 ⌝ }
+    ensures { λ r. ⌜ r ≡ argument (now (s .entry)) at j ⌝ }
+{
+    let place = at + 4 + j as usize;
+    if j < byte_at(s, at + 3) {
+        return judge_below(s, place, 5);
+    }
+    judge_unused(s, place)
+}
+
+// A judgement, then another.
+fn judge_both(first: Judged, then: Judged) -> Judged
+    ensures { λ r. ⌜ r ≡ both first then ⌝ }
+{
+    match first {
+        Judged::Good => then,
+        Judged::Bad { number, place } => Judged::Bad { number, place },
+    }
+}
+
+// The four argument types of the record at a place.
+fn judge_arguments(s: &[u8], at: usize) -> Judged
+    requires { ⌜ at < 65536 ⌝ }
+    ensures { λ r. ⌜ r ≡ arguments (now (s .entry)) at ⌝ }
+{
+    let last = judge_both(judge_argument(s, at, 2), judge_argument(s, at, 3));
+    judge_both(judge_argument(s, at, 0), judge_both(judge_argument(s, at, 1), last))
+}
+
+// The body of the declare record at a place: id, result type, count, argument types.
+pub fn judge_declare(s: &[u8], st: &[u16; 255], at: usize) -> Judged
+    requires { ⌜ at < 65536 ⌝ }
+    ensures { λ r. ⌜ r ≡ declareOf (now (s .entry)) (now (st .entry)) at ⌝ }
+{
+    let counted = judge_both(judge_below(s, at + 3, 5), judge_arguments(s, at));
+    judge_both(judge_fresh(s, st, at + 1), judge_both(judge_below(s, at + 2, 5), counted))
+}
+
+// The standings after the name record at a place, whose id gets standing c.
+pub fn registered(s: &[u8], st: &[u16; 255], at: usize, c: u16) -> [u16; 255]
+    requires { ⌜ at < 65536 ⌝ }
+    ensures { λ r. ⌜ r ≡ set (now (st .entry)) (getD (now (s .entry)) (at + 1) 0) c ⌝ }
+{
+    let id = byte_at(s, at + 1);
+    let mut next = *st;
+    if id < 255 {
+        next[id as usize] = c;
+    }
+    next
 }

@@ -1,15 +1,21 @@
 -- What the reader answers and what it leaves in the table of parts. Only inner contracts cite it.
 use Prim.Native.Nat.{ℕ, _+_, _*_, _≤_, _<_, min}
 use mathlib.Core.Path.{_≡_}
-use mathlib.Core.List.{List}
+use mathlib.Core.Bool.{Bool}
+use mathlib.Core.List.{List, []}
+use lib.ListN.{length}
+use lib.Dec.{ltb}
+use Rattle.language.specs.Choice.{pick}
 use Rattle.language.specs.declared.Numbers.{Numbers}
 use Rattle.records.specs.Rule.{typeOf, own}
 use Rattle.records.specs.Row as row
 use Rattle.records.specs.Row.{linked}
 use Rattle.records.specs.declared.head.Record.{Record}
-use Rattle.sheet.specs.Reader.{Tree, node, Trees, leaf, branch, Answer, got, refused, Whole, whole}
+use Rattle.sheet.specs.Reader.{Tree, node, Trees, leaf, branch, Answer, got, refused, bind, readPart, Whole, whole, sizeOf}
 use Rattle.sheet.specs.declared.part.Part.{Part}
 use Rattle.sheet.specs.declared.part.Part.the-variants.{Read, Refused}
+use Rattle.sheet.specs.declared.names.Reading.{Reading}
+use Rattle.sheet.specs.declared.names.Reading.the-variants.{Sheet, Refusal}
 
 -- the rows of a part and of its parts, and of parts j, j + 1, .. of the record at p
 unfoldable mutual
@@ -47,3 +53,27 @@ closedAnswer s r (Refused n p) = Refused n p
 unfoldable pub closedTable : Numbers → List ℕ → Record → Part → List ℕ → List ℕ
 closedTable N s r (Read last w next) t = row.written N r (typeOf (r .rule) s r last) (own (r .rule) + w) t
 closedTable N s r (Refused n p) t = t
+
+-- the term of a sheet, without name records
+abbrev pub termAt : Numbers → List ℕ → List ℕ → ℕ → Answer Whole
+termAt N s st at = bind (readPart 32 N s st 0 at) (λ t ty w end. got (whole [] at t) ty w end)
+
+-- a whole sheet: the answer and the table
+unfoldable pub eraseSheet : Answer Whole → Reading
+eraseSheet (got (whole ns root x) ty w next) = Sheet root ty (min w 4097) next
+eraseSheet (refused n p) = Refusal n p
+
+unfoldable pub LeavesSheet : Numbers → Answer Whole → List ℕ → List ℕ → Type 0
+LeavesSheet N (got (whole ns root x) ty w next) t u = u ≡ fill N x t
+LeavesSheet N (refused n p) t u = Unit
+
+pub record ReadsSheet (N : Numbers) (A : Answer Whole) (r : Reading) (t u : List ℕ) : Type 0 where
+  pub answer : r ≡ eraseSheet A
+  pub table : LeavesSheet N A t u
+
+-- the end of a sheet judged
+unfoldable pub closedReading : Numbers → List ℕ → Reading → Reading
+closedReading N s (Sheet root ty w next) =
+    pick (ltb next (length s)) (Refusal 10 next)
+    (pick (ltb 4096 (min (sizeOf N ty w) 4097)) (Refusal 11 0) (Sheet root ty w next))
+closedReading N s (Refusal n p) = Refusal n p

@@ -1,5 +1,6 @@
 -- A byte below 128 is the number; another lies 256 above it.
 use borrow.Author.Needs.{needs}
+use native.Mathlib.Omega.{arith}
 use Rattle.language.proofs.Bits.{read}
 use Rattle.language.proofs.NumberSteps.{byte-low, byte-high}
 use Rattle.language.proofs.number.from_byte.Statement.{statement}
@@ -9,13 +10,13 @@ cast-result : tie.Need-cast-result
 cast-result c = search needs
 
 returns : tie.Need-returns
-returns c = byte-low (c .before .args .b) (c .if1 .taken)
+returns c = byte-low (c .before .args .b) (omega arith)
 
 minus-requires : tie.Need-minus-requires
 minus-requires c κs = search needs
 
 returns-2 : tie.Need-returns-2
-returns-2 c = read (c .minus .ok) (byte-high (c .before .before .args .b) (c .before .if1 .left) (c .minus .ensures))
+returns-2 c = read (c .minus .ok) (byte-high (c .before .before .args .b) (omega arith) (c .minus .ensures))
 
 pub from-byte-spec : {M : Type 1} → statement M
 from-byte-spec = tie.close (tie.spec cast-result returns minus-requires returns-2)

@@ -1,11 +1,12 @@
 -- Up to Z, or from 256 - Z.
 use borrow.Author.Needs.{needs}
+use native.Mathlib.Omega.{arith}
 use Rattle.language.proofs.NumberSteps.{range-low, range-high}
 use Rattle.language.proofs.number.in_range.Statement.{statement}
 use Rattle.language.proofs.number.in_range.Tie as tie
 
 returns : tie.Need-returns
-returns c = range-low (c .before .before .args .n) (c .before .before .args .b) (c .if1 .taken)
+returns c = range-low (c .before .before .args .n) (c .before .before .args .b) (omega arith)
 
 cast-result : tie.Need-cast-result
 cast-result c = search needs
@@ -16,7 +17,7 @@ sub-result c = search needs
 returns-2 : tie.Need-returns-2
 returns-2 c =
     let a = c .before .before .before .args in
-    range-high (a .n) (a .b) (c .before .if1 .left)
+    range-high (a .n) (a .b) (omega arith)
 
 pub in-range-spec : {M : Type 1} → statement M
 in-range-spec = tie.close (tie.spec returns cast-result sub-result returns-2)

@@ -3,7 +3,7 @@ use borrow.Author.Needs.{needs}
 use native.Mathlib.Omega.{arith}
 use native.Mathlib.Nat.{mod-lt}
 use Rattle.language.proofs.Bits.{mag-back, test-back}
-use Rattle.language.proofs.NumberSteps.{modulo-neg, modulo-pos}
+use Rattle.language.proofs.NumberSteps.{modulo-below-0, modulo-from-0}
 use Rattle.language.proofs.number.modulo.Statement.{statement}
 use Rattle.language.proofs.number.modulo.Tie as tie
 
@@ -25,13 +25,15 @@ sub-result-2 c = omega (arith, mod-lt (c .before .magnitude .result) (c .before 
 returns : tie.Need-returns
 returns c =
     let f = c .before .before .fits .v in
-    modulo-neg (c .before .before .args .v) (c .before .before .args .n) (mag-back f (c .before .magnitude .ensures))
+    modulo-below-0 (c .before .before .args .v) (c .before .before .args .n)
+    (mag-back f (c .before .magnitude .ensures))
     (test-back f (c .if1 .taken))
 
 returns-2 : tie.Need-returns-2
 returns-2 c =
     let f = c .before .before .fits .v in
-    modulo-pos (c .before .before .args .v) (c .before .before .args .n) (mag-back f (c .before .magnitude .ensures))
+    modulo-from-0 (c .before .before .args .v) (c .before .before .args .n)
+    (mag-back f (c .before .magnitude .ensures))
     (test-back f (c .if1 .left))
 
 pub modulo-spec : {M : Type 1} → statement M

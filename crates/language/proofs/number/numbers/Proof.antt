@@ -1,6 +1,6 @@
 -- 2Z + 1 is below 65,536.
 use borrow.Author.Needs.{needs}
-use mathlib.Core.Path.{refl}
+use native.Mathlib.Omega.{arith}
 use Rattle.language.specs.Number.{numbers}
 use Rattle.language.proofs.number.numbers.Statement.{statement}
 use Rattle.language.proofs.number.numbers.Tie as tie
@@ -16,7 +16,7 @@ add-result c = search needs
 
 returns : tie.Need-returns
 unfolding numbers
-returns c = refl
+returns c = omega arith
 
 pub numbers-spec : {M : Type 1} → statement M
 numbers-spec = tie.close (tie.spec cast-result mul-result add-result returns)

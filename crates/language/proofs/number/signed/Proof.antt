@@ -13,7 +13,7 @@ cast-result : tie.Need-cast-result
 cast-result c = search needs
 
 returns : tie.Need-returns
-returns c = signed-low (c .before .before .args .n) (c .before .before .args .c) (omega arith) (c .if1 .taken)
+returns c = signed-low (c .before .before .args .n) (c .before .before .args .c) (omega arith) (omega arith)
 
 numbers-requires : tie.Need-numbers-requires
 numbers-requires c κs = search needs
@@ -25,7 +25,7 @@ returns-2 : tie.Need-returns-2
 returns-2 c =
     let a = c .before .before .before .before .args in
     read (c .minus .ok)
-    (signed-high (a .n) (a .c) (c .before .before .if1 .left) (c .before .numbers .ensures) (c .minus .ensures))
+    (signed-high (a .n) (a .c) (omega arith) (c .before .numbers .ensures) (c .minus .ensures))
 
 pub signed-spec : {M : Type 1} → statement M
 signed-spec =

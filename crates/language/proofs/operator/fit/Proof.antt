@@ -1,5 +1,6 @@
 -- By the rule, and under rule 0 by the distance from 0.
 use borrow.Author.Needs.{needs}
+use native.Mathlib.Omega.{arith}
 use Rattle.language.proofs.Bits.{back}
 use Rattle.language.proofs.OperatorSteps.{fit-none, fit-kept, fit-turned}
 use Rattle.language.proofs.operator.fit.Statement.{statement}
@@ -15,7 +16,7 @@ returns : tie.Need-returns
 returns c =
     let a = c .before .before .before .before .before .args in
     let e = rw (back (c .before .before .before .before .before .fits .v)) at (c .before .absolute .ensures) in
-    fit-none (a .n) (a .v) e (c .before .before .before .if1 .taken) (c .if2 .taken)
+    fit-none (a .n) (a .v) e (c .before .before .before .if1 .taken) (omega arith)
 
 kept-requires : tie.Need-kept-requires
 kept-requires c κs = search needs
@@ -25,7 +26,7 @@ returns-2 c =
     let a = c .before .before .before .before .before .before .args in
     let b = back (c .before .before .before .before .before .before .fits .v) in
     let e = rw b at (c .before .before .absolute .ensures) in
-    fit-kept (a .n) (a .v) e (c .before .before .before .before .if1 .taken) (c .before .if2 .left)
+    fit-kept (a .n) (a .v) e (c .before .before .before .before .if1 .taken) (omega arith)
     (rw b at (c .kept .ensures))
 
 kept-requires-2 : tie.Need-kept-requires-2
@@ -34,7 +35,8 @@ kept-requires-2 c κs = search needs
 returns-3 : tie.Need-returns-3
 returns-3 c =
     let a = c .before .before .before .args in
-    fit-turned (a .n) (a .v) (c .before .if1 .left) (rw (back (c .before .before .before .fits .v)) at (c .kept2 .ensures))
+    let b = back (c .before .before .before .fits .v) in
+    fit-turned (a .n) (a .v) (c .before .if1 .left) (rw b at (c .kept2 .ensures))
 
 pub fit-spec : {M : Type 1} → statement M
 fit-spec =

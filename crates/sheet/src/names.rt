@@ -1,0 +1,83 @@
+// The name records before the term, and the term.
+use crate::heading::{Judged, judge_declare, judge_fresh, registered};
+use crate::part::{Part, read_part};
+use language::Numbers;
+use records::kind::{Shape, shape_of};
+use records::standing::declared_standing;
+ghost use mathlib.Core.Path.{_≡_};
+ghost use Prim.Native.Nat.{_+_, _-_, _≤_, _<_};
+ghost use lib.ListN.{length, getD, set};
+ghost use Rattle.sheet.specs.Written.{Name};
+ghost use Rattle.sheet.specs.Reader.{namesOf, nameOf};
+ghost use Rattle.sheet.specs.table.Fill.{ReadsSheet, termAt};
+
+// What reading a sheet gives: the place of the term, its type, its weight held at 4,097, and the place after it; or the refusal.
+pub enum Reading {
+    Sheet { root: usize, ty: u8, weight: u32, next: usize },
+    Refusal { number: u8, place: usize },
+}
+
+// Reads the term.
+fn read_term(s: &[u8], st: &[u16; 255], t: &mut [u16], n: Numbers, at: usize) -> Reading
+    requires { ⌜ length (now s) ≤ 4096 ⌝ }
+    ensures { λ x. ⌜ ReadsSheet n (termAt n (now (s .entry)) (now (st .entry)) at) x (now (t .entry)) (now (t .exit)) ⌝ }
+{
+    let p = read_part(s, st, t, n, 0, 32, at);
+    match p {
+        Part::Refused { number, place } => Reading::Refusal { number, place },
+        Part::Read { ty, weight, next } => Reading::Sheet { root: at, ty, weight, next },
+    }
+}
+
+// Reads name records, `left` of them still allowed, and the term.
+pub fn read_names(s: &[u8], st: &[u16; 255], t: &mut [u16], n: Numbers, left: u8, at: usize) -> Reading
+    requires { ⌜ length (now s) ≤ 4096 ⌝ }
+    ensures { λ x. ⌜ ReadsSheet n (namesOf left n (now (s .entry)) (now (st .entry)) at) x (now (t .entry)) (now (t .exit)) ⌝ }
+{
+    if s.len() <= at {
+        return Reading::Refusal { number: 2, place: s.len() };
+    }
+    let kind = s[at];
+    let shape = shape_of(kind);
+    match shape {
+        Shape::Unknown => Reading::Refusal { number: 3, place: at },
+        Shape::Part { body: _, parts: _, rule: _ } => read_term(s, st, t, n, at),
+        Shape::Declare { body } => {
+            let judged = judge_declare(s, st, at);
+            read_after(s, st, t, n, left, at, body, declared_standing(at), judged)
+        }
+        Shape::Retire { body } => {
+            let judged = judge_fresh(s, st, at + 1);
+            read_after(s, st, t, n, left, at, body, 1, judged)
+        }
+    }
+}
+
+// Goes on after the name record at a place, once its bytes are judged; its id gets standing c.
+fn read_after(
+    s: &[u8],
+    st: &[u16; 255],
+    t: &mut [u16],
+    n: Numbers,
+    left: u8,
+    at: usize,
+    body: u8,
+    c: u16,
+    judged: Judged,
+) -> Reading
+    requires { ⌜ (length (now s) ≤ 4096) × (at < 4096) ⌝ }
+    ensures { λ x. ⌜ ((name : Name) → ReadsSheet n
+        (nameOf (namesOf (left - 1) n (now (s .entry))) left (now (s .entry)) (now (st .entry)) at body c judged name) x
+        (now (t .entry)) (now (t .exit))) ⌝ }
+{
+    if left == 0 {
+        return Reading::Refusal { number: 9, place: at };
+    }
+    match judged {
+        Judged::Bad { number, place } => Reading::Refusal { number, place },
+        Judged::Good => {
+            let next = registered(s, st, at, c);
+            read_names(s, &next, t, n, left - 1, at + 1 + body as usize)
+        }
+    }
+}
