@@ -40,12 +40,15 @@ rowKind New r = r .kind
 unfoldable pub classOf : ℕ → ℕ
 classOf ty = pick (eqb ty 0) 0 (pick (ltb ty 3) 1 2)
 
+abbrev pub useDetail : Record → ℕ
+useDetail r = pick (isVariable (r .b)) (levelOf (r .b)) (r .a + 256 * r .parts)
+
 unfoldable pub detail : Rule → Numbers → Record → ℕ
 detail Skip N r = 0
 detail Diverge N r = 0
 detail Truth N r = r .a
 detail Number N r = code N (fromByte (r .a))
-detail Use N r = pick (isVariable (r .b)) (levelOf (r .b)) (r .a + 256 * r .parts)
+detail Use N r = useDetail r
 detail Fetch N r = 0
 detail Operate N r = r .a
 detail Assign N r = 0

@@ -37,15 +37,18 @@ pub fn byte_at(s: &[u8], at: usize) -> u8
     if at < s.len() { s[at] } else { 0 }
 }
 
+// The word at a place, 0 past the end.
+pub fn word_at(t: &[u16], at: usize) -> u16
+    ensures { λ r. ⌜ r ≡ getD (now (t .entry)) at 0 ⌝ }
+{
+    if at < t.len() { t[at] } else { 0 }
+}
+
 // The standing of an id, 0 for 255.
 pub fn standing_of(st: &[u16; 255], id: u8) -> u16
     ensures { λ r. ⌜ r ≡ getD (now (st .entry)) id 0 ⌝ }
 {
-    let all = *st;
-    if id < 255 {
-        return all[id as usize];
-    }
-    0
+    word_at(st, id as usize)
 }
 
 // The byte at `at`, which must be below `limit`.

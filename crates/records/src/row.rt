@@ -5,9 +5,9 @@ use crate::standing::{is_variable, level_of};
 use crate::weight::values_of;
 use language::Numbers;
 ghost use mathlib.Core.Path.{_≡_};
-ghost use Prim.Native.Nat.{_+_, _≤_, _<_};
+ghost use Prim.Native.Nat.{_+_, _≤_, _<_, min};
 ghost use lib.ListN.{set};
-ghost use Rattle.records.specs.Row.{cell, rowKind, classOf, detail, written, linked};
+ghost use Rattle.records.specs.Row.{cell, rowKind, classOf, useDetail, detail, written, linked};
 
 // Stores v at i, if the table reaches that far.
 pub fn put(t: &mut [u16], i: usize, v: u16)
@@ -24,6 +24,15 @@ pub fn cell_at(place: usize, i: usize) -> usize
     ensures { λ r. ⌜ r ≡ cell place i ⌝ }
 {
     9 * place + i
+}
+
+// Stores v in word i of the row at a place, if the table reaches that far.
+pub fn put_cell(t: &mut [u16], place: usize, i: usize, v: u16)
+    requires { ⌜ (place < 65536) × (i < 65536) ⌝ }
+    ensures { λ r. ⌜ now (t .exit) ≡ set (now (t .entry)) (cell place i) v ⌝ }
+{
+    let at = cell_at(place, i);
+    put(t, at, v);
 }
 
 // The kind in a record's row.
@@ -58,8 +67,8 @@ pub fn class_of(ty: u8) -> u16
 }
 
 // The detail of a use: of a private variable its level, of a name its id and 256 times the number of its arguments.
-fn use_detail(r: Record) -> u16
-    ensures { λ x. ⌜ x ≡ pick (isVariable (r .b)) (levelOf (r .b)) (r .a + 256 * r .parts) ⌝ }
+pub fn use_detail(r: Record) -> u16
+    ensures { λ x. ⌜ x ≡ useDetail r ⌝ }
 {
     let b = r.b;
     if is_variable(b) {
@@ -88,6 +97,16 @@ pub fn detail_of(rule: Rule, n: Numbers, r: Record) -> u16
     }
 }
 
+// A weight, held at 4,097.
+pub fn held(weight: u32) -> u16
+    ensures { λ r. ⌜ r ≡ min weight 4097 ⌝ }
+{
+    if 4097 <= weight {
+        return 4097;
+    }
+    weight as u16
+}
+
 // Writes the row of a record of type ty and the given weight, but for the places of its parts.
 pub fn write_row(t: &mut [u16], n: Numbers, r: Record, ty: u8, weight: u32)
     requires { ⌜ r .place < 65536 ⌝ }
@@ -95,12 +114,16 @@ pub fn write_row(t: &mut [u16], n: Numbers, r: Record, ty: u8, weight: u32)
 {
     let rule = r.rule;
     let place = r.place;
-    let held = if 4097 <= weight { 4097 } else { weight as u16 };
-    put(t, cell_at(place, 0), row_kind(rule, r));
-    put(t, cell_at(place, 1), held);
-    put(t, cell_at(place, 2), class_of(ty));
-    put(t, cell_at(place, 3), values_of(n, ty as u16));
-    put(t, cell_at(place, 4), detail_of(rule, n, r));
+    let kind = row_kind(rule, r);
+    let held = held(weight);
+    let class = class_of(ty);
+    let values = values_of(n, ty as u16);
+    let detail = detail_of(rule, n, r);
+    put_cell(t, place, 0, kind);
+    put_cell(t, place, 1, held);
+    put_cell(t, place, 2, class);
+    put_cell(t, place, 3, values);
+    put_cell(t, place, 4, detail);
 }
 
 // Writes the place of part j into the row at a place.
@@ -108,5 +131,5 @@ pub fn link(t: &mut [u16], place: usize, j: u8, part: usize)
     requires { ⌜ (place < 65536) × (part < 65536) ⌝ }
     ensures { λ x. ⌜ now (t .exit) ≡ linked place j part (now (t .entry)) ⌝ }
 {
-    put(t, cell_at(place, 5 + j as usize), part as u16);
+    put_cell(t, place, 5 + j as usize, part as u16);
 }

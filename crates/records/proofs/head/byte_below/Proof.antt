@@ -1,5 +1,7 @@
+-- The place is judged before the byte there.
 use borrow.Author.Needs.{needs}
-use borrow.Author.Tests.{le-leb, lt-leb, lt-ltb, le-ltb, eq-eqb, ne-eqb, not-true, not-false}
+use borrow.Author.Tests.{le-leb, lt-leb}
+use native.Mathlib.Omega.{arith}
 use Rattle.records.specs.Head.{byteOf}
 use Rattle.records.proofs.head.byte_below.Statement.{statement}
 use Rattle.records.proofs.head.byte_below.Tie as tie
@@ -12,7 +14,7 @@ shared-slice-read-b : tie.Need-shared-slice-read-b
 shared-slice-read-b c = search needs
 
 cast-if2 : tie.Need-cast-if2
-cast-if2 c = search needs
+cast-if2 c = omega (arith, c .shared-slice-known .given (c .before .before .args .at))
 
 returns-2 : tie.Need-returns-2
 unfolding byteOf

@@ -1,5 +1,6 @@
+-- One byte, then its range.
 use borrow.Author.Needs.{needs}
-use borrow.Author.Tests.{le-leb, lt-leb, lt-ltb, le-ltb, eq-eqb, ne-eqb, not-true, not-false}
+use mathlib.Core.Path.{_∙_, sym}
 use Rattle.records.specs.Head.{constant, onByte}
 use Rattle.records.proofs.head.constant_body.Statement.{statement}
 use Rattle.records.proofs.head.constant_body.Tie as tie
@@ -24,15 +25,24 @@ with-body-requires c κs = search needs
 
 returns : tie.Need-returns
 unfolding constant onByte
-returns c = simp (← c .before .before .before .before .before .before .byte-below .ensures, ← c .before .before .in-range .ensures, ← c .with-body .ensures, c .before .before .before .before .before .match .keys2, eq-eqb _ _ (c .before .if1 .taken))
+returns c =
+    simp
+    (sym (c .before .before .before .before .before .before .byte-below .ensures) ∙ c .before .before .before .before .found2 .given .1,
+    ← c .before .before .in-range .ensures, c .before .if1 .taken, ← c .with-body .ensures)
 
 returns-2 : tie.Need-returns-2
 unfolding constant onByte
-returns-2 c = simp (← c .before .before .before .byte-below .ensures, c .before .before .match .keys1)
+returns-2 c = simp (sym (c .before .before .before .byte-below .ensures) ∙ c .before .found .given .1)
 
 returns-3 : tie.Need-returns-3
 unfolding constant onByte
-returns-3 c = simp (← c .before .before .before .before .before .byte-below .ensures, ← c .before .in-range .ensures, c .before .before .before .before .match .keys2, eq-eqb _ _ (c .if1 .left))
+returns-3 c =
+    simp
+    (sym (c .before .before .before .before .before .byte-below .ensures) ∙ c .before .before .before .found2 .given .1,
+    ← c .before .in-range .ensures, c .if1 .left)
 
 pub constant-body-spec : {M : Type 1} → statement M
-constant-body-spec = tie.close (tie.spec add-at byte-below-requires enum-known-found enum-known-found-2 in-range-requires with-body-requires returns returns-2 returns-3)
+constant-body-spec =
+    tie.close (tie.spec
+    add-at byte-below-requires enum-known-found enum-known-found-2 in-range-requires with-body-requires returns
+    returns-2 returns-3)

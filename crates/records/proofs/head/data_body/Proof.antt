@@ -1,5 +1,7 @@
+-- One byte, which is not 0.
 use borrow.Author.Needs.{needs}
-use borrow.Author.Tests.{le-leb, lt-leb, lt-ltb, le-ltb, eq-eqb, ne-eqb, not-true, not-false}
+use borrow.Author.Tests.{eq-eqb, ne-eqb}
+use mathlib.Core.Path.{_∙_, sym}
 use Rattle.records.specs.Head.{dataByte, onByte}
 use Rattle.records.proofs.head.data_body.Statement.{statement}
 use Rattle.records.proofs.head.data_body.Tie as tie
@@ -18,7 +20,10 @@ enum-known-found-2 c = search needs
 
 returns : tie.Need-returns
 unfolding dataByte onByte
-returns c = simp (← c .before .before .before .before .byte-below .ensures, c .before .before .before .match .keys2, eq-eqb _ _ (c .if1 .taken))
+returns c =
+    simp
+    (sym (c .before .before .before .before .byte-below .ensures) ∙ c .before .before .found2 .given .1,
+    eq-eqb _ _ (c .if1 .taken))
 
 cast-with-body : tie.Need-cast-with-body
 cast-with-body c = search needs
@@ -28,11 +33,17 @@ with-body-requires c κs = search needs
 
 returns-2 : tie.Need-returns-2
 unfolding dataByte onByte
-returns-2 c = simp (← c .before .before .before .byte-below .ensures, c .before .before .match .keys1)
+returns-2 c = simp (sym (c .before .before .before .byte-below .ensures) ∙ c .before .found .given .1)
 
 returns-3 : tie.Need-returns-3
 unfolding dataByte onByte
-returns-3 c = simp (← c .before .before .before .before .before .byte-below .ensures, ← c .with-body .ensures, c .before .before .before .before .match .keys2, ne-eqb _ _ (c .before .if1 .left))
+returns-3 c =
+    simp
+    (sym (c .before .before .before .before .before .byte-below .ensures) ∙ c .before .before .before .found2 .given .1,
+    ne-eqb _ _ (c .before .if1 .left), ← c .with-body .ensures)
 
 pub data-body-spec : {M : Type 1} → statement M
-data-body-spec = tie.close (tie.spec add-at byte-below-requires enum-known-found enum-known-found-2 returns cast-with-body with-body-requires returns-2 returns-3)
+data-body-spec =
+    tie.close (tie.spec
+    add-at byte-below-requires enum-known-found enum-known-found-2 returns cast-with-body with-body-requires
+    returns-2 returns-3)

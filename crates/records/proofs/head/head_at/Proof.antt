@@ -1,6 +1,9 @@
+-- The kind is judged before the depth, and both before the body.
 use borrow.Author.Needs.{needs}
-use borrow.Author.Tests.{le-leb, lt-leb, lt-ltb, le-ltb, eq-eqb, ne-eqb, not-true, not-false}
-use Rattle.records.specs.Head.{headOf, onShape}
+use borrow.Author.Tests.{eq-eqb, le-leb, lt-leb, ne-eqb}
+use native.Mathlib.Omega.{arith}
+use mathlib.Core.Path.{_∙_, sym}
+use Rattle.records.specs.Head.{blank, headOf, onShape}
 use Rattle.records.proofs.head.head_at.Statement.{statement}
 use Rattle.records.proofs.head.head_at.Tie as tie
 
@@ -28,29 +31,50 @@ enum-known-shape c = search needs
 
 returns-2 : tie.Need-returns-2
 unfolding headOf onShape
-returns-2 c = simp (← c .before .before .before .before .shape-of .ensures, lt-leb _ _ (c .before .before .before .before .before .before .if1 .left), c .before .before .before .match .keys4, eq-eqb _ _ (c .if2 .taken))
+returns-2 c =
+    simp
+    (lt-leb _ _ (c .before .before .before .before .before .before .if1 .left),
+    sym (c .before .before .before .before .shape-of .ensures) ∙ c .before .before .shape .given .1,
+    eq-eqb _ _ (c .if2 .taken))
 
 blank-record-requires : tie.Need-blank-record-requires
 blank-record-requires c κs = search needs
 
 body-at-requires : tie.Need-body-at-requires
-body-at-requires c κs = search needs
+unfolding blank
+body-at-requires c κs = rw (c .blank-record .ensures) (omega arith)
 
 returns-3 : tie.Need-returns-3
 unfolding headOf onShape
-returns-3 c = simp (c .enum-told .given .1, ← c .before .before .shape-of .ensures, lt-leb _ _ (c .before .before .before .before .if1 .left), c .before .match .keys1)
+returns-3 c =
+    simp
+    (lt-leb _ _ (c .before .before .before .before .if1 .left),
+    sym (c .before .before .shape-of .ensures) ∙ c .enum-told .given .1)
 
 returns-4 : tie.Need-returns-4
 unfolding headOf onShape
-returns-4 c = simp (c .enum-told2 .given .1, ← c .before .before .shape-of .ensures, lt-leb _ _ (c .before .before .before .before .if1 .left), c .before .match .keys2)
+returns-4 c =
+    simp
+    (lt-leb _ _ (c .before .before .before .before .if1 .left),
+    sym (c .before .before .shape-of .ensures) ∙ c .enum-told2 .given .1)
 
 returns-5 : tie.Need-returns-5
 unfolding headOf onShape
-returns-5 c = simp (c .enum-told3 .given .1, ← c .before .before .shape-of .ensures, lt-leb _ _ (c .before .before .before .before .if1 .left), c .before .match .keys3)
+returns-5 c =
+    simp
+    (lt-leb _ _ (c .before .before .before .before .if1 .left),
+    sym (c .before .before .shape-of .ensures) ∙ c .enum-told3 .given .1)
 
 returns-6 : tie.Need-returns-6
 unfolding headOf onShape
-returns-6 c = simp (← c .before .before .before .before .before .before .shape-of .ensures, ← c .before .blank-record .ensures, ← c .body-at .ensures, lt-leb _ _ (c .before .before .before .before .before .before .before .before .if1 .left), c .before .before .before .before .before .match .keys4, ne-eqb _ _ (c .before .before .if2 .left))
+returns-6 c =
+    simp
+    (lt-leb _ _ (c .before .before .before .before .before .before .before .before .if1 .left),
+    sym (c .before .before .before .before .before .before .shape-of .ensures) ∙ c .before .before .before .before .shape .given .1,
+    ne-eqb _ _ (c .before .before .if2 .left), ← c .before .blank-record .ensures, ← c .body-at .ensures)
 
 pub head-at-spec : {M : Type 1} → statement M
-head-at-spec = tie.close (tie.spec returns shared-slice-read-kind shape-of-requires enum-told enum-told-2 enum-told-3 enum-known-shape returns-2 blank-record-requires body-at-requires returns-3 returns-4 returns-5 returns-6)
+head-at-spec =
+    tie.close (tie.spec
+    returns shared-slice-read-kind shape-of-requires enum-told enum-told-2 enum-told-3 enum-known-shape
+    returns-2 blank-record-requires body-at-requires returns-3 returns-4 returns-5 returns-6)

@@ -1,5 +1,6 @@
+-- One byte below the limit.
 use borrow.Author.Needs.{needs}
-use borrow.Author.Tests.{le-leb, lt-leb, lt-ltb, le-ltb, eq-eqb, ne-eqb, not-true, not-false}
+use mathlib.Core.Path.{_∙_, sym}
 use Rattle.records.specs.Head.{limited, onByte}
 use Rattle.records.proofs.head.limited_body.Statement.{statement}
 use Rattle.records.proofs.head.limited_body.Tie as tie
@@ -21,11 +22,16 @@ with-body-requires c κs = search needs
 
 returns : tie.Need-returns
 unfolding limited onByte
-returns c = simp (← c .before .before .before .byte-below .ensures, c .before .before .match .keys1)
+returns c = simp (sym (c .before .before .before .byte-below .ensures) ∙ c .before .found .given .1)
 
 returns-2 : tie.Need-returns-2
 unfolding limited onByte
-returns-2 c = simp (← c .before .before .before .before .byte-below .ensures, ← c .with-body .ensures, c .before .before .before .match .keys2)
+returns-2 c =
+    simp
+    (sym (c .before .before .before .before .byte-below .ensures) ∙ c .before .before .found2 .given .1,
+    ← c .with-body .ensures)
 
 pub limited-body-spec : {M : Type 1} → statement M
-limited-body-spec = tie.close (tie.spec add-at byte-below-requires enum-known-found enum-known-found-2 with-body-requires returns returns-2)
+limited-body-spec =
+    tie.close (tie.spec
+    add-at byte-below-requires enum-known-found enum-known-found-2 with-body-requires returns returns-2)

@@ -1,5 +1,7 @@
+-- The id is judged before the data.
 use borrow.Author.Needs.{needs}
-use borrow.Author.Tests.{le-leb, lt-leb, lt-ltb, le-ltb, eq-eqb, ne-eqb, not-true, not-false}
+use borrow.Author.Tests.{eq-eqb, ne-eqb}
+use mathlib.Core.Path.{_∙_, sym}
 use Rattle.records.specs.Head.{newOf, onByte}
 use Rattle.records.proofs.head.new_body.Statement.{statement}
 use Rattle.records.proofs.head.new_body.Tie as tie
@@ -21,7 +23,10 @@ standing-of-requires c κs = search needs
 
 returns : tie.Need-returns
 unfolding newOf onByte
-returns c = simp (← c .before .before .before .before .before .byte-below .ensures, ← c .before .standing-of .ensures, c .before .before .before .before .match .keys2, eq-eqb _ _ (c .if1 .taken))
+returns c =
+    simp
+    (sym (c .before .before .before .before .before .byte-below .ensures) ∙ c .before .before .before .found2 .given .1,
+    ← c .before .standing-of .ensures, eq-eqb _ _ (c .if1 .taken))
 
 is-variable-requires : tie.Need-is-variable-requires
 is-variable-requires c κs = search needs
@@ -31,15 +36,26 @@ data-body-requires c κs = search needs
 
 returns-2 : tie.Need-returns-2
 unfolding newOf onByte
-returns-2 c = simp (← c .before .before .before .before .before .before .before .before .byte-below .ensures, ← c .before .before .before .before .standing-of .ensures, ← c .before .before .is-variable .ensures, ← c .data-body .ensures, c .before .before .before .before .before .before .before .match .keys2, ne-eqb _ _ (c .before .before .before .if1 .left), eq-eqb _ _ (c .before .if2 .taken))
+returns-2 c =
+    simp
+    (sym (c .before .before .before .before .before .before .before .before .byte-below .ensures) ∙ c .before .before .before .before .before .before .found2 .given .1,
+    ← c .before .before .before .before .standing-of .ensures, ne-eqb _ _ (c .before .before .before .if1 .left),
+    ← c .before .before .is-variable .ensures, c .before .if2 .taken, ← c .data-body .ensures)
 
 returns-3 : tie.Need-returns-3
 unfolding newOf onByte
-returns-3 c = simp (← c .before .before .before .byte-below .ensures, c .before .before .match .keys1)
+returns-3 c = simp (sym (c .before .before .before .byte-below .ensures) ∙ c .before .found .given .1)
 
 returns-4 : tie.Need-returns-4
 unfolding newOf onByte
-returns-4 c = simp (← c .before .before .before .before .before .before .before .byte-below .ensures, ← c .before .before .before .standing-of .ensures, ← c .before .is-variable .ensures, c .before .before .before .before .before .before .match .keys2, ne-eqb _ _ (c .before .before .if1 .left), eq-eqb _ _ (c .if2 .left))
+returns-4 c =
+    simp
+    (sym (c .before .before .before .before .before .before .before .byte-below .ensures) ∙ c .before .before .before .before .before .found2 .given .1,
+    ← c .before .before .before .standing-of .ensures, ne-eqb _ _ (c .before .before .if1 .left),
+    ← c .before .is-variable .ensures, c .if2 .left)
 
 pub new-body-spec : {M : Type 1} → statement M
-new-body-spec = tie.close (tie.spec add-at byte-below-requires enum-known-found enum-known-found-2 standing-of-requires returns is-variable-requires data-body-requires returns-2 returns-3 returns-4)
+new-body-spec =
+    tie.close (tie.spec
+    add-at byte-below-requires enum-known-found enum-known-found-2 standing-of-requires returns
+    is-variable-requires data-body-requires returns-2 returns-3 returns-4)

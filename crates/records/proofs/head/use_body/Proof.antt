@@ -1,6 +1,8 @@
+-- One byte, then the standing of the id.
 use borrow.Author.Needs.{needs}
-use borrow.Author.Tests.{le-leb, lt-leb, lt-ltb, le-ltb, eq-eqb, ne-eqb, not-true, not-false}
-use Rattle.records.specs.Head.{useOf, onByte}
+use borrow.Author.Tests.{eq-eqb, ne-eqb}
+use mathlib.Core.Path.{_∙_, sym}
+use Rattle.records.specs.Head.{onByte, useOf}
 use Rattle.records.proofs.head.use_body.Statement.{statement}
 use Rattle.records.proofs.head.use_body.Tie as tie
 
@@ -21,22 +23,35 @@ standing-of-requires c κs = search needs
 
 returns : tie.Need-returns
 unfolding useOf onByte
-returns c = simp (← c .before .before .before .before .before .byte-below .ensures, ← c .before .standing-of .ensures, c .before .before .before .before .match .keys2, eq-eqb _ _ (c .if1 .taken))
+returns c =
+    simp
+    (sym (c .before .before .before .before .before .byte-below .ensures) ∙ c .before .before .before .found2 .given .1,
+    ← c .before .standing-of .ensures, eq-eqb _ _ (c .if1 .taken))
 
 returns-2 : tie.Need-returns-2
 unfolding useOf onByte
-returns-2 c = simp (← c .before .before .before .before .before .before .byte-below .ensures, ← c .before .before .standing-of .ensures, c .before .before .before .before .before .match .keys2, ne-eqb _ _ (c .before .if1 .left), eq-eqb _ _ (c .if2 .taken))
+returns-2 c =
+    simp
+    (sym (c .before .before .before .before .before .before .byte-below .ensures) ∙ c .before .before .before .before .found2 .given .1,
+    ← c .before .before .standing-of .ensures, ne-eqb _ _ (c .before .if1 .left), eq-eqb _ _ (c .if2 .taken))
 
 used-record-requires : tie.Need-used-record-requires
 used-record-requires c κs = search needs
 
 returns-3 : tie.Need-returns-3
 unfolding useOf onByte
-returns-3 c = simp (← c .before .before .before .byte-below .ensures, c .before .before .match .keys1)
+returns-3 c = simp (sym (c .before .before .before .byte-below .ensures) ∙ c .before .found .given .1)
 
 returns-4 : tie.Need-returns-4
 unfolding useOf onByte
-returns-4 c = simp (← c .before .before .before .before .before .before .before .byte-below .ensures, ← c .before .before .before .standing-of .ensures, ← c .used-record .ensures, c .before .before .before .before .before .before .match .keys2, ne-eqb _ _ (c .before .before .if1 .left), ne-eqb _ _ (c .before .if2 .left))
+returns-4 c =
+    simp
+    (sym (c .before .before .before .before .before .before .before .byte-below .ensures) ∙ c .before .before .before .before .before .found2 .given .1,
+    ← c .before .before .before .standing-of .ensures, ne-eqb _ _ (c .before .before .if1 .left),
+    ne-eqb _ _ (c .before .if2 .left), ← c .used-record .ensures)
 
 pub use-body-spec : {M : Type 1} → statement M
-use-body-spec = tie.close (tie.spec add-at byte-below-requires enum-known-found enum-known-found-2 standing-of-requires returns returns-2 used-record-requires returns-3 returns-4)
+use-body-spec =
+    tie.close (tie.spec
+    add-at byte-below-requires enum-known-found enum-known-found-2 standing-of-requires returns returns-2
+    used-record-requires returns-3 returns-4)

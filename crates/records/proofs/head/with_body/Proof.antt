@@ -1,5 +1,4 @@
 use borrow.Author.Needs.{needs}
-use borrow.Author.Tests.{le-leb, lt-leb, lt-ltb, le-ltb, eq-eqb, ne-eqb, not-true, not-false}
 use Rattle.records.specs.Head.{withBody}
 use Rattle.records.proofs.head.with_body.Statement.{statement}
 use Rattle.records.proofs.head.with_body.Tie as tie

@@ -1,5 +1,4 @@
 use borrow.Author.Needs.{needs}
-use borrow.Author.Tests.{le-leb, lt-leb, lt-ltb, le-ltb, eq-eqb, ne-eqb, not-true, not-false}
 use Rattle.records.specs.Row.{cell}
 use Rattle.records.proofs.row.cell_at.Statement.{statement}
 use Rattle.records.proofs.row.cell_at.Tie as tie

@@ -1,5 +1,4 @@
-use borrow.Author.Needs.{needs}
-use borrow.Author.Tests.{le-leb, lt-leb, lt-ltb, le-ltb, eq-eqb, ne-eqb, not-true, not-false}
+use borrow.Author.Tests.{eq-eqb, le-ltb, lt-ltb, ne-eqb}
 use Rattle.records.specs.Row.{classOf}
 use Rattle.records.proofs.row.class_of.Statement.{statement}
 use Rattle.records.proofs.row.class_of.Tie as tie

@@ -25,14 +25,8 @@ code-of-byte-requires c κs = search needs
 enum-told-5 : tie.Need-enum-told-5
 enum-told-5 c = search needs
 
-is-variable-requires : tie.Need-is-variable-requires
-is-variable-requires c κs = search needs
-
-level-of-requires : tie.Need-level-of-requires
-level-of-requires c κs = search needs
-
-cast-result-2 : tie.Need-cast-result-2
-cast-result-2 c = search needs
+use-detail-requires : tie.Need-use-detail-requires
+use-detail-requires c κs = search needs
 
 enum-told-6 : tie.Need-enum-told-6
 enum-told-6 c = search needs
@@ -40,8 +34,8 @@ enum-told-6 c = search needs
 enum-told-7 : tie.Need-enum-told-7
 enum-told-7 c = search needs
 
-cast-result-3 : tie.Need-cast-result-3
-cast-result-3 c = search needs
+cast-result-2 : tie.Need-cast-result-2
+cast-result-2 c = search needs
 
 enum-told-8 : tie.Need-enum-told-8
 enum-told-8 c = search needs
@@ -79,39 +73,35 @@ returns-4 c = simp (c .before .enum-told4 .given .1, ← c .code-of-byte .ensure
 
 returns-5 : tie.Need-returns-5
 unfolding detail
-returns-5 c = simp (c .before .before .before .enum-told5 .given .1, ← c .before .before .is-variable .ensures, ← c .level-of .ensures, c .before .before .before .before .match .keys5, eq-eqb _ _ (c .before .if1 .taken))
+returns-5 c = simp (c .before .enum-told5 .given .1, ← c .use-detail .ensures, c .before .before .match .keys5)
 
 returns-6 : tie.Need-returns-6
 unfolding detail
-returns-6 c = simp (c .before .before .before .enum-told5 .given .1, ← c .before .before .is-variable .ensures, c .before .before .before .before .match .keys5, eq-eqb _ _ (c .before .if1 .left))
+returns-6 c = simp (c .enum-told6 .given .1, c .before .match .keys6)
 
 returns-7 : tie.Need-returns-7
 unfolding detail
-returns-7 c = simp (c .enum-told6 .given .1, c .before .match .keys6)
+returns-7 c = simp (c .before .enum-told7 .given .1, c .before .before .match .keys7)
 
 returns-8 : tie.Need-returns-8
 unfolding detail
-returns-8 c = simp (c .before .enum-told7 .given .1, c .before .before .match .keys7)
+returns-8 c = simp (c .enum-told8 .given .1, c .before .match .keys8)
 
 returns-9 : tie.Need-returns-9
 unfolding detail
-returns-9 c = simp (c .enum-told8 .given .1, c .before .match .keys8)
+returns-9 c = simp (c .enum-told9 .given .1, c .before .match .keys9)
 
 returns-10 : tie.Need-returns-10
 unfolding detail
-returns-10 c = simp (c .enum-told9 .given .1, c .before .match .keys9)
+returns-10 c = simp (c .enum-told10 .given .1, c .before .match .keys10)
 
 returns-11 : tie.Need-returns-11
 unfolding detail
-returns-11 c = simp (c .enum-told10 .given .1, c .before .match .keys10)
+returns-11 c = simp (c .enum-told11 .given .1, c .before .match .keys11)
 
 returns-12 : tie.Need-returns-12
 unfolding detail
-returns-12 c = simp (c .enum-told11 .given .1, c .before .match .keys11)
-
-returns-13 : tie.Need-returns-13
-unfolding detail
-returns-13 c = simp (c .before .enum-told12 .given .1, ← c .values-of .ensures, c .before .before .match .keys12)
+returns-12 c = simp (c .before .enum-told12 .given .1, ← c .values-of .ensures .0, c .before .before .match .keys12)
 
 pub detail-of-spec : {M : Type 1} → statement M
-detail-of-spec = tie.close (tie.spec enum-told enum-told-2 enum-told-3 cast-result enum-told-4 code-of-byte-requires enum-told-5 is-variable-requires level-of-requires cast-result-2 enum-told-6 enum-told-7 cast-result-3 enum-told-8 enum-told-9 enum-told-10 enum-told-11 enum-told-12 values-of-requires returns returns-2 returns-3 returns-4 returns-5 returns-6 returns-7 returns-8 returns-9 returns-10 returns-11 returns-12 returns-13)
+detail-of-spec = tie.close (tie.spec enum-told enum-told-2 enum-told-3 cast-result enum-told-4 code-of-byte-requires enum-told-5 use-detail-requires enum-told-6 enum-told-7 cast-result-2 enum-told-8 enum-told-9 enum-told-10 enum-told-11 enum-told-12 values-of-requires returns returns-2 returns-3 returns-4 returns-5 returns-6 returns-7 returns-8 returns-9 returns-10 returns-11 returns-12)

@@ -1,25 +1,23 @@
 use borrow.Author.Needs.{needs}
-use borrow.Author.Tests.{le-leb, lt-leb, lt-ltb, le-ltb, eq-eqb, ne-eqb, not-true, not-false}
+use Rattle.records.specs.Row.{linked}
 use Rattle.records.proofs.row.link.Statement.{statement}
 use Rattle.records.proofs.row.link.Tie as tie
 
-add-cell-at : tie.Need-add-cell-at
-add-cell-at c = search needs
+add-put-cell : tie.Need-add-put-cell
+add-put-cell c = search needs
 
-cell-at-requires : tie.Need-cell-at-requires
-cell-at-requires c κs = search needs
+cast-put-cell : tie.Need-cast-put-cell
+cast-put-cell c = search needs
 
-cast-put : tie.Need-cast-put
-cast-put c = search needs
-
-put-requires : tie.Need-put-requires
-put-requires c κs = search needs
+put-cell-requires : tie.Need-put-cell-requires
+put-cell-requires c κs = search needs
 
 same-length : tie.Need-same-length
 same-length c = search needs
 
 returns : tie.Need-returns
-returns c = simp (← c .before .before .before .cell-at .ensures)
+unfolding linked
+returns c = c .before .before .put-cell .ensures
 
 pub link-spec : {M : Type 1} → statement M
-link-spec = tie.close (tie.spec add-cell-at cell-at-requires cast-put put-requires same-length returns)
+link-spec = tie.close (tie.spec add-put-cell cast-put-cell put-cell-requires same-length returns)

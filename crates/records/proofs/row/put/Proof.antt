@@ -1,5 +1,8 @@
+-- A store past the end changes nothing.
 use borrow.Author.Needs.{needs}
-use borrow.Author.Tests.{le-leb, lt-leb, lt-ltb, le-ltb, eq-eqb, ne-eqb, not-true, not-false}
+use mathlib.Core.Path.{refl, sym}
+use denote.Ref.{now}
+use lib.Seq.{set-out}
 use Rattle.records.proofs.row.put.Statement.{statement}
 use Rattle.records.proofs.row.put.Tie as tie
 
@@ -13,10 +16,10 @@ same-length : tie.Need-same-length
 same-length c = search needs
 
 returns : tie.Need-returns
-returns c = simp (lt-ltb _ _ (c .if1 .taken))
+returns c = refl
 
 returns-2 : tie.Need-returns-2
-returns-2 c = simp (le-ltb _ _ (c .if1 .left))
+returns-2 c = sym (set-out (now (c .before .args .t)) (c .before .args .i) (c .before .args .v) (c .if1 .left))
 
 pub put-spec : {M : Type 1} → statement M
 put-spec = tie.close (tie.spec mul-t slice-write-t same-length returns returns-2)

@@ -1,5 +1,4 @@
 use borrow.Author.Needs.{needs}
-use borrow.Author.Tests.{le-leb, lt-leb, lt-ltb, le-ltb, eq-eqb, ne-eqb, not-true, not-false}
 use Rattle.records.specs.Row.{rowKind}
 use Rattle.records.proofs.row.row_kind.Statement.{statement}
 use Rattle.records.proofs.row.row_kind.Tie as tie
@@ -48,55 +47,59 @@ enum-told-12 c = search needs
 
 returns : tie.Need-returns
 unfolding rowKind
-returns c = simp (c .enum-told .given .1, c .before .match .keys1)
+returns c = simp (c .enum-told .given .1)
 
 returns-2 : tie.Need-returns-2
 unfolding rowKind
-returns-2 c = simp (c .enum-told2 .given .1, c .before .match .keys2)
+returns-2 c = simp (c .enum-told2 .given .1)
 
 returns-3 : tie.Need-returns-3
 unfolding rowKind
-returns-3 c = simp (c .enum-told3 .given .1, c .before .match .keys3)
+returns-3 c = simp (c .enum-told3 .given .1)
 
 returns-4 : tie.Need-returns-4
 unfolding rowKind
-returns-4 c = simp (c .enum-told4 .given .1, c .before .match .keys4)
+returns-4 c = simp (c .enum-told4 .given .1)
 
 returns-5 : tie.Need-returns-5
 unfolding rowKind
-returns-5 c = simp (c .before .before .enum-told5 .given .1, ← c .before .is-variable .ensures, c .before .before .before .match .keys5, eq-eqb _ _ (c .if1 .taken))
+returns-5 c = simp (c .before .before .enum-told5 .given .1, ← c .before .is-variable .ensures, c .if1 .taken)
 
 returns-6 : tie.Need-returns-6
 unfolding rowKind
-returns-6 c = simp (c .before .before .enum-told5 .given .1, ← c .before .is-variable .ensures, c .before .before .before .match .keys5, eq-eqb _ _ (c .if1 .left))
+returns-6 c = simp (c .before .before .enum-told5 .given .1, ← c .before .is-variable .ensures, c .if1 .left)
 
 returns-7 : tie.Need-returns-7
 unfolding rowKind
-returns-7 c = simp (c .enum-told6 .given .1, c .before .match .keys6)
+returns-7 c = simp (c .enum-told6 .given .1)
 
 returns-8 : tie.Need-returns-8
 unfolding rowKind
-returns-8 c = simp (c .enum-told7 .given .1, c .before .match .keys7)
+returns-8 c = simp (c .enum-told7 .given .1)
 
 returns-9 : tie.Need-returns-9
 unfolding rowKind
-returns-9 c = simp (c .enum-told8 .given .1, c .before .match .keys8)
+returns-9 c = simp (c .enum-told8 .given .1)
 
 returns-10 : tie.Need-returns-10
 unfolding rowKind
-returns-10 c = simp (c .enum-told9 .given .1, c .before .match .keys9)
+returns-10 c = simp (c .enum-told9 .given .1)
 
 returns-11 : tie.Need-returns-11
 unfolding rowKind
-returns-11 c = simp (c .enum-told10 .given .1, c .before .match .keys10)
+returns-11 c = simp (c .enum-told10 .given .1)
 
 returns-12 : tie.Need-returns-12
 unfolding rowKind
-returns-12 c = simp (c .enum-told11 .given .1, c .before .match .keys11)
+returns-12 c = simp (c .enum-told11 .given .1)
 
 returns-13 : tie.Need-returns-13
 unfolding rowKind
-returns-13 c = simp (c .enum-told12 .given .1, c .before .match .keys12)
+returns-13 c = simp (c .enum-told12 .given .1)
 
 pub row-kind-spec : {M : Type 1} → statement M
-row-kind-spec = tie.close (tie.spec cast-kind enum-told enum-told-2 enum-told-3 enum-told-4 enum-told-5 is-variable-requires enum-told-6 enum-told-7 enum-told-8 enum-told-9 enum-told-10 enum-told-11 enum-told-12 returns returns-2 returns-3 returns-4 returns-5 returns-6 returns-7 returns-8 returns-9 returns-10 returns-11 returns-12 returns-13)
+row-kind-spec =
+    tie.close (tie.spec
+    cast-kind enum-told enum-told-2 enum-told-3 enum-told-4 enum-told-5 is-variable-requires enum-told-6
+    enum-told-7 enum-told-8 enum-told-9 enum-told-10 enum-told-11 enum-told-12 returns returns-2 returns-3
+    returns-4 returns-5 returns-6 returns-7 returns-8 returns-9 returns-10 returns-11 returns-12 returns-13)

@@ -1,5 +1,5 @@
-use borrow.Author.Needs.{needs}
-use borrow.Author.Tests.{le-leb, lt-leb, lt-ltb, le-ltb, eq-eqb, ne-eqb, not-true, not-false}
+-- The test of the definition.
+use borrow.Author.Tests.{le-ltb, lt-ltb}
 use Rattle.records.specs.Standing.{isVariable}
 use Rattle.records.proofs.standing.is_variable.Statement.{statement}
 use Rattle.records.proofs.standing.is_variable.Tie as tie

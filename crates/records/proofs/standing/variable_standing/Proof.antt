@@ -1,5 +1,4 @@
 use borrow.Author.Needs.{needs}
-use borrow.Author.Tests.{le-leb, lt-leb, lt-ltb, le-ltb, eq-eqb, ne-eqb, not-true, not-false}
 use Rattle.records.specs.Standing.{variableStanding}
 use Rattle.records.proofs.standing.variable_standing.Statement.{statement}
 use Rattle.records.proofs.standing.variable_standing.Tie as tie

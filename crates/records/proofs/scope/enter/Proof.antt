@@ -1,0 +1,17 @@
+use borrow.Author.Needs.{needs}
+use Rattle.records.specs.Scope.{entered}
+use Rattle.records.proofs.scope.enter.Statement.{statement}
+use Rattle.records.proofs.scope.enter.Tie as tie
+
+variable-standing-requires : tie.Need-variable-standing-requires
+variable-standing-requires c κs = search needs
+
+with-standing-requires : tie.Need-with-standing-requires
+with-standing-requires c κs = search needs
+
+returns : tie.Need-returns
+unfolding entered
+returns c = rw (← c .before .variable-standing .ensures) (c .with-standing .ensures)
+
+pub enter-spec : {M : Type 1} → statement M
+enter-spec = tie.close (tie.spec variable-standing-requires with-standing-requires returns)

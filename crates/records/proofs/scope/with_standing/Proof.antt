@@ -1,0 +1,23 @@
+-- There are 255 standings, so that 255 has none.
+use borrow.Author.Needs.{needs}
+use native.Mathlib.Omega.{arith}
+use mathlib.Core.Path.{refl, sym}
+use lib.Seq.{set-out}
+use Rattle.records.proofs.scope.with_standing.Statement.{statement}
+use Rattle.records.proofs.scope.with_standing.Tie as tie
+
+mul-inner : tie.Need-mul-inner
+mul-inner c = search needs
+
+array-write-inner : tie.Need-array-write-inner
+array-write-inner c = search needs
+
+returns : tie.Need-returns
+returns c = refl
+
+returns-2 : tie.Need-returns-2
+returns-2 c =
+    sym (set-out (c .before .args .st) (c .before .args .id) (c .before .args .standing) (omega (arith, c .before .good .0 .1 .0 .1)))
+
+pub with-standing-spec : {M : Type 1} → statement M
+with-standing-spec = tie.close (tie.spec mul-inner array-write-inner returns returns-2)

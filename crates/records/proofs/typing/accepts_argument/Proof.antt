@@ -1,0 +1,35 @@
+use borrow.Author.Needs.{needs}
+use borrow.Author.Tests.{eq-eqb, ne-eqb}
+use native.Mathlib.Omega.{arith}
+use Rattle.records.specs.Rule.{accepts}
+use Rattle.records.proofs.typing.accepts_argument.Statement.{statement}
+use Rattle.records.proofs.typing.accepts_argument.Tie as tie
+
+record-of-requires : tie.Need-record-of-requires
+record-of-requires c κs = search needs
+
+add-at : tie.Need-add-at
+add-at c = omega (arith, c .record-of .ensures .1)
+
+add-at-2 : tie.Need-add-at-2
+add-at-2 c = omega (arith, c .record-of .ensures .1)
+
+byte-at-requires : tie.Need-byte-at-requires
+byte-at-requires c κs = search needs
+
+returns : tie.Need-returns
+unfolding accepts
+returns c =
+    simp
+    (← c .before .before .record-of .ensures .0, ← c .before .byte-at .ensures, eq-eqb _ _ (c .if1 .taken))
+
+returns-2 : tie.Need-returns-2
+unfolding accepts
+returns-2 c =
+    simp
+    (← c .before .before .record-of .ensures .0, ← c .before .byte-at .ensures, ne-eqb _ _ (c .if1 .left))
+
+pub accepts-argument-spec : {M : Type 1} → statement M
+accepts-argument-spec =
+    tie.close (tie.spec
+    record-of-requires add-at add-at-2 byte-at-requires returns returns-2)
