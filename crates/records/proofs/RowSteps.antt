@@ -1,6 +1,6 @@
 -- The stores of a row, over plain variables.
 use Prim.Native.Nat.{ℕ, min}
-use mathlib.Core.Path.{_≡_, refl}
+use mathlib.Core.Path.{_≡_}
 use mathlib.Core.List.{List}
 use lib.ListN.{set}
 use Rattle.language.specs.declared.Numbers.{Numbers}

@@ -14,8 +14,10 @@ use Rattle.language.specs.declared.Numbers.{Numbers}
 use Rattle.records.specs.Head.{headOf}
 use Rattle.records.specs.Rule.{accepts, factor, extra, typeOf, own}
 use Rattle.records.specs.Row as row
+use Rattle.records.specs.declared.kind.Rule.{Rule}
+use Rattle.records.specs.declared.kind.Rule.the-variants.{Skip, Diverge, Truth, Number, Use, Fetch, Operate, Assign, Sequence, If, While, New}
 use Rattle.records.specs.declared.head.Record.{Record}
-use Rattle.sheet.specs.Reader.{Tree, node, Trees, leaf, branch, Answer, got, refused, bind, onHead, partsOf, recordOf, scopedOf, readPart}
+use Rattle.sheet.specs.Reader.{Tree, node, Trees, leaf, branch, Answer, got, refused, bind, onHead, partsOf, recordOf, isNew, scopedOf, readPart}
 use Rattle.sheet.specs.table.Fill.{fill, fills, erase, Leaves, Reads, Beyond, closedAnswer, closedTable}
 use Rattle.sheet.specs.declared.part.Part.{Part}
 use Rattle.sheet.specs.declared.part.Part.the-variants.{Read, Refused}
@@ -86,6 +88,16 @@ written-held : (N : Numbers) (r : Record) (ty a v : ℕ) (t : List ℕ) → row.
 unfolding row.written
 written-held N r ty a v t = rw sat-plus
 
+-- the row that is written where the answer of the parts is known
+pub closed-table :
+    (N : Numbers) (s : List ℕ) (r : Record) (t : List ℕ) {parts : Part} {last w next ty sum : ℕ} {u : List ℕ} →
+    parts ≡ Read last w next → ty ≡ typeOf (r .rule) s r last → sum ≡ min (own (r .rule) + w) 4097 →
+    u ≡ row.written N r ty sum t → u ≡ closedTable N s r parts t
+unfolding closedTable row.written
+closed-table N s r t {w = w} e f g h =
+    let z : min (min (own (r .rule) + w) 4097) 4097 ≡ min (own (r .rule) + w) 4097 = omega arith in
+    h ∙ rw (e, f, g, z)
+
 -- a record closed after its parts
 pub closes :
     (N : Numbers) (s : List ℕ) (r : Record) (A : Answer Trees) {parts x : Part} {t u v : List ℕ} →
@@ -98,3 +110,19 @@ unfolding erase bind Leaves closedAnswer closedTable fill
 closes N s r (got ts last w end) R e d =
     record { answer = e ∙ rw (R .answer) (rw sat-plus); table = d ∙ rw (R .answer) (rw (R .table) (written-held N r _ _ w _)) }
 closes N s r (refused n p) R e d = record { answer = e ∙ rw (R .answer); table = tt }
+
+-- only a new opens a scope
+pub is-new : (R : Rule) → isNew R ≡ true → R ≡ New
+unfolding isNew
+is-new New e = refl
+is-new Skip e = let z : _≡_ {A = ℕ} 0 1 = cc in absurd (omega arith)
+is-new Diverge e = let z : _≡_ {A = ℕ} 0 1 = cc in absurd (omega arith)
+is-new Truth e = let z : _≡_ {A = ℕ} 0 1 = cc in absurd (omega arith)
+is-new Number e = let z : _≡_ {A = ℕ} 0 1 = cc in absurd (omega arith)
+is-new Use e = let z : _≡_ {A = ℕ} 0 1 = cc in absurd (omega arith)
+is-new Fetch e = let z : _≡_ {A = ℕ} 0 1 = cc in absurd (omega arith)
+is-new Operate e = let z : _≡_ {A = ℕ} 0 1 = cc in absurd (omega arith)
+is-new Assign e = let z : _≡_ {A = ℕ} 0 1 = cc in absurd (omega arith)
+is-new Sequence e = let z : _≡_ {A = ℕ} 0 1 = cc in absurd (omega arith)
+is-new If e = let z : _≡_ {A = ℕ} 0 1 = cc in absurd (omega arith)
+is-new While e = let z : _≡_ {A = ℕ} 0 1 = cc in absurd (omega arith)

@@ -1,2 +1,11 @@
 pub mod Parsed
 pub mod Core
+pub mod Bounds
+pub mod Steps
+pub mod Rows
+pub mod Spans
+pub mod Stored
+pub mod Types
+pub mod Small
+pub mod Levels
+pub mod Represents

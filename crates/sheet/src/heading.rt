@@ -1,5 +1,6 @@
 // The judgement of name records.
 use records::head::{byte_at, standing_of};
+use records::scope::with_standing;
 ghost use mathlib.Core.Path.{_≡_};
 ghost use Prim.Native.Nat.{_+_, _≤_, _<_};
 ghost use lib.ListN.{getD, set};
@@ -100,9 +101,6 @@ pub fn registered(s: &[u8], st: &[u16; 255], at: usize, c: u16) -> [u16; 255]
     ensures { λ r. ⌜ r ≡ set (now (st .entry)) (getD (now (s .entry)) (at + 1) 0) c ⌝ }
 {
     let id = byte_at(s, at + 1);
-    let mut next = *st;
-    if id < 255 {
-        next[id as usize] = c;
-    }
-    next
+    let all = *st;
+    with_standing(all, id, c)
 }

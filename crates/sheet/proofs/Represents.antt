@@ -1,0 +1,232 @@
+-- The table that a reader leaves represents the term that was read.
+use Prim.Native.Nat.{ℕ, _+_, _-_, _*_, _≤_, _<_}
+use native.Mathlib.Omega.{arith}
+use mathlib.Core.Path.{_≡_, refl, sym, ap, _∙_, subst, subst₂}
+use mathlib.Core.Bool.{true}
+use mathlib.Core.List.{List, [], _∷_}
+use lib.ListN.{length}
+use lib.IntN.{ℤ}
+use borrow.Author.Tests.{ne-eqb, lt-ltb, le-ltb}
+use Rattle.language.specs.Number.{numbers, code, fromByte}
+use Rattle.language.specs.Ty.{Ty, expression, variable}
+use Rattle.language.specs.Term as tm
+use Rattle.language.specs.Term.{Term, Args, Operation}
+use Rattle.language.specs.Typing.{operands}
+use Rattle.language.specs.Weight.{weight, weightArgs}
+use Rattle.language.specs.declared.Numbers.{Numbers}
+use Rattle.records.specs.Rule.{values, questions, operandType}
+use Rattle.records.specs.Row.{rowKind, classOf, detail}
+use Rattle.records.specs.Standing.{isVariable, levelOf}
+use Rattle.records.specs.declared.kind.Rule.{Rule}
+use Rattle.records.specs.declared.head.Record.{Record}
+use Rattle.sheet.specs.Written.{Name}
+use Rattle.sheet.specs.Meaning.{Block, typed, tyOf, resolve, resolveArgs, byMeaning, some-value}
+use Rattle.sheet.specs.Reader.{Tree, Trees, written, writtens, build, first, rest}
+use Rattle.sheet.specs.table.Fill.{fill, fills}
+use Rattle.sheet.specs.table.Rep.{word, TyRow, Row, count}
+use Rattle.sheet.specs.table.Rep.{Rep, r-skip, r-diverge, r-const, r-private, r-name, r-fetch}
+use Rattle.sheet.specs.table.Rep.{r-operate, r-assign, r-seq, r-cond, r-while, r-new, RepArgs, r-none, r-arg}
+use Rattle.sheet.proofs.Parsed.{Stands, Parsed, p-skip, p-diverge, p-truth, p-number, p-private, p-name, p-fetch}
+use Rattle.sheet.proofs.Parsed.{p-operate, p-assign, p-sequence, p-if, p-while, p-new}
+use Rattle.sheet.proofs.Parsed.{ParsedArgs, p-none, p-more}
+use Rattle.sheet.proofs.Rows.{Holds}
+use Rattle.sheet.proofs.Spans.{placed, placed-args, within-args}
+use Rattle.sheet.proofs.Stored.{Agree, Stored, StoredParts, stores, stores-parts, own, parts, place, head, tail}
+use Rattle.sheet.proofs.Types.{Class, a-command, an-expression, a-variable, class, some-question}
+use Rattle.sheet.proofs.Types.{ty-command, ty-truth, ty-number, ty-expression, ty-variable, values-up}
+use Rattle.sheet.proofs.Types.{operands-values, operands-type, results-type}
+use Rattle.sheet.proofs.Small.{at-least, means, means-args}
+use Rattle.sheet.proofs.Levels.{blockValues, variable-standing, level-standing, level-of}
+
+-- the words of a type
+ty-row : (N : Numbers) (U : List ℕ) (at ty : ℕ) → word U at 2 ≡ classOf ty → word U at 3 ≡ values N ty →
+    TyRow U at (tyOf N ty)
+unfolding TyRow classOf tyOf
+ty-row N U at ty e f = go (class ty)
+  where
+    go : Class ty → TyRow U at (tyOf N ty)
+    go (a-command h) = rw h (e ∙ rw h)
+    go (an-expression h g) =
+        rw (ty-expression N ty h g) (e ∙ rw (ne-eqb ty 0 (λ z. omega arith), lt-ltb ty 3 g), f)
+    go (a-variable h) = rw (ty-variable N ty h) (e ∙ rw (ne-eqb ty 0 (λ z. omega arith), le-ltb ty 3 h), f)
+
+-- the row of a record is the row of its term
+row-of : {N : Numbers} {U s : List ℕ} {r : Record} {at kinded body ty w : ℕ} {rule : Rule} {T : Ty} →
+    (kind : ℕ) (M : Term) → length s ≤ 4096 → Stands s r at kinded body rule → Holds N r ty w U at →
+    rowKind rule r ≡ kind → weight M ≡ w → w ≤ 4096 → tyOf N ty ≡ T → Row U at kind M T
+row-of {N} {U} {s} {r} {at} {kinded} {body} {ty} {w} {rule} {T} kind M short st h k e small y = record {
+    inside = omega arith;
+    kinded = h .kind ∙ (ap (λ u. rowKind u r) (st .ruled) ∙ k);
+    weighed = h .weight ∙ omega arith;
+    small = omega arith;
+    typed = subst (λ u. TyRow U at u) y (ty-row N U at ty (h .class) (h .values)) }
+
+-- the same part under another name of its place and type
+moved : {N : Numbers} {U n : List ℕ} {left p q : ℕ} {M : Term} {A B : Ty} → q ≡ p → A ≡ B →
+    Rep N U left p n M A → Rep N U left q n M B
+moved {N} {U} {n} {left} {M = M} e f x = subst₂ (λ a b. Rep N U left a n M b) (sym e) f x
+
+module _ (N : Numbers) (s : List ℕ) (ns : List Name) (U : List ℕ) (short : length s ≤ 4096)
+    (codes : (v : ℤ) → code N v < numbers N) where
+  -- a table that holds the rows of a reading represents its term
+  pub represent : {left at ty w next : ℕ} {bs : List Block} {t : Tree} → Parsed N s ns left bs at t ty w next →
+      Stored N U at t → w ≤ 4096 → Rep N U left at (blockValues N bs) (resolve N ns bs (written t)) (tyOf N ty)
+  unfolding written writtens build first rest resolve resolveArgs byMeaning weight weightArgs count rowKind detail
+      blockValues
+  represent d =
+    elim d as
+      (λ left bs at t ty w next d. Stored N U at t → w ≤ 4096 →
+        Rep N U left at (blockValues N bs) (resolve N ns bs (written t)) (tyOf N ty))
+      (λ left bs at ts tys v next ds. (p j : ℕ) → StoredParts N U p j ts → v ≤ 4096 →
+        RepArgs N U left p j (blockValues N bs) (resolveArgs N ns bs (writtens ts) tys)) [
+      p-skip st ↦ λ S le.
+        rw (st .ruled, ty-command N) (r-skip (row-of 16 tm.skip short st (own S) (st .kinded) refl le (ty-command N)))
+    | p-diverge st b h ↦ λ S le.
+        rw (st .ruled) (r-diverge (row-of 17 tm.diverge short st (own S) (st .kinded) refl le refl))
+    | p-truth {r = r} st b h ↦ λ S le.
+        rw (st .ruled, ty-truth N) (r-const
+          (row-of 18 (tm.const (r .a)) short st (own S) (st .kinded) refl le (ty-truth N))
+          (own S .detail ∙ ap (λ u. detail u N r) (st .ruled)) h)
+    | p-number {r = r} st b h g ↦ λ S le.
+        let v : ℕ = code N (fromByte (r .a)) in
+        rw (st .ruled, ty-number N) (r-const
+          (row-of 18 (tm.const v) short st (own S) refl refl le (ty-number N))
+          (own S .detail ∙ ap (λ u. detail u N r) (st .ruled)) (codes (fromByte (r .a))))
+    | p-private {at = at} {i = i} {h = h} {level = level} {bs = bs} {r = r} st b g m pos few e low c ↦ λ S le.
+        let y : tyOf N (2 + h) ≡ variable (values N h) =
+              ty-variable N (2 + h) (omega arith) ∙ ap (λ k. variable (values N k)) (omega arith) ∙
+              ap variable (values-up N h pos few) in
+        let private : isVariable (r .b) ≡ true = ap isVariable c ∙ variable-standing level h low few in
+        let four : word U at 4 ≡ level = own S .detail ∙ (ap (λ u. detail u N r) (st .ruled) ∙
+              rw private (ap levelOf c ∙ level-standing level h pos few)) in
+        rw (st .ruled, m, y) (r-private
+          (row-of 128 (tm.private i) short st (own S) (rw private) refl le y)
+          four (level-of N ns bs (r .a) i h level m e) low)
+    | p-name {at = at} {ty = ty} {tys = tys} {bs = bs} {r = r} {ts = ts} st b h m l e g k (ds → xs) ↦ λ S le.
+        let args : Args = resolveArgs N ns bs (writtens ts) tys in
+        let i = means-args N s ns ds in
+        let n : count args ≡ length tys = i .counts in
+        let four : word U at 4 ≡ r .a + 256 * count args =
+              own S .detail ∙ (ap (λ u. detail u N r) (st .ruled) ∙ rw (k, e, n)) in
+        rw (st .ruled, m) (r-name
+          (row-of 20 (tm.name (r .a) (tyOf N ty) args) short st (own S) (rw k (st .kinded))
+            (ap (λ v. 2 + v) (i .weigh)) le refl)
+          (omega arith) four (omega arith) (xs at 0 (parts S) (omega arith)))
+    | p-fetch {ty = ty} {bs = bs} {t = t} st (d → x) h e ↦ λ S le.
+        let ps = parts S in
+        let i = means N s ns d in
+        let y : tyOf N (ty - 2) ≡ expression (values N ty) =
+              ty-expression N (ty - 2) (omega arith) (omega arith) ∙
+              ap expression (sym (values-up N (ty - 2) (omega arith) (omega arith)) ∙ ap (values N) (omega arith)) in
+        rw (st .ruled, y) (r-fetch
+          (row-of 21 (tm.fetch (resolve N ns bs (written t))) short st (own S) (st .kinded) (i .weighs ∙ sym e) le y)
+          (moved (place ps) (ty-variable N ty h) (x (head ps) (omega arith))))
+    | p-operate {v = v} {bs = bs} {r = r} {t = t} {u = u} st b h (d → x) (f → y) e ↦ λ S le.
+        let o : Operation = record { over = N; operator = r .a } in
+        let ps = parts S in
+        let i = means N s ns d in
+        let j = means N s ns f in
+        let more = at-least (values N (operandType (r .a))) v (some-value N (operandType (r .a))) in
+        rw (st .ruled, results-type N (r .a)) (r-operate {o = o} refl
+          (row-of 22 (tm.operate (operands o) o (resolve N ns bs (written t)) (resolve N ns bs (written u))) short st
+            (own S) (st .kinded) (rw (operands-values N (r .a), i .weighs, j .weighs) (sym e)) le
+            (results-type N (r .a)))
+          (own S .detail ∙ ap (λ z. detail z N r) (st .ruled)) h
+          (moved (place ps) (operands-type N (r .a)) (x (head ps) (omega arith)))
+          (moved (place (tail ps)) (operands-type N (r .a)) (y (head (tail ps)) (omega arith))))
+    | p-assign {ty = ty} {w = w} {bs = bs} {t = t} {u = u} st (d → x) h (f → y) e ↦ λ S le.
+        let ps = parts S in
+        let i = means N s ns d in
+        let j = means N s ns f in
+        let k : ty + 2 < 5 = i .below in
+        let m : ℕ = values N (typed ns bs (written t)) in
+        let same : values N (ty + 2) ≡ m = ap (values N) (sym (i .types)) in
+        let more = at-least (values N (ty + 2)) w (some-value N (ty + 2)) in
+        rw (st .ruled, ty-command N) (r-assign
+          (row-of 23 (tm.assign m (resolve N ns bs (written t)) (resolve N ns bs (written u))) short st (own S)
+            (st .kinded) (rw (i .types, i .weighs, j .weighs) (sym e)) le (ty-command N))
+          (moved (place ps) (ty-variable N (ty + 2) (omega arith) ∙ ap variable same) (x (head ps) (omega arith)))
+          (moved (place (tail ps))
+            (ty-expression N ty h (omega arith) ∙ ap expression (sym (values-up N ty h (omega arith)) ∙ same))
+            (y (head (tail ps)) (omega arith))))
+    | p-sequence {bs = bs} {t = t} {u = u} st (d → x) (f → y) e ↦ λ S le.
+        let ps = parts S in
+        let i = means N s ns d in
+        let j = means N s ns f in
+        rw (st .ruled) (r-seq
+          (row-of 24 (tm.seq (resolve N ns bs (written t)) (resolve N ns bs (written u))) short st (own S)
+            (st .kinded) (rw (i .weighs, j .weighs) (sym e)) le refl)
+          (moved (place ps) (ty-command N) (x (head ps) (omega arith)))
+          (moved (place (tail ps)) refl (y (head (tail ps)) (omega arith))))
+    | p-if {bs = bs} {b = c} {t = t} {u = u} st (d → x) (f → y) (g → z) e ↦ λ S le.
+        let ps = parts S in
+        let qs = tail ps in
+        let i = means N s ns d in
+        let j = means N s ns f in
+        let k = means N s ns g in
+        rw (st .ruled) (r-cond
+          (row-of 25 (tm.cond (resolve N ns bs (written c)) (resolve N ns bs (written t)) (resolve N ns bs (written u)))
+            short st (own S) (st .kinded) (rw (i .weighs, j .weighs, k .weighs) (sym e)) le refl)
+          (moved (place ps) (ty-truth N) (x (head ps) (omega arith)))
+          (moved (place qs) refl (y (head qs) (omega arith)))
+          (moved (place (tail qs)) refl (z (head (tail qs)) (omega arith))))
+    | p-while {bs = bs} {t = t} {u = u} st (d → x) (f → y) e ↦ λ S le.
+        let ps = parts S in
+        let i = means N s ns d in
+        let j = means N s ns f in
+        rw (st .ruled, ty-command N) (r-while
+          (row-of 26 (tm.while (resolve N ns bs (written t)) (resolve N ns bs (written u))) short st (own S)
+            (st .kinded) (rw (i .weighs, j .weighs) (sym e)) le (ty-command N))
+          (moved (place ps) (ty-truth N) (x (head ps) (omega arith)))
+          (moved (place (tail ps)) (ty-command N) (y (head (tail ps)) (omega arith))))
+    | p-new {w = w} {bs = bs} {r = r} {t = t} st b h m c pos few (d → x) e ↦ λ S le.
+        let ps = parts S in
+        let i = means N s ns d in
+        let more = at-least (values N (r .b)) w (some-value N (r .b)) in
+        let inner : List Block = record { id = r .a; holds = r .b } ∷ bs in
+        rw (st .ruled, ty-command N) (r-new
+          (row-of 27 (tm.new (values N (r .b)) (some-value N (r .b)) (resolve N ns inner (written t))) short st (own S)
+            (st .kinded) (rw (i .weighs) (sym e)) le (ty-command N))
+          (own S .detail ∙ ap (λ u. detail u N r) (st .ruled))
+          (moved (place ps) (ty-command N) (x (head ps) (omega arith))))
+    | p-none ↦ λ p j S le. r-none
+    | p-more {ty = ty} {w = w} (d → x) (ds → xs) e ↦ λ p j S le.
+        let more = at-least (questions N ty) w (some-question N ty) in
+        r-arg (moved (place S) refl (x (head S) (omega arith))) (xs p (j + 1) (tail S) (omega arith)) ]
+
+  represent-args : {left from v next : ℕ} {bs : List Block} {ts : Trees} {tys : List ℕ} →
+      ParsedArgs N s ns left bs from ts tys v next → (p j : ℕ) → StoredParts N U p j ts → v ≤ 4096 →
+      RepArgs N U left p j (blockValues N bs) (resolveArgs N ns bs (writtens ts) tys)
+  unfolding writtens resolveArgs
+  represent-args p-none p j S le = r-none
+  represent-args (p-more {ty = ty} {w = w} d ds e) p j S le =
+      let more = at-least (questions N ty) w (some-question N ty) in
+      r-arg (moved (place S) refl (represent d (head S) (omega arith)))
+        (represent-args ds p (j + 1) (tail S) (omega arith))
+
+  -- and so does every table with the rows that `fill` leaves at the places of the reading
+  pub represents : {left at ty w next : ℕ} {bs : List Block} {t : Tree} → Parsed N s ns left bs at t ty w next →
+      (T : List ℕ) → length T ≡ 36864 → w ≤ 4096 → Agree U (fill N t T) at next →
+      Rep N U left at (blockValues N bs) (resolve N ns bs (written t)) (tyOf N ty)
+  represents d T l le same =
+      let x = placed N s ns d in
+      represent d (stores N U (x .span) T l (omega arith) same) le
+
+  -- arguments j, j + 1, .. of the name at p, whose row and places have what `fills` leaves
+  pub represents-args : {left from v next : ℕ} {bs : List Block} {ts : Trees} {tys : List ℕ} →
+      ParsedArgs N s ns left bs from ts tys v next → (p j : ℕ) → p < from → from ≤ length s → j + length tys ≤ 4 →
+      (T : List ℕ) → length T ≡ 36864 → v ≤ 4096 →
+      ((i : ℕ) → 5 + j ≤ i → i < 9 → word U p i ≡ word (fills N ts p j T) p i) → Agree U (fills N ts p j T) from next →
+      RepArgs N U left p j (blockValues N bs) (resolveArgs N ns bs (writtens ts) tys)
+  represents-args ds p j lt g few T l le row same =
+      let h = within-args N s ns ds g in
+      represent-args ds p j (stores-parts N U (placed-args N s ns ds j few) p T l (omega arith) lt row same) le
+
+-- the whole term of a sheet
+pub represents-whole : (N : Numbers) (s : List ℕ) (ns : List Name) → length s ≤ 4096 →
+    ((v : ℤ) → code N v < numbers N) → {at ty w next : ℕ} {t : Tree} → Parsed N s ns 32 [] at t ty w next →
+    (T : List ℕ) → length T ≡ 36864 → w ≤ 4096 →
+    Rep N (fill N t T) 32 at [] (resolve N ns [] (written t)) (tyOf N ty)
+unfolding blockValues
+represents-whole N s ns short codes {t = t} d T l le =
+    represents N s ns (fill N t T) short codes d T l le (λ p i g h k. refl)

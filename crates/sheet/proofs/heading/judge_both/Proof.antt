@@ -1,0 +1,22 @@
+use borrow.Author.Needs.{needs}
+use borrow.Author.Tests.{le-leb, lt-leb, lt-ltb, le-ltb, eq-eqb, ne-eqb, not-true, not-false}
+use Rattle.sheet.specs.Heading.{both}
+use Rattle.sheet.proofs.heading.judge_both.Statement.{statement}
+use Rattle.sheet.proofs.heading.judge_both.Tie as tie
+
+enum-told : tie.Need-enum-told
+enum-told c = search needs
+
+enum-known-first : tie.Need-enum-known-first
+enum-known-first c = search needs
+
+returns : tie.Need-returns
+unfolding both
+returns c = simp (c .enum-told .given .1, c .before .match .keys1)
+
+returns-2 : tie.Need-returns-2
+unfolding both
+returns-2 c = simp (c .before .first .given .1)
+
+pub judge-both-spec : {M : Type 1} → statement M
+judge-both-spec = tie.close (tie.spec enum-told enum-known-first returns returns-2)
