@@ -2,6 +2,7 @@ pub mod Parsed
 pub mod Core
 pub mod Bounds
 pub mod Steps
+pub mod Whole
 pub mod Rows
 pub mod Spans
 pub mod Stored

@@ -1,5 +1,6 @@
 use borrow.Author.Needs.{needs}
 use borrow.Author.Tests.{le-leb, lt-leb, lt-ltb, le-ltb, eq-eqb, ne-eqb, not-true, not-false}
+use Rattle.sheet.proofs.Whole.{term-read, term-refused}
 use Rattle.sheet.proofs.names.read_term.Statement.{statement}
 use Rattle.sheet.proofs.names.read_term.Tie as tie
 
@@ -16,13 +17,13 @@ same-length : tie.Need-same-length
 same-length c = search needs
 
 returns : tie.Need-returns
-returns c = simp (c .before .before .match .keys1)
+returns c = term-refused _ _ _ (c .before .before .before .before .before .read-part .ensures .0) (c .before .p .given .1)
 
 same-length-2 : tie.Need-same-length-2
 same-length-2 c = search needs
 
 returns-2 : tie.Need-returns-2
-returns-2 c = simp (c .before .before .match .keys2)
+returns-2 c = term-read _ _ _ (c .before .before .before .before .before .read-part .ensures .0) (c .before .p2 .given .1)
 
 pub read-term-spec : {M : Type 1} → statement M
 read-term-spec = tie.close (tie.spec read-part-requires enum-known-p enum-known-p-2 same-length returns same-length-2 returns-2)
