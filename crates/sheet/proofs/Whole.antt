@@ -227,3 +227,39 @@ pub checks-accepted : (s : List ℕ) {root ty w next size : ℕ} → Sheet root 
     size ≡ min (sizeOf (numbersAt s) ty w) 4097 → Accepted ty size ≡ checkedOf (readSheet s)
 unfolding readSheet
 checks-accepted s e f = accepted-as (numbersAt s) (sheetOf s) (λ x ty w end h. small-sheet s h) e f
+
+-- the first two bytes
+module _ (s : List ℕ) where
+  pub too-long : 4096 < length s → sheetOf s ≡ refused 1 4096
+  unfolding sheetOf
+  too-long a = rw (lt-ltb _ _ a)
+
+  module _ (a : length s ≤ 4096) where
+    pub empty : length s ≤ 0 → sheetOf s ≡ refused 2 (length s)
+    unfolding sheetOf
+    empty b = rw (le-ltb _ _ a, le-leb _ _ b)
+
+    module _ (b : 0 < length s) where
+      pub z-zero : getD s 0 0 ≡ 0 → sheetOf s ≡ refused 3 0
+      unfolding sheetOf
+      z-zero c = rw (le-ltb _ _ a, lt-leb _ _ b, eq-eqb _ _ c)
+
+      module _ (c : getD s 0 0 ≡ 0 → ⊥) where
+        pub z-large : 7 < getD s 0 0 → sheetOf s ≡ refused 3 0
+        unfolding sheetOf
+        z-large d = rw (le-ltb _ _ a, lt-leb _ _ b, ne-eqb _ _ c, lt-ltb _ _ d)
+
+        module _ (d : getD s 0 0 ≤ 7) where
+          pub no-rule : length s ≤ 1 → sheetOf s ≡ refused 2 (length s)
+          unfolding sheetOf
+          no-rule e = rw (le-ltb _ _ a, lt-leb _ _ b, ne-eqb _ _ c, le-ltb _ _ d, le-leb _ _ e)
+
+          module _ (e : 1 < length s) where
+            pub rule-large : 1 < getD s 1 0 → sheetOf s ≡ refused 3 1
+            unfolding sheetOf
+            rule-large f = rw (le-ltb _ _ a, lt-leb _ _ b, ne-eqb _ _ c, le-ltb _ _ d, lt-leb _ _ e, lt-ltb _ _ f)
+
+            pub opened : getD s 1 0 ≤ 1 →
+                sheetOf s ≡ closed (numbersAt s) s (namesOf 32 (numbersAt s) s nothing 2)
+            unfolding sheetOf
+            opened f = rw (le-ltb _ _ a, lt-leb _ _ b, ne-eqb _ _ c, le-ltb _ _ d, lt-leb _ _ e, le-ltb _ _ f)

@@ -1,6 +1,8 @@
 use borrow.Author.Needs.{needs}
 use borrow.Author.Tests.{le-leb, lt-leb, lt-ltb, le-ltb, eq-eqb, ne-eqb, not-true, not-false}
 use Rattle.sheet.specs.Check.{checkedOf}
+use mathlib.Core.Path.{sym, _∙_}
+use Rattle.sheet.proofs.Whole.{checks-refused, checks-accepted}
 use Rattle.sheet.proofs.check.check.Statement.{statement}
 use Rattle.sheet.proofs.check.check.Tie as tie
 
@@ -23,12 +25,10 @@ size-of-requires : tie.Need-size-of-requires
 size-of-requires c κs = search needs
 
 returns : tie.Need-returns
-unfolding checkedOf
-returns c = simp (c .before .before .match .keys1)
+returns c = checks-refused _ (sym (c .before .x .given .1) ∙ c .before .before .before .before .read-sheet .ensures .answer)
 
 returns-2 : tie.Need-returns-2
-unfolding checkedOf
-returns-2 c = simp (← c .before .numbers-of .ensures, ← c .size-of .ensures, c .before .before .before .before .match .keys2)
+returns-2 c = checks-accepted _ (sym (c .before .before .before .x2 .given .1) ∙ c .before .before .before .before .before .before .read-sheet .ensures .answer) (rw (c .before .numbers-of .ensures) at (c .size-of .ensures))
 
 pub check-spec : {M : Type 1} → statement M
 check-spec = tie.close (tie.spec slice-aggregate-read-sheet read-sheet-requires enum-known-x enum-known-x-2 numbers-of-requires size-of-requires returns returns-2)
