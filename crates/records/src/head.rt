@@ -143,13 +143,13 @@ pub fn data_body(s: &[u8], r: Record, id: u8) -> Head
     requires { ⌜ r .place < 65536 ⌝ }
     ensures { λ x. ⌜ x ≡ dataByte (now (s .entry)) r id ⌝ }
 {
-    let at = r.place + 2;
-    let found = byte_below(s, at, 3);
+    let data_at = r.place + 2;
+    let found = byte_below(s, data_at, 3);
     match found {
         Byte::Not { number, place } => Head::Bad { number, place },
         Byte::Is { byte } => {
             if byte == 0 {
-                return Head::Bad { number: 3, place: at };
+                return Head::Bad { number: 3, place: data_at };
             }
             Head::Good { record: with_body(r, id, byte as u16) }
         }
@@ -161,19 +161,19 @@ pub fn new_body(s: &[u8], st: &[u16; 255], r: Record) -> Head
     requires { ⌜ r .place < 65536 ⌝ }
     ensures { λ x. ⌜ x ≡ newOf (now (s .entry)) (now (st .entry)) r ⌝ }
 {
-    let at = r.place + 1;
-    let found = byte_below(s, at, 255);
+    let id_at = r.place + 1;
+    let found = byte_below(s, id_at, 255);
     match found {
         Byte::Not { number, place } => Head::Bad { number, place },
         Byte::Is { byte } => {
-            let c = standing_of(st, byte);
-            if c == 1 {
-                return Head::Bad { number: 4, place: at };
+            let standing = standing_of(st, byte);
+            if standing == 1 {
+                return Head::Bad { number: 4, place: id_at };
             }
-            if crate::standing::is_variable(c) {
+            if crate::standing::is_variable(standing) {
                 return data_body(s, r, byte);
             }
-            Head::Bad { number: 4, place: at }
+            Head::Bad { number: 4, place: id_at }
         }
     }
 }

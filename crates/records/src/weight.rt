@@ -30,10 +30,10 @@ pub fn sat_mul(a: u32, b: u32) -> u32
     if b == 0 {
         return 0;
     }
-    if 4097 <= a {
+    if 4096 < a {
         return 4097;
     }
-    if 4097 <= b {
+    if 4096 < b {
         return 4097;
     }
     let c = a * b;

@@ -1,3 +1,4 @@
+-- The record of the definition.
 use borrow.Author.Needs.{needs}
 use Rattle.records.specs.Head.{blank}
 use Rattle.records.proofs.head.blank_record.Statement.{statement}

@@ -1,3 +1,4 @@
+-- Each rule has its own judgement.
 use borrow.Author.Needs.{needs}
 use Rattle.records.specs.Head.{bodyOf}
 use Rattle.records.proofs.head.body_at.Statement.{statement}

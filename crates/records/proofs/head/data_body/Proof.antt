@@ -6,8 +6,8 @@ use Rattle.records.specs.Head.{dataByte, onByte}
 use Rattle.records.proofs.head.data_body.Statement.{statement}
 use Rattle.records.proofs.head.data_body.Tie as tie
 
-add-at : tie.Need-add-at
-add-at c = search needs
+add-data-at : tie.Need-add-data-at
+add-data-at c = search needs
 
 byte-below-requires : tie.Need-byte-below-requires
 byte-below-requires c κs = search needs
@@ -21,9 +21,8 @@ enum-known-found-2 c = search needs
 returns : tie.Need-returns
 unfolding dataByte onByte
 returns c =
-    simp
-    (sym (c .before .before .before .before .byte-below .ensures) ∙ c .before .before .found2 .given .1,
-    eq-eqb _ _ (c .if1 .taken))
+    let m = c .before .before in
+    simp (sym (m .before .before .byte-below .ensures) ∙ m .found2 .given .1, eq-eqb _ _ (c .if1 .taken))
 
 cast-with-body : tie.Need-cast-with-body
 cast-with-body c = search needs
@@ -33,17 +32,22 @@ with-body-requires c κs = search needs
 
 returns-2 : tie.Need-returns-2
 unfolding dataByte onByte
-returns-2 c = simp (sym (c .before .before .before .byte-below .ensures) ∙ c .before .found .given .1)
+returns-2 c =
+    let m = c .before in
+    simp (sym (m .before .before .byte-below .ensures) ∙ m .found .given .1)
 
 returns-3 : tie.Need-returns-3
 unfolding dataByte onByte
 returns-3 c =
-    simp
-    (sym (c .before .before .before .before .before .byte-below .ensures) ∙ c .before .before .before .found2 .given .1,
-    ne-eqb _ _ (c .before .if1 .left), ← c .with-body .ensures)
+    let m = c .before .before .before in
+    simp (
+      sym (m .before .before .byte-below .ensures) ∙ m .found2 .given .1,
+      ne-eqb _ _ (c .before .if1 .left),
+      ← c .with-body .ensures,
+    )
 
 pub data-body-spec : {M : Type 1} → statement M
 data-body-spec =
     tie.close (tie.spec
-    add-at byte-below-requires enum-known-found enum-known-found-2 returns cast-with-body with-body-requires
-    returns-2 returns-3)
+    add-data-at byte-below-requires enum-known-found enum-known-found-2 returns cast-with-body
+    with-body-requires returns-2 returns-3)

@@ -32,10 +32,12 @@ enum-known-shape c = search needs
 returns-2 : tie.Need-returns-2
 unfolding headOf onShape
 returns-2 c =
-    simp
-    (lt-leb _ _ (c .before .before .before .before .before .before .if1 .left),
-    sym (c .before .before .before .before .shape-of .ensures) ∙ c .before .before .shape .given .1,
-    eq-eqb _ _ (c .if2 .taken))
+    let m = c .before .before in
+    simp (
+      lt-leb _ _ (c .before .before .before .before .before .before .if1 .left),
+      sym (m .before .before .shape-of .ensures) ∙ m .shape .given .1,
+      eq-eqb _ _ (c .if2 .taken),
+    )
 
 blank-record-requires : tie.Need-blank-record-requires
 blank-record-requires c κs = search needs
@@ -47,31 +49,38 @@ body-at-requires c κs = rw (c .blank-record .ensures) (omega arith)
 returns-3 : tie.Need-returns-3
 unfolding headOf onShape
 returns-3 c =
-    simp
-    (lt-leb _ _ (c .before .before .before .before .if1 .left),
-    sym (c .before .before .shape-of .ensures) ∙ c .enum-told .given .1)
+    simp (
+      lt-leb _ _ (c .before .before .before .before .if1 .left),
+      sym (c .before .before .shape-of .ensures) ∙ c .enum-told .given .1,
+    )
 
 returns-4 : tie.Need-returns-4
 unfolding headOf onShape
 returns-4 c =
-    simp
-    (lt-leb _ _ (c .before .before .before .before .if1 .left),
-    sym (c .before .before .shape-of .ensures) ∙ c .enum-told2 .given .1)
+    simp (
+      lt-leb _ _ (c .before .before .before .before .if1 .left),
+      sym (c .before .before .shape-of .ensures) ∙ c .enum-told2 .given .1,
+    )
 
 returns-5 : tie.Need-returns-5
 unfolding headOf onShape
 returns-5 c =
-    simp
-    (lt-leb _ _ (c .before .before .before .before .if1 .left),
-    sym (c .before .before .shape-of .ensures) ∙ c .enum-told3 .given .1)
+    simp (
+      lt-leb _ _ (c .before .before .before .before .if1 .left),
+      sym (c .before .before .shape-of .ensures) ∙ c .enum-told3 .given .1,
+    )
 
 returns-6 : tie.Need-returns-6
 unfolding headOf onShape
 returns-6 c =
-    simp
-    (lt-leb _ _ (c .before .before .before .before .before .before .before .before .if1 .left),
-    sym (c .before .before .before .before .before .before .shape-of .ensures) ∙ c .before .before .before .before .shape .given .1,
-    ne-eqb _ _ (c .before .before .if2 .left), ← c .before .blank-record .ensures, ← c .body-at .ensures)
+    let m = c .before .before .before .before in
+    simp (
+      lt-leb _ _ (c .before .before .before .before .before .before .before .before .if1 .left),
+      sym (m .before .before .shape-of .ensures) ∙ m .shape .given .1,
+      ne-eqb _ _ (c .before .before .if2 .left),
+      ← c .before .blank-record .ensures,
+      ← c .body-at .ensures,
+    )
 
 pub head-at-spec : {M : Type 1} → statement M
 head-at-spec =

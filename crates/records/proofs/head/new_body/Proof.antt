@@ -6,8 +6,8 @@ use Rattle.records.specs.Head.{newOf, onByte}
 use Rattle.records.proofs.head.new_body.Statement.{statement}
 use Rattle.records.proofs.head.new_body.Tie as tie
 
-add-at : tie.Need-add-at
-add-at c = search needs
+add-id-at : tie.Need-add-id-at
+add-id-at c = search needs
 
 byte-below-requires : tie.Need-byte-below-requires
 byte-below-requires c κs = search needs
@@ -24,9 +24,12 @@ standing-of-requires c κs = search needs
 returns : tie.Need-returns
 unfolding newOf onByte
 returns c =
-    simp
-    (sym (c .before .before .before .before .before .byte-below .ensures) ∙ c .before .before .before .found2 .given .1,
-    ← c .before .standing-of .ensures, eq-eqb _ _ (c .if1 .taken))
+    let m = c .before .before .before in
+    simp (
+      sym (m .before .before .byte-below .ensures) ∙ m .found2 .given .1,
+      ← c .before .standing-of .ensures,
+      eq-eqb _ _ (c .if1 .taken),
+    )
 
 is-variable-requires : tie.Need-is-variable-requires
 is-variable-requires c κs = search needs
@@ -37,25 +40,36 @@ data-body-requires c κs = search needs
 returns-2 : tie.Need-returns-2
 unfolding newOf onByte
 returns-2 c =
-    simp
-    (sym (c .before .before .before .before .before .before .before .before .byte-below .ensures) ∙ c .before .before .before .before .before .before .found2 .given .1,
-    ← c .before .before .before .before .standing-of .ensures, ne-eqb _ _ (c .before .before .before .if1 .left),
-    ← c .before .before .is-variable .ensures, c .before .if2 .taken, ← c .data-body .ensures)
+    let m = c .before .before .before .before .before .before in
+    simp (
+      sym (m .before .before .byte-below .ensures) ∙ m .found2 .given .1,
+      ← c .before .before .before .before .standing-of .ensures,
+      ne-eqb _ _ (c .before .before .before .if1 .left),
+      ← c .before .before .is-variable .ensures,
+      c .before .if2 .taken,
+      ← c .data-body .ensures,
+    )
 
 returns-3 : tie.Need-returns-3
 unfolding newOf onByte
-returns-3 c = simp (sym (c .before .before .before .byte-below .ensures) ∙ c .before .found .given .1)
+returns-3 c =
+    let m = c .before in
+    simp (sym (m .before .before .byte-below .ensures) ∙ m .found .given .1)
 
 returns-4 : tie.Need-returns-4
 unfolding newOf onByte
 returns-4 c =
-    simp
-    (sym (c .before .before .before .before .before .before .before .byte-below .ensures) ∙ c .before .before .before .before .before .found2 .given .1,
-    ← c .before .before .before .standing-of .ensures, ne-eqb _ _ (c .before .before .if1 .left),
-    ← c .before .is-variable .ensures, c .if2 .left)
+    let m = c .before .before .before .before .before in
+    simp (
+      sym (m .before .before .byte-below .ensures) ∙ m .found2 .given .1,
+      ← c .before .before .before .standing-of .ensures,
+      ne-eqb _ _ (c .before .before .if1 .left),
+      ← c .before .is-variable .ensures,
+      c .if2 .left,
+    )
 
 pub new-body-spec : {M : Type 1} → statement M
 new-body-spec =
     tie.close (tie.spec
-    add-at byte-below-requires enum-known-found enum-known-found-2 standing-of-requires returns
+    add-id-at byte-below-requires enum-known-found enum-known-found-2 standing-of-requires returns
     is-variable-requires data-body-requires returns-2 returns-3 returns-4)

@@ -24,31 +24,44 @@ standing-of-requires c κs = search needs
 returns : tie.Need-returns
 unfolding useOf onByte
 returns c =
-    simp
-    (sym (c .before .before .before .before .before .byte-below .ensures) ∙ c .before .before .before .found2 .given .1,
-    ← c .before .standing-of .ensures, eq-eqb _ _ (c .if1 .taken))
+    let m = c .before .before .before in
+    simp (
+      sym (m .before .before .byte-below .ensures) ∙ m .found2 .given .1,
+      ← c .before .standing-of .ensures,
+      eq-eqb _ _ (c .if1 .taken),
+    )
 
 returns-2 : tie.Need-returns-2
 unfolding useOf onByte
 returns-2 c =
-    simp
-    (sym (c .before .before .before .before .before .before .byte-below .ensures) ∙ c .before .before .before .before .found2 .given .1,
-    ← c .before .before .standing-of .ensures, ne-eqb _ _ (c .before .if1 .left), eq-eqb _ _ (c .if2 .taken))
+    let m = c .before .before .before .before in
+    simp (
+      sym (m .before .before .byte-below .ensures) ∙ m .found2 .given .1,
+      ← c .before .before .standing-of .ensures,
+      ne-eqb _ _ (c .before .if1 .left),
+      eq-eqb _ _ (c .if2 .taken),
+    )
 
 used-record-requires : tie.Need-used-record-requires
 used-record-requires c κs = search needs
 
 returns-3 : tie.Need-returns-3
 unfolding useOf onByte
-returns-3 c = simp (sym (c .before .before .before .byte-below .ensures) ∙ c .before .found .given .1)
+returns-3 c =
+    let m = c .before in
+    simp (sym (m .before .before .byte-below .ensures) ∙ m .found .given .1)
 
 returns-4 : tie.Need-returns-4
 unfolding useOf onByte
 returns-4 c =
-    simp
-    (sym (c .before .before .before .before .before .before .before .byte-below .ensures) ∙ c .before .before .before .before .before .found2 .given .1,
-    ← c .before .before .before .standing-of .ensures, ne-eqb _ _ (c .before .before .if1 .left),
-    ne-eqb _ _ (c .before .if2 .left), ← c .used-record .ensures)
+    let m = c .before .before .before .before .before in
+    simp (
+      sym (m .before .before .byte-below .ensures) ∙ m .found2 .given .1,
+      ← c .before .before .before .standing-of .ensures,
+      ne-eqb _ _ (c .before .before .if1 .left),
+      ne-eqb _ _ (c .before .if2 .left),
+      ← c .used-record .ensures,
+    )
 
 pub use-body-spec : {M : Type 1} → statement M
 use-body-spec =

@@ -24,9 +24,12 @@ byte-at-requires c κs = search needs
 returns-2 : tie.Need-returns-2
 unfolding used
 returns-2 c =
-    simp
-    (← c .before .before .before .is-variable .ensures, c .before .before .if1 .left,
-    ← c .before .record-of .ensures .0, ← c .byte-at .ensures)
+    simp (
+      ← c .before .before .before .is-variable .ensures,
+      c .before .before .if1 .left,
+      ← c .before .record-of .ensures .0,
+      ← c .byte-at .ensures,
+    )
 
 pub used-record-spec : {M : Type 1} → statement M
 used-record-spec =

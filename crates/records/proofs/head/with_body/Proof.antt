@@ -1,3 +1,4 @@
+-- The record of the definition.
 use borrow.Author.Needs.{needs}
 use Rattle.records.specs.Head.{withBody}
 use Rattle.records.proofs.head.with_body.Statement.{statement}

@@ -1,3 +1,4 @@
+-- Nine words for each place.
 use borrow.Author.Needs.{needs}
 use Rattle.records.specs.Row.{cell}
 use Rattle.records.proofs.row.cell_at.Statement.{statement}

@@ -1,3 +1,4 @@
+-- The tests of the definition.
 use borrow.Author.Tests.{eq-eqb, le-ltb, lt-ltb, ne-eqb}
 use Rattle.records.specs.Row.{classOf}
 use Rattle.records.proofs.row.class_of.Statement.{statement}

@@ -1,5 +1,5 @@
+-- Each rule has its own detail.
 use borrow.Author.Needs.{needs}
-use borrow.Author.Tests.{le-leb, lt-leb, lt-ltb, le-ltb, eq-eqb, ne-eqb, not-true, not-false}
 use Rattle.records.specs.Row.{detail}
 use Rattle.records.proofs.row.detail_of.Statement.{statement}
 use Rattle.records.proofs.row.detail_of.Tie as tie
@@ -57,51 +57,56 @@ values-of-requires c κs = search needs
 
 returns : tie.Need-returns
 unfolding detail
-returns c = simp (c .enum-told .given .1, c .before .match .keys1)
+returns c = simp (c .enum-told .given .1)
 
 returns-2 : tie.Need-returns-2
 unfolding detail
-returns-2 c = simp (c .enum-told2 .given .1, c .before .match .keys2)
+returns-2 c = simp (c .enum-told2 .given .1)
 
 returns-3 : tie.Need-returns-3
 unfolding detail
-returns-3 c = simp (c .before .enum-told3 .given .1, c .before .before .match .keys3)
+returns-3 c = simp (c .before .enum-told3 .given .1)
 
 returns-4 : tie.Need-returns-4
 unfolding detail
-returns-4 c = simp (c .before .enum-told4 .given .1, ← c .code-of-byte .ensures, c .before .before .match .keys4)
+returns-4 c = simp (c .before .enum-told4 .given .1, ← c .code-of-byte .ensures)
 
 returns-5 : tie.Need-returns-5
 unfolding detail
-returns-5 c = simp (c .before .enum-told5 .given .1, ← c .use-detail .ensures, c .before .before .match .keys5)
+returns-5 c = simp (c .before .enum-told5 .given .1, ← c .use-detail .ensures)
 
 returns-6 : tie.Need-returns-6
 unfolding detail
-returns-6 c = simp (c .enum-told6 .given .1, c .before .match .keys6)
+returns-6 c = simp (c .enum-told6 .given .1)
 
 returns-7 : tie.Need-returns-7
 unfolding detail
-returns-7 c = simp (c .before .enum-told7 .given .1, c .before .before .match .keys7)
+returns-7 c = simp (c .before .enum-told7 .given .1)
 
 returns-8 : tie.Need-returns-8
 unfolding detail
-returns-8 c = simp (c .enum-told8 .given .1, c .before .match .keys8)
+returns-8 c = simp (c .enum-told8 .given .1)
 
 returns-9 : tie.Need-returns-9
 unfolding detail
-returns-9 c = simp (c .enum-told9 .given .1, c .before .match .keys9)
+returns-9 c = simp (c .enum-told9 .given .1)
 
 returns-10 : tie.Need-returns-10
 unfolding detail
-returns-10 c = simp (c .enum-told10 .given .1, c .before .match .keys10)
+returns-10 c = simp (c .enum-told10 .given .1)
 
 returns-11 : tie.Need-returns-11
 unfolding detail
-returns-11 c = simp (c .enum-told11 .given .1, c .before .match .keys11)
+returns-11 c = simp (c .enum-told11 .given .1)
 
 returns-12 : tie.Need-returns-12
 unfolding detail
-returns-12 c = simp (c .before .enum-told12 .given .1, ← c .values-of .ensures .0, c .before .before .match .keys12)
+returns-12 c = simp (c .before .enum-told12 .given .1, ← c .values-of .ensures .0)
 
 pub detail-of-spec : {M : Type 1} → statement M
-detail-of-spec = tie.close (tie.spec enum-told enum-told-2 enum-told-3 cast-result enum-told-4 code-of-byte-requires enum-told-5 use-detail-requires enum-told-6 enum-told-7 cast-result-2 enum-told-8 enum-told-9 enum-told-10 enum-told-11 enum-told-12 values-of-requires returns returns-2 returns-3 returns-4 returns-5 returns-6 returns-7 returns-8 returns-9 returns-10 returns-11 returns-12)
+detail-of-spec =
+    tie.close (tie.spec
+    enum-told enum-told-2 enum-told-3 cast-result enum-told-4 code-of-byte-requires enum-told-5
+    use-detail-requires enum-told-6 enum-told-7 cast-result-2 enum-told-8 enum-told-9 enum-told-10 enum-told-11
+    enum-told-12 values-of-requires returns returns-2 returns-3 returns-4 returns-5 returns-6 returns-7
+    returns-8 returns-9 returns-10 returns-11 returns-12)

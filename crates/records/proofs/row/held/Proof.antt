@@ -1,3 +1,4 @@
+-- A weight past 4,096 is held at 4,097.
 use borrow.Author.Needs.{needs}
 use native.Mathlib.Omega.{arith}
 use Rattle.records.proofs.row.held.Statement.{statement}

@@ -1,3 +1,4 @@
+-- Word 5 + j.
 use borrow.Author.Needs.{needs}
 use Rattle.records.specs.Row.{linked}
 use Rattle.records.proofs.row.link.Statement.{statement}

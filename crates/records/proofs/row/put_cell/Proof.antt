@@ -1,3 +1,4 @@
+-- A store at the place of a word.
 use borrow.Author.Needs.{needs}
 use Rattle.records.proofs.row.put_cell.Statement.{statement}
 use Rattle.records.proofs.row.put_cell.Tie as tie

@@ -1,3 +1,4 @@
+-- 128 for the use of a variable, else the kind.
 use borrow.Author.Needs.{needs}
 use Rattle.records.specs.Row.{rowKind}
 use Rattle.records.proofs.row.row_kind.Statement.{statement}

@@ -1,5 +1,5 @@
+-- A variable by its level, a name by its id and its arguments.
 use borrow.Author.Needs.{needs}
-use borrow.Author.Tests.{le-leb, lt-leb, lt-ltb, le-ltb, eq-eqb, ne-eqb, not-true, not-false}
 use Rattle.records.specs.Row.{useDetail}
 use Rattle.records.proofs.row.use_detail.Statement.{statement}
 use Rattle.records.proofs.row.use_detail.Tie as tie
@@ -12,7 +12,7 @@ level-of-requires c κs = search needs
 
 returns : tie.Need-returns
 unfolding useDetail
-returns c = simp (← c .before .before .is-variable .ensures, ← c .level-of .ensures, c .before .if1 .taken)
+returns c = simp (← c .before .before .is-variable .ensures, c .before .if1 .taken, ← c .level-of .ensures)
 
 cast-result : tie.Need-cast-result
 cast-result c = search needs
@@ -31,4 +31,6 @@ unfolding useDetail
 returns-2 c = simp (← c .before .before .before .is-variable .ensures, c .before .before .if1 .left)
 
 pub use-detail-spec : {M : Type 1} → statement M
-use-detail-spec = tie.close (tie.spec is-variable-requires level-of-requires returns cast-result cast-result-2 mul-result add-result returns-2)
+use-detail-spec =
+    tie.close (tie.spec
+    is-variable-requires level-of-requires returns cast-result cast-result-2 mul-result add-result returns-2)

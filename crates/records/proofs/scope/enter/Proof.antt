@@ -1,3 +1,4 @@
+-- The new's variable at its id.
 use borrow.Author.Needs.{needs}
 use Rattle.records.specs.Scope.{entered}
 use Rattle.records.proofs.scope.enter.Statement.{statement}

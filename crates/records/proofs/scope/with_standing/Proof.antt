@@ -17,7 +17,8 @@ returns c = refl
 
 returns-2 : tie.Need-returns-2
 returns-2 c =
-    sym (set-out (c .before .args .st) (c .before .args .id) (c .before .args .standing) (omega (arith, c .before .good .0 .1 .0 .1)))
+    let a = c .before .args in
+    sym (set-out (a .st) (a .id) (a .standing) (omega (arith, c .before .good .0 .1 .0 .1)))
 
 pub with-standing-spec : {M : Type 1} → statement M
 with-standing-spec = tie.close (tie.spec mul-inner array-write-inner returns returns-2)

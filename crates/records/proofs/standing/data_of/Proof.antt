@@ -1,3 +1,4 @@
+-- One bit of the standing.
 use borrow.Author.Needs.{needs}
 use Rattle.records.specs.Standing.{dataOf}
 use Rattle.records.proofs.standing.data_of.Statement.{statement}

@@ -1,3 +1,4 @@
+-- Below 65,536.
 use borrow.Author.Needs.{needs}
 use Rattle.records.specs.Standing.{variableStanding}
 use Rattle.records.proofs.standing.variable_standing.Statement.{statement}

@@ -1,3 +1,4 @@
+-- The declared types stand from the fifth byte of the declaration on.
 use borrow.Author.Needs.{needs}
 use borrow.Author.Tests.{eq-eqb, ne-eqb}
 use native.Mathlib.Omega.{arith}

@@ -1,3 +1,4 @@
+-- Each rule has its own test.
 use borrow.Author.Needs.{needs}
 use borrow.Author.Tests.{eq-eqb, ne-eqb}
 use Rattle.records.specs.Rule.{accepts}

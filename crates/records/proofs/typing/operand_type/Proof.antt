@@ -1,3 +1,4 @@
+-- The test of the definition.
 use borrow.Author.Tests.{le-ltb, lt-ltb}
 use Rattle.records.specs.Rule.{operandType}
 use Rattle.records.proofs.typing.operand_type.Statement.{statement}

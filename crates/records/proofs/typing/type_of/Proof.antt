@@ -1,3 +1,4 @@
+-- Each rule has its own type.
 use borrow.Author.Needs.{needs}
 use native.Mathlib.Omega.{arith}
 use Rattle.records.specs.Rule.{typeOf}

@@ -1,3 +1,4 @@
+-- A variable by its data, a name as declared.
 use borrow.Author.Needs.{needs}
 use native.Mathlib.Omega.{arith}
 use Rattle.records.specs.Rule.{typeOf}
@@ -35,9 +36,12 @@ byte-at-requires c κs = search needs
 returns-2 : tie.Need-returns-2
 unfolding typeOf
 returns-2 c =
-    simp
-    (← c .before .before .before .is-variable .ensures, c .before .before .if1 .left,
-    ← c .before .record-of .ensures .0, ← c .byte-at .ensures)
+    simp (
+      ← c .before .before .before .is-variable .ensures,
+      c .before .before .if1 .left,
+      ← c .before .record-of .ensures .0,
+      ← c .byte-at .ensures,
+    )
 
 pub use-type-spec : {M : Type 1} → statement M
 use-type-spec =

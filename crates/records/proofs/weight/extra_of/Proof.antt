@@ -1,3 +1,4 @@
+-- Only the arguments of a use add answers.
 use borrow.Author.Needs.{needs}
 use Rattle.records.specs.Rule.{extra}
 use Rattle.records.proofs.weight.extra_of.Statement.{statement}

@@ -1,3 +1,4 @@
+-- Each rule has its own weight.
 use borrow.Author.Needs.{needs}
 use Rattle.records.specs.Rule.{own}
 use Rattle.records.proofs.weight.own_of.Statement.{statement}

@@ -21,9 +21,8 @@ sat-add-requires-2 c κs = search needs
 
 returns : tie.Need-returns
 returns c =
-    rw
-    (← c .before .before .before .before .factor-of .ensures,
-    ← c .before .before .extra-of .ensures) (omega (arith, c .sat-add2 .ensures, c .before .sat-add .ensures, c .before .before .before .sat-mul .ensures))
+    rw (← c .before .before .before .before .factor-of .ensures, ← c .before .before .extra-of .ensures)
+    (omega (arith, c .sat-add2 .ensures, c .before .sat-add .ensures, c .before .before .before .sat-mul .ensures))
 
 pub part-weight-spec : {M : Type 1} → statement M
 part-weight-spec =

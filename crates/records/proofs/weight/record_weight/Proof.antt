@@ -1,3 +1,4 @@
+-- A held sum.
 use borrow.Author.Needs.{needs}
 use Rattle.records.proofs.weight.record_weight.Statement.{statement}
 use Rattle.records.proofs.weight.record_weight.Tie as tie

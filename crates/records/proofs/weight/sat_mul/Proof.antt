@@ -12,15 +12,18 @@ returns-2 c = rw (c .if2 .taken, mul-zero)
 
 returns-3 : tie.Need-returns-3
 returns-3 c =
-    omega (arith, le-mul-of-pos-right {m = c .before .before .before .args .b} (c .before .before .before .args .a) (omega arith))
+    let a = c .before .before .before .args in
+    omega (arith, le-mul-of-pos-right {m = a .b} (a .a) (omega arith))
 
 returns-4 : tie.Need-returns-4
 returns-4 c =
-    rw mul-comm (omega (arith, le-mul-of-pos-right {m = c .before .before .before .before .args .a} (c .before .before .before .before .args .b) (omega arith)))
+    let a = c .before .before .before .before .args in
+    rw mul-comm (omega (arith, le-mul-of-pos-right {m = a .a} (a .b) (omega arith)))
 
 mul-c : tie.Need-mul-c
 mul-c c =
-    omega (arith, mul-le-mul {n₁ = c .before .before .before .before .args .a} {m₁ = c .before .before .before .before .args .b} {n₂ = 4096} {m₂ = 4096} (omega arith) (omega arith))
+    let a = c .before .before .before .before .args in
+    omega (arith, mul-le-mul {n₁ = a .a} {m₁ = a .b} {n₂ = 4096} {m₂ = 4096} (omega arith) (omega arith))
 
 returns-5 : tie.Need-returns-5
 returns-5 c = omega arith

@@ -20,8 +20,10 @@ returns-2 c = (simp (c .match .keys2), omega arith)
 
 returns-3 : tie.Need-returns-3
 unfolding values numbers
-returns-3 c =
-    (simp (ne-eqb _ _ (c .before .match .rest .1), ne-eqb _ _ (c .before .match .rest .0 .1), c .numbers .ensures), omega (arith, c .numbers .ensures))
+returns-3 c = (
+  simp (ne-eqb _ _ (c .before .match .rest .1), ne-eqb _ _ (c .before .match .rest .0 .1), c .numbers .ensures),
+  omega (arith, c .numbers .ensures),
+)
 
 pub values-of-spec : {M : Type 1} → statement M
 values-of-spec = tie.close (tie.spec numbers-requires returns returns-2 returns-3)
