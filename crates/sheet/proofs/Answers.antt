@@ -1,0 +1,94 @@
+-- A property of everything that is read, and how it goes through the reader's steps.
+use Prim.Native.Nat.{ℕ, suc, _+_, _*_}
+use mathlib.Core.Path.{_≡_, refl, subst}
+use mathlib.Core.Bool.{Bool, true, false}
+use mathlib.Core.List.{List}
+use Rattle.language.specs.Choice.{pick}
+use Rattle.language.specs.declared.Numbers.{Numbers}
+use Rattle.records.specs.Rule.{accepts, typeOf, factor, extra, own}
+use Rattle.records.specs.declared.head.Record.{Record}
+use Rattle.records.specs.declared.head.Head.{Head}
+use Rattle.records.specs.declared.head.Head.the-variants.{Good as Headed, Bad as Unheaded}
+use Rattle.sheet.specs.Reader.{Tree, node, Trees, branch, Answer, got, refused, bind, onHead, partsOf, recordOf}
+
+-- P of what was read, nothing of a refusal
+pub data All {X : Type 0} (P : X → ℕ → ℕ → ℕ → Type 0) : Answer X → Type 0 where
+  one : {x : X} {ty w n : ℕ} → P x ty w n → All P (got x ty w n)
+  none′ : {a b : ℕ} → All P (refused a b)
+
+unfoldable pub Holds : {X : Type 0} → (X → ℕ → ℕ → ℕ → Type 0) → Answer X → Type 0
+Holds P (got x ty w n) = P x ty w n
+Holds P (refused a b) = Unit
+
+pub all-holds : {X : Type 0} (P : X → ℕ → ℕ → ℕ → Type 0) (A : Answer X) → All P A → Holds P A
+unfolding Holds
+all-holds P A (one p) = p
+all-holds P A none′ = tt
+
+pub all-got :
+    {X : Type 0} (P : X → ℕ → ℕ → ℕ → Type 0) {A : Answer X} {x : X} {ty w n : ℕ} → All P A → A ≡ got x ty w n →
+    P x ty w n
+unfolding Holds
+all-got P {A} a e = subst (λ (B : Answer _). Holds P B) e (all-holds P A a)
+
+pub all-map :
+    {X : Type 0} (P Q : X → ℕ → ℕ → ℕ → Type 0) (A : Answer X) →
+    ((x : X) (ty w n : ℕ) → P x ty w n → Q x ty w n) → All P A → All Q A
+all-map P Q A f (one {x = x} {ty = ty} {w = w} {n = n} p) = one (f x ty w n p)
+all-map P Q A f none′ = none′
+
+pub pick-all : {A : Type 0} (P : A → Type 0) (t : Bool) {a b : A} → (t ≡ true → P a) → (t ≡ false → P b) →
+    P (pick t a b)
+pick-all P true p q = p refl
+pick-all P false p q = q refl
+
+pub bind-all :
+    {X Y : Type 0} (P : X → ℕ → ℕ → ℕ → Type 0) (Q : Y → ℕ → ℕ → ℕ → Type 0) (x : Answer X)
+    (k : X → ℕ → ℕ → ℕ → Answer Y) → All P x → ((t : X) (ty w n : ℕ) → P t ty w n → All Q (k t ty w n)) →
+    All Q (bind x k)
+unfolding bind
+bind-all P Q x k (one {x = t} {ty = ty} {w = w} {n = n} p) f = f t ty w n p
+bind-all P Q x k none′ f = none′
+
+-- the same of a head
+unfoldable pub HeadAll : (Record → Type 0) → Head → Type 0
+HeadAll P (Headed r) = P r
+HeadAll P (Unheaded n p) = Unit
+
+pub head-all :
+    {X : Type 0} (P : Record → Type 0) (Q : X → ℕ → ℕ → ℕ → Type 0) (h : Head) (k : Record → Answer X) →
+    HeadAll P h → ((r : Record) → P r → All Q (k r)) → All Q (onHead h k)
+unfolding onHead HeadAll
+head-all P Q (Headed r) k p f = f r p
+head-all P Q (Unheaded n q) k p f = none′
+
+pub head-refused :
+    {X : Type 0} (Q : X → ℕ → ℕ → ℕ → Type 0) (h : Head) (n p : ℕ) → All Q (onHead h (λ r. refused n p))
+unfolding onHead
+head-refused Q (Headed r) n p = none′
+head-refused Q (Unheaded a b) n p = none′
+
+-- the parts of a record: each of them has R of its place
+module _ (R : ℕ → Tree → ℕ → ℕ → ℕ → Type 0) (rec : ℕ → Answer Tree) (N : Numbers) (s : List ℕ) (r : Record) where
+  pub parts-more :
+      (Q : Trees → ℕ → ℕ → ℕ → Type 0) (n j prev at : ℕ) → All (R at) (rec at) →
+      ((t : Tree) (ty w next : ℕ) → R at t ty w next → accepts (r .rule) s r j prev ty ≡ true →
+        All (λ ts last v end. Q (branch at t ts) last
+          (factor (r .rule) N r j prev ty * w + extra (r .rule) N ty + v) end)
+          (partsOf rec N s r n (j + 1) ty next)) →
+      All Q (partsOf rec N s r (suc n) j prev at)
+  unfolding partsOf
+  parts-more Q n j prev at a f =
+      bind-all (R at) Q (rec at) _ a (λ t ty w next p.
+        pick-all (All Q) (accepts (r .rule) s r j prev ty)
+        (λ e. bind-all _ Q (partsOf rec N s r n (j + 1) ty next) _ (f t ty w next p e) (λ ts last v end q. one q))
+        (λ e. none′))
+
+  pub record-all :
+      (Q : Tree → ℕ → ℕ → ℕ → Type 0) →
+      All (λ ts last v end. Q (node r (typeOf (r .rule) s r last) (own (r .rule) + v) ts) (typeOf (r .rule) s r last)
+        (own (r .rule) + v) end)
+        (partsOf rec N s r (r .parts) 0 0 (r .next)) →
+      All Q (recordOf rec N s r)
+  unfolding recordOf
+  record-all Q a = bind-all _ Q (partsOf rec N s r (r .parts) 0 0 (r .next)) _ a (λ ts last v end q. one q)
