@@ -24,3 +24,4 @@ pub mod Spans
 pub mod Stored
 pub mod Small
 pub mod Represents
+pub mod Tabling

@@ -40,7 +40,7 @@ pub record SheetRead (s : List ℕ) (x : Whole) (ty w end : ℕ) : Type 0 where
   pub ends : length s ≤ end
   pub small : sizeOf (numbersAt s) ty w ≤ 4096
 
-sheet-all : (s : List ℕ) → All (SheetRead s) (sheetOf s)
+pub sheet-all : (s : List ℕ) → All (SheetRead s) (sheetOf s)
 unfolding sheetOf closed
 sheet-all s =
     pick-all A (ltb 4096 (length s)) (λ e. none′) (λ e₁.

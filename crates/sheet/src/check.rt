@@ -9,6 +9,7 @@ ghost use lib.ListN.{length, getD};
 ghost use Rattle.sheet.specs.Reader.{sizeOf, sheetOf, numbersAt, readSheet};
 ghost use Rattle.sheet.specs.Check.{checkedOf};
 ghost use Rattle.sheet.specs.table.Fill.{ReadsSheet, closedReading};
+ghost use Rattle.sheet.specs.table.Tabled.{TabledBy};
 
 // The answer of check: the type and the size of the sheet, or the refusal's number, sheet (0 old) and place.
 pub enum Checked {
@@ -41,7 +42,9 @@ fn close_sheet(s: &[u8], n: Numbers, x: Reading) -> Reading
 
 // Reads a whole sheet, and leaves the rows of its parts in the table.
 pub fn read_sheet(s: &[u8], t: &mut [u16]) -> Reading
-    ensures { λ x. ⌜ ReadsSheet (numbersAt (now (s .entry))) (sheetOf (now (s .entry))) x (now (t .entry)) (now (t .exit)) ⌝ }
+    ensures reads { λ x. ⌜ ReadsSheet (numbersAt (now (s .entry))) (sheetOf (now (s .entry))) x
+        (now (t .entry)) (now (t .exit)) ⌝ }
+    ensures tabled { λ x. ⌜ (length (now (t .entry)) ≡ 36864 → TabledBy (now (s .entry)) x (now (t .exit))) ⌝ }
 {
     if 4096 < s.len() {
         return Reading::Refusal { number: 1, place: 4096 };
