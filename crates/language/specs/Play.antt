@@ -8,7 +8,8 @@ use Prim.Native.Nat.{ℕ, zero, suc, _<_}
 use Rattle.language.specs.Ty.{Ty, Question, run, ask, read, write, Answer, done, ok, value, Answers}
 use Rattle.language.specs.Move.{Event, question, answer, Place, at, private, Move, move, Word}
 use Rattle.language.specs.Term as t
-use Rattle.language.specs.Term.{Term, skip, diverge, const, name, fetch, operate, assign, seq, while, cond, new, Args, no-args, arg, apply}
+use Rattle.language.specs.Term.{Term, skip, diverge, const, name, fetch, operate, assign, seq, while, cond, new}
+use Rattle.language.specs.Term.{Args, no-args, arg, apply}
 
 -- a value of data of m values
 abbrev pub Val : ℕ → Type 0

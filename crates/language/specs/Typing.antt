@@ -6,7 +6,8 @@ use lib.Dec.{ltb}
 use Rattle.language.specs.Choice.{pick}
 use Rattle.language.specs.Number.{numbers}
 use Rattle.language.specs.Ty.{Ty, command, expression, variable}
-use Rattle.language.specs.Term.{Term, skip, diverge, const, private, name, fetch, operate, assign, seq, while, cond, new, Args, no-args, arg, Operation}
+use Rattle.language.specs.Term.{Term, skip, diverge, const, private, name, fetch, operate, assign, seq, while}
+use Rattle.language.specs.Term.{cond, new, Args, no-args, arg, Operation}
 
 -- how many values the data of an operator's operands and of its result has: operators 0 to 5 take numbers, 0 to 3 give one
 unfoldable pub operands : Operation → ℕ

@@ -1,7 +1,8 @@
 -- Weight and size. Document 01, "Reckoned size".
 use Prim.Native.Nat.{ℕ, _+_, _*_}
 use Rattle.language.specs.Ty.{Ty, questions, answers}
-use Rattle.language.specs.Term.{Term, skip, diverge, const, private, name, fetch, operate, assign, seq, while, cond, new, Args, no-args, arg}
+use Rattle.language.specs.Term.{Term, skip, diverge, const, private, name, fetch, operate, assign, seq, while}
+use Rattle.language.specs.Term.{cond, new, Args, no-args, arg}
 
 unfoldable mutual
   pub weight : Term → ℕ

@@ -21,7 +21,8 @@ use Rattle.records.proofs.HeadLaws.{start}
 
 module _ (s st : List ℕ) (N : Numbers) (left at : ℕ) (d : left ≡ 0 → ⊥) where
   -- the body is what is left to judge
-  pub made : (R : Rule) → at < length s → getD s at 0 ≡ kindOf R → headOf s st N left at ≡ bodyOf R s st N (start at R)
+  pub made : (R : Rule) → at < length s → getD s at 0 ≡ kindOf R → headOf s st N left at ≡ bodyOf R s st N
+    (start at R)
   unfolding headOf onShape
   made R i k = rw (lt-leb (length s) at i, k, shape-of-kind R, ne-eqb left 0 d)
 
@@ -78,7 +79,8 @@ module _ (s st : List ℕ) (N : Numbers) (left at : ℕ) (d : left ≡ 0 → ⊥
         (c ≡ 0 → ⊥) → (c ≡ 1 → ⊥) → headOf s st N left at ≡ Good (used s (start at Use) id c)
     unfolding bodyOf useOf blank
     made-use id c k e l f n m =
-        made Use (omega arith) k ∙ (byte-made s (at + 1) 255 _ i (omega arith) ∙ rw (e, f, ne-eqb c 0 n, ne-eqb c 1 m))
+        made Use (omega arith) k ∙
+          (byte-made s (at + 1) 255 _ i (omega arith) ∙ rw (e, f, ne-eqb c 0 n, ne-eqb c 1 m))
 
   data-made :
       (id holds : ℕ) → at + 2 < length s → getD s (at + 2) 0 ≡ holds → 0 < holds → holds ≤ 2 →

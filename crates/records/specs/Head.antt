@@ -11,7 +11,8 @@ use Rattle.language.specs.declared.Numbers.{Numbers}
 use Rattle.records.specs.Kind.{shapeOf}
 use Rattle.records.specs.Standing.{isVariable, recordOf}
 use Rattle.records.specs.declared.kind.Rule.{Rule}
-use Rattle.records.specs.declared.kind.Rule.the-variants.{Skip, Diverge, Truth, Number, Use, Fetch, Operate, Assign, Sequence, If, While, New}
+use Rattle.records.specs.declared.kind.Rule.the-variants.{Skip, Diverge, Truth, Number, Use, Fetch, Operate}
+use Rattle.records.specs.declared.kind.Rule.the-variants.{Assign, Sequence, If, While, New}
 use Rattle.records.specs.declared.kind.Shape.{Shape}
 use Rattle.records.specs.declared.kind.Shape.the-variants.{Part, Declare, Retire, Unknown}
 use Rattle.records.specs.declared.head.Record.{Record}

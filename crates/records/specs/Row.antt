@@ -16,7 +16,8 @@ use Rattle.language.specs.declared.Numbers.{Numbers}
 use Rattle.records.specs.Standing.{isVariable, levelOf}
 use Rattle.records.specs.Rule.{values}
 use Rattle.records.specs.declared.kind.Rule.{Rule}
-use Rattle.records.specs.declared.kind.Rule.the-variants.{Skip, Diverge, Truth, Number, Use, Fetch, Operate, Assign, Sequence, If, While, New}
+use Rattle.records.specs.declared.kind.Rule.the-variants.{Skip, Diverge, Truth, Number, Use, Fetch, Operate}
+use Rattle.records.specs.declared.kind.Rule.the-variants.{Assign, Sequence, If, While, New}
 use Rattle.records.specs.declared.head.Record.{Record}
 
 -- word i of the row at a place

@@ -10,7 +10,8 @@ use Rattle.language.specs.Number.{numbers}
 use Rattle.language.specs.declared.Numbers.{Numbers}
 use Rattle.records.specs.Standing.{isVariable, dataOf, recordOf}
 use Rattle.records.specs.declared.kind.Rule.{Rule}
-use Rattle.records.specs.declared.kind.Rule.the-variants.{Skip, Diverge, Truth, Number, Use, Fetch, Operate, Assign, Sequence, If, While, New}
+use Rattle.records.specs.declared.kind.Rule.the-variants.{Skip, Diverge, Truth, Number, Use, Fetch, Operate}
+use Rattle.records.specs.declared.kind.Rule.the-variants.{Assign, Sequence, If, While, New}
 use Rattle.records.specs.declared.head.Record.{Record}
 
 -- K: the number of values of a type's data; of a command it is not used

@@ -14,7 +14,8 @@ use Rattle.records.specs.declared.head.Record.{Record}
 use Rattle.records.specs.declared.head.Head.{Head}
 use Rattle.records.specs.declared.head.Head.the-variants.{Good, Bad}
 use Rattle.records.proofs.HeadLaws.{head-good}
-use Rattle.sheet.specs.Reader.{Tree, Trees, Answer, got, refused, bind, onHead, partsOf, recordOf, isNew, scopedOf, readPart}
+use Rattle.sheet.specs.Reader.{Tree, Trees, Answer, got, refused, bind, onHead, partsOf, recordOf, isNew}
+use Rattle.sheet.specs.Reader.{scopedOf, readPart}
 use Rattle.sheet.specs.table.Fill.{erase, Beyond}
 use Rattle.sheet.specs.declared.part.Part.{Part}
 use Rattle.sheet.specs.declared.part.Part.the-variants.{Read, Refused}
@@ -73,7 +74,8 @@ module _ (N : Numbers) (s : List ℕ) where
   later at mid h (refused n p) q = tt
 
   headed :
-      (at : ℕ) (h : Head) (k : Record → Answer Tree) → ((r : Record) → h ≡ Good r → Whole at (k r)) → Whole at (onHead h k)
+      (at : ℕ) (h : Head) (k : Record → Answer Tree) → ((r : Record) → h ≡ Good r → Whole at (k r)) → Whole at
+        (onHead h k)
   unfolding onHead Next
   headed at (Good r) k f = f r refl
   headed at (Bad n p) k f = tt
@@ -85,7 +87,8 @@ module _ (N : Numbers) (s : List ℕ) where
   unfolding scopedOf
   scoped-next rec f st level at r h k =
       next-pick (After at (length s)) (isNew (r .rule)) _ _
-      (later at (r .next) h (recordOf (rec (entered st r level) (level + 1)) N s r) (record-next _ (f (entered st r level) (level + 1)) r k))
+      (later at (r .next) h (recordOf (rec (entered st r level) (level + 1)) N s r)
+        (record-next _ (f (entered st r level) (level + 1)) r k))
       (later at (r .next) h (recordOf (rec st level) N s r) (record-next _ (f st level) r k))
 
   part-next : (left : ℕ) (st : List ℕ) (level at : ℕ) → Whole at (readPart left N s st level at)
@@ -106,7 +109,8 @@ beyond-of at n (refused a b) p = tt
 pub part-beyond :
     (left : ℕ) (N : Numbers) (s st : List ℕ) (level at : ℕ) {x : Part} → x ≡ erase (readPart left N s st level at) →
     Beyond at (length s) x
-part-beyond left N s st level at e = rw e (beyond-of at (length s) (readPart left N s st level at) (part-next N s left st level at))
+part-beyond left N s st level at e =
+    rw e (beyond-of at (length s) (readPart left N s st level at) (part-next N s left st level at))
 
 pub beyond-within : (at n : ℕ) {ty w next : ℕ} {x : Part} → Beyond at n x → x ≡ Read ty w next → next ≤ n
 unfolding Beyond

@@ -59,7 +59,8 @@ module _ (s : List ℕ) where
   pub open-one : (p k a : ℕ) (l : List ℕ) → drop p s ≡ k ∷ a ∷ l →
       Byte s p k × Byte s (p + 1) a × (drop (p + 1 + 1) s ≡ l)
   open-one p k a l e =
-      let e′ = past-one p k (a ∷ l) e in (byte-there p k (a ∷ l) e, byte-there (p + 1) a l e′, past-one (p + 1) a l e′)
+      let e′ =
+          past-one p k (a ∷ l) e in (byte-there p k (a ∷ l) e, byte-there (p + 1) a l e′, past-one (p + 1) a l e′)
 
   pub open-two :
       (p k a d : ℕ) (l : List ℕ) → drop p s ≡ k ∷ a ∷ d ∷ l →

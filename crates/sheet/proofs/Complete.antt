@@ -18,10 +18,12 @@ use Rattle.records.specs.Scope.{entered}
 use Rattle.records.specs.Rule.{values, questions, answers, operandType, accepts, typeOf, factor, extra, own}
 use Rattle.records.specs.declared.kind.Rule.the-variants.{Use, Fetch, Operate, Assign, Sequence, If, While, New}
 use Rattle.records.specs.declared.head.Record.{Record}
-use Rattle.sheet.specs.Written.{Written, Writtens, none, more, skip, diverge, truth, number, call, fetch, operate}
+use Rattle.sheet.specs.Written.{Written, Writtens, none, more, skip, diverge, truth, number, call, fetch}
+use Rattle.sheet.specs.Written.{operate}
 use Rattle.sheet.specs.Written.{assign, sequence, while, choose, new, Name}
 use Rattle.sheet.specs.Encoding.{encode, encodes}
-use Rattle.sheet.specs.Meaning.{Block, Meaning, private, named, retired, free, declared, meaning, useType, typed}
+use Rattle.sheet.specs.Meaning.{Block, Meaning, private, named, retired, free, declared, meaning, useType}
+use Rattle.sheet.specs.Meaning.{typed}
 use Rattle.sheet.specs.Meaning.{byMeaning, resolve, resolveArgs}
 use Rattle.sheet.specs.Fine.{depth, depths, FineUse, Fine, FineArgs}
 use Rattle.sheet.specs.Reader.{Tree, node, Trees, leaf, branch, Answer, got, bind, onHead, partsOf, recordOf}
@@ -96,7 +98,8 @@ module _ (N : Numbers) (s : List ℕ) (ns : List Name) (left : ℕ) (bs : List B
       reading (record-read h refl ∙ record-step rec N s _ refl) refl refl refl (omega arith)
 
   complete-fetch : (v : Written) → Byte s at 21 → Fine N ns bs (fetch v) → Part (at + 1 + 0) v → Whole (fetch v)
-  unfolding Fine isNew partsOf accepts factor extra typeOf own encode typed weight resolve written writtens build first
+  unfolding Fine isNew partsOf accepts factor extra typeOf own encode typed weight resolve written writtens build
+    first
   complete-fetch v b f p =
       let r = made s at Fetch 1 0 0 (at + 1 + 0) in
       reading (record-read (h-fetch b) refl ∙ record-step rec N s r
@@ -122,7 +125,8 @@ module _ (N : Numbers) (s : List ℕ) (ns : List Name) (left : ℕ) (bs : List B
       (op : ℕ) (l r : Written) → Byte s at 22 → Byte s (at + 1) op → Fine N ns bs (operate op l r) →
       Part (at + 1 + 1) l →
       Part (at + 1 + 1 + length (encode l)) r → Whole (operate op l r)
-  unfolding Fine isNew partsOf accepts factor extra typeOf own encode typed weight resolve written writtens build first
+  unfolding Fine isNew partsOf accepts factor extra typeOf own encode typed weight resolve written writtens build
+    first
     rest
   complete-operate op l r b c f p q =
       let x = made s at Operate 2 op 0 (at + 1 + 1) in
@@ -138,7 +142,8 @@ module _ (N : Numbers) (s : List ℕ) (ns : List Name) (left : ℕ) (bs : List B
   complete-assign :
       (l r : Written) → Byte s at 23 → Fine N ns bs (assign l r) → Part (at + 1 + 0) l →
       Part (at + 1 + 0 + length (encode l)) r → Whole (assign l r)
-  unfolding Fine isNew partsOf accepts factor extra typeOf own encode typed weight resolve written writtens build first
+  unfolding Fine isNew partsOf accepts factor extra typeOf own encode typed weight resolve written writtens build
+    first
     rest
   complete-assign l r b f p q =
       let x = made s at Assign 2 0 0 (at + 1 + 0) in
@@ -152,7 +157,8 @@ module _ (N : Numbers) (s : List ℕ) (ns : List Name) (left : ℕ) (bs : List B
   complete-sequence :
       (l r : Written) → Byte s at 24 → Fine N ns bs (sequence l r) → Part (at + 1 + 0) l →
       Part (at + 1 + 0 + length (encode l)) r → Whole (sequence l r)
-  unfolding Fine isNew partsOf accepts factor extra typeOf own encode typed weight resolve written writtens build first
+  unfolding Fine isNew partsOf accepts factor extra typeOf own encode typed weight resolve written writtens build
+    first
     rest
   complete-sequence l r b f p q =
       let x = made s at Sequence 2 0 0 (at + 1 + 0) in
@@ -166,7 +172,8 @@ module _ (N : Numbers) (s : List ℕ) (ns : List Name) (left : ℕ) (bs : List B
       (b m n : Written) → Byte s at 25 → Fine N ns bs (choose b m n) → Part (at + 1 + 0) b →
       Part (at + 1 + 0 + length (encode b)) m → Part (at + 1 + 0 + length (encode b) + length (encode m)) n →
       Whole (choose b m n)
-  unfolding Fine isNew partsOf accepts factor extra typeOf own encode typed weight resolve written writtens build first
+  unfolding Fine isNew partsOf accepts factor extra typeOf own encode typed weight resolve written writtens build
+    first
     rest
   complete-choose b m n k f p q o =
       let x = made s at If 3 0 0 (at + 1 + 0) in
@@ -183,7 +190,8 @@ module _ (N : Numbers) (s : List ℕ) (ns : List Name) (left : ℕ) (bs : List B
   complete-while :
       (l r : Written) → Byte s at 26 → Fine N ns bs (while l r) → Part (at + 1 + 0) l →
       Part (at + 1 + 0 + length (encode l)) r → Whole (while l r)
-  unfolding Fine isNew partsOf accepts factor extra typeOf own encode typed weight resolve written writtens build first
+  unfolding Fine isNew partsOf accepts factor extra typeOf own encode typed weight resolve written writtens build
+    first
     rest
   complete-while l r b f p q =
       let x = made s at While 2 0 0 (at + 1 + 0) in
@@ -201,7 +209,8 @@ module _ (N : Numbers) (s : List ℕ) (ns : List Name) (left : ℕ) (bs : List B
         (at + 1 + 2)) c
         (typed ns (record { id = a; holds = d } ∷ bs) c) (weight (resolve N ns (record { id = a; holds = d } ∷ bs) c))
         (at + 1 + 2 + length (encode c)) → Whole (new a d c)
-  unfolding Fine isNew partsOf accepts factor extra typeOf own encode typed weight resolve written writtens build first
+  unfolding Fine isNew partsOf accepts factor extra typeOf own encode typed weight resolve written writtens build
+    first
     rest readPart scopedOf onHead
   complete-new a d c b b′ b″ M f p =
       let x = made s at New 1 a d (at + 1 + 2) in
@@ -247,7 +256,8 @@ module _ (N : Numbers) (s : List ℕ) (ns : List Name) (left : ℕ) (bs : List B
           writes = ap₂ (λ (u : Written) (v : Writtens). more u v) (P .writes) (A .writes) }
 
   complete-private :
-      (a : ℕ) {i h : ℕ} → Byte s at 20 → Byte s (at + 1) a → a < 255 → length bs ≤ 32 → meaning ns bs a ≡ private i h →
+      (a : ℕ) {i h : ℕ} → Byte s at 20 → Byte s (at + 1) a → a < 255 → length bs ≤ 32 → meaning ns bs a ≡ private i h
+        →
       Variable (length bs) (declared ns a) i h (getD st a 0) → Whole (call a none)
   unfolding isNew partsOf typeOf own encode encodes typed useType weight resolve byMeaning written writtens build
     variableStanding
@@ -293,7 +303,8 @@ module _ (N : Numbers) (s : List ℕ) (ns : List Name) where
   Reads left =
       (W : Written) (bs : List Block) (st : List ℕ) (at : ℕ) (rest : List ℕ) → Fine N ns bs W → depth W ≤ left →
       drop at s ≡ encode W ++ rest → Matches s ns bs st → length bs + left ≤ 32 →
-      Read (readPart left N s st (length bs) at) W (typed ns bs W) (weight (resolve N ns bs W)) (at + length (encode W))
+      Read (readPart left N s st (length bs) at) W (typed ns bs W) (weight (resolve N ns bs W))
+        (at + length (encode W))
 
   complete-args :
       (left : ℕ) (bs : List Block) (st : List ℕ) (at m a c : ℕ) → Reads left → Matches s ns bs st →

@@ -74,11 +74,13 @@ module _ (N : Numbers) (s : List ℕ) (names : List Name) (W : Written) (fine : 
       (at + length (encodeNames ns ++ encode W))
 
   complete-term :
-      (rec : List ℕ → ℕ → Answer Whole) (n : ℕ) (st : List ℕ) (at : ℕ) → Matches s names [] st → drop at s ≡ encode W →
+      (rec : List ℕ → ℕ → Answer Whole) (n : ℕ) (st : List ℕ) (at : ℕ) → Matches s names [] st → drop at s ≡ encode W
+        →
       Rest [] (namesStep rec n N s st at) at
   unfolding namesStep onShape bind encodeNames
   complete-term rec n st at M e =
-      let R = complete-part N s names 32 W [] st at [] fine shallow (e ∙ sym (append-nil (encode W))) M (omega arith) in
+      let R =
+          complete-part N s names 32 W [] st at [] fine shallow (e ∙ sym (append-nil (encode W))) M (omega arith) in
       let K = kind-of W in
       let b = byte-there s at (K .kind) (K .tail) (e ∙ K .bytes) in
       record {
@@ -101,7 +103,8 @@ module _ (N : Numbers) (s : List ℕ) (names : List Name) (W : Written) (fine : 
             length-append (padded 4 tys) (encodeNames ns ++ encode W), padded-length 4 tys) in
       record {
         root = R .root; tree = R .tree; writes = R .writes;
-        reads = rw (lt-leb (length s) at (D .kind .0), D .kind .1, eqb·suc-zero n, declare-is s st at G, D .id-byte .1,
+        reads =
+            rw (lt-leb (length s) at (D .kind .0), D .kind .1, eqb·suc-zero n, declare-is s st at G, D .id-byte .1,
           declared-is s st at id ty tys _ D c, R .reads)
           (ap (λ (x : ℕ). got (whole (declare id ty tys ∷ ns) (R .root) (R .tree)) ty′ w x) e) }
 
@@ -129,7 +132,8 @@ module _ (N : Numbers) (s : List ℕ) (names : List Name) (W : Written) (fine : 
       Rest ns (namesOf n N s st at) at
   unfolding namesOf FineNames encodeNames encodeName
   complete-names [] zero earlier st at M E f l e = complete-term _ 0 st at (matches-same (extends-last E) M) e
-  complete-names [] (suc n) earlier st at M E f l e = complete-term _ (suc n) st at (matches-same (extends-last E) M) e
+  complete-names [] (suc n) earlier st at M E f l e =
+      complete-term _ (suc n) st at (matches-same (extends-last E) M) e
   complete-names (nm ∷ ns) zero earlier st at M E f l e = absurd (omega arith)
   complete-names (declare id ty tys ∷ ns) (suc n) earlier st at M E f l e =
       let D = declared-there s at id ty tys (encodeNames ns ++ encode W)

@@ -15,9 +15,11 @@ use Rattle.records.specs.Head.{headOf}
 use Rattle.records.specs.Rule.{accepts, factor, extra, typeOf, own}
 use Rattle.records.specs.Row as row
 use Rattle.records.specs.declared.kind.Rule.{Rule}
-use Rattle.records.specs.declared.kind.Rule.the-variants.{Skip, Diverge, Truth, Number, Use, Fetch, Operate, Assign, Sequence, If, While, New}
+use Rattle.records.specs.declared.kind.Rule.the-variants.{Skip, Diverge, Truth, Number, Use, Fetch, Operate, Assign}
+use Rattle.records.specs.declared.kind.Rule.the-variants.{Sequence, If, While, New}
 use Rattle.records.specs.declared.head.Record.{Record}
-use Rattle.sheet.specs.Reader.{Tree, node, Trees, leaf, branch, Answer, got, refused, bind, onHead, partsOf, recordOf, isNew, scopedOf, readPart}
+use Rattle.sheet.specs.Reader.{Tree, node, Trees, leaf, branch, Answer, got, refused, bind, onHead, partsOf}
+use Rattle.sheet.specs.Reader.{recordOf, isNew, scopedOf, readPart}
 use Rattle.sheet.specs.table.Fill.{fill, fills, erase, Leaves, Reads, Beyond, closedAnswer, closedTable}
 use Rattle.sheet.specs.declared.part.Part.{Part}
 use Rattle.sheet.specs.declared.part.Part.the-variants.{Read, Refused}
@@ -84,7 +86,8 @@ parts-step rec N s r zero j prev at h = absurd (h refl)
 parts-step rec N s r (suc n) j prev at h = simp sub-one
 
 -- the row does not change where the weight is held
-written-held : (N : Numbers) (r : Record) (ty a v : ℕ) (t : List ℕ) → row.written N r ty (a + min v 4097) t ≡ row.written N r ty (a + v) t
+written-held : (N : Numbers) (r : Record) (ty a v : ℕ) (t : List ℕ) → row.written N r ty (a + min v 4097) t ≡
+  row.written N r ty (a + v) t
 unfolding row.written
 written-held N r ty a v t = rw sat-plus
 
@@ -104,11 +107,13 @@ pub closes :
     Reads (λ ts. fills N ts (r .place) 0) A parts t u → x ≡ closedAnswer s r parts → v ≡ closedTable N s r parts u →
     Reads (fill N)
       (bind A (λ ts last w end.
-        got (node r (typeOf (r .rule) s r last) (own (r .rule) + w) ts) (typeOf (r .rule) s r last) (own (r .rule) + w) end))
+        got (node r (typeOf (r .rule) s r last) (own (r .rule) + w) ts) (typeOf (r .rule) s r last)
+          (own (r .rule) + w) end))
       x t v
 unfolding erase bind Leaves closedAnswer closedTable fill
 closes N s r (got ts last w end) R e d =
-    record { answer = e ∙ rw (R .answer) (rw sat-plus); table = d ∙ rw (R .answer) (rw (R .table) (written-held N r _ _ w _)) }
+    record { answer =
+        e ∙ rw (R .answer) (rw sat-plus); table = d ∙ rw (R .answer) (rw (R .table) (written-held N r _ _ w _)) }
 closes N s r (refused n p) R e d = record { answer = e ∙ rw (R .answer); table = tt }
 
 -- only a new opens a scope

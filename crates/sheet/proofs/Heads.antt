@@ -12,7 +12,8 @@ use Rattle.language.specs.Number.{inRange}
 use Rattle.language.specs.declared.Numbers.{Numbers}
 use Rattle.records.specs.Kind.{shapeOf}
 use Rattle.records.specs.Standing.{isVariable, recordOf}
-use Rattle.records.specs.Head.{byteOf, onByte, withBody, limited, constant, used, useOf, dataByte, newOf, bodyOf, blank}
+use Rattle.records.specs.Head.{byteOf, onByte, withBody, limited, constant, used, useOf, dataByte, newOf, bodyOf}
+use Rattle.records.specs.Head.{blank}
 use Rattle.records.specs.Head.{onShape, headOf}
 use Rattle.records.specs.declared.kind.Rule.{Rule}
 use Rattle.records.specs.declared.kind.Rule.the-variants.{Skip, Diverge, Truth, Number, Use, Fetch, Operate, Assign}
@@ -158,7 +159,8 @@ unfolding byteOf
 byte-is s p limit {a} (l, e) h = rw (lt-leb (length s) p l, e, lt-leb limit a h) refl
 
 pub head-is :
-    (s st : List ℕ) (N : Numbers) (at left : ℕ) (r : Record) → Heads s st N at r → headOf s st N (suc left) at ≡ Good r
+    (s st : List ℕ) (N : Numbers) (at left : ℕ) (r : Record) → Heads s st N at r → headOf s st N (suc left) at ≡ Good
+      r
 unfolding headOf shapeOf onShape bodyOf limited constant useOf newOf dataByte onByte withBody used blank
 head-is s st N at left r (h-skip (l, e)) = rw (lt-leb (length s) at l, e, eqb·suc-zero left) refl
 head-is s st N at left r (h-diverge (l, e) b h) =

@@ -93,7 +93,8 @@ declared-there s at id ty tys rest e =
     let e₂ = rw n at (past-one s (at + 1) id _ e₁) in
     let e₃ = rw n′ at (past-one s (at + 2) ty _ e₂) in
     record {
-      kind = byte-there s at 1 _ e; id-byte = byte-there s (at + 1) id _ e₁; type-byte = byte-there s (at + 2) ty _ e₂;
+      kind =
+          byte-there s at 1 _ e; id-byte = byte-there s (at + 1) id _ e₁; type-byte = byte-there s (at + 2) ty _ e₂;
       count-byte = byte-there s (at + 3) (length tys) _ e₃;
       types-are = rw n″ at (past-one s (at + 3) (length tys) _ e₃) }
 

@@ -98,7 +98,8 @@ module _ {s st : List ℕ} {ns : List Name} (M : Matches s ns [] st) (id : ℕ) 
   free-standing e = rw e at (M .standing id b)
 
 -- the rest of a sheet, as read from a place on, after the earlier name records: at most n name records and the term
-pub data NamesRead (N : Numbers) (s : List ℕ) (n : ℕ) (earlier : List Name) (at : ℕ) : Whole → ℕ → ℕ → ℕ → Type 0 where
+pub data NamesRead (N : Numbers) (s : List ℕ) (n : ℕ) (earlier : List Name) (at : ℕ) : Whole → ℕ → ℕ → ℕ → Type 0
+  where
   names-read :
       {ns : List Name} {root : ℕ} {t : Tree} {ty w end : ℕ} → length ns ≤ n → FineNames earlier ns →
       drop at s ≡ encodeNames ns ++ drop root s →
@@ -106,7 +107,8 @@ pub data NamesRead (N : Numbers) (s : List ℕ) (n : ℕ) (earlier : List Name) 
       NamesRead N s n earlier at (whole ns root t) ty w end
 
 judged-onto :
-    {X : Type 0} {P : Type 0} (Q : X → ℕ → ℕ → ℕ → Type 0) {j : Judged} (k : Answer X) → JudgedAll P j → (P → All Q k) →
+    {X : Type 0} {P : Type 0} (Q : X → ℕ → ℕ → ℕ → Type 0) {j : Judged} (k : Answer X) → JudgedAll P j → (P → All Q k)
+      →
     All Q (onJudged j k)
 unfolding onJudged
 judged-onto Q k (good p) f = f p

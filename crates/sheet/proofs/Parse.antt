@@ -247,7 +247,8 @@ module _ (N : Numbers) (s : List ℕ) (ns : List Name) (left : ℕ) (bs : List B
           reads-private (rec st (length bs)) (sub bs st M (omega arith)) (getD st a 0) a h b l (M .nested) e v
       go m e (used-name v) = reads-name (rec st (length bs)) (sub bs st M (omega arith)) (getD st a 0) a h b l e v
   reads-record st r rec M d sub (h-fetch h) = reads-fetch (rec st (length bs)) (sub bs st M (omega arith)) h
-  reads-record st r rec M d sub (h-operate h b l) = reads-operate (rec st (length bs)) (sub bs st M (omega arith)) h b l
+  reads-record st r rec M d sub (h-operate h b l) =
+      reads-operate (rec st (length bs)) (sub bs st M (omega arith)) h b l
   reads-record st r rec M d sub (h-assign h) = reads-assign (rec st (length bs)) (sub bs st M (omega arith)) h
   reads-record st r rec M d sub (h-sequence h) = reads-sequence (rec st (length bs)) (sub bs st M (omega arith)) h
   reads-record st r rec M d sub (h-if h) = reads-if (rec st (length bs)) (sub bs st M (omega arith)) h

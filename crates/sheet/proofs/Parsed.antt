@@ -9,7 +9,8 @@ use Rattle.language.specs.declared.Numbers.{Numbers}
 use Rattle.records.specs.Standing.{isVariable, variableStanding}
 use Rattle.records.specs.Rule.{values, questions, answers, operandType, resultType}
 use Rattle.records.specs.declared.kind.Rule.{Rule}
-use Rattle.records.specs.declared.kind.Rule.the-variants.{Skip, Diverge, Truth, Number, Use, Fetch, Operate, Assign, Sequence, If, While, New}
+use Rattle.records.specs.declared.kind.Rule.the-variants.{Skip, Diverge, Truth, Number, Use, Fetch, Operate, Assign}
+use Rattle.records.specs.declared.kind.Rule.the-variants.{Sequence, If, While, New}
 use Rattle.records.specs.declared.head.Record.{Record}
 use Rattle.sheet.specs.Written.{Name}
 use Rattle.sheet.specs.Meaning.{Block, private, named, free, declared, meaning}
@@ -39,28 +40,34 @@ module _ (N : Numbers) (s : List ℕ) (ns : List Name) where
         r .a < 2 → Parsed (suc left) bs at (node r 1 1 leaf) 1 1 (at + 2)
       p-number : {left at : ℕ} {bs : List Block} {r : Record} → Stands s r at 19 1 Number → Byte s (at + 1) (r .a) →
         r .a < 256 → inRange N (r .a) ≡ true → Parsed (suc left) bs at (node r 2 1 leaf) 2 1 (at + 2)
-      p-private : {left at i h level : ℕ} {bs : List Block} {r : Record} → Stands s r at 20 1 Use → Byte s (at + 1) (r .a) →
+      p-private : {left at i h level : ℕ} {bs : List Block} {r : Record} → Stands s r at 20 1 Use → Byte s (at + 1)
+        (r .a) →
         r .a < 255 → meaning ns bs (r .a) ≡ private i h → 0 < h → h < 3 → level + suc i ≡ length bs → level < 32 →
         r .b ≡ variableStanding level h → Parsed (suc left) bs at (node r (2 + h) 2 leaf) (2 + h) 2 (at + 2)
       p-name : {left at ty v next : ℕ} {tys : List ℕ} {bs : List Block} {r : Record} {ts : Trees} →
         Stands s r at 20 1 Use → Byte s (at + 1) (r .a) → r .a < 255 → meaning ns bs (r .a) ≡ named ty tys → ty < 5 →
-        r .parts ≡ length tys → length tys < 5 → isVariable (r .b) ≡ false → ParsedArgs left bs (at + 2) ts tys v next →
+        r .parts ≡ length tys → length tys < 5 → isVariable (r .b) ≡ false → ParsedArgs left bs (at + 2) ts tys v next
+          →
         Parsed (suc left) bs at (node r ty (2 + v) ts) ty (2 + v) next
       p-fetch : {left at ty w x next : ℕ} {bs : List Block} {r : Record} {t : Tree} → Stands s r at 21 0 Fetch →
         Parsed left bs (at + 1) t ty w next → 3 ≤ ty → x ≡ w →
         Parsed (suc left) bs at (node r (ty - 2) x (branch (at + 1) t leaf)) (ty - 2) x next
-      p-operate : {left at w v x mid next : ℕ} {bs : List Block} {r : Record} {t u : Tree} → Stands s r at 22 1 Operate →
+      p-operate : {left at w v x mid next : ℕ} {bs : List Block} {r : Record} {t u : Tree} → Stands s r at 22 1
+        Operate →
         Byte s (at + 1) (r .a) → r .a < 9 → Parsed left bs (at + 2) t (operandType (r .a)) w mid →
         Parsed left bs mid u (operandType (r .a)) v next → x ≡ w + values N (operandType (r .a)) * v →
         Parsed (suc left) bs at (node r (resultType (r .a)) x (branch (at + 2) t (branch mid u leaf)))
           (resultType (r .a)) x next
-      p-assign : {left at ty w v x mid next : ℕ} {bs : List Block} {r : Record} {t u : Tree} → Stands s r at 23 0 Assign →
-        Parsed left bs (at + 1) t (ty + 2) w mid → 0 < ty → Parsed left bs mid u ty v next → x ≡ v + values N (ty + 2) * w →
+      p-assign : {left at ty w v x mid next : ℕ} {bs : List Block} {r : Record} {t u : Tree} → Stands s r at 23 0
+        Assign →
+        Parsed left bs (at + 1) t (ty + 2) w mid → 0 < ty → Parsed left bs mid u ty v next → x ≡ v + values N (ty + 2)
+          * w →
         Parsed (suc left) bs at (node r 0 x (branch (at + 1) t (branch mid u leaf))) 0 x next
       p-sequence : {left at ty w v x mid next : ℕ} {bs : List Block} {r : Record} {t u : Tree} →
         Stands s r at 24 0 Sequence → Parsed left bs (at + 1) t 0 w mid → Parsed left bs mid u ty v next → x ≡ w + v →
         Parsed (suc left) bs at (node r ty x (branch (at + 1) t (branch mid u leaf))) ty x next
-      p-if : {left at ty w v y x one two next : ℕ} {bs : List Block} {r : Record} {b t u : Tree} → Stands s r at 25 0 If →
+      p-if : {left at ty w v y x one two next : ℕ} {bs : List Block} {r : Record} {b t u : Tree} → Stands s r at 25 0
+        If →
         Parsed left bs (at + 1) b 1 w one → Parsed left bs one t ty v two → Parsed left bs two u ty y next →
         x ≡ w + (v + y) →
         Parsed (suc left) bs at (node r ty x (branch (at + 1) b (branch one t (branch two u leaf)))) ty x next
@@ -68,7 +75,8 @@ module _ (N : Numbers) (s : List ℕ) (ns : List Name) where
         Parsed left bs (at + 1) t 1 w mid → Parsed left bs mid u 0 v next → x ≡ w + v →
         Parsed (suc left) bs at (node r 0 x (branch (at + 1) t (branch mid u leaf))) 0 x next
       p-new : {left at w x next : ℕ} {bs : List Block} {r : Record} {t : Tree} → Stands s r at 27 2 New →
-        Byte s (at + 1) (r .a) → r .a < 255 → declared ns (r .a) ≡ free → Byte s (at + 2) (r .b) → 0 < r .b → r .b < 3 →
+        Byte s (at + 1) (r .a) → r .a < 255 → declared ns (r .a) ≡ free → Byte s (at + 2) (r .b) → 0 < r .b → r .b < 3
+          →
         Parsed left (record { id = r .a; holds = r .b } ∷ bs) (at + 3) t 0 w next → x ≡ values N (r .b) * w →
         Parsed (suc left) bs at (node r 0 x (branch (at + 3) t leaf)) 0 x next
 

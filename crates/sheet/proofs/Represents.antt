@@ -26,12 +26,14 @@ use Rattle.sheet.specs.table.Fill.{fill, fills}
 use Rattle.sheet.specs.table.Rep.{word, TyRow, Row, count}
 use Rattle.sheet.specs.table.Rep.{Rep, r-skip, r-diverge, r-const, r-private, r-name, r-fetch}
 use Rattle.sheet.specs.table.Rep.{r-operate, r-assign, r-seq, r-cond, r-while, r-new, RepArgs, r-none, r-arg}
-use Rattle.sheet.proofs.Parsed.{Stands, Parsed, p-skip, p-diverge, p-truth, p-number, p-private, p-name, p-fetch}
+use Rattle.sheet.proofs.Parsed.{Stands, Parsed, p-skip, p-diverge, p-truth, p-number, p-private, p-name}
+use Rattle.sheet.proofs.Parsed.{p-fetch}
 use Rattle.sheet.proofs.Parsed.{p-operate, p-assign, p-sequence, p-if, p-while, p-new}
 use Rattle.sheet.proofs.Parsed.{ParsedArgs, p-none, p-more}
 use Rattle.sheet.proofs.Rows.{Holds}
 use Rattle.sheet.proofs.Spans.{placed, placed-args, within-args}
-use Rattle.sheet.proofs.Stored.{Agree, Stored, StoredParts, stores, stores-parts, own, parts, place, head, tail}
+use Rattle.sheet.proofs.Stored.{Agree, Stored, StoredParts, stores, stores-parts, own, parts, place, head}
+use Rattle.sheet.proofs.Stored.{tail}
 use Rattle.sheet.proofs.Types.{Class, a-command, an-expression, a-variable, class, some-question}
 use Rattle.sheet.proofs.Types.{ty-command, ty-truth, ty-number, ty-expression, ty-variable, values-up}
 use Rattle.sheet.proofs.Types.{operands-values, operands-type, results-type}
@@ -165,7 +167,8 @@ module _ (N : Numbers) (s : List ℕ) (ns : List Name) (U : List ℕ) (short : l
         let j = means N s ns f in
         let k = means N s ns g in
         rw (st .ruled) (r-cond
-          (row-of 25 (tm.cond (resolve N ns bs (written c)) (resolve N ns bs (written t)) (resolve N ns bs (written u)))
+          (row-of 25
+            (tm.cond (resolve N ns bs (written c)) (resolve N ns bs (written t)) (resolve N ns bs (written u)))
             short st (own S) (st .kinded) (rw (i .weighs, j .weighs, k .weighs) (sym e)) le refl)
           (moved (place ps) (ty-truth N) (x (head ps) (omega arith)))
           (moved (place qs) refl (y (head qs) (omega arith)))
@@ -185,7 +188,8 @@ module _ (N : Numbers) (s : List ℕ) (ns : List Name) (U : List ℕ) (short : l
         let more = at-least (values N (r .b)) w (some-value N (r .b)) in
         let inner : List Block = record { id = r .a; holds = r .b } ∷ bs in
         rw (st .ruled, ty-command N) (r-new
-          (row-of 27 (tm.new (values N (r .b)) (some-value N (r .b)) (resolve N ns inner (written t))) short st (own S)
+          (row-of 27 (tm.new (values N (r .b)) (some-value N (r .b)) (resolve N ns inner (written t))) short st
+            (own S)
             (st .kinded) (rw (i .weighs) (sym e)) le (ty-command N))
           (own S .detail ∙ ap (λ u. detail u N r) (st .ruled))
           (moved (place ps) (ty-command N) (x (head ps) (omega arith))))
@@ -216,7 +220,8 @@ module _ (N : Numbers) (s : List ℕ) (ns : List Name) (U : List ℕ) (short : l
   pub represents-args : {left from v next : ℕ} {bs : List Block} {ts : Trees} {tys : List ℕ} →
       ParsedArgs N s ns left bs from ts tys v next → (p j : ℕ) → p < from → from ≤ length s → j + length tys ≤ 4 →
       (T : List ℕ) → length T ≡ 36864 → v ≤ 4096 →
-      ((i : ℕ) → 5 + j ≤ i → i < 9 → word U p i ≡ word (fills N ts p j T) p i) → Agree U (fills N ts p j T) from next →
+      ((i : ℕ) → 5 + j ≤ i → i < 9 → word U p i ≡ word (fills N ts p j T) p i) → Agree U (fills N ts p j T) from next
+        →
       RepArgs N U left p j (blockValues N bs) (resolveArgs N ns bs (writtens ts) tys)
   represents-args ds p j lt g few T l le row same =
       let h = within-args N s ns ds g in

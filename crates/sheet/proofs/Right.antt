@@ -14,7 +14,8 @@ use Rattle.sheet.specs.Written.{Written, Name, Sheet}
 use Rattle.sheet.specs.Encoding.{encode, encodeNames, encodeSheet}
 use Rattle.sheet.specs.Meaning.{tyOf, termOf, typeOf}
 use Rattle.sheet.specs.Fine.{FineNames, Accepted}
-use Rattle.sheet.specs.Reader.{Tree, Answer, got, bind, Whole, whole, namesOf, sizeOf, closed, numbersAt, nothing}
+use Rattle.sheet.specs.Reader.{Tree, Answer, got, bind, Whole, whole, namesOf, sizeOf, closed, numbersAt}
+use Rattle.sheet.specs.Reader.{nothing}
 use Rattle.sheet.specs.Reader.{sheetOf, written, accepted, sheetIn, checks, readSheet}
 use Rattle.sheet.proofs.Standings.{matches-nothing}
 use Rattle.sheet.proofs.Answers.{All, one, none′, pick-all, bind-all}
@@ -169,7 +170,8 @@ module _ (S : Sheet) (A : Accepted S) (s : List ℕ) (b : s ≡ encodeSheet S) w
   accepts-bytes =
       let R = read-names in
       let l : 1 < length s = omega (arith, read-length) in
-      rw (read-first, read-second, le-ltb 4096 (length s) (subst (λ (x : List ℕ). length x ≤ 4096) (sym b) (A .short)),
+      rw
+        (read-first, read-second, le-ltb 4096 (length s) (subst (λ (x : List ℕ). length x ≤ 4096) (sym b) (A .short)),
         lt-leb (length s) 0 (omega arith), ne-eqb (S .numbers .z) 0 (λ e. omega (arith, A .z-above)),
         le-ltb 7 (S .numbers .z) (omega (arith, A .z-below)), lt-leb (length s) 1 l,
         le-ltb 1 (S .numbers .rule) (omega (arith, A .rule-below)), R .reads,

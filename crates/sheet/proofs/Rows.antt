@@ -89,7 +89,8 @@ written-else N r ty w t p i h n =
         word (set u (cell (r .place) j) v) p i ≡ word t p i
     over u j v g e = set-else u (r .place) j v p i _ h (omega arith) (λ f k. let m : 5 ≤ i = n f in omega arith) e
 
-pub linked-same : (p j part : ℕ) (t : List ℕ) → j < 4 → 9 * p + 9 ≤ length t → word (linked p j part t) p (5 + j) ≡ part
+pub linked-same : (p j part : ℕ) (t : List ℕ) → j < 4 → 9 * p + 9 ≤ length t → word (linked p j part t) p (5 + j) ≡
+  part
 unfolding linked
 linked-same p j part t h g = set-same t p (5 + j) part (omega arith) g
 

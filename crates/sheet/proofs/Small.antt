@@ -31,7 +31,8 @@ pub record Means (N : Numbers) (ns : List Name) (bs : List Block) (t : Tree) (ty
   pub types : typed ns bs (written t) ≡ ty
   pub weighs : weight (resolve N ns bs (written t)) ≡ w
 
-pub record MeansArgs (N : Numbers) (ns : List Name) (bs : List Block) (ts : Trees) (tys : List ℕ) (v : ℕ) : Type 0 where
+pub record MeansArgs (N : Numbers) (ns : List Name) (bs : List Block) (ts : Trees) (tys : List ℕ) (v : ℕ) : Type 0
+  where
   pub weigh : weightArgs (resolveArgs N ns bs (writtens ts) tys) ≡ v
   pub counts : count (resolveArgs N ns bs (writtens ts) tys) ≡ length tys
 

@@ -14,7 +14,8 @@ use Rattle.records.specs.declared.kind.Rule.{Rule}
 use Rattle.records.specs.declared.kind.Rule.the-variants.{Skip, Diverge, Truth, Number, Use, Fetch, Operate, Assign}
 use Rattle.records.specs.declared.kind.Rule.the-variants.{Sequence, If, While, New}
 use Rattle.records.specs.declared.head.Record.{Record}
-use Rattle.sheet.specs.Written.{Written, Writtens, none, more, skip, diverge, truth, number, call, fetch, operate}
+use Rattle.sheet.specs.Written.{Written, Writtens, none, more, skip, diverge, truth, number, call, fetch}
+use Rattle.sheet.specs.Written.{operate}
 use Rattle.sheet.specs.Written.{assign, sequence, while, choose, new, Name}
 use Rattle.sheet.specs.Encoding.{encode, encodes}
 use Rattle.sheet.specs.Meaning.{Block, private, named, free, declared, meaning, useType, typed, byMeaning}
@@ -117,7 +118,8 @@ module _ (N : Numbers) (s : List ℕ) (ns : List Name) (left : ℕ) (bs : List B
 
   sound-operate :
       {a w v x mid next : ℕ} {l r : Written} → Byte s at 22 → Byte s (at + 1) a → a < 9 →
-      Part (at + 2) l (operandType a) w mid → Part mid r (operandType a) v next → x ≡ w + values N (operandType a) * v →
+      Part (at + 2) l (operandType a) w mid → Part mid r (operandType a) v next → x ≡ w + values N (operandType a) * v
+        →
       Whole (operate a l r) (resultType a) x next
   unfolding encode Fine typed weight resolve depth
   sound-operate {a} {w} {v} {x} {mid} {next} {l} {r} b c k L R e = record {
@@ -153,7 +155,8 @@ module _ (N : Numbers) (s : List ℕ) (ns : List Name) (left : ℕ) (bs : List B
       shallow = omega (arith, L .shallow, R .shallow); known = R .known }
 
   sound-if :
-      {ty w v y x mid mid′ next : ℕ} {b m n : Written} → Byte s at 25 → Part (at + 1) b 1 w mid → Part mid m ty v mid′ →
+      {ty w v y x mid mid′ next : ℕ} {b m n : Written} → Byte s at 25 → Part (at + 1) b 1 w mid → Part mid m ty v mid′
+        →
       Part mid′ n ty y next → x ≡ w + (v + y) → Whole (choose b m n) ty x next
   unfolding encode Fine typed weight resolve depth
   sound-if {ty} {w} {v} {y} {x} {mid} {mid′} {next} {b} {m} {n} k B L R e = record {
@@ -166,7 +169,8 @@ module _ (N : Numbers) (s : List ℕ) (ns : List Name) (left : ℕ) (bs : List B
       shallow = omega (arith, B .shallow, L .shallow, R .shallow); known = R .known }
 
   sound-while :
-      {w v x mid next : ℕ} {l r : Written} → Byte s at 26 → Part (at + 1) l 1 w mid → Part mid r 0 v next → x ≡ w + v →
+      {w v x mid next : ℕ} {l r : Written} → Byte s at 26 → Part (at + 1) l 1 w mid → Part mid r 0 v next → x ≡ w + v
+        →
       Whole (while l r) 0 x next
   unfolding encode Fine typed weight resolve depth
   sound-while {w} {v} {x} {mid} {next} {l} {r} b L R e = record {
@@ -222,7 +226,8 @@ module _ (N : Numbers) (s : List ℕ) (ns : List Name) where
       ParsedArgs N s ns left bs at ts tys v next → SoundArgs N s ns left bs at (writtens ts) tys v next
   unfolding writtens
   sounds left f (p-none {at = at} {bs = bs}) = sound-none N s ns left bs at
-  sounds left f (p-more {at = at} {bs = bs} p q e) = sound-more N s ns left bs at (f _ _ _ _ _ _ p) (sounds left f q) e
+  sounds left f (p-more {at =
+      at} {bs = bs} p q e) = sound-more N s ns left bs at (f _ _ _ _ _ _ p) (sounds left f q) e
 
   pub sound :
       (left : ℕ) {bs : List Block} {at : ℕ} {t : Tree} {ty w next : ℕ} → Parsed N s ns left bs at t ty w next →
@@ -253,7 +258,8 @@ module _ (N : Numbers) (s : List ℕ) (ns : List Name) where
   sound (suc left) (p-sequence {at = at} {ty = ty} {x = x} {mid = mid} {bs = bs} {r = r} {t = t} {u = u} S p q e) =
       rw (built r Sequence ty x (branch (at + 1) t (branch mid u leaf)) (S .ruled))
       (sound-sequence N s ns left bs at (S .byte) (sound left p) (sound left q) e)
-  sound (suc left) (p-if {at = at} {ty = ty} {x = x} {one = m} {two = n} {bs = bs} {r = r} {b = b} {t = t} {u = u} S p q
+  sound (suc left) (p-if {at =
+      at} {ty = ty} {x = x} {one = m} {two = n} {bs = bs} {r = r} {b = b} {t = t} {u = u} S p q
       o e) =
       rw (built r If ty x (branch (at + 1) b (branch m t (branch n u leaf))) (S .ruled))
       (sound-if N s ns left bs at (S .byte) (sound left p) (sound left q) (sound left o) e)

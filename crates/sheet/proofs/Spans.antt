@@ -45,7 +45,8 @@ two x y = part {j = 0} (omega arith) x (part {j = 0 + 1} (omega arith) y end)
 
 three : {at mid far next : ℕ} {t u v : Tree} → Span at mid t → Span mid far u → Span far next v →
     Parts 0 at next (branch at t (branch mid u (branch far v leaf)))
-three x y z = part {j = 0} (omega arith) x (part {j = 0 + 1} (omega arith) y (part {j = 0 + 1 + 1} (omega arith) z end))
+three x y z =
+    part {j = 0} (omega arith) x (part {j = 0 + 1} (omega arith) y (part {j = 0 + 1 + 1} (omega arith) z end))
 
 -- a part that was read has such a span, within the sheet
 pub record Placed (s : List ℕ) (at next : ℕ) (t : Tree) : Type 0 where
@@ -133,7 +134,8 @@ module _ (N : Numbers) where
         let le : from ≤ next = onward ps in
         let rest = fills-else ps t (r .place) p i h (narrow (omega arith) (omega arith) o)
           (λ f. absurd (not-first (omega arith) o (f ∙ e))) in
-        written-else N r ty w (fills N ts (r .place) 0 t) p i h (λ f. absurd (not-first (omega arith) o (f ∙ e))) ∙ rest
+        written-else N r ty w (fills N ts (r .place) 0 t) p i h (λ f. absurd (not-first (omega arith) o (f ∙ e))) ∙
+          rest
 
     pub fills-else : {j at next : ℕ} {xs : Trees} → Parts j at next xs → (t : List ℕ) (q p i : ℕ) → i < 9 →
         Outside at next p → (p ≡ q → i < 5 + j) → word (fills N xs q j t) p i ≡ word t p i

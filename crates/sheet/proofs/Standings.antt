@@ -117,7 +117,8 @@ agrees-outward s n d free c v = v
 
 -- inside a new
 pub matches-entered :
-    {s st : List ℕ} {ns : List Name} {bs : List Block} (r : Record) → Matches s ns bs st → length bs < 32 → r .a < 255 →
+    {s st : List ℕ} {ns : List Name} {bs : List Block} (r : Record) → Matches s ns bs st → length bs < 32 → r .a < 255
+      →
     declared ns (r .a) ≡ free → 0 < r .b → r .b < 3 →
     Matches s ns (record { id = r .a; holds = r .b } ∷ bs) (entered st r (length bs))
 unfolding Agrees meaning entered

@@ -11,7 +11,8 @@ use Rattle.records.specs.Row.{linked}
 use Rattle.records.specs.Scope.{entered}
 use Rattle.records.specs.declared.head.Record.{Record}
 use Rattle.records.specs.declared.head.Head.the-variants.{Good, Bad}
-use Rattle.sheet.specs.Reader.{Tree, Trees, Answer, got, refused, onHead, isNew, partsOf, recordOf, scopedOf, readPart}
+use Rattle.sheet.specs.Reader.{Tree, Trees, Answer, got, refused, onHead, isNew, partsOf, recordOf, scopedOf}
+use Rattle.sheet.specs.Reader.{readPart}
 use Rattle.sheet.specs.table.Fill.{fill, fills, erase, Leaves, Reads}
 use Rattle.sheet.specs.declared.part.Part.{Part}
 use Rattle.sheet.specs.declared.part.Part.the-variants.{Read, Refused}
@@ -65,7 +66,8 @@ module _ (rec : ℕ → Answer Tree) (N : Numbers) (s : List ℕ) (r : Record) (
       rw (parts-step rec N s r n j prev at z)
         (reads-then (rec at) _ R e (λ x o h k. rw f (record { answer = refl; table = tt })))
 
-  pub parts-later : {p q : Part} {ty w next a b : ℕ} {t u v y : List ℕ} → (n ≡ 0 → ⊥) → Reads (fill N) (rec at) p t u →
+  pub parts-later : {p q : Part} {ty w next a b : ℕ} {t u v y : List ℕ} → (n ≡ 0 → ⊥) → Reads (fill N) (rec at) p t u
+    →
       p ≡ Read ty w next → accepts (r .rule) s r j prev ty ≡ true → Later ty next q u v → q ≡ Refused a b → Here q y v
   parts-later z R e f Q d =
       rw (parts-step rec N s r n j prev at z)

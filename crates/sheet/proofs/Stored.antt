@@ -96,5 +96,6 @@ module _ {N : Numbers} {U : List ℕ} where
   pub head : {p j at : ℕ} {t : Tree} {ts : Trees} → StoredParts N U p j (branch at t ts) → Stored N U at t
   head (stored-more e x ps) = x
 
-  pub tail : {p j at : ℕ} {t : Tree} {ts : Trees} → StoredParts N U p j (branch at t ts) → StoredParts N U p (j + 1) ts
+  pub tail : {p j at : ℕ} {t : Tree} {ts : Trees} → StoredParts N U p j (branch at t ts) → StoredParts N U p (j + 1)
+    ts
   tail (stored-more e x ps) = ps

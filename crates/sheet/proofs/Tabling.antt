@@ -6,7 +6,8 @@ use mathlib.Core.List.{List, []}
 use lib.ListN.{length}
 use Rattle.language.proofs.NumberLaws.{code-below}
 use Rattle.sheet.specs.Meaning.{termOf}
-use Rattle.sheet.specs.Reader.{Answer, got, refused, Whole, whole, numbersAt, sheetOf, sheetIn, checks, readSheet, sizeOf}
+use Rattle.sheet.specs.Reader.{Answer, got, refused, Whole, whole, numbersAt, sheetOf, sheetIn, checks}
+use Rattle.sheet.specs.Reader.{readSheet, sizeOf}
 use Rattle.sheet.specs.table.Fill.{eraseSheet, LeavesSheet, ReadsSheet}
 use Rattle.sheet.specs.table.Tabled.{Tabled, TabledBy}
 use Rattle.sheet.specs.declared.names.Reading.{Reading}

@@ -34,7 +34,8 @@ ty-expression N (suc (suc (suc n))) h g = absurd (omega arith)
 
 pub ty-variable : (N : Numbers) (ty : ℕ) → 3 ≤ ty → tyOf N ty ≡ variable (values N ty)
 unfolding tyOf
-ty-variable N ty h = rw (ne-eqb ty 0 (λ e. omega arith), ne-eqb ty 1 (λ e. omega arith), ne-eqb ty 2 (λ e. omega arith))
+ty-variable N ty h =
+    rw (ne-eqb ty 0 (λ e. omega arith), ne-eqb ty 1 (λ e. omega arith), ne-eqb ty 2 (λ e. omega arith))
 
 pub ty-command : (N : Numbers) → tyOf N 0 ≡ command
 unfolding tyOf

@@ -1,12 +1,11 @@
 -- A term that is in order is well scoped and well typed.
 use Prim.Native.Nat.{ℕ, _+_, _-_, _≤_, _<_}
 use native.Mathlib.Omega.{arith}
-use native.Mathlib.Nat.{mod-lt}
 use mathlib.Core.Path.{_≡_, sym, ap, _∙_}
 use mathlib.Core.List.{List, [], _∷_}
-use lib.IntN.{ℤ, pos, negsuc}
 use lib.Dec.{eqb}
-use Rattle.language.specs.Number.{numbers, modulo, code, fromByte}
+use Rattle.language.specs.Number.{numbers, code, fromByte}
+use Rattle.language.proofs.NumberLaws.{code-below}
 use Rattle.language.specs.Ty as t
 use Rattle.language.specs.Term as term
 use Rattle.language.specs.Typing.{operands, Scope, here, there, Typed, a-skip, a-diverge, a-const, a-private, a-name}
@@ -14,24 +13,16 @@ use Rattle.language.specs.Typing.{a-fetch, an-operate, an-assign, a-seq, a-whil
 use Rattle.language.specs.Typing.{one-more}
 use Rattle.language.specs.declared.Numbers.{Numbers}
 use Rattle.records.specs.Rule.{values, operandType, resultType}
-use Rattle.sheet.specs.Written.{Written, Writtens, none, more, skip, diverge, truth, number, call, fetch, operate}
+use Rattle.sheet.specs.Written.{Written, Writtens, none, more, skip, diverge, truth, number, call, fetch}
+use Rattle.sheet.specs.Written.{operate}
 use Rattle.sheet.specs.Written.{assign, sequence, while, choose, new, Name, declare, retire, Sheet}
 use Rattle.sheet.specs.Meaning.{Block, Meaning, private, named, retired, free, outward, declared, meaning, tyOf}
 use Rattle.sheet.specs.Meaning.{useType, typed, byMeaning, resolve, resolveArgs, termOf, typeOf}
 use Rattle.sheet.specs.Fine.{FineUse, Fine, FineArgs, FineNames, Accepted}
 use Rattle.sheet.proofs.Standings.{by-test}
-use Rattle.sheet.proofs.Types.{ty-expression, ty-variable, values-up, operands-type, results-type, result-below}
+use Rattle.sheet.proofs.Types.{ty-expression, ty-variable, values-up, operands-type, results-type}
+use Rattle.sheet.proofs.Types.{result-below}
 use Rattle.sheet.proofs.Levels.{blockValues}
-
--- a code is below the number of numbers
-modulo-below : (v : ℤ) (n : ℕ) → 0 < n → modulo v n < n
-unfolding modulo
-modulo-below (pos a) n h = mod-lt a h
-modulo-below (negsuc a) n h = omega arith
-
-code-below : (N : Numbers) (v : ℤ) → code N v < numbers N
-unfolding code numbers
-code-below N v = modulo-below v (numbers N) (omega arith)
 
 -- the result types of names, and the data of blocks
 unfoldable pub KnownNames : List Name → Type 0
@@ -157,7 +148,8 @@ module _ (N : Numbers) (ns : List Name) (known : KnownNames ns) where
     well-typed (truth b) bs l f = a-const f
     well-typed (number b) bs l f = a-const (code-below N (fromByte b))
     well-typed (call id ws) bs l f =
-        typed-use bs id ws (meaning ns bs id) (sane N ns bs id known l) (f .1) (λ tys g. well-typed-args ws bs tys l g)
+        typed-use bs id ws (meaning ns bs id) (sane N ns bs id known l) (f .1)
+          (λ tys g. well-typed-args ws bs tys l g)
     well-typed (fetch v) bs l f = typed-fetch (typed ns bs v) (f .1) (typed-below v bs l (f .0))
       (well-typed v bs l (f .0))
     well-typed (operate op x y) bs l f =

@@ -17,9 +17,12 @@ use Rattle.records.specs.declared.kind.Rule.{Rule}
 use Rattle.records.specs.declared.kind.Shape.the-variants.{Part as PartShape, Declare, Retire, Unknown}
 use Rattle.sheet.specs.Written.{Name}
 use Rattle.sheet.specs.Heading.{fresh, declareOf, retireOf, declareAt, retireAt}
-use Rattle.sheet.specs.Reader.{Tree, Answer, got, refused, bind, onJudged, Whole, whole, withName, onShape, nameOf, namesStep, namesOf, sizeOf, closed, numbersAt, nothing, sheetOf, checks, readSheet, readPart}
+use Rattle.sheet.specs.Reader.{Tree, Answer, got, refused, bind, onJudged, Whole, whole, withName, onShape}
+use Rattle.sheet.specs.Reader.{nameOf, namesStep, namesOf, sizeOf, closed, numbersAt, nothing, sheetOf, checks}
+use Rattle.sheet.specs.Reader.{readSheet, readPart}
 use Rattle.sheet.specs.Check.{checkedOf}
-use Rattle.sheet.specs.table.Fill.{fill, erase, Leaves, Reads, termAt, eraseSheet, LeavesSheet, ReadsSheet, closedReading}
+use Rattle.sheet.specs.table.Fill.{fill, erase, Leaves, Reads, termAt, eraseSheet, LeavesSheet, ReadsSheet}
+use Rattle.sheet.specs.table.Fill.{closedReading}
 use Rattle.sheet.specs.declared.heading.Judged.{Judged}
 use Rattle.sheet.specs.declared.heading.Judged.the-variants.{Good, Bad}
 use Rattle.sheet.specs.declared.part.Part.{Part}
@@ -101,7 +104,8 @@ unfolding bind withName eraseSheet LeavesSheet
 named N name (got (whole ns root y) ty w end) R = record { answer = R .answer; table = R .table }
 named N name (refused n p) R = record { answer = R .answer; table = tt }
 
-module _ (N : Numbers) (rec : List ℕ → ℕ → Answer Whole) (n : ℕ) (s st : List ℕ) (at body c : ℕ) (judged : Judged) (name : Name) where
+module _ (N : Numbers) (rec : List ℕ → ℕ → Answer Whole) (n : ℕ) (s st : List ℕ) (at body c : ℕ) (judged : Judged)
+  (name : Name) where
   abbrev Record : Reading → List ℕ → List ℕ → Type 0
   Record = ReadsSheet N (nameOf rec n s st at body c judged name)
 
@@ -131,7 +135,8 @@ over k = go (ltb 4096 k) refl
     go false e = le-ltb 4096 (min k 4097) (omega (arith, ltb-false 4096 k e))
 
 ends : (N : Numbers) (x : Whole) (ty w end : ℕ) (a b : Bool) {t u : List ℕ} {y : Reading} →
-    y ≡ eraseSheet (pick a (refused 10 end) (pick b (refused 11 0) (got x ty w end))) → LeavesSheet N (got x ty w end) t u →
+    y ≡ eraseSheet (pick a (refused 10 end) (pick b (refused 11 0) (got x ty w end))) → LeavesSheet N (got x ty w end)
+      t u →
     ReadsSheet N (pick a (refused 10 end) (pick b (refused 11 0) (got x ty w end))) y t u
 unfolding LeavesSheet
 ends N x ty w end true b e l = record { answer = e; table = tt }
@@ -144,7 +149,8 @@ pub closes-sheet :
 unfolding closed bind eraseSheet closedReading LeavesSheet
 closes-sheet N s (got (whole ns root x) ty w end) R e =
     ends N (whole ns root x) ty w end (ltb end (length s)) (ltb 4096 (sizeOf N ty w))
-      (e ∙ rw (R .answer) (rw (held-size N ty w, over (sizeOf N ty w)) (split (ltb end (length s)) (ltb 4096 (sizeOf N ty w)))))
+      (e ∙ rw (R .answer)
+        (rw (held-size N ty w, over (sizeOf N ty w)) (split (ltb end (length s)) (ltb 4096 (sizeOf N ty w)))))
       (R .table)
   where
     split : (a b : Bool) →
@@ -165,7 +171,8 @@ pub sheet-closed : (N : Numbers) (s : List ℕ) (A : Answer Whole) {x : Reading}
 sheet-closed N s A e R = rw e R
 
 -- the size of what is accepted
-small-closed : (N : Numbers) (s : List ℕ) (A : Answer Whole) {x : Whole} {ty w end : ℕ} → closed N s A ≡ got x ty w end →
+small-closed : (N : Numbers) (s : List ℕ) (A : Answer Whole) {x : Whole} {ty w end : ℕ} → closed N s A ≡ got x ty w
+  end →
     sizeOf N ty w ≤ 4096
 unfolding closed bind
 small-closed N s (got y ty′ w′ end′) {x} {ty} {w} {end} e =
@@ -181,16 +188,19 @@ small-closed N s (got y ty′ w′ end′) {x} {ty} {w} {end} e =
         rw (p, q) at (ltb-false 4096 (sizeOf N ty′ w′) f)
 small-closed N s (refused n p) e = let z : _≡_ {A = ℕ} 0 1 = cc in absurd (omega arith)
 
-pub small-sheet : (s : List ℕ) {x : Whole} {ty w end : ℕ} → sheetOf s ≡ got x ty w end → sizeOf (numbersAt s) ty w ≤ 4096
+pub small-sheet : (s : List ℕ) {x : Whole} {ty w end : ℕ} → sheetOf s ≡ got x ty w end → sizeOf (numbersAt s) ty w ≤
+  4096
 unfolding sheetOf
 small-sheet s {x} {ty} {w} {end} e =
-    go (ltb 4096 (length s)) (leb (length s) 0) (eqb (getD s 0 0) 0) (ltb 7 (getD s 0 0)) (leb (length s) 1) (ltb 1 (getD s 1 0)) e
+    go (ltb 4096 (length s)) (leb (length s) 0) (eqb (getD s 0 0) 0) (ltb 7 (getD s 0 0)) (leb (length s) 1)
+      (ltb 1 (getD s 1 0)) e
   where
     A : Answer Whole
     A = closed (numbersAt s) s (namesOf 32 (numbersAt s) s nothing 2)
     go : (a b c d f g : Bool) →
         pick a (refused 1 4096) (pick b (refused 2 (length s)) (pick c (refused 3 0) (pick d (refused 3 0)
-          (pick f (refused 2 (length s)) (pick g (refused 3 1) A))))) ≡ got x ty w end → sizeOf (numbersAt s) ty w ≤ 4096
+          (pick f (refused 2 (length s)) (pick g (refused 3 1) A))))) ≡ got x ty w end → sizeOf (numbersAt s) ty w ≤
+            4096
     go true b c d f g h = let z : _≡_ {A = ℕ} 0 1 = cc in absurd (omega arith)
     go false true c d f g h = let z : _≡_ {A = ℕ} 0 1 = cc in absurd (omega arith)
     go false false true d f g h = let z : _≡_ {A = ℕ} 0 1 = cc in absurd (omega arith)
@@ -200,7 +210,8 @@ small-sheet s {x} {ty} {w} {end} e =
     go false false false false false false h = small-closed (numbersAt s) s (namesOf 32 (numbersAt s) s nothing 2) h
 
 -- the answer of check
-refused-as : (N : Numbers) (A : Answer Whole) {n p : ℕ} → Refusal n p ≡ eraseSheet A → Turned n 0 p ≡ checkedOf (checks N A)
+refused-as : (N : Numbers) (A : Answer Whole) {n p : ℕ} → Refusal n p ≡ eraseSheet A → Turned n 0 p ≡ checkedOf
+  (checks N A)
 unfolding eraseSheet checks checkedOf
 refused-as N (got (whole ns root x) ty w end) e = let z : _≡_ {A = ℕ} 0 1 = cc in absurd (omega arith)
 refused-as N (refused n p) e = cc
@@ -219,7 +230,8 @@ accepted-as N (got (whole ns root x) ty v end) {ty = ty′} {w} {size = size} sm
     rw (p, m)
 accepted-as N (refused n p) small e f = let z : _≡_ {A = ℕ} 0 1 = cc in absurd (omega arith)
 
-pub checks-refused : (s : List ℕ) {n p : ℕ} → Refusal n p ≡ eraseSheet (sheetOf s) → Turned n 0 p ≡ checkedOf (readSheet s)
+pub checks-refused : (s : List ℕ) {n p : ℕ} → Refusal n p ≡ eraseSheet (sheetOf s) → Turned n 0 p ≡ checkedOf
+  (readSheet s)
 unfolding readSheet
 checks-refused s e = refused-as (numbersAt s) (sheetOf s) e
 

@@ -3,7 +3,8 @@ use Prim.Native.Nat.{ℕ, zero, suc}
 use mathlib.Core.List.{List, [], _∷_, _++_}
 use lib.ListN.{length}
 use Rattle.language.specs.declared.Numbers.{Numbers}
-use Rattle.sheet.specs.Written.{Written, skip, diverge, truth, number, call, fetch, operate, assign, sequence, while, choose, new, Writtens, none, more, Name, declare, retire, Sheet}
+use Rattle.sheet.specs.Written.{Written, skip, diverge, truth, number, call, fetch, operate, assign, sequence}
+use Rattle.sheet.specs.Written.{while, choose, new, Writtens, none, more, Name, declare, retire, Sheet}
 
 unfoldable mutual
   pub encode : Written → List ℕ

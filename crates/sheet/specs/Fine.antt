@@ -9,9 +9,11 @@ use Rattle.language.specs.Number.{inRange}
 use Rattle.language.specs.Weight.{size}
 use Rattle.language.specs.declared.Numbers.{Numbers}
 use Rattle.records.specs.Rule.{operandType}
-use Rattle.sheet.specs.Written.{Written, skip, diverge, truth, number, call, fetch, operate, assign, sequence, while, choose, new, Writtens, none, more, Name, declare, retire, Sheet}
+use Rattle.sheet.specs.Written.{Written, skip, diverge, truth, number, call, fetch, operate, assign, sequence}
+use Rattle.sheet.specs.Written.{while, choose, new, Writtens, none, more, Name, declare, retire, Sheet}
 use Rattle.sheet.specs.Encoding.{encodeSheet}
-use Rattle.sheet.specs.Meaning.{Block, Meaning, private, named, retired, free, declared, meaning, typed, tyOf, termOf, typeOf}
+use Rattle.sheet.specs.Meaning.{Block, Meaning, private, named, retired, free, declared, meaning, typed, tyOf}
+use Rattle.sheet.specs.Meaning.{termOf, typeOf}
 
 -- "the whole term has depth 1, its parts depth 2"
 unfoldable mutual

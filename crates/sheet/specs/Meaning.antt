@@ -13,7 +13,8 @@ use Rattle.language.specs.Term.{Term, Args, Operation}
 use Rattle.language.specs.Typing.{operands}
 use Rattle.language.specs.declared.Numbers.{Numbers}
 use Rattle.records.specs.Rule.{values, resultType}
-use Rattle.sheet.specs.Written.{Written, skip, diverge, truth, number, call, fetch, operate, assign, sequence, while, choose, new, Writtens, none, more, Name, declare, retire, Sheet}
+use Rattle.sheet.specs.Written.{Written, skip, diverge, truth, number, call, fetch, operate, assign, sequence}
+use Rattle.sheet.specs.Written.{while, choose, new, Writtens, none, more, Name, declare, retire, Sheet}
 
 -- an enclosing new: its id and its data, 1 truth or 2 number
 pub record Block : Type 0 where

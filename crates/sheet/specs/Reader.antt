@@ -13,13 +13,15 @@ use Rattle.records.specs.Head.{headOf}
 use Rattle.records.specs.Rule.{questions, answers, accepts, typeOf, factor, extra, own}
 use Rattle.records.specs.Scope.{entered}
 use Rattle.records.specs.declared.kind.Rule.{Rule}
-use Rattle.records.specs.declared.kind.Rule.the-variants.{Skip, Diverge, Truth, Number, Use, Fetch, Operate, Assign, Sequence, If, While, New}
+use Rattle.records.specs.declared.kind.Rule.the-variants.{Skip, Diverge, Truth, Number, Use, Fetch, Operate, Assign}
+use Rattle.records.specs.declared.kind.Rule.the-variants.{Sequence, If, While, New}
 use Rattle.records.specs.declared.kind.Shape.{Shape}
 use Rattle.records.specs.declared.kind.Shape.the-variants.{Part, Declare, Retire, Unknown}
 use Rattle.records.specs.declared.head.Record.{Record}
 use Rattle.records.specs.declared.head.Head.{Head}
 use Rattle.records.specs.declared.head.Head.the-variants.{Good as Headed, Bad as Unheaded}
-use Rattle.sheet.specs.Written.{Written, skip, diverge, truth, number, call, fetch, operate, assign, sequence, while, choose, new, Writtens, none, more, Name, Sheet}
+use Rattle.sheet.specs.Written.{Written, skip, diverge, truth, number, call, fetch, operate, assign, sequence}
+use Rattle.sheet.specs.Written.{while, choose, new, Writtens, none, more, Name, Sheet}
 use Rattle.sheet.specs.Heading.{declareOf, retireOf, declareAt, retireAt}
 use Rattle.sheet.specs.declared.heading.Judged.{Judged}
 use Rattle.sheet.specs.declared.heading.Judged.the-variants.{Good, Bad}
@@ -64,7 +66,8 @@ partsOf rec N s r (suc n) j prev at =
 unfoldable pub recordOf : (ℕ → Answer Tree) → Numbers → List ℕ → Record → Answer Tree
 recordOf rec N s r =
     bind (partsOf rec N s r (r .parts) 0 0 (r .next)) (λ ts last v end.
-      got (node r (typeOf (r .rule) s r last) (own (r .rule) + v) ts) (typeOf (r .rule) s r last) (own (r .rule) + v) end)
+      got (node r (typeOf (r .rule) s r last) (own (r .rule) + v) ts) (typeOf (r .rule) s r last) (own (r .rule) + v)
+        end)
 
 unfoldable pub isNew : Rule → Bool
 isNew New = true

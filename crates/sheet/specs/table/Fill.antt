@@ -11,7 +11,8 @@ use Rattle.records.specs.Rule.{typeOf, own}
 use Rattle.records.specs.Row as row
 use Rattle.records.specs.Row.{linked}
 use Rattle.records.specs.declared.head.Record.{Record}
-use Rattle.sheet.specs.Reader.{Tree, node, Trees, leaf, branch, Answer, got, refused, bind, readPart, Whole, whole, sizeOf}
+use Rattle.sheet.specs.Reader.{Tree, node, Trees, leaf, branch, Answer, got, refused, bind, readPart, Whole}
+use Rattle.sheet.specs.Reader.{whole, sizeOf}
 use Rattle.sheet.specs.declared.part.Part.{Part}
 use Rattle.sheet.specs.declared.part.Part.the-variants.{Read, Refused}
 use Rattle.sheet.specs.declared.names.Reading.{Reading}

@@ -4,7 +4,8 @@ use mathlib.Core.Path.{_≡_}
 use mathlib.Core.List.{List, [], _∷_}
 use lib.ListN.{length, getD}
 use Rattle.language.specs.Ty.{Ty, command, expression, variable}
-use Rattle.language.specs.Term.{Term, skip, diverge, const, private, name, fetch, operate, assign, seq, while, cond, new, Args, no-args, arg, Operation}
+use Rattle.language.specs.Term.{Term, skip, diverge, const, private, name, fetch, operate, assign, seq, while, cond}
+use Rattle.language.specs.Term.{new, Args, no-args, arg, Operation}
 use Rattle.language.specs.Typing.{operands, results}
 use Rattle.language.specs.Weight.{weight}
 use Rattle.language.specs.declared.Numbers.{Numbers}
@@ -54,7 +55,8 @@ module _ (N : Numbers) (t : List ℕ) where
       r-fetch : {left at m : ℕ} {n : List ℕ} {X : Term} → Row t at 21 (fetch X) (expression m) →
         Rep left (word t at 5) n X (variable m) → Rep (suc left) at n (fetch X) (expression m)
       r-operate : {left at : ℕ} {n : List ℕ} {o : Operation} {L R : Term} → o .over ≡ N →
-        Row t at 22 (operate (operands o) o L R) (expression (results o)) → word t at 4 ≡ o .operator → o .operator < 9 →
+        Row t at 22 (operate (operands o) o L R) (expression (results o)) → word t at 4 ≡ o .operator → o .operator <
+          9 →
         Rep left (word t at 5) n L (expression (operands o)) → Rep left (word t at 6) n R (expression (operands o)) →
         Rep (suc left) at n (operate (operands o) o L R) (expression (results o))
       r-assign : {left at m : ℕ} {n : List ℕ} {X E : Term} → Row t at 23 (assign m X E) command →
@@ -68,7 +70,8 @@ module _ (N : Numbers) (t : List ℕ) where
       r-while : {left at : ℕ} {n : List ℕ} {B C : Term} → Row t at 26 (while B C) command →
         Rep left (word t at 5) n B (expression 2) → Rep left (word t at 6) n C command →
         Rep (suc left) at n (while B C) command
-      r-new : {left at m : ℕ} {n : List ℕ} {h : 0 < m} {C : Term} → Row t at 27 (new m h C) command → word t at 4 ≡ m →
+      r-new : {left at m : ℕ} {n : List ℕ} {h : 0 < m} {C : Term} → Row t at 27 (new m h C) command → word t at 4 ≡ m
+        →
         Rep left (word t at 5) (m ∷ n) C command → Rep (suc left) at n (new m h C) command
 
     -- arguments j, j + 1, .. of the name at a place

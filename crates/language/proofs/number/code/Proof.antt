@@ -16,7 +16,8 @@ modulo-requires c κs = omega (arith, c .numbers .ensures, numbers-above (c .bef
 returns : tie.Need-returns
 returns c =
     let a = c .before .before .args in
-    code-is (a .n) (a .v) (c .before .numbers .ensures) (rw (back (c .before .before .fits .v)) at (c .modulo .ensures))
+    code-is (a .n) (a .v) (c .before .numbers .ensures)
+      (rw (back (c .before .before .fits .v)) at (c .modulo .ensures))
 
 pub code-spec : {M : Type 1} → statement M
 code-spec = tie.close (tie.spec numbers-requires modulo-requires returns)

@@ -25,10 +25,16 @@ size-of-requires : tie.Need-size-of-requires
 size-of-requires c κs = search needs
 
 returns : tie.Need-returns
-returns c = checks-refused _ (sym (c .before .x .given .1) ∙ c .before .before .before .before .read-sheet .ensures .0 .answer)
+returns c =
+    checks-refused _
+    (sym (c .before .x .given .1) ∙ c .before .before .before .before .read-sheet .ensures .0 .answer)
 
 returns-2 : tie.Need-returns-2
-returns-2 c = checks-accepted _ (sym (c .before .before .before .x2 .given .1) ∙ c .before .before .before .before .before .before .read-sheet .ensures .0 .answer) (rw (c .before .numbers-of .ensures) at (c .size-of .ensures))
+returns-2 c =
+    checks-accepted _ (sym (c .before .before .before .x2 .given .1) ∙ c .before .before .before .before .before
+    .before .read-sheet .ensures .0 .answer) (rw (c .before .numbers-of .ensures) at (c .size-of .ensures))
 
 pub check-spec : {M : Type 1} → statement M
-check-spec = tie.close (tie.spec slice-aggregate-read-sheet read-sheet-requires enum-known-x enum-known-x-2 numbers-of-requires size-of-requires returns returns-2)
+check-spec =
+    tie.close (tie.spec slice-aggregate-read-sheet read-sheet-requires enum-known-x enum-known-x-2 numbers-of-requires
+    size-of-requires returns returns-2)

@@ -23,11 +23,15 @@ size-of-requires c κs = search needs
 
 returns-3 : tie.Need-returns-3
 unfolding closedReading
-returns-3 c = simp (c .before .before .before .before .x .given .1, le-ltb _ _ (c .before .before .if1 .left), ← c .before .size-of .ensures, lt-ltb _ _ (c .if2 .taken))
+returns-3 c =
+    simp (c .before .before .before .before .x .given .1, le-ltb _ _ (c .before .before .if1 .left), ← c .before
+    .size-of .ensures, lt-ltb _ _ (c .if2 .taken))
 
 returns-4 : tie.Need-returns-4
 unfolding closedReading
-returns-4 c = simp (c .before .before .before .before .x .given .1, le-ltb _ _ (c .before .before .if1 .left), ← c .before .size-of .ensures, le-ltb _ _ (c .if2 .left))
+returns-4 c =
+    simp (c .before .before .before .before .x .given .1, le-ltb _ _ (c .before .before .if1 .left), ← c .before
+    .size-of .ensures, le-ltb _ _ (c .if2 .left))
 
 pub close-sheet-spec : {M : Type 1} → statement M
 close-sheet-spec = tie.close (tie.spec enum-known-x enum-told returns returns-2 size-of-requires returns-3 returns-4)

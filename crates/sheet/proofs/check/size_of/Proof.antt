@@ -22,7 +22,11 @@ sat-add-requires-2 c κs = search needs
 
 returns : tie.Need-returns
 unfolding sizeOf
-returns c = rw (c .sat-add2 .ensures, c .before .before .sat-add .ensures, c .before .before .before .sat-mul .ensures, c .before .before .before .before .questions-of .ensures, c .before .answers-of .ensures) (omega arith)
+returns c =
+    rw (c .sat-add2 .ensures, c .before .before .sat-add .ensures, c .before .before .before .sat-mul .ensures, c
+    .before .before .before .before .questions-of .ensures, c .before .answers-of .ensures) (omega arith)
 
 pub size-of-spec : {M : Type 1} → statement M
-size-of-spec = tie.close (tie.spec questions-of-requires sat-mul-requires sat-add-requires answers-of-requires sat-add-requires-2 returns)
+size-of-spec =
+    tie.close
+    (tie.spec questions-of-requires sat-mul-requires sat-add-requires answers-of-requires sat-add-requires-2 returns)

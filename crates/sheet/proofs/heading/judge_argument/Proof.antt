@@ -21,14 +21,18 @@ judge-below-requires c κs = search needs
 
 returns : tie.Need-returns
 unfolding argument
-returns c = simp (← c .before .before .byte-at .ensures, ← c .judge-below .ensures, lt-ltb _ _ (c .before .if1 .taken))
+returns c =
+    simp (← c .before .before .byte-at .ensures, ← c .judge-below .ensures, lt-ltb _ _ (c .before .if1 .taken))
 
 judge-unused-requires : tie.Need-judge-unused-requires
 judge-unused-requires c κs = search needs
 
 returns-2 : tie.Need-returns-2
 unfolding argument
-returns-2 c = simp (← c .before .before .byte-at .ensures, ← c .judge-unused .ensures, le-ltb _ _ (c .before .if1 .left))
+returns-2 c =
+    simp (← c .before .before .byte-at .ensures, ← c .judge-unused .ensures, le-ltb _ _ (c .before .if1 .left))
 
 pub judge-argument-spec : {M : Type 1} → statement M
-judge-argument-spec = tie.close (tie.spec add-place add-place-2 add-byte-at byte-at-requires judge-below-requires returns judge-unused-requires returns-2)
+judge-argument-spec =
+    tie.close (tie.spec add-place add-place-2 add-byte-at byte-at-requires judge-below-requires returns
+    judge-unused-requires returns-2)

@@ -27,7 +27,13 @@ judge-both-requires-3 c κs = search needs
 
 returns : tie.Need-returns
 unfolding arguments
-returns c = simp (← c .before .before .before .before .before .before .judge-argument .ensures, ← c .before .before .before .before .before .judge-argument2 .ensures, ← c .before .before .before .before .judge-both .ensures, ← c .before .before .before .judge-argument3 .ensures, ← c .before .before .judge-argument4 .ensures, ← c .before .judge-both2 .ensures, ← c .judge-both3 .ensures)
+returns c =
+    simp (← c .before .before .before .before .before .before .judge-argument .ensures, ← c .before .before .before
+    .before .before .judge-argument2 .ensures, ← c .before .before .before .before .judge-both .ensures, ← c .before
+    .before .before .judge-argument3 .ensures, ← c .before .before .judge-argument4 .ensures, ← c .before .judge-both2
+    .ensures, ← c .judge-both3 .ensures)
 
 pub judge-arguments-spec : {M : Type 1} → statement M
-judge-arguments-spec = tie.close (tie.spec judge-argument-requires judge-argument-requires-2 judge-both-requires judge-argument-requires-3 judge-argument-requires-4 judge-both-requires-2 judge-both-requires-3 returns)
+judge-arguments-spec =
+    tie.close (tie.spec judge-argument-requires judge-argument-requires-2 judge-both-requires
+    judge-argument-requires-3 judge-argument-requires-4 judge-both-requires-2 judge-both-requires-3 returns)

@@ -36,7 +36,14 @@ judge-both-requires-3 c κs = search needs
 
 returns : tie.Need-returns
 unfolding declareOf
-returns c = simp (← c .before .before .before .before .before .before .judge-below .ensures, ← c .before .before .before .before .before .judge-arguments .ensures, ← c .before .before .before .before .judge-both .ensures, ← c .before .before .before .judge-fresh .ensures, ← c .before .before .judge-below2 .ensures, ← c .before .judge-both2 .ensures, ← c .judge-both3 .ensures)
+returns c =
+    simp (← c .before .before .before .before .before .before .judge-below .ensures, ← c .before .before .before
+    .before .before .judge-arguments .ensures, ← c .before .before .before .before .judge-both .ensures, ← c .before
+    .before .before .judge-fresh .ensures, ← c .before .before .judge-below2 .ensures, ← c .before .judge-both2
+    .ensures, ← c .judge-both3 .ensures)
 
 pub judge-declare-spec : {M : Type 1} → statement M
-judge-declare-spec = tie.close (tie.spec add-judge-below judge-below-requires judge-arguments-requires judge-both-requires add-judge-fresh judge-fresh-requires add-judge-below-2 judge-below-requires-2 judge-both-requires-2 judge-both-requires-3 returns)
+judge-declare-spec =
+    tie.close (tie.spec add-judge-below judge-below-requires judge-arguments-requires judge-both-requires
+    add-judge-fresh judge-fresh-requires add-judge-below-2 judge-below-requires-2 judge-both-requires-2
+    judge-both-requires-3 returns)

@@ -22,7 +22,10 @@ standing-of-requires c κs = search needs
 
 returns : tie.Need-returns
 unfolding fresh both
-returns c = simp (c .before .before .before .enum-told .given .1, ← c .before .before .before .before .before .judge-below .ensures, ← c .before .before .byte-at .ensures, ← c .before .standing-of .ensures, c .before .before .before .before .match .keys2, eq-eqb _ _ (c .if1 .taken))
+returns c =
+    simp (c .before .before .before .enum-told .given .1, ← c .before .before .before .before .before .judge-below
+    .ensures, ← c .before .before .byte-at .ensures, ← c .before .standing-of .ensures, c .before .before .before
+    .before .match .keys2, eq-eqb _ _ (c .if1 .taken))
 
 returns-2 : tie.Need-returns-2
 unfolding fresh both
@@ -30,7 +33,12 @@ returns-2 c = simp (sym (c .before .before .before .judge-below .ensures) ∙ c 
 
 returns-3 : tie.Need-returns-3
 unfolding fresh both
-returns-3 c = simp (c .before .before .before .enum-told .given .1, ← c .before .before .before .before .before .judge-below .ensures, ← c .before .before .byte-at .ensures, ← c .before .standing-of .ensures, c .before .before .before .before .match .keys2, ne-eqb _ _ (c .if1 .left))
+returns-3 c =
+    simp (c .before .before .before .enum-told .given .1, ← c .before .before .before .before .before .judge-below
+    .ensures, ← c .before .before .byte-at .ensures, ← c .before .standing-of .ensures, c .before .before .before
+    .before .match .keys2, ne-eqb _ _ (c .if1 .left))
 
 pub judge-fresh-spec : {M : Type 1} → statement M
-judge-fresh-spec = tie.close (tie.spec judge-below-requires enum-known-range enum-told byte-at-requires standing-of-requires returns returns-2 returns-3)
+judge-fresh-spec =
+    tie.close (tie.spec judge-below-requires enum-known-range enum-told byte-at-requires standing-of-requires returns
+    returns-2 returns-3)

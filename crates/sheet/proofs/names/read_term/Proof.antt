@@ -17,13 +17,16 @@ same-length : tie.Need-same-length
 same-length c = search needs
 
 returns : tie.Need-returns
-returns c = term-refused _ _ _ (c .before .before .before .before .before .read-part .ensures .0) (c .before .p .given .1)
+returns c =
+    term-refused _ _ _ (c .before .before .before .before .before .read-part .ensures .0) (c .before .p .given .1)
 
 same-length-2 : tie.Need-same-length-2
 same-length-2 c = search needs
 
 returns-2 : tie.Need-returns-2
-returns-2 c = term-read _ _ _ (c .before .before .before .before .before .read-part .ensures .0) (c .before .p2 .given .1)
+returns-2 c =
+    term-read _ _ _ (c .before .before .before .before .before .read-part .ensures .0) (c .before .p2 .given .1)
 
 pub read-term-spec : {M : Type 1} → statement M
-read-term-spec = tie.close (tie.spec read-part-requires enum-known-p enum-known-p-2 same-length returns same-length-2 returns-2)
+read-term-spec =
+    tie.close (tie.spec read-part-requires enum-known-p enum-known-p-2 same-length returns same-length-2 returns-2)

@@ -7,7 +7,8 @@ use Rattle.records.proofs.HeadLaws.{head-good}
 use Rattle.records.proofs.RuleLaws.{new-good}
 use Rattle.sheet.specs.Reader.{recordOf}
 use Rattle.sheet.proofs.Core.{closes, is-new}
-use Rattle.sheet.proofs.Steps.{part-bad, part-deep, part-new, part-plain, parts-none, parts-refused, parts-wrong, parts-later, parts-more}
+use Rattle.sheet.proofs.Steps.{part-bad, part-deep, part-new, part-plain, parts-none, parts-refused}
+use Rattle.sheet.proofs.Steps.{parts-wrong, parts-later, parts-more}
 use Rattle.sheet.proofs.Bounds.{part-beyond, beyond-within}
 use borrow.Fn.Kinds.{In}
 use borrow.Fn.PlainCycle.{Measures, is, falls, and}
@@ -81,11 +82,14 @@ read-new-calls t =
 
 abbrev read-part-calls : ℕ → read-part-lts.Claims
 read-part-calls t =
-    (head-at-reads.Asked, head-at-reads.Learnt, is-new-reads.Asked, is-new-reads.Learnt, read-new-below t, read-new.Post, read-record-below t, read-record.Post)
+    (head-at-reads.Asked, head-at-reads.Learnt, is-new-reads.Asked, is-new-reads.Learnt, read-new-below t,
+      read-new.Post, read-record-below t, read-record.Post)
 
 abbrev read-parts-calls : ℕ → read-parts-lts.Claims
 read-parts-calls t =
-    (link-reads.Asked, link-reads.Learnt, read-part-below t, read-part.Post, accepts-part-reads.Asked, accepts-part-reads.Learnt, read-parts-below t, read-parts.Post, part-weight-reads.Asked, part-weight-reads.Learnt)
+    (link-reads.Asked, link-reads.Learnt, read-part-below t, read-part.Post, accepts-part-reads.Asked,
+      accepts-part-reads.Learnt, read-parts-below t, read-parts.Post, part-weight-reads.Asked,
+      part-weight-reads.Learnt)
 
 abbrev read-record-calls : ℕ → read-record-lts.Claims
 read-record-calls t =
@@ -99,14 +103,16 @@ module _ (t : ℕ) where
   read-new-add-read-record : read-new-lts.Need-add-read-record (read-new-calls t) (read-new-at t) read-new.Post
   read-new-add-read-record c = search needs
 
-  read-new-read-record-requires : read-new-lts.Need-read-record-requires (read-new-calls t) (read-new-at t) read-new.Post
+  read-new-read-record-requires : read-new-lts.Need-read-record-requires (read-new-calls t) (read-new-at t)
+    read-new.Post
   read-new-read-record-requires c κs = search needs
 
   read-new-same-length : read-new-lts.Need-same-length (read-new-calls t) (read-new-at t) read-new.Post
   read-new-same-length c = search needs
 
   read-new-returns : read-new-lts.Need-returns (read-new-calls t) (read-new-at t) read-new.Post
-  read-new-returns c = rw (← c .before .before .before .before .before .enter .ensures) (c .before .before .read-record .ensures)
+  read-new-returns c =
+      rw (← c .before .before .before .before .before .enter .ensures) (c .before .before .read-record .ensures)
 
 -- read_part
 module _ (t : ℕ) where
@@ -120,7 +126,10 @@ module _ (t : ℕ) where
   read-part-enum-known-h-2 c = search needs
 
   read-part-returns : read-part-lts.Need-returns (read-part-calls t) (read-part-at t) read-part.Post
-  read-part-returns c = let R = part-deep _ _ _ _ _ _ (sym (c .before .before .before .before .head-at .ensures) ∙ c .before .before .h2 .given .1) (c .if1 .taken) in (R, part-beyond _ _ _ _ _ _ (R .answer))
+  read-part-returns c =
+      let R = part-deep _ _ _ _ _ _
+      (sym (c .before .before .before .before .head-at .ensures) ∙ c .before .before .h2 .given .1) (c .if1 .taken) in
+      (R, part-beyond _ _ _ _ _ _ (R .answer))
 
   read-part-is-new-requires : read-part-lts.Need-is-new-requires (read-part-calls t) (read-part-at t) read-part.Post
   read-part-is-new-requires c κs = search needs
@@ -128,29 +137,52 @@ module _ (t : ℕ) where
   read-part-sub-read-new : read-part-lts.Need-sub-read-new (read-part-calls t) (read-part-at t) read-part.Post
   read-part-sub-read-new c = search needs
 
-  read-part-read-new-requires : read-part-lts.Need-read-new-requires (read-part-calls t) (read-part-at t) read-part.Post
-  read-part-read-new-requires c κs = let g = head-good _ _ _ _ _ _ (sym (c .before .before .before .before .before .before .before .head-at .ensures) ∙ c .before .before .before .before .before .h2 .given .1) in let n = new-good _ _ _ _ _ _ (sym (c .before .before .before .before .before .before .before .head-at .ensures) ∙ c .before .before .before .before .before .h2 .given .1) (is-new _ (sym (c .before .before .is-new .ensures) ∙ c .before .if2 .taken)) in omega (arith, g .place, g .inside, g .next-inside, n .small)
+  read-part-read-new-requires : read-part-lts.Need-read-new-requires (read-part-calls t) (read-part-at t)
+    read-part.Post
+  read-part-read-new-requires c κs =
+      let g = head-good _ _ _ _ _ _ (sym (c .before .before .before .before .before .before .before .head-at .ensures)
+      ∙ c .before .before .before .before .before .h2 .given .1) in let n = new-good _ _ _ _ _ _ (sym
+      (c .before .before .before .before .before .before .before .head-at .ensures) ∙ c .before .before .before
+      .before .before .h2 .given .1) (is-new _ (sym (c .before .before .is-new .ensures) ∙ c .before .if2 .taken)) in
+      omega (arith, g .place, g .inside, g .next-inside, n .small)
 
   read-part-same-length : read-part-lts.Need-same-length (read-part-calls t) (read-part-at t) read-part.Post
   read-part-same-length c = search needs
 
   read-part-returns-2 : read-part-lts.Need-returns-2 (read-part-calls t) (read-part-at t) read-part.Post
-  read-part-returns-2 c = let R = part-new _ _ _ _ _ _ (sym (c .before .before .before .before .before .before .before .before .before .before .head-at .ensures) ∙ c .before .before .before .before .before .before .before .before .h2 .given .1) (c .before .before .before .before .before .before .if1 .left) (sym (c .before .before .before .before .before .is-new .ensures) ∙ c .before .before .before .before .if2 .taken) (c .before .before .read-new .ensures) in (R, part-beyond _ _ _ _ _ _ (R .answer))
+  read-part-returns-2 c =
+      let R = part-new _ _ _ _ _ _ (sym
+      (c .before .before .before .before .before .before .before .before .before .before .head-at .ensures) ∙ c
+      .before .before .before .before .before .before .before .before .h2 .given .1) (c .before .before .before
+      .before .before .before .if1 .left) (sym (c .before .before .before .before .before .is-new .ensures) ∙ c
+      .before .before .before .before .if2 .taken) (c .before .before .read-new .ensures) in (R, part-beyond _ _ _ _ _
+      _ (R .answer))
 
   read-part-sub-read-record : read-part-lts.Need-sub-read-record (read-part-calls t) (read-part-at t) read-part.Post
   read-part-sub-read-record c = search needs
 
-  read-part-read-record-requires : read-part-lts.Need-read-record-requires (read-part-calls t) (read-part-at t) read-part.Post
-  read-part-read-record-requires c κs = let g = head-good _ _ _ _ _ _ (sym (c .before .before .before .before .before .before .before .head-at .ensures) ∙ c .before .before .before .before .before .h2 .given .1) in omega (arith, g .place, g .inside, g .next-inside)
+  read-part-read-record-requires : read-part-lts.Need-read-record-requires (read-part-calls t) (read-part-at t)
+    read-part.Post
+  read-part-read-record-requires c κs =
+      let g = head-good _ _ _ _ _ _ (sym (c .before .before .before .before .before .before .before .head-at .ensures)
+      ∙ c .before .before .before .before .before .h2 .given .1) in omega (arith, g .place, g .inside, g .next-inside)
 
   read-part-returns-3 : read-part-lts.Need-returns-3 (read-part-calls t) (read-part-at t) read-part.Post
-  read-part-returns-3 c = let R = part-bad _ _ _ _ _ _ (sym (c .before .before .before .head-at .ensures) ∙ c .before .h .given .1) in (R, part-beyond _ _ _ _ _ _ (R .answer))
+  read-part-returns-3 c =
+      let R = part-bad _ _ _ _ _ _ (sym (c .before .before .before .head-at .ensures) ∙ c .before .h .given .1) in
+      (R, part-beyond _ _ _ _ _ _ (R .answer))
 
   read-part-same-length-2 : read-part-lts.Need-same-length-2 (read-part-calls t) (read-part-at t) read-part.Post
   read-part-same-length-2 c = search needs
 
   read-part-returns-4 : read-part-lts.Need-returns-4 (read-part-calls t) (read-part-at t) read-part.Post
-  read-part-returns-4 c = let R = part-plain _ _ _ _ _ _ (sym (c .before .before .before .before .before .before .before .before .before .before .head-at .ensures) ∙ c .before .before .before .before .before .before .before .before .h2 .given .1) (c .before .before .before .before .before .before .if1 .left) (sym (c .before .before .before .before .before .is-new .ensures) ∙ c .before .before .before .before .if2 .left) (c .before .before .read-record .ensures) in (R, part-beyond _ _ _ _ _ _ (R .answer))
+  read-part-returns-4 c =
+      let R = part-plain _ _ _ _ _ _ (sym
+      (c .before .before .before .before .before .before .before .before .before .before .head-at .ensures) ∙ c
+      .before .before .before .before .before .before .before .before .h2 .given .1) (c .before .before .before
+      .before .before .before .if1 .left) (sym (c .before .before .before .before .before .is-new .ensures) ∙ c
+      .before .before .before .before .if2 .left) (c .before .before .read-record .ensures) in (R, part-beyond _ _ _ _
+      _ _ (R .answer))
 
 -- read_parts
 module _ (t : ℕ) where
@@ -160,7 +192,8 @@ module _ (t : ℕ) where
   read-parts-link-requires : read-parts-lts.Need-link-requires (read-parts-calls t) (read-parts-at t) read-parts.Post
   read-parts-link-requires c κs = search needs
 
-  read-parts-read-part-requires : read-parts-lts.Need-read-part-requires (read-parts-calls t) (read-parts-at t) read-parts.Post
+  read-parts-read-part-requires : read-parts-lts.Need-read-part-requires (read-parts-calls t) (read-parts-at t)
+    read-parts.Post
   read-parts-read-part-requires c κs = search needs
 
   read-parts-enum-known-p : read-parts-lts.Need-enum-known-p (read-parts-calls t) (read-parts-at t) read-parts.Post
@@ -173,25 +206,39 @@ module _ (t : ℕ) where
   read-parts-same-length c = search needs
 
   read-parts-returns-2 : read-parts-lts.Need-returns-2 (read-parts-calls t) (read-parts-at t) read-parts.Post
-  read-parts-returns-2 c = parts-refused _ _ _ _ _ _ _ _ (c .before .before .before .before .before .before .before .before .before .before .if1 .left) (c .before .before .before .before .read-part .ensures .0) (c .enum-told .given .1)
+  read-parts-returns-2 c =
+      parts-refused _ _ _ _ _ _ _ _
+      (c .before .before .before .before .before .before .before .before .before .before .if1 .left)
+      (c .before .before .before .before .read-part .ensures .0) (c .enum-told .given .1)
 
-  read-parts-accepts-part-requires : read-parts-lts.Need-accepts-part-requires (read-parts-calls t) (read-parts-at t) read-parts.Post
+  read-parts-accepts-part-requires : read-parts-lts.Need-accepts-part-requires (read-parts-calls t) (read-parts-at t)
+    read-parts.Post
   read-parts-accepts-part-requires c κs = search needs
 
   read-parts-same-length-2 : read-parts-lts.Need-same-length-2 (read-parts-calls t) (read-parts-at t) read-parts.Post
   read-parts-same-length-2 c = search needs
 
   read-parts-returns-3 : read-parts-lts.Need-returns-3 (read-parts-calls t) (read-parts-at t) read-parts.Post
-  read-parts-returns-3 c = parts-wrong _ _ _ _ _ _ _ _ (c .before .before .before .before .before .before .before .before .before .before .before .before .before .if1 .left) (c .before .before .before .before .before .before .before .read-part .ensures .0) (c .before .before .before .p .given .1) (sym (c .before .accepts-part .ensures) ∙ not-true _ (c .if2 .taken))
+  read-parts-returns-3 c =
+      parts-wrong _ _ _ _ _ _ _ _ (c .before .before .before .before .before .before .before .before .before .before
+      .before .before .before .if1 .left) (c .before .before .before .before .before .before .before .read-part
+      .ensures .0) (c .before .before .before .p .given .1) (sym (c .before .accepts-part .ensures) ∙ not-true _
+      (c .if2 .taken))
 
-  read-parts-sub-read-parts : read-parts-lts.Need-sub-read-parts (read-parts-calls t) (read-parts-at t) read-parts.Post
+  read-parts-sub-read-parts : read-parts-lts.Need-sub-read-parts (read-parts-calls t) (read-parts-at t)
+    read-parts.Post
   read-parts-sub-read-parts c = search needs
 
-  read-parts-add-read-parts : read-parts-lts.Need-add-read-parts (read-parts-calls t) (read-parts-at t) read-parts.Post
+  read-parts-add-read-parts : read-parts-lts.Need-add-read-parts (read-parts-calls t) (read-parts-at t)
+    read-parts.Post
   read-parts-add-read-parts c = search needs
 
-  read-parts-read-parts-requires : read-parts-lts.Need-read-parts-requires (read-parts-calls t) (read-parts-at t) read-parts.Post
-  read-parts-read-parts-requires c κs = let h = beyond-within _ _ (c .before .before .before .before .before .before .before .before .read-part .ensures .1) (c .before .before .before .before .p .given .1) in omega (arith, h)
+  read-parts-read-parts-requires : read-parts-lts.Need-read-parts-requires (read-parts-calls t) (read-parts-at t)
+    read-parts.Post
+  read-parts-read-parts-requires c κs =
+      let h = beyond-within _ _
+      (c .before .before .before .before .before .before .before .before .read-part .ensures .1)
+      (c .before .before .before .before .p .given .1) in omega (arith, h)
 
   read-parts-enum-known-q : read-parts-lts.Need-enum-known-q (read-parts-calls t) (read-parts-at t) read-parts.Post
   read-parts-enum-known-q c = search needs
@@ -203,23 +250,42 @@ module _ (t : ℕ) where
   read-parts-same-length-3 c = search needs
 
   read-parts-returns-4 : read-parts-lts.Need-returns-4 (read-parts-calls t) (read-parts-at t) read-parts.Post
-  read-parts-returns-4 c = parts-later _ _ _ _ _ _ _ _ (c .before .before .before .before .before .before .before .before .before .before .before .before .before .before .before .before .before .before .before .if1 .left) (c .before .before .before .before .before .before .before .before .before .before .before .before .before .read-part .ensures .0) (c .before .before .before .before .before .before .before .before .before .p .given .1) (sym (c .before .before .before .before .before .before .before .accepts-part .ensures) ∙ not-false _ (c .before .before .before .before .before .before .if2 .left)) (c .before .before .before .before .read-parts .ensures) (c .enum-told2 .given .1)
+  read-parts-returns-4 c =
+      parts-later _ _ _ _ _ _ _ _ (c .before .before .before .before .before .before .before .before .before .before
+      .before .before .before .before .before .before .before .before .before .if1 .left) (c .before .before .before
+      .before .before .before .before .before .before .before .before .before .before .read-part .ensures .0) (c
+      .before .before .before .before .before .before .before .before .before .p .given .1) (sym
+      (c .before .before .before .before .before .before .before .accepts-part .ensures) ∙ not-false _
+      (c .before .before .before .before .before .before .if2 .left)) (c .before .before .before .before .read-parts
+      .ensures) (c .enum-told2 .given .1)
 
-  read-parts-part-weight-requires : read-parts-lts.Need-part-weight-requires (read-parts-calls t) (read-parts-at t) read-parts.Post
+  read-parts-part-weight-requires : read-parts-lts.Need-part-weight-requires (read-parts-calls t) (read-parts-at t)
+    read-parts.Post
   read-parts-part-weight-requires c κs = search needs
 
   read-parts-same-length-4 : read-parts-lts.Need-same-length-4 (read-parts-calls t) (read-parts-at t) read-parts.Post
   read-parts-same-length-4 c = search needs
 
   read-parts-returns-5 : read-parts-lts.Need-returns-5 (read-parts-calls t) (read-parts-at t) read-parts.Post
-  read-parts-returns-5 c = parts-more _ _ _ _ _ _ _ _ (c .before .before .before .before .before .before .before .before .before .before .before .before .before .before .before .before .before .before .before .before .before .if1 .left) (c .before .before .before .before .before .before .before .before .before .before .before .before .before .before .before .before .before .before .before .link .ensures) (c .before .before .before .before .before .before .before .before .before .before .before .before .before .before .before .read-part .ensures .0) (c .before .before .before .before .before .before .before .before .before .before .before .p .given .1) (sym (c .before .before .before .before .before .before .before .before .before .accepts-part .ensures) ∙ not-false _ (c .before .before .before .before .before .before .before .before .if2 .left)) (c .before .before .before .before .before .before .read-parts .ensures) (c .before .before .q .given .1) (c .part-weight .ensures)
+  read-parts-returns-5 c =
+      parts-more _ _ _ _ _ _ _ _ (c .before .before .before .before .before .before .before .before .before .before
+      .before .before .before .before .before .before .before .before .before .before .before .if1 .left) (c .before
+      .before .before .before .before .before .before .before .before .before .before .before .before .before .before
+      .before .before .before .before .link .ensures) (c .before .before .before .before .before .before .before
+      .before .before .before .before .before .before .before .before .read-part .ensures .0) (c .before .before
+      .before .before .before .before .before .before .before .before .before .p .given .1) (sym
+      (c .before .before .before .before .before .before .before .before .before .accepts-part .ensures) ∙ not-false _
+      (c .before .before .before .before .before .before .before .before .if2 .left)) (c .before .before .before
+      .before .before .before .read-parts .ensures) (c .before .before .q .given .1) (c .part-weight .ensures)
 
 -- read_record
 module _ (t : ℕ) where
-  read-record-read-parts-requires : read-record-lts.Need-read-parts-requires (read-record-calls t) (read-record-at t) read-record.Post
+  read-record-read-parts-requires : read-record-lts.Need-read-parts-requires (read-record-calls t) (read-record-at t)
+    read-record.Post
   read-record-read-parts-requires c κs = search needs
 
-  read-record-close-record-requires : read-record-lts.Need-close-record-requires (read-record-calls t) (read-record-at t) read-record.Post
+  read-record-close-record-requires : read-record-lts.Need-close-record-requires (read-record-calls t)
+    (read-record-at t) read-record.Post
   read-record-close-record-requires c κs = search needs
 
   read-record-same-length : read-record-lts.Need-same-length (read-record-calls t) (read-record-at t) read-record.Post
@@ -227,12 +293,27 @@ module _ (t : ℕ) where
 
   read-record-returns : read-record-lts.Need-returns (read-record-calls t) (read-record-at t) read-record.Post
   unfolding recordOf
-  read-record-returns c = closes _ _ _ _ (c .before .before .before .before .before .before .read-parts .ensures) (c .before .before .close-record .ensures .0) (c .before .before .close-record .ensures .1)
+  read-record-returns c =
+      closes _ _ _ _ (c .before .before .before .before .before .before .read-parts .ensures)
+      (c .before .before .close-record .ensures .0) (c .before .before .close-record .ensures .1)
 
 pub +read-new+read-part+read-parts+read-record-spec : {M : Type 1} → statement M
 +read-new+read-part+read-parts+read-record-spec =
     close μ-read-new μ-read-part μ-read-parts μ-read-record
-    (λ t. read-new-lts.spec (read-new-calls t) (read-new-at t) read-new.Post (read-new-enter-requires t) (read-new-add-read-record t) (read-new-read-record-requires t) (read-new-same-length t) (read-new-returns t))
-    (λ t. read-part-lts.spec (read-part-calls t) (read-part-at t) read-part.Post (read-part-head-at-requires t) (read-part-enum-known-h t) (read-part-enum-known-h-2 t) (read-part-returns t) (read-part-is-new-requires t) (read-part-sub-read-new t) (read-part-read-new-requires t) (read-part-same-length t) (read-part-returns-2 t) (read-part-sub-read-record t) (read-part-read-record-requires t) (read-part-returns-3 t) (read-part-same-length-2 t) (read-part-returns-4 t))
-    (λ t. read-parts-lts.spec (read-parts-calls t) (read-parts-at t) read-parts.Post (read-parts-returns t) (read-parts-link-requires t) (read-parts-read-part-requires t) (read-parts-enum-known-p t) (read-parts-enum-told t) (read-parts-same-length t) (read-parts-returns-2 t) (read-parts-accepts-part-requires t) (read-parts-same-length-2 t) (read-parts-returns-3 t) (read-parts-sub-read-parts t) (read-parts-add-read-parts t) (read-parts-read-parts-requires t) (read-parts-enum-known-q t) (read-parts-enum-told-2 t) (read-parts-same-length-3 t) (read-parts-returns-4 t) (read-parts-part-weight-requires t) (read-parts-same-length-4 t) (read-parts-returns-5 t))
-    (λ t. read-record-lts.spec (read-record-calls t) (read-record-at t) read-record.Post (read-record-read-parts-requires t) (read-record-close-record-requires t) (read-record-same-length t) (read-record-returns t))
+    (λ t. read-new-lts.spec (read-new-calls t) (read-new-at t) read-new.Post (read-new-enter-requires t)
+      (read-new-add-read-record t) (read-new-read-record-requires t) (read-new-same-length t) (read-new-returns t))
+    (λ t. read-part-lts.spec (read-part-calls t) (read-part-at t) read-part.Post (read-part-head-at-requires t)
+      (read-part-enum-known-h t) (read-part-enum-known-h-2 t) (read-part-returns t) (read-part-is-new-requires t)
+      (read-part-sub-read-new t) (read-part-read-new-requires t) (read-part-same-length t) (read-part-returns-2 t)
+      (read-part-sub-read-record t) (read-part-read-record-requires t) (read-part-returns-3 t)
+      (read-part-same-length-2 t) (read-part-returns-4 t))
+    (λ t. read-parts-lts.spec (read-parts-calls t) (read-parts-at t) read-parts.Post (read-parts-returns t)
+      (read-parts-link-requires t) (read-parts-read-part-requires t) (read-parts-enum-known-p t)
+      (read-parts-enum-told t) (read-parts-same-length t) (read-parts-returns-2 t)
+      (read-parts-accepts-part-requires t) (read-parts-same-length-2 t) (read-parts-returns-3 t)
+      (read-parts-sub-read-parts t) (read-parts-add-read-parts t) (read-parts-read-parts-requires t)
+      (read-parts-enum-known-q t) (read-parts-enum-told-2 t) (read-parts-same-length-3 t) (read-parts-returns-4 t)
+      (read-parts-part-weight-requires t) (read-parts-same-length-4 t) (read-parts-returns-5 t))
+    (λ t. read-record-lts.spec (read-record-calls t) (read-record-at t) read-record.Post
+      (read-record-read-parts-requires t) (read-record-close-record-requires t) (read-record-same-length t)
+      (read-record-returns t))

@@ -30,8 +30,13 @@ same-length c = search needs
 returns-2 : tie.Need-returns-2
 unfolding closedAnswer
 returns-2 c =
-    (simp (c .before .before .before .before .before .before .before .parts .given .1, ← c .before .before .before .before .before .type-of .ensures, ← c .before .before .before .before .record-weight .ensures),
-    closed-table _ _ _ _ (c .before .before .before .before .before .before .before .parts .given .1) (c .before .before .before .before .before .type-of .ensures) (c .before .before .before .before .record-weight .ensures) (c .before .before .write-row .ensures))
+    (simp (c .before .before .before .before .before .before .before .parts .given .1, ← c .before .before .before
+      .before .before .type-of .ensures, ← c .before .before .before .before .record-weight .ensures),
+    closed-table _ _ _ _ (c .before .before .before .before .before .before .before .parts .given .1)
+      (c .before .before .before .before .before .type-of .ensures)
+      (c .before .before .before .before .record-weight .ensures) (c .before .before .write-row .ensures))
 
 pub close-record-spec : {M : Type 1} → statement M
-close-record-spec = tie.close (tie.spec enum-known-parts enum-told returns type-of-requires record-weight-requires write-row-requires same-length returns-2)
+close-record-spec =
+    tie.close (tie.spec enum-known-parts enum-told returns type-of-requires record-weight-requires write-row-requires
+    same-length returns-2)

@@ -89,4 +89,7 @@ unfolding isNew
 returns-12 c = simp (c .enum-told12 .given .1, c .before .match .keys12)
 
 pub is-new-spec : {M : Type 1} → statement M
-is-new-spec = tie.close (tie.spec enum-told enum-told-2 enum-told-3 enum-told-4 enum-told-5 enum-told-6 enum-told-7 enum-told-8 enum-told-9 enum-told-10 enum-told-11 enum-told-12 returns returns-2 returns-3 returns-4 returns-5 returns-6 returns-7 returns-8 returns-9 returns-10 returns-11 returns-12)
+is-new-spec =
+    tie.close (tie.spec enum-told enum-told-2 enum-told-3 enum-told-4 enum-told-5 enum-told-6 enum-told-7 enum-told-8
+    enum-told-9 enum-told-10 enum-told-11 enum-told-12 returns returns-2 returns-3 returns-4 returns-5 returns-6
+    returns-7 returns-8 returns-9 returns-10 returns-11 returns-12)
