@@ -3,6 +3,7 @@ pub mod Number
 pub mod Operator
 pub mod Ty
 pub mod Move
+pub mod Letter
 pub mod Term
 pub mod Play
 pub mod Weight

@@ -1,0 +1,9 @@
+pub mod Action
+pub mod Decide
+pub mod Position
+pub mod Step
+pub mod Numbered
+pub mod Numbering
+pub mod Edge
+pub mod Settle
+pub mod Sheet
