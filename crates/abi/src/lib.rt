@@ -22,7 +22,7 @@ fn answer(out: &mut [u32], kind: u32, a: u32, b: u32, c: u32) -> u32
     1
 }
 
-// Hands a refusal by check on.
+// Hands a refusal by check on. What it requires rules the other answer out.
 fn refuse(out: &mut [u32], checked: Checked) -> u32
     requires { ⌜ Handed checked ⌝ }
     ensures returned { λ r. ⌜ r ≡ told (now (out .entry)) ⌝ }
