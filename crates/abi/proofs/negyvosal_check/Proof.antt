@@ -21,7 +21,9 @@ same-length : tie.Need-same-length
 same-length c = search needs
 
 returns : tie.Need-returns
-returns c = (c .before .before .refuse .ensures .0, c .before .before .refuse .ensures .1 ∙ rw (c .before .before .before .before .before .before .check .ensures))
+returns c =
+    (c .before .before .refuse .ensures .0, c .before .before .refuse .ensures .1 ∙ rw
+    (c .before .before .before .before .before .before .check .ensures))
 
 cast-answer : tie.Need-cast-answer
 cast-answer c = search needs
@@ -33,10 +35,14 @@ same-length-2 : tie.Need-same-length-2
 same-length-2 c = search needs
 
 returns-2 : tie.Need-returns-2
-returns-2 c = (c .before .before .answer .ensures .0, c .before .before .answer .ensures .1 ∙ (accepted-words _ (c .before .before .before .before .before .checked .given .1) ∙ rw (c .before .before .before .before .before .before .before .check .ensures)))
+returns-2 c =
+    (c .before .before .answer .ensures .0, c .before .before .answer .ensures .1 ∙ (accepted-words _
+    (c .before .before .before .before .before .checked .given .1) ∙ rw
+    (c .before .before .before .before .before .before .before .check .ensures)))
 
 pub negyvosal-check-spec : {M : Type 1} → statement M
 negyvosal-check-spec =
     tie.close
-    (tie.spec check-requires enum-known-checked enum-told refuse-requires same-length returns cast-answer answer-requires
+    (tie.spec check-requires enum-known-checked enum-told refuse-requires same-length returns cast-answer
+      answer-requires
     same-length-2 returns-2)

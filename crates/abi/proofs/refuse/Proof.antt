@@ -21,7 +21,8 @@ cast-answer-2 : tie.Need-cast-answer-2
 cast-answer-2 c = search needs
 
 cast-answer-3 : tie.Need-cast-answer-3
-cast-answer-3 c = omega (arith, place-small (c .before .before .before .before .before .pre) (c .before .before .checked .given .1))
+cast-answer-3 c =
+    omega (arith, place-small (c .before .before .before .before .before .pre) (c .before .before .checked .given .1))
 
 answer-requires : tie.Need-answer-requires
 answer-requires c κs = search needs
@@ -30,7 +31,9 @@ same-length : tie.Need-same-length
 same-length c = search needs
 
 returns-2 : tie.Need-returns-2
-returns-2 c = (c .before .before .answer .ensures .0, c .before .before .answer .ensures .1 ∙ refused-words _ (c .before .before .before .before .before .checked .given .1))
+returns-2 c =
+    (c .before .before .answer .ensures .0, c .before .before .answer .ensures .1 ∙ refused-words _
+    (c .before .before .before .before .before .checked .given .1))
 
 pub refuse-spec : {M : Type 1} → statement M
 refuse-spec =
