@@ -1,0 +1,239 @@
+-- What is heard at a name, by numbers.
+use mathlib.Core.Path.{_≡_, refl, sym, _∙_, ap, subst}
+use mathlib.Core.Logic.{_⊎_, inl, inr}
+use mathlib.Core.Bool.{Bool, true, false}
+use mathlib.Core.List.{List, [], _∷_}
+use Prim.Native.Nat.{ℕ, zero, suc, _+_, _*_, _-_, _≤_, _<_}
+use native.Mathlib.Omega.{arith}
+use native.Mathlib.Decide.{ℕ-discrete}
+use lib.ListN.{length}
+use lib.Dec.{eqb, leb}
+use borrow.Author.Tests.{lt-leb, le-leb, eq-eqb, ne-eqb}
+use Rattle.language.specs.Choice.{pick}
+use Rattle.language.specs.Ty.{Ty, Question, run, ask, read, write, Answer, done, ok, value, Answers}
+use Rattle.language.specs.Ty.{questions, answers}
+use Rattle.language.specs.Move.{Event, question, answer, at, move}
+use Rattle.language.specs.Term.{Term, skip, diverge, const, private, name, fetch, operate, assign, seq, while, cond}
+use Rattle.language.specs.Term.{new}
+use Rattle.language.specs.Term.{Args, arg}
+use Rattle.language.specs.Weight.{weight, weightArgs}
+use Rattle.language.specs.declared.Numbers.{Numbers}
+use Rattle.machine.specs.Action.{Next, to, out, dead, calling, who, FitsAt, mapNext}
+use Rattle.machine.specs.Decide.{when, answers?, fits-at?, hears?}
+use Rattle.machine.specs.Edge.{received, edge-hear}
+use Rattle.machine.specs.Position.{Context, Store, types, start, within, reply, PositionArgs, entry}
+use Rattle.machine.specs.Position.{State, Exit as ExitOf}
+use Rattle.machine.specs.Numbered.{single, values, iso, sum, sum-code, product, product-code}
+use Rattle.machine.specs.Numbering.{numbered-answers, numbered-questions, numbered-name, weight-args, numbered}
+use Rattle.machine.specs.Numbering.{numberedArgs}
+use Rattle.machine.specs.Step.{enter, listen}
+use Rattle.machine.proofs.Unique.{FitsAt-prop}
+use Rattle.sheet.specs.table.Rep.{word, count, Rep, RepArgs, r-none, r-arg}
+use Rattle.automaton.specs.declared.Move.{Move as Record}
+use Rattle.automaton.specs.declared.Out.{Out as Did}
+use Rattle.automaton.specs.declared.Out.the-variants.{Go, Exit, Hear, Stuck}
+use Rattle.automaton.specs.walk.Row.{partWeight, partClass, partValues, nameId, nameCount, sumOf, placeOf}
+use Rattle.automaton.specs.walk.Types.{questionNumber, answerNumber}
+use Rattle.automaton.specs.walk.Name.{spotsOf, hearAnswer, hearQuestion, listenOf, atWait}
+use Rattle.automaton.specs.walk.Shows.{kindQ, valueQ, kindA, valueA, moveOf, stored, written, ShowsNext}
+use Rattle.automaton.specs.walk.Shows.{Awaits, ShowsHeard, waits, leads, Given}
+use Rattle.automaton.proofs.Sums.{sum-small, place-small, when-dead}
+use Rattle.automaton.proofs.TypeNumbers.{HasType, Answered, fitting, unfitting, answer-of, Asked, asking}
+use Rattle.automaton.proofs.TypeNumbers.{not-asking, question-of, no-answer, no-question}
+use Rattle.automaton.proofs.Parts.{part-weight, part-type}
+use Rattle.automaton.proofs.Arguments.{named-code, few-questions, low-weight, copies-of, within-code}
+
+-- the first position of a term is number 0
+pub entry-zero : (M : Term) → numbered M .code (entry M) ≡ 0
+unfolding numbered entry single sum sum-code product product-code values
+entry-zero skip = refl
+entry-zero diverge = refl
+entry-zero (const v) = refl
+entry-zero (private i) = refl
+entry-zero (name i T args) = unfold numbered-name iso sum sum-code single entry in named-code i T args start
+entry-zero (fetch X) = entry-zero X
+entry-zero (operate m o L R) = entry-zero L
+entry-zero (assign m X E) = entry-zero E
+entry-zero (seq C M) = entry-zero C
+entry-zero (while B C) = entry-zero B
+entry-zero (cond B M N) = entry-zero B
+entry-zero (new m h C) = omega (arith, entry-zero C)
+
+-- entering argument i of the arguments from j on, which is argument a of the name
+module _ (t : List ℕ) (n : Context) (σ : Store n) (p : Question) where
+  data Enters (node j i a : ℕ) (args : Args) : Type 0 where
+    enters : (h : FitsAt (types args) i p) (x : PositionArgs args) (k : ℕ) → enter args n σ i p h ≡ to (σ, x) →
+      i < count args → questionNumber (partClass t node a) (partValues t node a) (kindQ p) (valueQ p) ≡ suc k →
+      k < 65536 → partWeight t node a < 65536 →
+      k * partWeight t node a + spotsOf t node j i ≡ numberedArgs args .code x → Enters node j i a args
+    refuses : (FitsAt (types args) i p → ⊥) →
+      (count args ≤ i) ⊎ ((i < count args)
+        × (questionNumber (partClass t node a) (partValues t node a) (kindQ p) (valueQ p) ≡ 0)) →
+      Enters node j i a args
+
+  entering : {K : Numbers} {left node j : ℕ} {args : Args} → RepArgs K t left node j n args →
+    weightArgs args < 65536 → j + count args < 65536 → (i a : ℕ) → a ≡ j + i → Enters node j i a args
+  unfolding types FitsAt count weightArgs enter mapNext numberedArgs sum sum-code product product-code spotsOf
+  entering r-none b h i a e = refuses (λ f. f) (inl (omega arith))
+  entering (r-arg {at = node} {j} {T = T} {M} {args} r rs) b h zero a e =
+      cases (question-of (partClass t node j) (partValues t node j) T ty
+        (few-questions t node j T M pw ty (omega arith)) p)
+    where
+      pw : partWeight t node j ≡ weight M
+      pw = part-weight node j r
+      ty : HasType (partClass t node j) (partValues t node j) T
+      ty = part-type node j r
+      same : a ≡ j
+      same = omega arith
+      cases : Asked (partClass t node j) (partValues t node j) T p → Enters node j 0 a (arg T M args)
+      cases (asking f x) =
+          enters f (inl ((p, f), entry M)) (numbered-questions T .code (p, f)) refl (omega arith) (rw same x)
+          (omega (arith, numbered-questions T .bound (p, f), few-questions t node j T M pw ty (omega arith)))
+          (rw (same, pw) (low-weight t node j T M pw ty (omega arith))) (rw (same, pw, entry-zero M) refl)
+      cases (not-asking f x) = refuses f (inr (omega arith, rw same x))
+  entering (r-arg {at = node} {j} {T = T} {M} {args} r rs) b h (suc i) a e =
+      cases (entering rs (omega arith) (omega arith) i a (omega arith))
+    where
+      next : sumOf j 1 ≡ j + 1
+      next = sum-small j 1 (omega arith)
+      cases : Enters node (j + 1) i a args → Enters node j (suc i) a (arg T M args)
+      cases (enters f x k g l d k₁ k₂ w) =
+          enters f (inr x) k (rw g refl) (omega arith) d k₁ k₂
+          (rw (copies-of t node j T M (part-weight node j r) (part-type node j r) (omega arith), next,
+            sum-small (questions T * weight M) (spotsOf t node (j + 1) i)
+              (omega (arith, w, numberedArgs args .bound x, weight-args args))) (omega (arith, w)))
+      cases (refuses f (inl x)) = refuses f (inl (omega arith))
+      cases (refuses f (inr (x, y))) = refuses f (inr (omega arith, y))
+
+-- no variable is written
+pub written-none : (vs : List ℕ) (u : ℕ) → written vs 0 u ≡ vs
+unfolding written
+written-none [] u = refl
+written-none (v ∷ vs) u =
+    rw (ne-eqb 0 (suc (length vs)) (omega arith)) (ap (λ (l : List ℕ). v ∷ l) (written-none vs u))
+
+stuck : (b : Bool) → _≡_ {A = Did} (pick b Stuck Stuck) Stuck
+stuck true = refl
+stuck false = refl
+
+-- the kind of a move at a place is not that of none
+kind-below : (i j : ℕ) (e : Event) → eqb (moveOf (move (at i j) e) .kind) 255 ≡ false
+unfolding moveOf kindQ kindA
+kind-below i j (question run) = refl
+kind-below i j (question ask) = refl
+kind-below i j (question read) = refl
+kind-below i j (question (write v)) = refl
+kind-below i j (answer done) = refl
+kind-below i j (answer ok) = refl
+kind-below i j (answer (value v)) = refl
+
+-- what is heard at a name
+module _ (K : Numbers) (t : List ℕ) (left node i : ℕ) (n : Context) (T : Ty) (args : Args) (pi : nameId t node ≡ i)
+  (pc : nameCount t node ≡ count args) (ty : HasType (word t node 2) (word t node 3) T) (own : answers T < 1048576)
+  (few : count args ≤ 4) (fits : 2 + weightArgs args < 65536) (r : Rep K t (suc left) node n (name i T args) T)
+  (ra : RepArgs K t left node 0 n args) (q : Question) (σ : Store n) where
+  abbrev Use : Term
+  Use = name i T args
+
+  abbrev vs : List ℕ
+  vs = stored n σ
+
+  dead-shows : (x : Next (State n Use) (ExitOf n)) (o : Did) → x ≡ dead → o ≡ Stuck → ShowsNext n Use vs x o
+  unfolding ShowsNext
+  dead-shows x o e d = rw (e, d) refl
+
+  heard-answer : (a : Answer) (d : Dec (Answers T q a)) → ShowsNext n Use vs (when d (λ h. out (σ, a)))
+    (pick (eqb (answerNumber (word t node 2) (word t node 3) (kindQ q) (valueQ q) (kindA a) (valueA a)) 0) Stuck
+      (Exit (kindA a) (valueA a) 0 0))
+  unfolding when ShowsNext
+  heard-answer a d = cases d (answer-of (word t node 2) (word t node 3) T ty own q a)
+    where
+      cases : (d : Dec (Answers T q a)) → Answered (word t node 2) (word t node 3) T q a →
+        ShowsNext n Use vs (when d (λ h. out (σ, a)))
+        (pick (eqb (answerNumber (word t node 2) (word t node 3) (kindQ q) (valueQ q) (kindA a) (valueA a)) 0) Stuck
+          (Exit (kindA a) (valueA a) 0 0))
+      cases (yes x) (fitting h e) =
+          rw (e, ne-eqb (suc (numbered-answers T .code (q, a, h))) 0 (omega arith))
+          (0, 0, refl, sym (written-none vs 0))
+      cases (yes x) (unfitting h e) = absurd (h x)
+      cases (no x) (fitting h e) = absurd (x h)
+      cases (no x) (unfitting h e) = rw e refl
+
+  abbrev entered : (p : Question) (j : ℕ) → FitsAt (types args) j p → Next (State n Use) (ExitOf n)
+  entered p j h = mapNext (λ s. (s .0, within (s .1))) (λ e. to (e .0, reply (e .1))) (enter args n σ j p h)
+
+  abbrev numbering : (p : Question) (j : ℕ) → Did
+  numbering p j =
+      pick (leb (count args) j) Stuck
+      (pick (eqb (questionNumber (partClass t node j) (partValues t node j) (kindQ p) (valueQ p)) 0) Stuck
+      (Go (placeOf (questionNumber (partClass t node j) (partValues t node j) (kindQ p) (valueQ p) - 1)
+        (partWeight t node j) (sumOf 2 (spotsOf t node 0 j))) 0 0))
+
+  heard-question : (p : Question) (j : ℕ) (d : Dec (FitsAt (types args) j p)) →
+    ShowsNext n Use vs (when d (entered p j)) (numbering p j)
+  unfolding when ShowsNext mapNext
+  heard-question p j d = cases d (entering t n σ p ra (omega arith) (omega arith) j j (omega arith))
+    where
+      cases : (d : Dec (FitsAt (types args) j p)) → Enters t n σ p node 0 j j args →
+        ShowsNext n Use vs (when d (entered p j)) (numbering p j)
+      cases (yes y) (enters h x k g l e k₁ k₂ w) =
+          let d : suc k - 1 ≡ k = omega arith in
+          let b : numberedArgs args .code x < 65536 = omega (arith, numberedArgs args .bound x, weight-args args) in
+          let f : placeOf k (partWeight t node j) (sumOf 2 (spotsOf t node 0 j)) ≡ numbered Use .code (within x) =
+            rw (sum-small 2 (spotsOf t node 0 j) (omega (arith, w)),
+              place-small k (partWeight t node j) (2 + spotsOf t node 0 j) k₁ k₂ (omega (arith, w)))
+            (omega (arith, w, within-code i T args x)) in
+          rw (FitsAt-prop (types args) j p y h, g, lt-leb (count args) j l, e, ne-eqb (suc k) 0 (omega arith), d)
+          (0, 0, ap (λ (z : ℕ). Go z 0 0) f, sym (written-none vs 0))
+      cases (yes y) (refuses f x) = absurd (f y)
+      cases (no y) (enters h x k g l e k₁ k₂ w) = absurd (y h)
+      cases (no y) (refuses f (inl l)) = rw (le-leb (count args) j l) refl
+      cases (no y) (refuses f (inr (l, e))) = rw (lt-leb (count args) j l, e) refl
+
+  pub listen-shows : (i′ j : ℕ) (e : Event) →
+    ShowsNext n Use vs (edge-hear (calling i (types args) T q) (listen i T args n q σ) (move (at i′ j) e))
+    (listenOf t node (kindQ q) (valueQ q) (moveOf (move (at i′ j) e)))
+  unfolding edge-hear received hears? listenOf hearAnswer hearQuestion moveOf listen who when
+  listen-shows i′ zero (question p) =
+      dead-shows _ _ (when-dead (ℕ-discrete i i′))
+      (rw (no-answer (word t node 2) (word t node 3) (kindQ q) (valueQ q) p) (stuck (eqb i′ (nameId t node))))
+  listen-shows i′ zero (answer a) = cases (ℕ-discrete i i′)
+    where
+      cases : (d : Dec (i ≡ i′)) → ShowsNext n Use vs (when d (λ e. when (answers? T q a) (λ h. out (σ, a))))
+        (pick (eqb i′ (nameId t node))
+          (pick (eqb (answerNumber (word t node 2) (word t node 3) (kindQ q) (valueQ q) (kindA a) (valueA a)) 0) Stuck
+            (Exit (kindA a) (valueA a) 0 0)) Stuck)
+      cases (yes e) = rw (eq-eqb i′ (nameId t node) (sym e ∙ sym pi)) (heard-answer a (answers? T q a))
+      cases (no e) = rw (ne-eqb i′ (nameId t node) (λ x. e (sym (x ∙ pi)))) (dead-shows _ _ refl refl)
+  listen-shows i′ (suc j) (question p) = cases (ℕ-discrete i i′)
+    where
+      less : suc j - 1 ≡ j
+      less = omega arith
+      cases : (d : Dec (i ≡ i′)) → ShowsNext n Use vs (when d (λ e. when (fits-at? (types args) j p) (entered p j)))
+        (listenOf t node (kindQ q) (valueQ q) (moveOf (move (at i′ (suc j)) (question p))))
+      cases (yes e) =
+          rw (eq-eqb i′ (nameId t node) (sym e ∙ sym pi), ne-eqb (suc j) 0 (omega arith), less, pc)
+          (heard-question p j (fits-at? (types args) j p))
+      cases (no e) = rw (ne-eqb i′ (nameId t node) (λ x. e (sym (x ∙ pi)))) (dead-shows _ _ refl refl)
+  listen-shows i′ (suc j) (answer a) =
+      dead-shows _ _ refl
+      (rw (ne-eqb (suc j) 0 (omega arith),
+        no-question (partClass t node (suc j - 1)) (partValues t node (suc j - 1)) a,
+        stuck (leb (nameCount t node) (suc j - 1))) (stuck (eqb i′ (nameId t node))))
+
+  awaited : Awaits K t (calling i (types args) T q) node (kindQ q) (valueQ q)
+  awaited = record {
+    left = suc left; within = n; id = i; result = T; args = args; part = r; asked = q; listens = refl; kinded = refl;
+    valued = refl
+  }
+
+  pub hears : (m : Record) → Given m →
+    ShowsHeard K t n Use vs m (calling i (types args) T q) (listen i T args n q σ)
+      (atWait t node (kindQ q) (valueQ q) m)
+  unfolding atWait
+  hears m (inl e) = rw (eq-eqb (m .kind) 255 e) (waits {node = node} {q = kindQ q} {x = valueQ q} e awaited refl)
+  hears m (inr (i′, j, ev, e)) =
+      subst (λ (m : Record). ShowsHeard K t n Use vs m (calling i (types args) T q) (listen i T args n q σ)
+          (pick (eqb (m .kind) 255) (Hear node (kindQ q) (valueQ q)) (listenOf t node (kindQ q) (valueQ q) m)))
+        (sym e)
+      (leads i′ j ev refl (rw (kind-below i′ j ev) (listen-shows i′ j ev)))

@@ -1,0 +1,11 @@
+pub mod Steps
+pub mod Facts
+pub mod Sums
+pub mod TypeNumbers
+pub mod Parts
+pub mod Arguments
+pub mod Hearing
+pub mod Lifting
+pub mod Variables
+pub mod Walking
+pub mod Faithful

@@ -1,0 +1,49 @@
+-- One step of each recursion, as the code takes it.
+use Prim.Native.Nat.{ℕ, zero, suc, _+_, _-_}
+use mathlib.Core.Path.{_≡_, refl}
+use mathlib.Core.List.{List}
+use lib.Dec.{leb}
+use native.Mathlib.Numerals.{sub-one}
+use Rattle.language.specs.Choice.{pick}
+use Rattle.language.specs.declared.Numbers.{Numbers}
+use Rattle.sheet.specs.table.Rep.{word}
+use Rattle.automaton.specs.declared.Move.{Move}
+use Rattle.automaton.specs.walk.Row.{partWeight, partClass, partValues, sumOf}
+use Rattle.automaton.specs.walk.Types.{answersOf}
+use Rattle.automaton.specs.walk.Store.{storeIn, heightIn}
+use Rattle.automaton.specs.walk.Name.{copiesOf, spotsOf, replyHere, replyOf, argHere, inArgs}
+use Rattle.automaton.specs.walk.Down.{downOf}
+use Rattle.automaton.specs.walk.Up.{riseOf}
+use Rattle.automaton.specs.walk.Step.{onSpot, stepAt}
+
+pub spots-step : (t : List ℕ) (at j n : ℕ) → (n ≡ 0 → ⊥) →
+  spotsOf t at j n ≡ sumOf (copiesOf t at j) (spotsOf t at (sumOf j 1) (n - 1))
+unfolding spotsOf
+spots-step t at j zero h = absurd (h refl)
+spots-step t at j (suc n) h = simp sub-one
+
+pub reply-step : (t : List ℕ) (id at j n k : ℕ) → (n ≡ 0 → ⊥) → replyOf t id at j n k ≡
+  pick (leb (answersOf (partClass t at j) (partValues t at j)) k)
+  (replyOf t id at (sumOf j 1) (n - 1) (k - answersOf (partClass t at j) (partValues t at j)))
+  (replyHere id (partClass t at j) (partValues t at j) (sumOf j 1) k)
+unfolding replyOf
+reply-step t id at j zero k h = absurd (h refl)
+reply-step t id at j (suc n) k h = simp sub-one
+
+pub args-step : (t : List ℕ) (at j n k base after : ℕ) → (n ≡ 0 → ⊥) → inArgs t at j n k base after ≡
+  pick (leb (copiesOf t at j) k)
+  (inArgs t at (sumOf j 1) (n - 1) (k - copiesOf t at j) (sumOf base (copiesOf t at j))
+    (sumOf after (answersOf (partClass t at j) (partValues t at j))))
+  (argHere (word t at (5 + j)) (partClass t at j) (partValues t at j) (partWeight t at j) k base after)
+unfolding inArgs
+args-step t at j zero k base after h = absurd (h refl)
+args-step t at j (suc n) k base after h = simp sub-one
+
+pub at-step : (t : List ℕ) (N : Numbers) (left at q x k : ℕ) (s : List ℕ) (h : ℕ) (m : Move) → (left ≡ 0 → ⊥) →
+  stepAt t N left at q x k s h m ≡
+  onSpot (downOf t at q x k s h m)
+  (λ part kind value inner f. riseOf N f
+    (stepAt t N (left - 1) part kind value inner (storeIn s h f) (heightIn h f) m))
+unfolding stepAt
+at-step t N zero at q x k s h m e = absurd (e refl)
+at-step t N (suc left) at q x k s h m e = simp sub-one

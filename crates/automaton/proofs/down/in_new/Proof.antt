@@ -1,0 +1,42 @@
+use borrow.Author.Needs.{needs}
+use borrow.Author.Tests.{eq-eqb, ne-eqb}
+use Rattle.automaton.specs.walk.Down.{inNew}
+use Rattle.automaton.proofs.down.in_new.Statement.{statement}
+use Rattle.automaton.proofs.down.in_new.Tie as tie
+
+part-weight-requires : tie.Need-part-weight-requires
+part-weight-requires c κs = search needs
+
+returns : tie.Need-returns
+unfolding inNew
+returns c = simp (← c .before .part-weight .ensures, eq-eqb _ _ (c .if1 .taken))
+
+div-v : tie.Need-div-v
+div-v c = search needs
+
+part-at-requires : tie.Need-part-at-requires
+part-at-requires c κs = search needs
+
+place-requires : tie.Need-place-requires
+place-requires c κs = search needs
+
+sum-requires : tie.Need-sum-requires
+sum-requires c κs = search needs
+
+framed-requires : tie.Need-framed-requires
+framed-requires c κs = search needs
+
+rem-t13 : tie.Need-rem-t13
+rem-t13 c = search needs
+
+returns-2 : tie.Need-returns-2
+unfolding inNew
+returns-2 c =
+    simp (← c .before .before .before .before .before .part-weight .ensures, ← c .before .before .before .part-at
+    .ensures, ← c .before .before .place .ensures, ← c .before .sum .ensures, ← c .framed .ensures, ne-eqb _ _
+    (c .before .before .before .before .if1 .left))
+
+pub in-new-spec : {M : Type 1} → statement M
+in-new-spec =
+    tie.close (tie.spec part-weight-requires returns div-v part-at-requires place-requires sum-requires
+    framed-requires rem-t13 returns-2)

@@ -1,0 +1,52 @@
+use borrow.Author.Needs.{needs}
+use borrow.Author.Tests.{lt-ltb, le-ltb, eq-eqb, ne-eqb}
+use Rattle.automaton.specs.walk.Down.{inPrivate}
+use Rattle.automaton.proofs.down.in_private.Statement.{statement}
+use Rattle.automaton.proofs.down.in_private.Tie as tie
+
+cell-requires : tie.Need-cell-requires
+cell-requires c κs = search needs
+
+returns : tie.Need-returns
+unfolding inPrivate
+returns c = simp (eq-eqb _ _ (c .if1 .taken))
+
+level-value-requires : tie.Need-level-value-requires
+level-value-requires c κs = search needs
+
+returns-2 : tie.Need-returns-2
+unfolding inPrivate
+returns-2 c =
+    simp (← c .before .before .before .cell .ensures, ← c .level-value .ensures, ne-eqb _ _
+    (c .before .before .if1 .left), eq-eqb _ _ (c .before .if2 .taken))
+
+cell-requires-2 : tie.Need-cell-requires-2
+cell-requires-2 c κs = search needs
+
+sum-requires : tie.Need-sum-requires
+sum-requires c κs = search needs
+
+returns-3 : tie.Need-returns-3
+unfolding inPrivate
+returns-3 c =
+    simp (← c .before .before .before .before .before .before .cell .ensures, ← c .before .before .cell2 .ensures, ← c
+    .sum .ensures, ne-eqb _ _ (c .before .before .before .before .before .if1 .left), ne-eqb _ _
+    (c .before .before .before .before .if2 .left), eq-eqb _ _ (c .before .before .before .if3 .taken), lt-ltb _ _
+    (c .before .if4 .taken))
+
+returns-4 : tie.Need-returns-4
+unfolding inPrivate
+returns-4 c =
+    simp (← c .before .before .before .before .before .cell .ensures, ← c .before .cell2 .ensures, ne-eqb _ _
+    (c .before .before .before .before .if1 .left), ne-eqb _ _ (c .before .before .before .if2 .left), eq-eqb _ _
+    (c .before .before .if3 .taken), le-ltb _ _ (c .if4 .left))
+
+returns-5 : tie.Need-returns-5
+unfolding inPrivate
+returns-5 c =
+    simp (ne-eqb _ _ (c .before .before .if1 .left), ne-eqb _ _ (c .before .if2 .left), ne-eqb _ _ (c .if3 .left))
+
+pub in-private-spec : {M : Type 1} → statement M
+in-private-spec =
+    tie.close (tie.spec cell-requires returns level-value-requires returns-2 cell-requires-2 sum-requires returns-3
+    returns-4 returns-5)

@@ -1,0 +1,37 @@
+use borrow.Author.Needs.{needs}
+use borrow.Author.Tests.{lt-ltb, le-ltb}
+use Rattle.automaton.specs.walk.Down.{inWhile}
+use Rattle.automaton.proofs.down.in_while.Statement.{statement}
+use Rattle.automaton.proofs.down.in_while.Tie as tie
+
+part-weight-requires : tie.Need-part-weight-requires
+part-weight-requires c κs = search needs
+
+part-at-requires : tie.Need-part-at-requires
+part-at-requires c κs = search needs
+
+framed-requires : tie.Need-framed-requires
+framed-requires c κs = search needs
+
+returns : tie.Need-returns
+unfolding inWhile
+returns c =
+    simp (← c .before .before .before .part-weight .ensures, ← c .before .part-at .ensures, ← c .framed .ensures,
+    lt-ltb _ _ (c .before .before .if1 .taken))
+
+part-at-requires-2 : tie.Need-part-at-requires-2
+part-at-requires-2 c κs = search needs
+
+framed-requires-2 : tie.Need-framed-requires-2
+framed-requires-2 c κs = search needs
+
+returns-2 : tie.Need-returns-2
+unfolding inWhile
+returns-2 c =
+    simp (← c .before .before .before .part-weight .ensures, ← c .before .part-at2 .ensures, ← c .framed2 .ensures,
+    le-ltb _ _ (c .before .before .if1 .left))
+
+pub in-while-spec : {M : Type 1} → statement M
+in-while-spec =
+    tie.close (tie.spec part-weight-requires part-at-requires framed-requires returns part-at-requires-2
+    framed-requires-2 returns-2)

@@ -1,0 +1,58 @@
+use borrow.Author.Needs.{needs}
+use borrow.Author.Tests.{le-leb, lt-leb, eq-eqb, ne-eqb}
+use Rattle.automaton.specs.walk.Name.{hearQuestion}
+use Rattle.automaton.proofs.name.hear_question.Statement.{statement}
+use Rattle.automaton.proofs.name.hear_question.Tie as tie
+
+name-count-requires : tie.Need-name-count-requires
+name-count-requires c κs = search needs
+
+returns : tie.Need-returns
+unfolding hearQuestion
+returns c = simp (← c .before .name-count .ensures, le-leb _ _ (c .if1 .taken))
+
+part-class-requires : tie.Need-part-class-requires
+part-class-requires c κs = search needs
+
+part-values-requires : tie.Need-part-values-requires
+part-values-requires c κs = search needs
+
+question-number-requires : tie.Need-question-number-requires
+question-number-requires c κs = search needs
+
+returns-2 : tie.Need-returns-2
+unfolding hearQuestion
+returns-2 c =
+    simp (← c .before .before .before .before .before .name-count .ensures, ← c .before .before .before .part-class
+    .ensures, ← c .before .before .part-values .ensures, ← c .before .question-number .ensures, lt-leb _ _
+    (c .before .before .before .before .if1 .left), eq-eqb _ _ (c .if2 .taken))
+
+spots-requires : tie.Need-spots-requires
+spots-requires c κs = search needs
+
+sum-requires : tie.Need-sum-requires
+sum-requires c κs = search needs
+
+sub-place : tie.Need-sub-place
+sub-place c = search needs
+
+part-weight-requires : tie.Need-part-weight-requires
+part-weight-requires c κs = search needs
+
+place-requires : tie.Need-place-requires
+place-requires c κs = search needs
+
+returns-3 : tie.Need-returns-3
+unfolding hearQuestion
+returns-3 c =
+    simp (← c .before .before .before .before .before .before .before .before .before .name-count .ensures, ← c
+    .before .before .before .before .before .before .before .part-class .ensures, ← c .before .before .before .before
+    .before .before .part-values .ensures, ← c .before .before .before .before .before .question-number .ensures, ← c
+    .before .before .before .spots .ensures, ← c .before .before .sum .ensures, ← c .before .part-weight .ensures, ← c
+    .place .ensures, lt-leb _ _ (c .before .before .before .before .before .before .before .before .if1 .left), ne-eqb
+    _ _ (c .before .before .before .before .if2 .left))
+
+pub hear-question-spec : {M : Type 1} → statement M
+hear-question-spec =
+    tie.close (tie.spec name-count-requires returns part-class-requires part-values-requires question-number-requires
+    returns-2 spots-requires sum-requires sub-place part-weight-requires place-requires returns-3)

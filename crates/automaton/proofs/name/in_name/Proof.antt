@@ -1,0 +1,72 @@
+use borrow.Author.Needs.{needs}
+use borrow.Author.Tests.{lt-ltb, le-ltb, eq-eqb, ne-eqb}
+use Rattle.automaton.specs.walk.Name.{inName}
+use Rattle.automaton.proofs.name.in_name.Statement.{statement}
+use Rattle.automaton.proofs.name.in_name.Tie as tie
+
+name-id-requires : tie.Need-name-id-requires
+name-id-requires c κs = search needs
+
+said-requires : tie.Need-said-requires
+said-requires c κs = search needs
+
+returns : tie.Need-returns
+unfolding inName
+returns c = simp (← c .before .before .name-id .ensures, ← c .said .ensures, eq-eqb _ _ (c .before .if1 .taken))
+
+waiting-requires : tie.Need-waiting-requires
+waiting-requires c κs = search needs
+
+returns-2 : tie.Need-returns-2
+unfolding inName
+returns-2 c =
+    simp (← c .waiting .ensures, ne-eqb _ _ (c .before .before .if1 .left), eq-eqb _ _ (c .before .if2 .taken))
+
+name-count-requires : tie.Need-name-count-requires
+name-count-requires c κs = search needs
+
+spots-requires : tie.Need-spots-requires
+spots-requires c κs = search needs
+
+sub-if3 : tie.Need-sub-if3
+sub-if3 c = search needs
+
+sub-in-args : tie.Need-sub-in-args
+sub-in-args c = search needs
+
+sum-requires : tie.Need-sum-requires
+sum-requires c κs = search needs
+
+in-args-requires : tie.Need-in-args-requires
+in-args-requires c κs = search needs
+
+returns-3 : tie.Need-returns-3
+unfolding inName
+returns-3 c =
+    simp (← c .before .before .before .before .before .before .before .name-id .ensures, ← c .before .before .before
+    .before .name-count .ensures, ← c .before .before .before .spots .ensures, ← c .before .sum .ensures, ← c .in-args
+    .ensures, ne-eqb _ _ (c .before .before .before .before .before .before .if1 .left), ne-eqb _ _
+    (c .before .before .before .before .before .if2 .left), lt-ltb _ _ (c .before .before .if3 .taken))
+
+sub-reply : tie.Need-sub-reply
+sub-reply c = search needs
+
+sub-reply-2 : tie.Need-sub-reply-2
+sub-reply-2 c = search needs
+
+reply-requires : tie.Need-reply-requires
+reply-requires c κs = search needs
+
+returns-4 : tie.Need-returns-4
+unfolding inName
+returns-4 c =
+    simp (← c .before .before .before .before .before .before .name-id .ensures, ← c .before .before .before
+    .name-count .ensures, ← c .before .before .spots .ensures, ← c .reply .ensures, ne-eqb _ _
+    (c .before .before .before .before .before .if1 .left), ne-eqb _ _ (c .before .before .before .before .if2 .left),
+    le-ltb _ _ (c .before .if3 .left))
+
+pub in-name-spec : {M : Type 1} → statement M
+in-name-spec =
+    tie.close (tie.spec name-id-requires said-requires returns waiting-requires returns-2 name-count-requires
+    spots-requires sub-if3 sub-in-args sum-requires in-args-requires returns-3 sub-reply sub-reply-2 reply-requires
+    returns-4)

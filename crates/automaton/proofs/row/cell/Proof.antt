@@ -1,0 +1,46 @@
+use Prim.Native.Nat.{_+_, _*_}
+use borrow.Author.Needs.{needs}
+use native.Mathlib.Omega.{arith}
+use denote.Ref.{now}
+use Rattle.automaton.proofs.Facts.{past}
+use mathlib.Core.Path.{refl}
+use Rattle.records.specs.Row.{cell}
+use Rattle.sheet.specs.table.Rep.{word}
+use Rattle.automaton.proofs.row.cell.Statement.{statement}
+use Rattle.automaton.proofs.row.cell.Tie as tie
+
+returns : tie.Need-returns
+returns c = past (now (c .before .args .t)) (c .before .args .at) (c .before .args .i) (omega arith)
+
+mul-row : tie.Need-mul-row
+mul-row c = search needs
+
+sub-if2 : tie.Need-sub-if2
+sub-if2 c = search needs
+
+returns-2 : tie.Need-returns-2
+returns-2 c =
+    past (now (c .before .before .args .t)) (c .before .before .args .at) (c .before .before .args .i) (omega arith)
+
+add-index : tie.Need-add-index
+add-index c = search needs
+
+mul-result : tie.Need-mul-result
+mul-result c = search needs
+
+shared-slice-read-result : tie.Need-shared-slice-read-result
+shared-slice-read-result c = search needs
+
+cast-result : tie.Need-cast-result
+cast-result c =
+    omega (arith, c .shared-slice-known .given
+    (9 * c .before .before .before .args .at + c .before .before .before .args .i))
+
+returns-3 : tie.Need-returns-3
+unfolding word cell
+returns-3 c = refl
+
+pub cell-spec : {M : Type 1} → statement M
+cell-spec =
+    tie.close
+    (tie.spec returns mul-row sub-if2 returns-2 add-index mul-result shared-slice-read-result cast-result returns-3)

@@ -1,0 +1,37 @@
+use borrow.Author.Needs.{needs}
+use borrow.Author.Tests.{lt-ltb, le-ltb}
+use Rattle.automaton.specs.walk.Up.{exitArgument}
+use Rattle.automaton.proofs.up.exit_argument.Statement.{statement}
+use Rattle.automaton.proofs.up.exit_argument.Tie as tie
+
+question-kind-requires : tie.Need-question-kind-requires
+question-kind-requires c κs = search needs
+
+question-value-requires : tie.Need-question-value-requires
+question-value-requires c κs = search needs
+
+answer-number-requires : tie.Need-answer-number-requires
+answer-number-requires c κs = search needs
+
+sub-sum : tie.Need-sub-sum
+sub-sum c = search needs
+
+sum-requires : tie.Need-sum-requires
+sum-requires c κs = search needs
+
+returns : tie.Need-returns
+unfolding exitArgument
+returns c =
+    simp (← c .before .before .before .before .question-kind .ensures, ← c .before .before .before .question-value
+    .ensures, ← c .before .before .answer-number .ensures, ← c .sum .ensures, lt-ltb _ _ (c .before .if1 .taken))
+
+returns-2 : tie.Need-returns-2
+unfolding exitArgument
+returns-2 c =
+    simp (← c .before .before .before .question-kind .ensures, ← c .before .before .question-value .ensures, ← c
+    .before .answer-number .ensures, le-ltb _ _ (c .if1 .left))
+
+pub exit-argument-spec : {M : Type 1} → statement M
+exit-argument-spec =
+    tie.close (tie.spec question-kind-requires question-value-requires answer-number-requires sub-sum sum-requires
+    returns returns-2)

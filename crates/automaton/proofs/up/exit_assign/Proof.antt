@@ -1,0 +1,15 @@
+use borrow.Author.Tests.{eq-eqb, ne-eqb}
+use Rattle.automaton.specs.walk.Up.{exitAssign}
+use Rattle.automaton.proofs.up.exit_assign.Statement.{statement}
+use Rattle.automaton.proofs.up.exit_assign.Tie as tie
+
+returns : tie.Need-returns
+unfolding exitAssign
+returns c = simp (eq-eqb _ _ (c .if1 .taken))
+
+returns-2 : tie.Need-returns-2
+unfolding exitAssign
+returns-2 c = simp (ne-eqb _ _ (c .if1 .left))
+
+pub exit-assign-spec : {M : Type 1} → statement M
+exit-assign-spec = tie.close (tie.spec returns returns-2)

@@ -1,0 +1,55 @@
+use borrow.Author.Needs.{needs}
+use mathlib.Core.Path.{sym, _∙_}
+use Rattle.automaton.proofs.Facts.{result-is, result-nothing}
+use borrow.Author.Tests.{lt-ltb, le-ltb, eq-eqb, ne-eqb}
+use Rattle.automaton.specs.walk.Up.{exitOperate}
+use Rattle.automaton.proofs.up.exit_operate.Statement.{statement}
+use Rattle.automaton.proofs.up.exit_operate.Tie as tie
+
+cast-op : tie.Need-cast-op
+cast-op c = search needs
+
+cast-x : tie.Need-cast-x
+cast-x c = search needs
+
+cast-y : tie.Need-cast-y
+cast-y c = search needs
+
+operate-requires : tie.Need-operate-requires
+operate-requires c κs = search needs
+
+enum-known-result : tie.Need-enum-known-result
+enum-known-result c = search needs
+
+cast-t16 : tie.Need-cast-t16
+cast-t16 c = search needs
+
+enum-told : tie.Need-enum-told
+enum-told c = search needs
+
+returns : tie.Need-returns
+unfolding exitOperate
+returns c =
+    simp (eq-eqb _ _ (c .before .before .before .before .before .before .before .before .if1 .taken), lt-ltb _ _
+    (c .before .before .before .before .before .before .if2 .taken)) (result-is _ _ _ _
+    (sym (c .before .before .before .operate .ensures) ∙ c .before .result .given .1))
+
+returns-2 : tie.Need-returns-2
+unfolding exitOperate
+returns-2 c =
+    simp (eq-eqb _ _ (c .before .before .before .before .before .before .before .if1 .taken), lt-ltb _ _
+    (c .before .before .before .before .before .if2 .taken)) (result-nothing _ _ _
+    (sym (c .before .before .operate .ensures) ∙ c .enum-told .given .1))
+
+returns-3 : tie.Need-returns-3
+unfolding exitOperate
+returns-3 c = simp (eq-eqb _ _ (c .before .before .if1 .taken), le-ltb _ _ (c .if2 .left))
+
+returns-4 : tie.Need-returns-4
+unfolding exitOperate
+returns-4 c = simp (ne-eqb _ _ (c .if1 .left))
+
+pub exit-operate-spec : {M : Type 1} → statement M
+exit-operate-spec =
+    tie.close (tie.spec cast-op cast-x cast-y operate-requires enum-known-result cast-t16 enum-told returns returns-2
+    returns-3 returns-4)

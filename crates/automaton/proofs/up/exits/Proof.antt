@@ -1,0 +1,67 @@
+use borrow.Author.Needs.{needs}
+use borrow.Author.Tests.{ne-eqb}
+use Rattle.automaton.specs.walk.Up.{exitsOf}
+use Rattle.automaton.proofs.up.exits.Statement.{statement}
+use Rattle.automaton.proofs.up.exits.Tie as tie
+
+exit-done-requires : tie.Need-exit-done-requires
+exit-done-requires c κs = search needs
+
+exit-truth-requires : tie.Need-exit-truth-requires
+exit-truth-requires c κs = search needs
+
+exit-value-requires : tie.Need-exit-value-requires
+exit-value-requires c κs = search needs
+
+exit-operate-requires : tie.Need-exit-operate-requires
+exit-operate-requires c κs = search needs
+
+exit-assign-requires : tie.Need-exit-assign-requires
+exit-assign-requires c κs = search needs
+
+exit-argument-requires : tie.Need-exit-argument-requires
+exit-argument-requires c κs = search needs
+
+exit-new-requires : tie.Need-exit-new-requires
+exit-new-requires c κs = search needs
+
+returns : tie.Need-returns
+unfolding exitsOf
+returns c = simp (← c .exit-done .ensures, c .before .match .keys1)
+
+returns-2 : tie.Need-returns-2
+unfolding exitsOf
+returns-2 c = simp (← c .exit-truth .ensures, c .before .match .keys2)
+
+returns-3 : tie.Need-returns-3
+unfolding exitsOf
+returns-3 c = simp (← c .exit-value .ensures, c .before .match .keys3)
+
+returns-4 : tie.Need-returns-4
+unfolding exitsOf
+returns-4 c = simp (← c .exit-operate .ensures, c .before .match .keys4)
+
+returns-5 : tie.Need-returns-5
+unfolding exitsOf
+returns-5 c = simp (← c .exit-assign .ensures, c .before .match .keys5)
+
+returns-6 : tie.Need-returns-6
+unfolding exitsOf
+returns-6 c = simp (← c .exit-argument .ensures, c .before .match .keys6)
+
+returns-7 : tie.Need-returns-7
+unfolding exitsOf
+returns-7 c = simp (← c .exit-new .ensures, c .before .match .keys7)
+
+returns-8 : tie.Need-returns-8
+unfolding exitsOf
+returns-8 c =
+    simp (ne-eqb _ _ (c .match .rest .1), ne-eqb _ _ (c .match .rest .0 .1), ne-eqb _ _ (c .match .rest .0 .0 .1),
+    ne-eqb _ _ (c .match .rest .0 .0 .0 .1), ne-eqb _ _ (c .match .rest .0 .0 .0 .0 .1), ne-eqb _ _
+    (c .match .rest .0 .0 .0 .0 .0 .1), ne-eqb _ _ (c .match .rest .0 .0 .0 .0 .0 .0 .1))
+
+pub exits-spec : {M : Type 1} → statement M
+exits-spec =
+    tie.close (tie.spec exit-done-requires exit-truth-requires exit-value-requires exit-operate-requires
+    exit-assign-requires exit-argument-requires exit-new-requires returns returns-2 returns-3 returns-4 returns-5
+    returns-6 returns-7 returns-8)

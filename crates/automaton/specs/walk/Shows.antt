@@ -1,0 +1,141 @@
+-- What it means that the step at a number shows the machine's step.
+use mathlib.Core.Path.{_≡_}
+use mathlib.Core.Logic.{_⊎_}
+use mathlib.Core.List.{List, [], _∷_}
+use Prim.Native.Nat.{ℕ, suc, _+_, _<_}
+use lib.ListN.{getD, length}
+use lib.Dec.{eqb}
+use Rattle.language.specs.Choice.{pick}
+use Rattle.language.specs.Ty.{Ty, Question, run, ask, read, write, Answer, done, ok, value}
+use Rattle.language.specs.Move.{Event, question, answer, at, private, Move, move}
+use Rattle.language.specs.Term.{Term, Args, name}
+use Rattle.language.specs.declared.Numbers.{Numbers}
+use Rattle.machine.specs.Action.{Next, to, out, dead, Heard, Listen, calling, Hears, Action, go, say, hear}
+use Rattle.machine.specs.Edge.{edge-hear}
+use Rattle.machine.specs.Position.{Context, Store, types, State, Exit as ExitOf, StateArgs, ExitArgs}
+use Rattle.machine.specs.Numbering.{numbered, numberedArgs, numbered-replies}
+use Rattle.sheet.specs.table.Rep.{Rep}
+use Rattle.automaton.specs.declared.Move.{Move as Record}
+use Rattle.automaton.specs.declared.Out.{Out as Did}
+use Rattle.automaton.specs.declared.Out.the-variants.{Go, Exit, Say, Hear, Stuck}
+
+-- the kind and the value of a question, and of an answer
+unfoldable pub kindQ : Question → ℕ
+kindQ run = 0
+kindQ ask = 2
+kindQ read = 3
+kindQ (write v) = 6
+
+unfoldable pub valueQ : Question → ℕ
+valueQ run = 0
+valueQ ask = 0
+valueQ read = 0
+valueQ (write v) = v
+
+unfoldable pub kindA : Answer → ℕ
+kindA done = 1
+kindA ok = 4
+kindA (value v) = 5
+
+unfoldable pub valueA : Answer → ℕ
+valueA done = 0
+valueA ok = 0
+valueA (value v) = v
+
+-- a move as the code has it
+unfoldable pub moveOf : Move → Record
+moveOf (move (at i j) (question q)) = record { kind = kindQ q; id = i; arg = j; value = valueQ q }
+moveOf (move (at i j) (answer a)) = record { kind = kindA a; id = i; arg = j; value = valueA a }
+moveOf (move (private i) e) = record { kind = 255; id = 0; arg = 0; value = 0 }
+
+-- what is given: nothing, or a move at a place
+abbrev pub Given : Record → Type 0
+Given m = (m .kind ≡ 255) ⊎ ((i : ℕ) × (j : ℕ) × (e : Event) × (m ≡ moveOf (move (at i j) e)))
+
+-- every word of the table is a word of 16 bits
+abbrev pub Words : List ℕ → Type 0
+Words t = (i : ℕ) → getD t i 0 < 65536
+
+-- the values of a store, the innermost first
+unfoldable pub stored : (n : Context) → Store n → List ℕ
+stored [] σ = []
+stored (m ∷ n) σ = σ .0 .0 ∷ stored n (σ .1)
+
+-- the values with u at the variable of level l - 1, and unchanged where l is 0
+unfoldable pub written : List ℕ → ℕ → ℕ → List ℕ
+written [] l u = []
+written (v ∷ vs) l u = pick (eqb l (suc (length vs))) (u ∷ vs) (v ∷ written vs l u)
+
+-- the code holds the values, each at its level
+unfoldable pub Held : List ℕ → List ℕ → Type 0
+Held s [] = Unit
+Held s (v ∷ vs) = (getD s (length vs) 0 ≡ v) × Held s vs
+
+-- the steps of a term M in a context, from a state whose variables have the values vs
+module _ (n : Context) (M : Term) (vs : List ℕ) where
+  -- a silent step, an exit, or none: the position and the answer by number, and the variable that is written
+  unfoldable pub ShowsNext : Next (State n M) (ExitOf n) → Did → Type 0
+  ShowsNext (to s) o = (l : ℕ) × (u : ℕ) × (o ≡ Go (numbered M .code (s .1)) l u) × (stored n (s .0) ≡ written vs l u)
+  ShowsNext (out e) o = (l : ℕ) × (u : ℕ) × (o ≡ Exit (kindA (e .1)) (valueA (e .1)) l u)
+    × (stored n (e .0) ≡ written vs l u)
+  ShowsNext dead o = o ≡ Stuck
+
+  -- a move that is said, which writes no variable
+  unfoldable pub ShowsSaid : Move → Next (State n M) (ExitOf n) → Did → Type 0
+  ShowsSaid x (to s) o = (o ≡ Say (moveOf x) (numbered M .code (s .1))) × (stored n (s .0) ≡ vs)
+  ShowsSaid x (out e) o = ⊥
+  ShowsSaid x dead o = ⊥
+
+-- whom a position waits for: the name at a place of the table, which has been asked the question of this kind and
+-- value
+pub record Awaits (K : Numbers) (t : List ℕ) (l : Listen) (node kind value : ℕ) : Type 0 where
+  pub left : ℕ
+  pub within : Context
+  pub id : ℕ
+  pub result : Ty
+  pub args : Args
+  pub part : Rep K t left node within (name id result args) result
+  pub asked : Question
+  pub listens : l ≡ calling id (types args) result asked
+  pub kinded : kind ≡ kindQ asked
+  pub valued : value ≡ valueQ asked
+
+module _ (K : Numbers) (t : List ℕ) (n : Context) (M : Term) (vs : List ℕ) where
+  -- a wait: where no move is given the step says whom it waits for, and where one is given it shows what follows
+  -- the move
+  pub data ShowsHeard (m : Record) (l : Listen) (k : (r : Heard) → Hears l r → Next (State n M) (ExitOf n))
+    (o : Did) : Type 0 where
+    waits : {node q x : ℕ} → m .kind ≡ 255 → Awaits K t l node q x → o ≡ Hear node q x → ShowsHeard m l k o
+    leads : (i j : ℕ) (e : Event) → m ≡ moveOf (move (at i j) e) →
+      ShowsNext n M vs (edge-hear l k (move (at i j) e)) o → ShowsHeard m l k o
+
+  unfoldable pub Shows : Record → Action (State n M) (ExitOf n) → Did → Type 0
+  Shows m (go x) o = ShowsNext n M vs x o
+  Shows m (say y x) o = ShowsSaid n M vs y x o
+  Shows m (hear l k) o = ShowsHeard m l k o
+
+-- the same for the arguments of a name, whose positions begin at base and whose replies at after
+module _ (n : Context) (args : Args) (base after : ℕ) (vs : List ℕ) where
+  unfoldable pub ArgsNext : Next (StateArgs n args) (ExitArgs n (types args)) → Did → Type 0
+  ArgsNext (to s) o = (l : ℕ) × (u : ℕ) × (o ≡ Go (base + numberedArgs args .code (s .1)) l u)
+    × (stored n (s .0) ≡ written vs l u)
+  ArgsNext (out e) o = (l : ℕ) × (u : ℕ) × (o ≡ Go (after + numbered-replies (types args) .code (e .1)) l u)
+    × (stored n (e .0) ≡ written vs l u)
+  ArgsNext dead o = o ≡ Stuck
+
+  unfoldable pub ArgsSaid : Move → Next (StateArgs n args) (ExitArgs n (types args)) → Did → Type 0
+  ArgsSaid x (to s) o = (o ≡ Say (moveOf x) (base + numberedArgs args .code (s .1))) × (stored n (s .0) ≡ vs)
+  ArgsSaid x (out e) o = ⊥
+  ArgsSaid x dead o = ⊥
+
+module _ (K : Numbers) (t : List ℕ) (n : Context) (args : Args) (base after : ℕ) (vs : List ℕ) where
+  pub data ArgsHeard (m : Record) (l : Listen)
+    (k : (r : Heard) → Hears l r → Next (StateArgs n args) (ExitArgs n (types args))) (o : Did) : Type 0 where
+    a-waits : {node q x : ℕ} → m .kind ≡ 255 → Awaits K t l node q x → o ≡ Hear node q x → ArgsHeard m l k o
+    a-leads : (i j : ℕ) (e : Event) → m ≡ moveOf (move (at i j) e) →
+      ArgsNext n args base after vs (edge-hear l k (move (at i j) e)) o → ArgsHeard m l k o
+
+  unfoldable pub ArgsShow : Record → Action (StateArgs n args) (ExitArgs n (types args)) → Did → Type 0
+  ArgsShow m (go x) o = ArgsNext n args base after vs x o
+  ArgsShow m (say y x) o = ArgsSaid n args base after vs y x o
+  ArgsShow m (hear l k) o = ArgsHeard m l k o

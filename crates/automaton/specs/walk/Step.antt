@@ -1,0 +1,25 @@
+-- The step at a position: down to the part that the position is in, the part's step, and up again.
+use Prim.Native.Nat.{ℕ, zero, suc}
+use mathlib.Core.List.{List}
+use Rattle.language.specs.declared.Numbers.{Numbers}
+use Rattle.automaton.specs.declared.Move.{Move}
+use Rattle.automaton.specs.declared.Frame.{Frame}
+use Rattle.automaton.specs.declared.Out.{Out}
+use Rattle.automaton.specs.declared.Out.the-variants.{Stuck}
+use Rattle.automaton.specs.declared.Spot.{Spot}
+use Rattle.automaton.specs.declared.Spot.the-variants.{Here, Inside}
+use Rattle.automaton.specs.walk.Store.{storeIn, heightIn}
+use Rattle.automaton.specs.walk.Down.{downOf}
+use Rattle.automaton.specs.walk.Up.{riseOf}
+
+-- what is done here, or g of the part that the position is in
+unfoldable pub onSpot : Spot → (ℕ → ℕ → ℕ → ℕ → Frame → Out) → Out
+onSpot (Here o) g = o
+onSpot (Inside part kind value k f) g = g part kind value k f
+
+-- the step at position k of the term at a place, of at most `left` levels
+unfoldable pub stepAt : List ℕ → Numbers → ℕ → ℕ → ℕ → ℕ → ℕ → List ℕ → ℕ → Move → Out
+stepAt t N zero at q x k s h m = Stuck
+stepAt t N (suc left) at q x k s h m =
+    onSpot (downOf t at q x k s h m)
+    (λ part kind value inner f. riseOf N f (stepAt t N left part kind value inner (storeIn s h f) (heightIn h f) m))

@@ -1,0 +1,187 @@
+// From a position of a term to one of its parts: sums count the first part first, and a part that is copied for
+// each value has its positions at the value times its weight.
+use crate::name::{framed, in_name};
+use crate::row::{cell, part_at, part_values, part_weight, place, sum};
+use crate::store::level_value;
+use crate::{Move, Out, Spot};
+ghost use mathlib.Core.Path.{_≡_};
+ghost use Rattle.automaton.specs.walk.Down.{leavesOf, inFetch, inSeq, inWhile, condIn, inCond, operateIn};
+ghost use Rattle.automaton.specs.walk.Down.{inOperate, assignIn, inAssign, inNew, inPrivate, downOf};
+
+// The exit with an answer.
+pub fn leaves(kind: usize, value: usize) -> Spot
+    ensures { λ r. ⌜ r ≡ leavesOf kind value ⌝ }
+{
+    let out = Out::Exit { kind, value, level: 0, set: 0 };
+    Spot::Here { out }
+}
+
+// Position k of a fetch: its variable is read.
+pub fn in_fetch(t: &[u16], at: usize, k: usize) -> Spot
+    ensures { λ r. ⌜ r ≡ inFetch (now (t .entry)) at k ⌝ }
+{
+    let part = part_at(t, at, 0);
+    let f = framed(0, 0, 0, 0, 0, 0);
+    Spot::Inside { part, kind: 3, value: 0, k, f }
+}
+
+// Position k of a sequence.
+pub fn in_seq(t: &[u16], at: usize, q: usize, x: usize, k: usize) -> Spot
+    ensures { λ r. ⌜ r ≡ inSeq (now (t .entry)) at q x k ⌝ }
+{
+    let w = part_weight(t, at, 0);
+    if k < w {
+        let part = part_at(t, at, 0);
+        let f = framed(1, 0, w, 0, 0, 0);
+        return Spot::Inside { part, kind: 0, value: 0, k, f };
+    }
+    let part = part_at(t, at, 1);
+    let f = framed(0, w, 0, 0, 0, 0);
+    Spot::Inside { part, kind: q, value: x, k: k - w, f }
+}
+
+// Position k of a loop.
+pub fn in_while(t: &[u16], at: usize, k: usize) -> Spot
+    ensures { λ r. ⌜ r ≡ inWhile (now (t .entry)) at k ⌝ }
+{
+    let w = part_weight(t, at, 0);
+    if k < w {
+        let part = part_at(t, at, 0);
+        let f = framed(2, 0, w, 0, 0, 0);
+        return Spot::Inside { part, kind: 2, value: 0, k, f };
+    }
+    let part = part_at(t, at, 1);
+    let f = framed(1, w, 0, 0, 0, 0);
+    Spot::Inside { part, kind: 0, value: 0, k: k - w, f }
+}
+
+// Position k of a choice: the test b weighs w, and the first branch m weighs v.
+pub fn cond_in(b: usize, m: usize, n: usize, w: usize, v: usize, q: usize, x: usize, k: usize) -> Spot
+    ensures { λ r. ⌜ r ≡ condIn b m n w v q x k ⌝ }
+{
+    if k < w {
+        let f = framed(2, 0, w, sum(w, v), 0, 0);
+        return Spot::Inside { part: b, kind: 2, value: 0, k, f };
+    }
+    if k - w < v {
+        let f = framed(0, w, 0, 0, 0, 0);
+        return Spot::Inside { part: m, kind: q, value: x, k: k - w, f };
+    }
+    let f = framed(0, sum(w, v), 0, 0, 0, 0);
+    Spot::Inside { part: n, kind: q, value: x, k: k - w - v, f }
+}
+
+// Position k of the choice at a place.
+pub fn in_cond(t: &[u16], at: usize, q: usize, x: usize, k: usize) -> Spot
+    ensures { λ r. ⌜ r ≡ inCond (now (t .entry)) at q x k ⌝ }
+{
+    let w = part_weight(t, at, 0);
+    let v = part_weight(t, at, 1);
+    cond_in(part_at(t, at, 0), part_at(t, at, 1), part_at(t, at, 2), w, v, q, x, k)
+}
+
+// Position k of an operation: the left operand weighs w, and the right one v for each of the m values of the left.
+pub fn operate_in(left: usize, right: usize, w: usize, v: usize, op: usize, m: usize, k: usize) -> Spot
+    ensures { λ r. ⌜ r ≡ operateIn left right w v op m k ⌝ }
+{
+    if k < w {
+        let f = framed(3, 0, w, v, m, 0);
+        return Spot::Inside { part: left, kind: 2, value: 0, k, f };
+    }
+    if v == 0 {
+        return Spot::Here { out: Out::Stuck };
+    }
+    let x = (k - w) / v;
+    let f = framed(4, place(x, v, w), x, op, m, 0);
+    Spot::Inside { part: right, kind: 2, value: 0, k: (k - w) % v, f }
+}
+
+// Position k of the operation at a place.
+pub fn in_operate(t: &[u16], at: usize, k: usize) -> Spot
+    ensures { λ r. ⌜ r ≡ inOperate (now (t .entry)) at k ⌝ }
+{
+    let w = part_weight(t, at, 0);
+    let v = part_weight(t, at, 1);
+    let m = part_values(t, at, 0);
+    operate_in(part_at(t, at, 0), part_at(t, at, 1), w, v, cell(t, at, 4), m, k)
+}
+
+// Position k of an assignment: the expression e weighs w, and the variable v for each of its m values.
+pub fn assign_in(var: usize, e: usize, w: usize, v: usize, m: usize, k: usize) -> Spot
+    ensures { λ r. ⌜ r ≡ assignIn var e w v m k ⌝ }
+{
+    if k < w {
+        let f = framed(3, 0, w, v, m, 0);
+        return Spot::Inside { part: e, kind: 2, value: 0, k, f };
+    }
+    if v == 0 {
+        return Spot::Here { out: Out::Stuck };
+    }
+    let x = (k - w) / v;
+    let f = framed(5, place(x, v, w), 0, 0, 0, 0);
+    Spot::Inside { part: var, kind: 6, value: x, k: (k - w) % v, f }
+}
+
+// Position k of the assignment at a place.
+pub fn in_assign(t: &[u16], at: usize, k: usize) -> Spot
+    ensures { λ r. ⌜ r ≡ inAssign (now (t .entry)) at k ⌝ }
+{
+    let w = part_weight(t, at, 1);
+    let v = part_weight(t, at, 0);
+    let m = part_values(t, at, 0);
+    assign_in(part_at(t, at, 0), part_at(t, at, 1), w, v, m, k)
+}
+
+// Position k of a block that h blocks enclose.
+pub fn in_new(t: &[u16], at: usize, q: usize, x: usize, k: usize, h: usize) -> Spot
+    ensures { λ r. ⌜ r ≡ inNew (now (t .entry)) at q x k h ⌝ }
+{
+    let w = part_weight(t, at, 0);
+    if w == 0 {
+        return Spot::Here { out: Out::Stuck };
+    }
+    let v = k / w;
+    let part = part_at(t, at, 0);
+    let f = framed(7, place(v, w, 0), sum(h, 1), w, v, 0);
+    Spot::Inside { part, kind: q, value: x, k: k % w, f }
+}
+
+// Position k of a private variable: its own step, then the exit.
+pub fn in_private(t: &[u16], at: usize, q: usize, x: usize, k: usize, s: [u16; 32]) -> Out
+    ensures { λ r. ⌜ r ≡ inPrivate (now (t .entry)) at q x k s ⌝ }
+{
+    let l = cell(t, at, 4);
+    if k == 0 {
+        return Out::Go { next: 1, level: 0, set: 0 };
+    }
+    if q == 3 {
+        return Out::Exit { kind: 5, value: level_value(s, l), level: 0, set: 0 };
+    }
+    if q == 6 {
+        if x < cell(t, at, 3) {
+            return Out::Exit { kind: 4, value: 0, level: sum(l, 1), set: x };
+        }
+    }
+    Out::Stuck
+}
+
+// Position k of the term at a place, asked the question q of value x.
+pub fn down(t: &[u16], at: usize, q: usize, x: usize, k: usize, s: [u16; 32], h: usize, m: Move) -> Spot
+    ensures { λ r. ⌜ r ≡ downOf (now (t .entry)) at q x k s h m ⌝ }
+{
+    let kind = cell(t, at, 0);
+    match kind {
+        16 => leaves(1, 0),
+        18 => leaves(5, cell(t, at, 4)),
+        20 => in_name(t, at, q, x, k, m),
+        21 => in_fetch(t, at, k),
+        22 => in_operate(t, at, k),
+        23 => in_assign(t, at, k),
+        24 => in_seq(t, at, q, x, k),
+        25 => in_cond(t, at, q, x, k),
+        26 => in_while(t, at, k),
+        27 => in_new(t, at, q, x, k, h),
+        128 => Spot::Here { out: in_private(t, at, q, x, k, s) },
+        _ => Spot::Here { out: Out::Stuck },
+    }
+}

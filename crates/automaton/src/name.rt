@@ -1,0 +1,172 @@
+// Names: their positions are the question to them, the wait for their moves, the positions of their arguments, a
+// copy for each question, and the replies of their arguments.
+use crate::row::{name_count, name_id, part_at, part_class, part_values, part_weight, place, sum, cell};
+use crate::types::{answer_number, answers, question_kind, question_number, question_value, questions};
+use crate::{Frame, Move, Out, Spot};
+ghost use mathlib.Core.Path.{_≡_};
+ghost use Rattle.automaton.specs.walk.Name.{saidOf, framedOf, copiesOf, spotsOf, replyHere, replyOf, argHere};
+ghost use Rattle.automaton.specs.walk.Name.{inArgs, hearAnswer, hearQuestion, listenOf, atWait, inName};
+
+// A move is said, and the name waits.
+pub fn said(kind: usize, id: usize, arg: usize, value: usize) -> Out
+    ensures { λ r. ⌜ r ≡ saidOf kind id arg value ⌝ }
+{
+    let said = Move { kind, id, arg, value };
+    Out::Say { said, next: 1 }
+}
+
+// A frame.
+pub fn framed(role: usize, base: usize, a: usize, b: usize, c: usize, d: usize) -> Frame
+    ensures { λ r. ⌜ r ≡ framedOf role base a b c d ⌝ }
+{
+    Frame { role, base, a, b, c, d }
+}
+
+// How many positions argument j has: its weight for each question.
+pub fn copies(t: &[u16], at: usize, j: usize) -> usize
+    ensures { λ r. ⌜ r ≡ copiesOf (now (t .entry)) at j ⌝ }
+{
+    place(questions(part_class(t, at, j), part_values(t, at, j)), part_weight(t, at, j), 0)
+}
+
+// How many positions n arguments from argument j on have.
+pub fn spots(t: &[u16], at: usize, j: usize, n: usize) -> usize
+    ensures { λ r. ⌜ r ≡ spotsOf (now (t .entry)) at j n ⌝ }
+{
+    if n == 0 {
+        return 0;
+    }
+    let here = copies(t, at, j);
+    sum(here, spots(t, at, sum(j, 1), n - 1))
+}
+
+// The answer of number k of an argument.
+pub fn reply_here(id: usize, class: usize, values: usize, arg: usize, k: usize) -> Out
+    ensures { λ r. ⌜ r ≡ replyHere id class values arg k ⌝ }
+{
+    if class == 0 {
+        return said(1, id, arg, 0);
+    }
+    if values <= k {
+        return said(4, id, arg, 0);
+    }
+    said(5, id, arg, k)
+}
+
+// Reply k of n arguments from argument j on.
+pub fn reply(t: &[u16], id: usize, at: usize, j: usize, n: usize, k: usize) -> Out
+    ensures { λ r. ⌜ r ≡ replyOf (now (t .entry)) id at j n k ⌝ }
+{
+    if n == 0 {
+        return Out::Stuck;
+    }
+    let class = part_class(t, at, j);
+    let values = part_values(t, at, j);
+    let w = answers(class, values);
+    if w <= k {
+        return reply(t, id, at, sum(j, 1), n - 1, k - w);
+    }
+    reply_here(id, class, values, sum(j, 1), k)
+}
+
+// Position k of an argument, whose positions begin at base and whose replies at after.
+pub fn arg_in(part: usize, class: usize, values: usize, w: usize, k: usize, base: usize, after: usize) -> Spot
+    ensures { λ r. ⌜ r ≡ argHere part class values w k base after ⌝ }
+{
+    if w == 0 {
+        return Spot::Here { out: Out::Stuck };
+    }
+    let i = k / w;
+    let kind = question_kind(class, i);
+    let value = question_value(class, i);
+    let f = framed(6, place(i, w, base), after, class, values, i);
+    Spot::Inside { part, kind, value, k: k % w, f }
+}
+
+// Position k of n arguments from argument j on; their positions begin at base, their replies at after.
+pub fn in_args(t: &[u16], at: usize, j: usize, n: usize, k: usize, base: usize, after: usize) -> Spot
+    ensures { λ r. ⌜ r ≡ inArgs (now (t .entry)) at j n k base after ⌝ }
+{
+    if n == 0 {
+        return Spot::Here { out: Out::Stuck };
+    }
+    let class = part_class(t, at, j);
+    let values = part_values(t, at, j);
+    let all = copies(t, at, j);
+    if all <= k {
+        return in_args(t, at, sum(j, 1), n - 1, k - all, sum(base, all), sum(after, answers(class, values)));
+    }
+    arg_in(part_at(t, at, j), class, values, part_weight(t, at, j), k, base, after)
+}
+
+// The name's own move: an answer to its question ends it.
+pub fn hear_answer(t: &[u16], at: usize, q: usize, x: usize, m: Move) -> Out
+    ensures { λ r. ⌜ r ≡ hearAnswer (now (t .entry)) at q x m ⌝ }
+{
+    let kind = m.kind;
+    let value = m.value;
+    let i = answer_number(cell(t, at, 2), cell(t, at, 3), q, x, kind, value);
+    if i == 0 {
+        return Out::Stuck;
+    }
+    Out::Exit { kind, value, level: 0, set: 0 }
+}
+
+// A move at argument j: a question enters its copy of the argument.
+pub fn hear_question(t: &[u16], at: usize, j: usize, m: Move) -> Out
+    ensures { λ r. ⌜ r ≡ hearQuestion (now (t .entry)) at j m ⌝ }
+{
+    if name_count(t, at) <= j {
+        return Out::Stuck;
+    }
+    let i = question_number(part_class(t, at, j), part_values(t, at, j), m.kind, m.value);
+    if i == 0 {
+        return Out::Stuck;
+    }
+    let base = sum(2, spots(t, at, 0, j));
+    let next = place(i - 1, part_weight(t, at, j), base);
+    Out::Go { next, level: 0, set: 0 }
+}
+
+// What follows a move at a name that waits.
+pub fn listen(t: &[u16], at: usize, q: usize, x: usize, m: Move) -> Out
+    ensures { λ r. ⌜ r ≡ listenOf (now (t .entry)) at q x m ⌝ }
+{
+    if m.id != name_id(t, at) {
+        return Out::Stuck;
+    }
+    let arg = m.arg;
+    if arg == 0 {
+        return hear_answer(t, at, q, x, m);
+    }
+    hear_question(t, at, arg - 1, m)
+}
+
+// A name that waits: for a move, or what follows the move that is given.
+pub fn waiting(t: &[u16], at: usize, q: usize, x: usize, m: Move) -> Out
+    ensures { λ r. ⌜ r ≡ atWait (now (t .entry)) at q x m ⌝ }
+{
+    if m.kind == 255 {
+        return Out::Hear { at, kind: q, value: x };
+    }
+    listen(t, at, q, x, m)
+}
+
+// Position k of a name.
+pub fn in_name(t: &[u16], at: usize, q: usize, x: usize, k: usize, m: Move) -> Spot
+    ensures { λ r. ⌜ r ≡ inName (now (t .entry)) at q x k m ⌝ }
+{
+    let id = name_id(t, at);
+    if k == 0 {
+        return Spot::Here { out: said(q, id, 0, x) };
+    }
+    if k == 1 {
+        return Spot::Here { out: waiting(t, at, q, x, m) };
+    }
+    let n = name_count(t, at);
+    let all = spots(t, at, 0, n);
+    if k - 2 < all {
+        return in_args(t, at, 0, n, k - 2, 2, sum(2, all));
+    }
+    Spot::Here { out: reply(t, id, at, 0, n, k - 2 - all) }
+}

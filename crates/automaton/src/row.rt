@@ -1,0 +1,96 @@
+// Reading the table of parts, and sums and products that may be too large.
+ghost use mathlib.Core.Path.{_≡_};
+ghost use Prim.Native.Nat.{_+_};
+ghost use Rattle.sheet.specs.table.Rep.{word};
+ghost use Rattle.automaton.specs.walk.Row.{partWeight, partClass, partValues, nameId, nameCount, sumOf, placeOf};
+
+// Word i of the row at a place, 0 past the end of the table.
+pub fn cell(t: &[u16], at: usize, i: usize) -> usize
+    ensures { λ r. ⌜ r ≡ word (now (t .entry)) at i ⌝ }
+{
+    let n = t.len();
+    if n / 9 < at {
+        return 0;
+    }
+    let row = 9 * at;
+    if n - row <= i {
+        return 0;
+    }
+    let index = row + i;
+    t[index] as usize
+}
+
+// The place of part j.
+pub fn part_at(t: &[u16], at: usize, j: usize) -> usize
+    ensures { λ r. ⌜ r ≡ word (now (t .entry)) at (5 + j) ⌝ }
+{
+    let n = t.len();
+    if n < 5 {
+        return 0;
+    }
+    if n - 5 < j {
+        return 0;
+    }
+    cell(t, at, 5 + j)
+}
+
+// The weight of part j.
+pub fn part_weight(t: &[u16], at: usize, j: usize) -> usize
+    ensures { λ r. ⌜ r ≡ partWeight (now (t .entry)) at j ⌝ }
+{
+    cell(t, part_at(t, at, j), 1)
+}
+
+// The class of part j's type.
+pub fn part_class(t: &[u16], at: usize, j: usize) -> usize
+    ensures { λ r. ⌜ r ≡ partClass (now (t .entry)) at j ⌝ }
+{
+    cell(t, part_at(t, at, j), 2)
+}
+
+// How many values part j's data has.
+pub fn part_values(t: &[u16], at: usize, j: usize) -> usize
+    ensures { λ r. ⌜ r ≡ partValues (now (t .entry)) at j ⌝ }
+{
+    cell(t, part_at(t, at, j), 3)
+}
+
+// The id of a name.
+pub fn name_id(t: &[u16], at: usize) -> usize
+    ensures { λ r. ⌜ r ≡ nameId (now (t .entry)) at ⌝ }
+{
+    cell(t, at, 4) % 256
+}
+
+// How many arguments a name has.
+pub fn name_count(t: &[u16], at: usize) -> usize
+    ensures { λ r. ⌜ r ≡ nameCount (now (t .entry)) at ⌝ }
+{
+    cell(t, at, 4) / 256
+}
+
+// a + b, and 0 where one of them is too large.
+pub fn sum(a: usize, b: usize) -> usize
+    ensures { λ r. ⌜ r ≡ sumOf a b ⌝ }
+{
+    if a < 4294967296 {
+        if b < 4294967296 {
+            return a + b;
+        }
+    }
+    0
+}
+
+// x * w + n, and 0 where one of them is too large.
+pub fn place(x: usize, w: usize, n: usize) -> usize
+    ensures { λ r. ⌜ r ≡ placeOf x w n ⌝ }
+{
+    if x < 65536 {
+        if w < 65536 {
+            if n < 4294967296 {
+                return x * w + n;
+            }
+        }
+    }
+    0
+}

@@ -1,0 +1,65 @@
+-- What is answered where the requirements hold. Assumes nothing.
+use mathlib.Core.List.{List}
+use mathlib.Core.Logic.{_≢_}
+use mathlib.Core.Path.{_∙_, _≡_, ap, subst, sym}
+use Prim.Native.Nat.{_*_, _+_, _-_, _<_, _≤_, ℕ}
+use native.Mathlib.Omega.{arith}
+use lib.ListN.{getD, length, set, take}
+use Rattle.dfa.specs.Answer.{Answered}
+use Rattle.dfa.specs.Graph.{Graph, rest, δ}
+use Rattle.dfa.specs.Live.{Single}
+use Rattle.dfa.specs.Outcome.{Outcome, Setting, Told}
+use Rattle.dfa.specs.Reading.{FirstWord, walk}
+use Rattle.dfa.specs.Spelled.{Spelling}
+use Rattle.dfa.specs.Word.{accepting, after}
+use Rattle.dfa.specs.declared.Task.{Task}
+use Rattle.dfa.specs.declared.Verdict.{Verdict}
+use Rattle.dfa.specs.declared.Verdict.the-variants.{Apart, Same}
+use Rattle.dfa.specs.declared.checked.Answer.the-variants.{Alike, Word}
+use Rattle.dfa.proofs.laws.Reading.{first-word, turned, turned-turned, walk-turned, written-take}
+use Rattle.dfa.proofs.laws.Rest.{rest-at, rest-length}
+
+pub answer-alike : (G : List ℕ) (t : Task) (ws out : List ℕ) (v : Verdict) → v ≡ Same → Outcome G t ws v
+  → Answered G t out Alike
+answer-alike G t ws out v e o w = read (t .p) w ∙ subst (λ v. Outcome G t ws v) e o (turned w) ∙ sym (read (t .q) w)
+  where
+    read : (p : ℕ) (w : List ℕ) → accepting (t .f) (t .g) (walk (δ G (t .n)) p w) ≡ accepting (t .f) (t .g)
+      (after (δ G (t .n)) p (turned w))
+    read p w = ap (accepting (t .f) (t .g)) (ap (walk (δ G (t .n)) p) (sym (turned-turned w)) ∙ walk-turned
+      (δ G (t .n)) p (turned w))
+
+pub told-of : (G : List ℕ) (t : Task) (ws : List ℕ) (v : Verdict) (k : ℕ) → v ≡ Apart k
+  → Outcome G t ws v → Told G t ws k
+told-of G t ws v k e o = subst (λ v. Outcome G t ws v) e o
+
+-- ws before, w₁ compared, w₂ spelled
+pub answer-word : (t : Task) (ws w₁ w₂ : List ℕ) (k r : ℕ) → Setting (rest (5 * t .n) ws) t
+  → Told (rest (5 * t .n) ws) t (take (5 * t .n) w₁) k
+  → length w₁ ≡ length ws → length w₂ ≡ length w₁ → Spelling (t .n) k w₁ w₂ r → Answered (rest (5 * t .n) ws) t
+    (rest (5 * t .n) w₂) (Word r)
+answer-word t ws w₁ w₂ k r set d l₁ l₂ s =
+  let x = s .word (d .word) (d .spelled) in
+  let b = d .first .short in
+  let out = rest (5 * t .n) w₂ in
+  let fits : length (d .word) ≤ length out = omega (arith, rest-length (5 * t .n) w₂, rest-length (5 * t .n) ws,
+    set .graph .room) in
+  subst (λ v. FirstWord (t .n) (δ (rest (5 * t .n) ws) (t .n)) (accepting (t .f) (t .g)) (t .p) (t .q) v)
+    (sym (ap (λ z. take z out) (x .0) ∙ written-take (d .word) out fits (x .1)))
+    (first-word _ _ _ _ _ (d .word) (d .first))
+
+pub spell-room : (t : Task) (ws w₁ : List ℕ) → Setting (rest (5 * t .n) ws) t → length w₁ ≡ length ws
+  → 5 * t .n + t .n ≤ length w₁
+spell-room t ws w₁ s l = omega (arith, rest-length (5 * t .n) ws, s .graph .room)
+
+pub setting-of : (t : Task) (ws : List ℕ) → Graph (rest (5 * t .n) ws) (t .n) → t .p < t .n → t .q < t .n
+  → Setting (rest (5 * t .n) ws) t × (5 * t .n ≤ length ws)
+setting-of t ws g p-lt q-lt = (record { graph = g; p-lt = p-lt;
+  q-lt = q-lt }, omega (arith, g .room, rest-length (5 * t .n) ws))
+
+pub single-of : (n f a b : ℕ) (ws : List ℕ) → Graph (rest (5 * n) ws) n → f ≢ n - 1 → a ≡ getD ws (5 * n + (n - 1)) 0
+  → b ≡ getD ws (5 * n + n) 0 → a ≡ b → Single (rest (5 * n) ws) n f
+single-of n f a b ws g ne ea eb e = record
+  { graph = g; empty = rest-at (5 * n) ws (n - 1) ∙ sym ea ∙ e ∙ eb ∙ sym (rest-at (5 * n) ws n); other = ne }
+
+pub words-long : (n : ℕ) (ws : List ℕ) → Graph (rest (5 * n) ws) n → 5 * n + n < length ws
+words-long n ws g = omega (arith, g .room, rest-length (5 * n) ws)

@@ -1,0 +1,9 @@
+pub mod Graph
+pub mod Word
+pub mod Spelled
+pub mod Outcome
+pub mod Reading
+pub mod Live
+pub mod Silent
+pub mod Answer
+pub mod inner

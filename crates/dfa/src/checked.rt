@@ -1,0 +1,201 @@
+// The services with their requirements tested.
+ghost use mathlib.Core.Path.{_≡_};
+ghost use mathlib.Core.Bool.{true};
+ghost use Prim.Native.Nat.{_+_, _*_, _<_, _≤_};
+ghost use lib.ListN.{length, getD};
+ghost use Rattle.dfa.specs.Answer.{Answered, Lives};
+ghost use Rattle.dfa.specs.Graph.{Graph, Edges, rest};
+ghost use Rattle.dfa.specs.Silent.{Silent, Settling};
+ghost use Rattle.dfa.specs.inner.Tested.{EdgeOk};
+use crate::{Task, Verdict};
+use crate::live::is_live;
+use crate::search::first_difference;
+use crate::silent::settle;
+use crate::word::spell;
+use crate::words::at;
+
+// Edge k and the next one, if it is before end, are in range and in order.
+pub fn edge_ok(graph: &[u32], n: usize, k: usize, end: usize) -> bool
+    requires { ⌜ (k < end) × (n + 1 + 2 * end ≤ length (now graph)) ⌝ }
+    ensures { λ r. ⌜ (r ≡ true → EdgeOk (now (graph .entry)) n k end) ⌝ }
+{
+    let m = at(graph, n + 1 + 2 * k);
+    if 134217728 <= m {
+        return false;
+    }
+    if n <= at(graph, n + 2 + 2 * k) {
+        return false;
+    }
+    let next = k + 1;
+    if end <= next {
+        return true;
+    }
+    let o = at(graph, n + 1 + 2 * next);
+    if o <= m {
+        return false;
+    }
+    true
+}
+
+pub fn edges_ok(graph: &[u32], n: usize, i: usize, end: usize) -> bool
+    requires { ⌜ (i ≤ end) × (n + 1 + 2 * end ≤ length (now graph)) ⌝ }
+    ensures { λ r. ⌜ (r ≡ true → Edges (now (graph .entry)) n i end) ⌝ }
+{
+    let mut k = i;
+    while k < end {
+        if !edge_ok(graph, n, k, end) {
+            return false;
+        }
+        k += 1;
+    }
+    true
+}
+
+pub fn state_ok(graph: &[u32], n: usize, p: usize) -> bool
+    requires { ⌜ (p < n) × (n < length (now graph)) ⌝ }
+    ensures { λ r. ⌜ (r ≡ true → Edges (now (graph .entry)) n (getD (now (graph .entry)) p 0)
+        (getD (now (graph .entry)) (p + 1) 0)) ⌝ }
+{
+    let i = at(graph, p);
+    let e = at(graph, p + 1);
+    if e < i {
+        return false;
+    }
+    let room = (graph.len() - n - 1) / 2;
+    if room < e {
+        return false;
+    }
+    edges_ok(graph, n, i, e)
+}
+
+// Whether graph is an automaton of n states.
+pub fn graph_ok(graph: &[u32], n: usize) -> bool
+    ensures { λ r. ⌜ (r ≡ true → Graph (now (graph .entry)) n) ⌝ }
+{
+    if n == 0 {
+        return false;
+    }
+    if 8193 < n {
+        return false;
+    }
+    if graph.len() <= n {
+        return false;
+    }
+    let mut p = 0;
+    while p < n {
+        if !state_ok(graph, n, p) {
+            return false;
+        }
+        p += 1;
+    }
+    true
+}
+
+// Whether the words from 5 n on are an automaton of n states.
+pub fn words_ok(words: &[u32], n: usize) -> bool
+    ensures { λ r. ⌜ (r ≡ true → Graph (rest (5 * n) (now (words .entry))) n) ⌝ }
+{
+    if 8193 < n {
+        return false;
+    }
+    let g = 5 * n;
+    if words.len() < g {
+        return false;
+    }
+    graph_ok(&words[g..], n)
+}
+
+// Whether the words below n lead to states.
+pub fn silent_ok(words: &[u32], n: usize) -> bool
+    requires { ⌜ n ≤ length (now words) ⌝ }
+    ensures { λ r. ⌜ (r ≡ true → Silent n (now (words .entry))) ⌝ }
+{
+    let mut p = 0;
+    while p < n {
+        if n < at(words, p) {
+            return false;
+        }
+        p += 1;
+    }
+    true
+}
+
+// The requirements do not hold; no word tells the two states apart; the first that does has so many letters.
+pub enum Answer {
+    Refused,
+    Alike,
+    Word(usize),
+}
+
+// The first word that exactly one of the two states accepts, its first letter first from word 5 n on.
+pub fn compare_checked(words: &mut [u32], t: Task) -> Answer
+    ensures { λ r. ⌜ Answered (rest (5 * t .n) (now (words .entry))) t (rest (5 * t .n) (now (words .exit))) r ⌝ }
+{
+    let n = t.n;
+    let p = t.p;
+    let q = t.q;
+    if !words_ok(words, n) {
+        return Answer::Refused;
+    }
+    if n <= p {
+        return Answer::Refused;
+    }
+    if n <= q {
+        return Answer::Refused;
+    }
+    let v = first_difference(words, t);
+    match v {
+        Verdict::Same => Answer::Alike,
+        Verdict::Apart(k) => {
+            let len = spell(words, n, k);
+            Answer::Word(len)
+        }
+    }
+}
+
+// Every edge is led to where its target settles; false where the requirements do not hold.
+pub fn settle_checked(words: &mut [u32], n: usize) -> bool
+    ensures { λ r. ⌜ (r ≡ true → Settling n (now (words .entry)) (rest (5 * n) (now (words .entry)))
+        (rest (5 * n) (now (words .exit)))) ⌝ }
+{
+    if !words_ok(words, n) {
+        return false;
+    }
+    if words.len() < n {
+        return false;
+    }
+    if !silent_ok(words, n) {
+        return false;
+    }
+    settle(words, n);
+    true
+}
+
+// The requirements do not hold; the state accepts some word; it accepts none.
+pub enum Life {
+    Untold,
+    Accepting,
+    Barren,
+}
+
+// Whether the state p accepts some word, where f alone accepts.
+pub fn live_checked(words: &mut [u32], n: usize, p: usize, f: usize) -> Life
+    ensures { λ r. ⌜ Lives (rest (5 * n) (now (words .entry))) n f p r ⌝ }
+{
+    if !words_ok(words, n) {
+        return Life::Untold;
+    }
+    if n <= p {
+        return Life::Untold;
+    }
+    if f == n - 1 {
+        return Life::Untold;
+    }
+    if at(words, 5 * n + (n - 1)) != at(words, 5 * n + n) {
+        return Life::Untold;
+    }
+    if is_live(words, n, p, f) {
+        return Life::Accepting;
+    }
+    Life::Barren
+}

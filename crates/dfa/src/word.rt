@@ -1,0 +1,59 @@
+ghost use mathlib.Core.Path.{_≡_};
+ghost use Prim.Native.Nat.{ℕ, _+_, _*_, _≤_};
+ghost use lib.ListN.{length, take};
+ghost use mathlib.Core.List.{List};
+ghost use Rattle.dfa.specs.Spelled.{Trail, Spelled, Written, Spelling};
+use crate::words::{at, put};
+
+// The number of letters of the word of entry k.
+pub fn depth(work: &[u32], n: usize, k: usize) -> usize
+    requires { ⌜ Trail n (now work) k ⌝ }
+    ensures { λ r. ⌜ ((u : List ℕ) → Spelled n (now (work .entry)) k u → r ≡ length u) ⌝ }
+{
+    let mut d = 0;
+    let mut e = k;
+    while 0 < e {
+        e = at(work, n + 4 * e + 2);
+        d += 1;
+    }
+    d
+}
+
+// The word of entry k, its first letter first: its length, at the front of out. More than out holds: nothing is
+// written.
+pub fn trace(work: &[u32], n: usize, k: usize, out: &mut [u32]) -> usize
+    requires { ⌜ Trail n (now work) k ⌝ }
+    ensures { λ r. ⌜ ((u : List ℕ) → Spelled n (now (work .entry)) k u
+        → (r ≡ length u) × (length u ≤ length (now (out .entry)) → Written u (now (out .exit)))) ⌝ }
+{
+    let d = depth(work, n, k);
+    if out.len() < d {
+        return d;
+    }
+    let mut i = d;
+    let mut e = k;
+    while 0 < e {
+        i -= 1;
+        put(out, i, at(work, n + 4 * e + 3));
+        e = at(work, n + 4 * e + 2);
+    }
+    d
+}
+
+// The word of entry k, its first letter first: its length, from word 5 n on. The words below 5 n stay.
+pub fn spell(words: &mut [u32], n: usize, k: usize) -> usize
+    requires { ⌜ Trail n (take (5 * n) (now words)) k × (5 * n + n ≤ length (now words)) ⌝ }
+    ensures { λ r. ⌜ Spelling n k (now (words .entry)) (now (words .exit)) r ⌝ }
+{
+    let base = 5 * n;
+    let d = depth(words, n, k);
+    let mut i = d;
+    let mut e = k;
+    while 0 < e {
+        i -= 1;
+        let m = at(words, n + 4 * e + 3);
+        put(words, base + i, m);
+        e = at(words, n + 4 * e + 2);
+    }
+    d
+}

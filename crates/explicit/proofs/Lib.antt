@@ -1,0 +1,5 @@
+pub mod Advance
+pub mod Settling
+pub mod Spelling
+pub mod Ranges
+pub mod Language
