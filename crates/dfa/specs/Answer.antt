@@ -16,8 +16,8 @@ use Rattle.dfa.specs.declared.checked.Life.the-variants.{Accepting, Barr
 -- no word tells the two states apart; or the first that does stands at the front of out
 abbrev pub Answered : List ℕ → Task → List ℕ → Answer → Type 0
 Answered G t out Refused = Unit {0}
-Answered G t out Alike = (w : List ℕ) → accepting (t .f) (t .g) (walk (δ G (t .n)) (t .p) w) ≡ accepting (t .f) (t .g)
-  (walk (δ G (t .n)) (t .q) w)
+Answered G t out Alike = (w : List ℕ)
+  → accepting (t .f) (t .g) (walk (δ G (t .n)) (t .p) w) ≡ accepting (t .f) (t .g) (walk (δ G (t .n)) (t .q) w)
 Answered G t out (Word len) = FirstWord (t .n) (δ G (t .n)) (accepting (t .f) (t .g)) (t .p) (t .q) (take len out)
 
 -- whether the state accepts some word

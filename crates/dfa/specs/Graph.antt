@@ -1,14 +1,18 @@
--- The automaton in the words. The graph G is the words from 5 n on: places 0 to n are the first edge of each state (and
--- the end);
--- edge i is the places n + 1 + 2 i, its letter, and n + 2 + 2 i, its target. A letter with no edge leads to the dead
--- state n - 1.
--- Assumes nothing.
+-- The automaton of n states in the words: the graph G is the words from 5 n on. Places 0 to n of it are the first edge
+-- of each state, and the end; edge i is the places n + 1 + 2 i, its letter, and n + 2 + 2 i, its target. A letter that
+-- no
+-- edge of a state has leads to the dead state, n - 1. Assumes nothing.
 use mathlib.Core.Bool.{cond}
 use mathlib.Core.List.{List}
 use Prim.Native.Nat.{_*_, _+_, _-_, _<_, _^_, _≤_, suc, zero, ℕ}
 use lib.Dec.{eqb}
 use lib.ListN.{drop, getD, length, take}
 
+-- the words from g on
+abbrev pub rest : ℕ → List ℕ → List ℕ
+rest g ws = take (length ws - g) (drop g ws)
+
+-- the letter and the target of edge i
 abbrev pub letter : List ℕ → ℕ → ℕ → ℕ
 letter G n i = getD G (n + 1 + 2 * i) 0
 
@@ -20,6 +24,7 @@ unfoldable pub look : List ℕ → ℕ → ℕ → ℕ → ℕ → ℕ
 look G n m zero i = n - 1
 look G n m (suc k) i = cond (eqb (letter G n i) m) (target G n i) (look G n m k (suc i))
 
+-- the state to which p goes by the letter m
 abbrev pub δ : List ℕ → ℕ → ℕ → ℕ → ℕ
 δ G n p m = look G n m (getD G (p + 1) 0 - getD G p 0) (getD G p 0)
 
@@ -30,12 +35,9 @@ pub record Edges (G : List ℕ) (n i end : ℕ) : Type 0 where
   pub rising : (k : ℕ) → i ≤ k → k + 1 < end → letter G n k < letter G n (k + 1)
   pub small : (k : ℕ) → i ≤ k → k < end → (letter G n k < 2 ^ 27) × (target G n k < n)
 
+-- G is an automaton of n states
 pub record Graph (G : List ℕ) (n : ℕ) : Type 0 where
   pub some : 0 < n
   pub few : n ≤ 8193
   pub room : n < length G
   pub edges : (p : ℕ) → p < n → Edges G n (getD G p 0) (getD G (p + 1) 0)
-
--- the words from g on
-abbrev pub rest : ℕ → List ℕ → List ℕ
-rest g ws = take (length ws - g) (drop g ws)

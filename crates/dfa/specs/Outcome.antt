@@ -9,18 +9,21 @@ use Rattle.dfa.specs.declared.Task.{Task}
 use Rattle.dfa.specs.declared.Verdict.{Verdict}
 use Rattle.dfa.specs.declared.Verdict.the-variants.{Apart, Same}
 
+-- the two states are states of the automaton G
 pub record Setting (G : List ℕ) (t : Task) : Type 0 where
   pub graph : Graph G (t .n)
   pub p-lt : t .p < t .n
   pub q-lt : t .q < t .n
 
+-- the word of entry k of the words ws is the first that exactly one of the two states accepts
 pub record Told (G : List ℕ) (t : Task) (ws : List ℕ) (k : ℕ) : Type 0 where
   pub word : List ℕ
   pub first : First (t .n) (δ G (t .n)) (accepting (t .f) (t .g)) (t .p) (t .q) word
   pub spelled : Spelled (t .n) ws k word
   pub trail : Trail (t .n) ws k
 
+-- no word tells the two states apart; or the word of entry k is the first that does
 abbrev pub Outcome : List ℕ → Task → List ℕ → Verdict → Type 0
-Outcome G t ws Same = (x : List ℕ) → accepting (t .f) (t .g) (after (δ G (t .n)) (t .p) x) ≡ accepting (t .f) (t .g)
-  (after (δ G (t .n)) (t .q) x)
+Outcome G t ws Same = (x : List ℕ)
+  → accepting (t .f) (t .g) (after (δ G (t .n)) (t .p) x) ≡ accepting (t .f) (t .g) (after (δ G (t .n)) (t .q) x)
 Outcome G t ws (Apart k) = Told G t ws k

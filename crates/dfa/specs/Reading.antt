@@ -1,5 +1,4 @@
--- Words in the order in which they are read: the shorter first, then the first letter that differs.
--- Assumes nothing.
+-- Words first letter first, in their order: the shorter first, then the first letter that differs. Assumes nothing.
 use mathlib.Core.Bool.{Bool}
 use mathlib.Core.List.{List, [], _∷_}
 use mathlib.Core.Logic.{_≢_, _⊎_}

@@ -1,6 +1,5 @@
--- Silent steps, read off the words S: word p is 0 where the state p is not silent, else k + 1 where it goes to the
--- state k.
--- Assumes nothing.
+-- Silent steps, read off the words S: word p is 0 where the state p is not silent, else k + 1, where p goes silently to
+-- the state k. Assumes nothing.
 use mathlib.Core.Bool.{cond}
 use mathlib.Core.List.{List}
 use mathlib.Core.Path.{_≡_}

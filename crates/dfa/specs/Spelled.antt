@@ -1,13 +1,13 @@
--- The word of an entry of the queue: entry k is the four words from n + 4 k on, the third the entry that it came from,
--- the fourth the
--- letter. Assumes nothing.
+-- The word of an entry of the queue. Entry k is the four words from n + 4 k on: two states, the entry that it came
+-- from,
+-- and the letter. Assumes nothing.
 use mathlib.Core.List.{List, [], _∷_}
 use mathlib.Core.Path.{_≡_}
 use Prim.Native.Nat.{_*_, _+_, _<_, _≤_, ℕ}
 use lib.ListN.{getD, length, take}
 use Rattle.dfa.specs.Graph.{rest}
 
--- the word of entry k
+-- u is the word of entry k, last letter first
 pub data Spelled (n : ℕ) (ws : List ℕ) : ℕ → List ℕ → Type 0 where
   none : Spelled n ws 0 []
   more : {u : List ℕ} (k : ℕ) → 0 < k → getD ws (n + 4 * k + 2) 0 < k → Spelled n ws (getD ws (n + 4 * k + 2) 0) u

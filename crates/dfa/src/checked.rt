@@ -1,124 +1,17 @@
 // The services with their requirements tested.
 ghost use mathlib.Core.Path.{_≡_};
 ghost use mathlib.Core.Bool.{true};
-ghost use Prim.Native.Nat.{_+_, _*_, _<_, _≤_};
-ghost use lib.ListN.{length, getD};
+ghost use Prim.Native.Nat.{_*_};
 ghost use Rattle.dfa.specs.Answer.{Answered, Lives};
-ghost use Rattle.dfa.specs.Graph.{Graph, Edges, rest};
-ghost use Rattle.dfa.specs.Silent.{Silent, Settling};
-ghost use Rattle.dfa.specs.inner.Tested.{EdgeOk};
+ghost use Rattle.dfa.specs.Graph.{rest};
+ghost use Rattle.dfa.specs.Silent.{Settling};
 use crate::{Task, Verdict};
 use crate::live::is_live;
 use crate::search::first_difference;
 use crate::silent::settle;
+use crate::tested::{silent_ok, words_ok};
 use crate::word::spell;
 use crate::words::at;
-
-// Edge k and the next one, if it is before end, are in range and in order.
-pub fn edge_ok(graph: &[u32], n: usize, k: usize, end: usize) -> bool
-    requires { ⌜ (k < end) × (n + 1 + 2 * end ≤ length (now graph)) ⌝ }
-    ensures { λ r. ⌜ (r ≡ true → EdgeOk (now (graph .entry)) n k end) ⌝ }
-{
-    let m = at(graph, n + 1 + 2 * k);
-    if 134217728 <= m {
-        return false;
-    }
-    if n <= at(graph, n + 2 + 2 * k) {
-        return false;
-    }
-    let next = k + 1;
-    if end <= next {
-        return true;
-    }
-    let o = at(graph, n + 1 + 2 * next);
-    if o <= m {
-        return false;
-    }
-    true
-}
-
-pub fn edges_ok(graph: &[u32], n: usize, i: usize, end: usize) -> bool
-    requires { ⌜ (i ≤ end) × (n + 1 + 2 * end ≤ length (now graph)) ⌝ }
-    ensures { λ r. ⌜ (r ≡ true → Edges (now (graph .entry)) n i end) ⌝ }
-{
-    let mut k = i;
-    while k < end {
-        if !edge_ok(graph, n, k, end) {
-            return false;
-        }
-        k += 1;
-    }
-    true
-}
-
-pub fn state_ok(graph: &[u32], n: usize, p: usize) -> bool
-    requires { ⌜ (p < n) × (n < length (now graph)) ⌝ }
-    ensures { λ r. ⌜ (r ≡ true → Edges (now (graph .entry)) n (getD (now (graph .entry)) p 0)
-        (getD (now (graph .entry)) (p + 1) 0)) ⌝ }
-{
-    let i = at(graph, p);
-    let e = at(graph, p + 1);
-    if e < i {
-        return false;
-    }
-    let room = (graph.len() - n - 1) / 2;
-    if room < e {
-        return false;
-    }
-    edges_ok(graph, n, i, e)
-}
-
-// Whether graph is an automaton of n states.
-pub fn graph_ok(graph: &[u32], n: usize) -> bool
-    ensures { λ r. ⌜ (r ≡ true → Graph (now (graph .entry)) n) ⌝ }
-{
-    if n == 0 {
-        return false;
-    }
-    if 8193 < n {
-        return false;
-    }
-    if graph.len() <= n {
-        return false;
-    }
-    let mut p = 0;
-    while p < n {
-        if !state_ok(graph, n, p) {
-            return false;
-        }
-        p += 1;
-    }
-    true
-}
-
-// Whether the words from 5 n on are an automaton of n states.
-pub fn words_ok(words: &[u32], n: usize) -> bool
-    ensures { λ r. ⌜ (r ≡ true → Graph (rest (5 * n) (now (words .entry))) n) ⌝ }
-{
-    if 8193 < n {
-        return false;
-    }
-    let g = 5 * n;
-    if words.len() < g {
-        return false;
-    }
-    graph_ok(&words[g..], n)
-}
-
-// Whether the words below n lead to states.
-pub fn silent_ok(words: &[u32], n: usize) -> bool
-    requires { ⌜ n ≤ length (now words) ⌝ }
-    ensures { λ r. ⌜ (r ≡ true → Silent n (now (words .entry))) ⌝ }
-{
-    let mut p = 0;
-    while p < n {
-        if n < at(words, p) {
-            return false;
-        }
-        p += 1;
-    }
-    true
-}
 
 // The requirements do not hold; no word tells the two states apart; the first that does has so many letters.
 pub enum Answer {
@@ -155,8 +48,8 @@ pub fn compare_checked(words: &mut [u32], t: Task) -> Answer
 
 // Every edge is led to where its target settles; false where the requirements do not hold.
 pub fn settle_checked(words: &mut [u32], n: usize) -> bool
-    ensures { λ r. ⌜ (r ≡ true → Settling n (now (words .entry)) (rest (5 * n) (now (words .entry)))
-        (rest (5 * n) (now (words .exit)))) ⌝ }
+    ensures { λ r. ⌜ (r ≡ true
+        → Settling n (now (words .entry)) (rest (5 * n) (now (words .entry))) (rest (5 * n) (now (words .exit)))) ⌝ }
 {
     if !words_ok(words, n) {
         return false;

@@ -1,12 +1,14 @@
 ghost use mathlib.Core.Path.{_≡_};
-ghost use Prim.Native.Nat.{ℕ, _≤_, _<_};
+ghost use Prim.Native.Nat.{ℕ, _≤_, _<_, _^_};
 ghost use lib.ListN.{length, getD};
-ghost use Rattle.dfa.specs.inner.Classes.{Low, Found, linked};
+ghost use Rattle.dfa.specs.inner.Classes.{Low, Sinks, Found, linked};
 use crate::words::{at, put};
 
-pub fn find(work: &mut [u32], n: usize, x: usize) -> usize
-    requires { ⌜ Low n (now work) × (x < n) ⌝ }
-    ensures { λ r. ⌜ Found n x r (now (work .entry)) (now (work .exit)) ⌝ }
+// The representative of x. Each state on the way gets its grandparent for its parent.
+pub(crate) fn find(work: &mut [u32], x: usize) -> usize
+    requires { ⌜ Sinks x (now work) ⌝ }
+    ensures { λ r. ⌜ ((n : ℕ) → Low n (now (work .entry)) → x < n
+        → Found n x r (now (work .entry)) (now (work .exit))) ⌝ }
 {
     let mut y = x;
     let mut p = at(work, y);
@@ -19,8 +21,9 @@ pub fn find(work: &mut [u32], n: usize, x: usize) -> usize
     y
 }
 
-pub fn link(work: &mut [u32], n: usize, a: usize, b: usize)
-    requires { ⌜ Low n (now work) × ((a < n) × (b < n)) ⌝ }
+// Two representatives are linked: the smaller is the parent.
+pub(crate) fn link(work: &mut [u32], a: usize, b: usize)
+    requires { ⌜ (a < length (now work)) × ((b < length (now work)) × ((a < 2 ^ 32) × (b < 2 ^ 32))) ⌝ }
     ensures { λ r. ⌜ now (work .exit) ≡ linked (now (work .entry)) a b ⌝ }
 {
     if a < b {
@@ -30,7 +33,8 @@ pub fn link(work: &mut [u32], n: usize, a: usize, b: usize)
     }
 }
 
-pub fn singles(work: &mut [u32], n: usize)
+// Every state is a class of its own.
+pub(crate) fn singles(work: &mut [u32], n: usize)
     requires { ⌜ (n ≤ 8193) × (n ≤ length (now work)) ⌝ }
     ensures { λ r. ⌜ ((x : ℕ) → x < n → getD (now (work .exit)) x 0 ≡ x) ⌝ }
 {

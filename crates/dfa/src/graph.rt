@@ -6,7 +6,7 @@ ghost use Rattle.dfa.specs.inner.Step.{Past, Ended, Moved};
 use crate::words::at;
 
 // The letter of the next edge; 2^32 - 1 where there is none.
-pub fn lead(graph: &[u32], n: usize, i: usize, end: usize) -> usize
+fn lead(graph: &[u32], n: usize, i: usize, end: usize) -> usize
     requires { ⌜ Edges (now graph) n i end ⌝ }
     ensures { λ r. ⌜ (i < end → r ≡ letter (now (graph .entry)) n i) × (end ≤ i → r ≡ 4294967295) ⌝ }
 {
@@ -18,7 +18,7 @@ pub fn lead(graph: &[u32], n: usize, i: usize, end: usize) -> usize
 }
 
 // The target by the letter m, where the next edge is the first that may have it.
-pub fn goal(graph: &[u32], n: usize, i: usize, end: usize, m: usize) -> usize
+fn goal(graph: &[u32], n: usize, i: usize, end: usize, m: usize) -> usize
     requires { ⌜ Edges (now graph) n i end × ((0 < n) × (i < end → m ≤ letter (now graph) n i)) ⌝ }
     ensures { λ r. ⌜ r ≡ look (now (graph .entry)) n m (end - i) i ⌝ }
 {
@@ -31,7 +31,8 @@ pub fn goal(graph: &[u32], n: usize, i: usize, end: usize, m: usize) -> usize
     n - 1
 }
 
-pub fn past(graph: &[u32], n: usize, i: usize, end: usize, m: usize) -> usize
+// The next edge behind the letter m.
+fn past(graph: &[u32], n: usize, i: usize, end: usize, m: usize) -> usize
     requires { ⌜ Edges (now graph) n i end × (i < end → m ≤ letter (now graph) n i) ⌝ }
     ensures { λ r. ⌜ Past (now (graph .entry)) n i end m r ⌝ }
 {
@@ -44,12 +45,14 @@ pub fn past(graph: &[u32], n: usize, i: usize, end: usize, m: usize) -> usize
     i
 }
 
-pub fn least(a: usize, b: usize) -> usize
+// The smaller of two numbers.
+fn least(a: usize, b: usize) -> usize
     ensures { λ r. ⌜ (r ≤ a) × ((r ≤ b) × ((a < b → r ≡ a) × (b ≤ a → r ≡ b))) ⌝ }
 {
     if a < b { a } else { b }
 }
 
+// The edges of two states: i to ie, j to je.
 pub struct Ends {
     pub i: usize,
     pub ie: usize,
@@ -58,7 +61,7 @@ pub struct Ends {
 }
 
 // The edges of two states.
-pub fn ends_of(graph: &[u32], p: usize, q: usize) -> Ends
+pub(crate) fn ends_of(graph: &[u32], p: usize, q: usize) -> Ends
     requires { ⌜ (p + 1 < length (now graph)) × (q + 1 < length (now graph)) ⌝ }
     ensures { λ r. ⌜ Ended (now (graph .entry)) p q r ⌝ }
 {
@@ -69,6 +72,7 @@ pub fn ends_of(graph: &[u32], p: usize, q: usize) -> Ends
     Ends { i: i, ie: ie, j: j, je: je }
 }
 
+// A letter, the states a and b to which it leads, and the next edges i and j.
 pub struct Move {
     pub letter: usize,
     pub a: usize,
@@ -78,7 +82,7 @@ pub struct Move {
 }
 
 // The next letter of either list of edges: where it leads on each side, and the cursors behind it.
-pub fn step(graph: &[u32], n: usize, i: usize, ie: usize, j: usize, je: usize) -> Move
+pub(crate) fn step(graph: &[u32], n: usize, i: usize, ie: usize, j: usize, je: usize) -> Move
     requires { ⌜ Edges (now graph) n i ie × (Edges (now graph) n j je × ((0 < n) × (i + j < ie + je))) ⌝ }
     ensures { λ r. ⌜ Moved (now (graph .entry)) n i ie j je r ⌝ }
 {
@@ -91,7 +95,7 @@ pub fn step(graph: &[u32], n: usize, i: usize, ie: usize, j: usize, je: usize) -
 }
 
 // The state to which p goes by the letter m.
-pub fn scan(graph: &[u32], n: usize, p: usize, m: usize) -> usize
+fn scan(graph: &[u32], n: usize, p: usize, m: usize) -> usize
     requires { ⌜ Graph (now graph) n × (p < n) ⌝ }
     ensures { λ r. ⌜ r ≡ δ (now (graph .entry)) n p m ⌝ }
 {

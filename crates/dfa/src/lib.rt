@@ -1,16 +1,20 @@
-// The comparison of two states of a partial deterministic automaton.
-// graph: words 0 ..= n are the first edge of each state; edge i is the words n + 1 + 2 i (its letter) and n + 2 + 2 i
-// (its target).
-// The state n - 1 is dead. work: words 0 .. n are the parents of the classes; entry k of the queue is the four words
-// from n + 4 k on.
-pub mod words;
-pub mod classes;
-pub mod graph;
-pub mod search;
-pub mod word;
-pub mod live;
-pub mod silent;
-pub mod checked;
+// Deterministic automata in lent words: silent states, the first difference of two states, live states.
+// An automaton has n states, at most 8,193; the state n - 1 is dead. Letters are below 2^27. The words below 5 n are
+// work
+// space: the parents of the classes, and from word n + 4 k on the four words of entry k of the queue. The graph stands
+// from word 5 n on: n + 1 words, the first edge of each state and the end; then two words an edge, its letter and its
+// target, in each state in the order of the letters.
+pub mod words; // words.rt: reading, storing, clearing
+pub mod classes; // classes.rt: the classes of states
+pub mod graph; // graph.rt: the edges, and the state to which a letter leads
+pub mod search; // search.rt: the first difference of two states
+pub mod word; // word.rt: the word of an entry
+pub mod live; // live.rt: whether a state accepts some word
+pub mod silent; // silent.rt: edges led past silent states
+mod tested; // tested.rt: whether the words are an automaton
+pub mod checked; // checked.rt: the services with their requirements tested
+
+// No word tells the two states apart; or the word of that entry does, and is the first.
 
 pub enum Verdict {
     Same,

@@ -11,8 +11,8 @@ use crate::search::first_difference;
 // Whether the state p accepts some word, where f alone accepts: whether a word tells p from the dead state.
 pub fn is_live(words: &mut [u32], n: usize, p: usize, f: usize) -> bool
     requires { ⌜ Single (rest (5 * n) (now words)) n f × (p < n) ⌝ }
-    ensures { λ r. ⌜ ((r ≡ true) ↔ Live (rest (5 * n) (now (words .entry))) n f p) ×
-        (rest (5 * n) (now (words .exit)) ≡ rest (5 * n) (now (words .entry))) ⌝ }
+    ensures { λ r. ⌜ ((r ≡ true) ↔ Live (rest (5 * n) (now (words .entry))) n f p)
+        × (rest (5 * n) (now (words .exit)) ≡ rest (5 * n) (now (words .entry))) ⌝ }
 {
     let t = Task { n: n, p: p, q: n - 1, f: f, g: f };
     let v = first_difference(words, t);

@@ -3,7 +3,7 @@ ghost use Prim.Native.Nat.{ℕ, _+_, _*_, _≤_, _<_, _^_};
 ghost use lib.ListN.{length, take};
 ghost use mathlib.Core.List.{List};
 ghost use mathlib.Core.Bool.{Bool·beq};
-ghost use Rattle.dfa.specs.Graph.{letter, rest};
+ghost use Rattle.dfa.specs.Graph.{rest};
 ghost use Rattle.dfa.specs.Outcome.{Setting, Outcome};
 ghost use Rattle.dfa.specs.Word.{accepting};
 ghost use Rattle.dfa.specs.inner.Classes.{Low};
@@ -14,9 +14,10 @@ use crate::classes::{find, link, singles};
 use crate::graph::{ends_of, step};
 use crate::words::{at, put};
 
-pub fn push(work: &mut [u32], n: usize, k: usize, p: usize, q: usize, from: usize, letter: usize)
-    requires { ⌜ (n + 4 * k + 4 ≤ length (now work)) ×
-        ((p < 2 ^ 32) × ((q < 2 ^ 32) × ((from < 2 ^ 32) × (letter < 2 ^ 32)))) ⌝ }
+// Entry k.
+fn push(work: &mut [u32], n: usize, k: usize, p: usize, q: usize, from: usize, letter: usize)
+    requires { ⌜ (n + 4 * k + 4 ≤ length (now work))
+        × ((p < 2 ^ 32) × ((q < 2 ^ 32) × ((from < 2 ^ 32) × (letter < 2 ^ 32)))) ⌝ }
     ensures { λ r. ⌜ now (work .exit) ≡ pushed (now (work .entry)) (n + 4 * k) p q from letter ⌝ }
 {
     let base = n + 4 * k;
@@ -26,23 +27,25 @@ pub fn push(work: &mut [u32], n: usize, k: usize, p: usize, q: usize, from: usiz
     put(work, base + 3, letter);
 }
 
-pub fn visit(work: &mut [u32], n: usize, tail: usize, from: usize, letter: usize, p: usize, q: usize) -> usize
+// The pair p, q, reached from an entry by a letter: where their classes differ they become one, and the pair an entry.
+fn visit(work: &mut [u32], n: usize, tail: usize, from: usize, letter: usize, p: usize, q: usize) -> usize
     requires { ⌜ Low n (now work) × ((tail < n) × ((from < tail) × ((letter < 2 ^ 32) × ((p < n) × (q < n))))) ⌝ }
     ensures { λ r. ⌜ Visited n tail from letter p q r (now (work .entry)) (now (work .exit)) ⌝ }
 {
-    let a = find(work, n, p);
-    let b = find(work, n, q);
+    let a = find(work, p);
+    let b = find(work, q);
     if a == b {
         return tail;
     }
-    link(work, n, a, b);
+    link(work, a, b);
     push(work, n, tail, p, q, from, letter);
     tail + 1
 }
 
-pub fn expand(words: &mut [u32], t: Task, head: usize, tail: usize) -> usize
-    requires { ⌜ Setting (rest (5 * t .n) (now words)) t × Half (rest (5 * t .n) (now words)) t
-        (take (5 * t .n) (now words)) head tail 0 ⌝ }
+// Every letter of the two states of entry head, in order.
+fn expand(words: &mut [u32], t: Task, head: usize, tail: usize) -> usize
+    requires { ⌜ Setting (rest (5 * t .n) (now words)) t
+        × Half (rest (5 * t .n) (now words)) t (take (5 * t .n) (now words)) head tail 0 ⌝ }
     ensures { λ r. ⌜ State (rest (5 * t .n) (now (words .entry))) t (take (5 * t .n) (now (words .exit))) (head + 1) r
         × (rest (5 * t .n) (now (words .exit)) ≡ rest (5 * t .n) (now (words .entry))) ⌝ }
 {
@@ -70,7 +73,8 @@ pub fn expand(words: &mut [u32], t: Task, head: usize, tail: usize) -> usize
     last
 }
 
-pub fn accepts(x: usize, f: usize, g: usize) -> bool
+// Whether x is an accepting state.
+fn accepts(x: usize, f: usize, g: usize) -> bool
     ensures { λ r. ⌜ r ≡ accepting f g x ⌝ }
 {
     if x == f {
@@ -79,17 +83,19 @@ pub fn accepts(x: usize, f: usize, g: usize) -> bool
     x == g
 }
 
-pub fn alike(x: usize, y: usize, f: usize, g: usize) -> bool
+// Whether both states accept, or neither.
+fn alike(x: usize, y: usize, f: usize, g: usize) -> bool
     ensures { λ r. ⌜ r ≡ Bool·beq (accepting f g x) (accepting f g y) ⌝ }
 {
     accepts(x, f, g) == accepts(y, f, g)
 }
 
-pub fn run(words: &mut [u32], t: Task) -> Verdict
-    requires { ⌜ Setting (rest (5 * t .n) (now words)) t × State (rest (5 * t .n) (now words)) t
-        (take (5 * t .n) (now words)) 0 1 ⌝ }
-    ensures { λ r. ⌜ Outcome (rest (5 * t .n) (now (words .entry))) t (take (5 * t .n) (now (words .exit))) r ×
-        (rest (5 * t .n) (now (words .exit)) ≡ rest (5 * t .n) (now (words .entry))) ⌝ }
+// The entries in order, until the states of one differ.
+fn run(words: &mut [u32], t: Task) -> Verdict
+    requires { ⌜ Setting (rest (5 * t .n) (now words)) t
+        × State (rest (5 * t .n) (now words)) t (take (5 * t .n) (now words)) 0 1 ⌝ }
+    ensures { λ r. ⌜ Outcome (rest (5 * t .n) (now (words .entry))) t (take (5 * t .n) (now (words .exit))) r
+        × (rest (5 * t .n) (now (words .exit)) ≡ rest (5 * t .n) (now (words .entry))) ⌝ }
 {
     let n = t.n;
     let f = t.f;
@@ -109,23 +115,24 @@ pub fn run(words: &mut [u32], t: Task) -> Verdict
 }
 
 // The classes are single but for p and q, and the queue has their entry.
-pub fn prepare(work: &mut [u32], t: Task)
-    requires { ⌜ (5 * t .n ≤ length (now work)) ×
-        ((t .n ≤ 8193) × ((t .p < t .n) × ((t .q < t .n) × (t .p ≡ t .q → ⊥)))) ⌝ }
+fn prepare(work: &mut [u32], t: Task)
+    requires { ⌜ (5 * t .n ≤ length (now work))
+        × ((t .n ≤ 8193) × ((t .p < t .n) × ((t .q < t .n) × (t .p ≡ t .q → ⊥)))) ⌝ }
     ensures { λ r. ⌜ ((G : List ℕ) → Setting G t → State G t (now (work .exit)) 0 1) ⌝ }
 {
     let n = t.n;
     let p = t.p;
     let q = t.q;
     singles(work, n);
-    link(work, n, p, q);
+    link(work, p, q);
     push(work, n, 0, p, q, 0, 0);
 }
 
+// The first word, by length and then letters, that exactly one of p and q accepts, as an entry.
 pub fn first_difference(words: &mut [u32], t: Task) -> Verdict
     requires { ⌜ Setting (rest (5 * t .n) (now words)) t × (5 * t .n ≤ length (now words)) ⌝ }
-    ensures { λ r. ⌜ Outcome (rest (5 * t .n) (now (words .entry))) t (take (5 * t .n) (now (words .exit))) r ×
-        (rest (5 * t .n) (now (words .exit)) ≡ rest (5 * t .n) (now (words .entry))) ⌝ }
+    ensures { λ r. ⌜ Outcome (rest (5 * t .n) (now (words .entry))) t (take (5 * t .n) (now (words .exit))) r
+        × (rest (5 * t .n) (now (words .exit)) ≡ rest (5 * t .n) (now (words .entry))) ⌝ }
 {
     let n = t.n;
     let p = t.p;

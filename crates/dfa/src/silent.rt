@@ -1,4 +1,4 @@
-// Silent states: every edge is led to where its target settles.
+// Silent states. Word n + p is the way of the state p: the state some silent steps from it.
 ghost use mathlib.Core.Path.{_≡_};
 ghost use Prim.Native.Nat.{_+_, _*_, _<_};
 ghost use lib.ListN.{length, getD};
@@ -8,7 +8,7 @@ ghost use Rattle.dfa.specs.inner.Settle.{Steps, Ways, Copied, Halved, Ro
 use crate::words::{at, put};
 
 // One silent step from p; a state that is not silent stays.
-pub fn silent_step(words: &[u32], p: usize) -> usize
+fn silent_step(words: &[u32], p: usize) -> usize
     requires { ⌜ p < length (now words) ⌝ }
     ensures { λ r. ⌜ r ≡ stepped (now (words .entry)) p ⌝ }
 {
@@ -20,7 +20,7 @@ pub fn silent_step(words: &[u32], p: usize) -> usize
 }
 
 // Word n + p becomes the state one silent step from p.
-pub fn copy(words: &mut [u32], n: usize)
+fn copy(words: &mut [u32], n: usize)
     requires { ⌜ Steps n (now words) ⌝ }
     ensures { λ r. ⌜ Copied n (now (words .entry)) (now (words .exit)) n ⌝ }
 {
@@ -32,8 +32,8 @@ pub fn copy(words: &mut [u32], n: usize)
     }
 }
 
-// Every way is doubled.
-pub fn halve(words: &mut [u32], n: usize)
+// Every way is at least doubled: the state at its end is replaced by that at the end of its own way.
+fn halve(words: &mut [u32], n: usize)
     requires { ⌜ Ways n (now words) ⌝ }
     ensures { λ r. ⌜ Halved n (now (words .entry)) (now (words .exit)) n ⌝ }
 {
@@ -47,7 +47,7 @@ pub fn halve(words: &mut [u32], n: usize)
 }
 
 // Ways of one step become ways of at least 2^14 steps.
-pub fn rounds(words: &mut [u32], n: usize)
+fn rounds(words: &mut [u32], n: usize)
     requires { ⌜ Ways n (now words) ⌝ }
     ensures { λ r. ⌜ Rounded n (now (words .entry)) (now (words .exit)) 14 ⌝ }
 {
@@ -59,7 +59,7 @@ pub fn rounds(words: &mut [u32], n: usize)
 }
 
 // Where x settles, by its way.
-pub fn settled_at(words: &[u32], n: usize, x: usize) -> usize
+fn settled_at(words: &[u32], n: usize, x: usize) -> usize
     requires { ⌜ Ways n (now words) × (x < n) ⌝ }
     ensures { λ r. ⌜ r ≡ ended (now (words .entry)) n x ⌝ }
 {
@@ -71,7 +71,7 @@ pub fn settled_at(words: &[u32], n: usize, x: usize) -> usize
 }
 
 // Every edge is led to where its target settles, by its way.
-pub fn redirect(words: &mut [u32], n: usize)
+fn redirect(words: &mut [u32], n: usize)
     requires { ⌜ Graph (rest (5 * n) (now words)) n × Ways n (now words) ⌝ }
     ensures { λ r. ⌜ Redirected n (now (words .entry)) (now (words .exit)) (getD (now (words .entry)) (5 * n + n) 0) ⌝ }
 {
@@ -90,8 +90,8 @@ pub fn redirect(words: &mut [u32], n: usize)
 // where p goes silently to k. After, the words below 5 n may be anything.
 pub fn settle(words: &mut [u32], n: usize)
     requires { ⌜ Graph (rest (5 * n) (now words)) n × Silent n (now words) ⌝ }
-    ensures { λ r. ⌜ Settling n (now (words .entry)) (rest (5 * n) (now (words .entry)))
-        (rest (5 * n) (now (words .exit))) ⌝ }
+    ensures { λ r. ⌜ Settling n (now (words .entry))
+        (rest (5 * n) (now (words .entry))) (rest (5 * n) (now (words .exit))) ⌝ }
 {
     copy(words, n);
     rounds(words, n);

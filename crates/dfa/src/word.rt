@@ -6,7 +6,7 @@ ghost use Rattle.dfa.specs.Spelled.{Trail, Spelled, Written, Spelling};
 use crate::words::{at, put};
 
 // The number of letters of the word of entry k.
-pub fn depth(work: &[u32], n: usize, k: usize) -> usize
+fn depth(work: &[u32], n: usize, k: usize) -> usize
     requires { ⌜ Trail n (now work) k ⌝ }
     ensures { λ r. ⌜ ((u : List ℕ) → Spelled n (now (work .entry)) k u → r ≡ length u) ⌝ }
 {
@@ -19,8 +19,8 @@ pub fn depth(work: &[u32], n: usize, k: usize) -> usize
     d
 }
 
-// The word of entry k, its first letter first: its length, at the front of out. More than out holds: nothing is
-// written.
+// The word of entry k, its first letter first, at the front of out: its length. Nothing is written where out is
+// shorter.
 pub fn trace(work: &[u32], n: usize, k: usize, out: &mut [u32]) -> usize
     requires { ⌜ Trail n (now work) k ⌝ }
     ensures { λ r. ⌜ ((u : List ℕ) → Spelled n (now (work .entry)) k u
@@ -40,7 +40,7 @@ pub fn trace(work: &[u32], n: usize, k: usize, out: &mut [u32]) -> usize
     d
 }
 
-// The word of entry k, its first letter first: its length, from word 5 n on. The words below 5 n stay.
+// The word of entry k, its first letter first, from word 5 n on, over the graph: its length. The words below 5 n stay.
 pub fn spell(words: &mut [u32], n: usize, k: usize) -> usize
     requires { ⌜ Trail n (take (5 * n) (now words)) k × (5 * n + n ≤ length (now words)) ⌝ }
     ensures { λ r. ⌜ Spelling n k (now (words .entry)) (now (words .exit)) r ⌝ }

@@ -7,7 +7,7 @@ use Prim.Native.Nat.{_*_, _+_, _<_, _≤_, ℕ}
 use native.Mathlib.Omega.{arith}
 use lib.Dec.{eqb}
 use lib.ListN.{getD, length, length-set, set}
-use Rattle.dfa.specs.inner.Classes.{Finding, Found, Low, Rep}
+use Rattle.dfa.specs.inner.Classes.{Finding, Found, Low, Rep, Sinks}
 use Rattle.dfa.specs.inner.Comparison.{merge}
 use Rattle.dfa.specs.inner.Frame.{SameBelow}
 use Rattle.dfa.proofs.laws.Frame.{set-all, set-from}
@@ -68,35 +68,51 @@ module _ (n : ℕ) (ws : List ℕ) (a b : ℕ) (lt : b < a) (a-lt : a < n) (w : 
       out : (x : ℕ) → rep x ≢ rep p → merge rep p q x ≡ rep x
       out = merge-out rep idem p q ne
 
-pub find-first : (n x : ℕ) (ws : List ℕ) → Low n ws → x < n → Finding n x ws ws x
-find-first n x ws w h = record { below = h; low = w; len = refl; keep = λ i l. refl; rep = λ r k. (refl, k) }
+pub sinks-of : (n x : ℕ) (ws : List ℕ) → Low n ws → x < n → Sinks x ws
+sinks-of n x ws w h = record
+  { inside = omega (arith, w .room); small = omega (arith, w .few); sinks = λ y l. w .low y (omega arith) }
 
-pub find-again : (n x : ℕ) (ws₀ ws ws′ : List ℕ) (y p g : ℕ) → Finding n x ws₀ ws y → p ≡ getD ws y 0 → p ≢ y
-  → g ≡ getD ws p 0 → ws′ ≡ set ws y g → Finding n x ws₀ ws′ g
-find-again n x ws₀ ws ws′ y p g s ep ne eg ew = subst (λ v. Finding n x ws₀ v g) (sym (ew ∙ ap (λ z. set ws y z) gg))
+pub find-first : (x : ℕ) (ws : List ℕ) → Sinks x ws → Finding x ws ws x
+find-first x ws s = record
+  { below = omega arith; sinks = s; len = refl
+  ; class = λ n w h. record { low = w; keep = λ i l. refl; rep = λ r k. (refl, k) } }
+
+pub find-again : (x : ℕ) (ws₀ ws ws′ : List ℕ) (y p g : ℕ) → Finding x ws₀ ws y → p ≡ getD ws y 0 → p ≢ y
+  → g ≡ getD ws p 0 → ws′ ≡ set ws y g → Finding x ws₀ ws′ g
+find-again x ws₀ ws ws′ y p g s ep ne eg ew = subst (λ v. Finding x ws₀ v g) (sym (ew ∙ ap (λ z. set ws y z) gg))
   (record
-    { below = omega (arith, s .below, s .low .low y (s .below), s .low .low (getD ws y 0) pb, gg)
-    ; low = halved-low n ws y (s .below) (s .low)
+    { below = omega (arith, gg, up, s .below)
+    ; sinks = record
+      { inside = rw length-set (s .sinks .inside); small = s .sinks .small
+      ; sinks = set-all (λ z v. z ≤ x → v ≤ z) ws y _ (omega (arith, s .sinks .inside, s .below)) (λ l. up)
+          (λ z q l. s .sinks .sinks z l) }
     ; len = rw length-set (s .len)
-    ; keep = λ i l. set-from n y _ ws (s .below) i l ∙ s .keep i l
-    ; rep = λ r k. let z = s .rep r k in (ap r gg ∙ z .1 .up (getD ws y 0) pb ∙ z .1 .up y (s .below)
-      ∙ z .0, halved-rep n ws y (s .below) (s .low) r (z .1) (λ q. ne (ep ∙ q))) })
+    ; class = λ n w h. let c = s .class n w h in let y-lt : y < n = omega (arith, s .below) in record
+      { low = halved-low n ws y y-lt (c .low)
+      ; keep = λ i l. set-from n y _ ws y-lt i l ∙ c .keep i l
+      ; rep = λ r k. let z = c .rep r k in
+          (ap r gg ∙ z .1 .up (getD ws y 0) (omega (arith, pb)) ∙ z .1 .up y y-lt ∙ z .0,
+            halved-rep n ws y y-lt (c .low) r (z .1) (λ q. ne (ep ∙ q))) } })
   where
     gg : g ≡ getD ws (getD ws y 0) 0
     gg = eg ∙ ap (λ z. getD ws z 0) ep
 
-    pb : getD ws y 0 < n
-    pb = omega (arith, s .below, s .low .low y (s .below))
+    pb : getD ws y 0 ≤ y
+    pb = s .sinks .sinks y (s .below)
 
-pub find-last : (n x : ℕ) (ws₀ ws : List ℕ) (y : ℕ) → Finding n x ws₀ ws y → getD ws y 0 ≡ y → Found n x y ws₀ ws
-find-last n x ws₀ ws y s e = record
-  { below = s .below; low = s .low; keep = s .keep
-  ; rep = λ r k. let z = s .rep r k in (sym (z .1 .root y (s .below) e) ∙ z .0, z .1) }
+    up : getD ws (getD ws y 0) 0 ≤ y
+    up = omega (arith, pb, s .sinks .sinks (getD ws y 0) (omega (arith, pb, s .below)))
+
+pub find-last : (n x : ℕ) (ws₀ ws : List ℕ) (y : ℕ) → Finding x ws₀ ws y → getD ws y 0 ≡ y → Low n ws₀ → x < n
+  → Found n x y ws₀ ws
+find-last n x ws₀ ws y s e w h =
+  let c = s .class n w h in
+  let y-lt : y < n = omega (arith, s .below) in
+  record
+    { below = y-lt; low = c .low; keep = c .keep
+    ; rep = λ r k. let z = c .rep r k in (sym (z .1 .root y y-lt e) ∙ z .0, z .1) }
 
 pub single-more : (ws ws′ : List ℕ) (i : ℕ) → i < length ws → ws′ ≡ set ws i i → ((x : ℕ) → x < i → getD ws x 0 ≡ x)
   → (x : ℕ) → x < i + 1 → getD ws′ x 0 ≡ x
 single-more ws ws′ i h e s x l = ap (λ v. getD v x 0) e ∙ set-all (λ y v. y < i + 1 → v ≡ y) ws i i h (λ u. refl)
   (λ y q u. s y (omega arith)) x l
-
-pub alone-low : (n : ℕ) (ws : List ℕ) → 5 * n ≤ length ws → n ≤ 8193 → ((x : ℕ) → x < n → getD ws x 0 ≡ x) → Low n ws
-alone-low n ws room few own = record { room = room; few = few; low = λ x h. omega (arith, own x h) }

@@ -29,7 +29,7 @@ pub le-less : (x y z : List ℕ) → Le x y → Less y z → Less x z
 le-less x y z (inl e) k = rw e k
 le-less x y z (inr h) k = less-trans x y z h k
 
--- one more move keeps the order
+-- one more letter keeps the order
 pub le-snoc : (m : ℕ) (x y : List ℕ) → Le x y → Le (m ∷ x) (m ∷ y)
 le-snoc m x y (inl e) = inl (rw e)
 le-snoc m x y (inr h) = inr (inl h)

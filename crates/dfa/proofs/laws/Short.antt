@@ -1,6 +1,5 @@
--- Words long enough: two states that some word tells apart are told apart by the first such word, of at most n - 2
--- letters, and a
--- state that accepts some word accepts one of at most n - 2 letters. Assumes nothing.
+-- Two states that some word tells apart are told apart by the first such word, of at most n - 2 letters; a state that
+-- accepts some word accepts one of at most n - 2 letters. Assumes nothing.
 use mathlib.Core.Bool.{Bool, false, true}
 use mathlib.Core.List.{List, [], _∷_}
 use mathlib.Core.Logic.{_≢_, _⊎_, inl, inr}
@@ -110,7 +109,7 @@ module _ (G : List ℕ) (n : ℕ) (g : Graph G n) where
   high-dead x m h l = look-none G n m (getD G (x + 1) 0 - getD G x 0) (getD G x 0)
     (λ j a b e. let s = g .edges x h in let z = s .small j a (omega (arith, s .le)) .0 in omega arith)
 
-  -- THE FIRST DIFFERENCE of two states, or none
+  -- the first difference of two states, or none
   pub first-difference : (f e p q : ℕ) → p < n → q < n
     → ((x : List ℕ) → accepting f e (after (δ G n) p x) ≡ accepting f e (after (δ G n) q x)) ⊎ ((u : List ℕ) × First n
       (δ G n) (accepting f e) p q u)

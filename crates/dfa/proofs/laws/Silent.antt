@@ -1,5 +1,5 @@
--- Silent steps: they stay at a state that is not silent, and within n steps such a state is reached or none ever is. So
--- a state
+-- Silent steps stay at a state that is not silent, and within n steps such a state is reached or none ever is. So a
+-- state
 -- settles at one place only. Assumes nothing.
 use mathlib.Core.Bool.{cond}
 use mathlib.Core.List.{List}

@@ -2,7 +2,7 @@
 use mathlib.Core.Bool.{cond}
 use mathlib.Core.List.{List}
 use mathlib.Core.Path.{_≡_}
-use Prim.Native.Nat.{_*_, _<_, _≤_, ℕ}
+use Prim.Native.Nat.{_*_, _<_, _^_, _≤_, ℕ}
 use lib.Dec.{ltb}
 use lib.ListN.{getD, length, set}
 use Rattle.dfa.specs.inner.Frame.{SameFrom}
@@ -29,10 +29,21 @@ pub record Found (n x r : ℕ) (ws ws′ : List ℕ) : Type 0 where
   pub keep : SameFrom n ws ws′
   pub rep : (rep : ℕ → ℕ) → Rep n ws rep → (r ≡ rep x) × Rep n ws′ rep
 
--- find's loop: y is in the class of x
-pub record Finding (n x : ℕ) (ws₀ ws : List ℕ) (y : ℕ) : Type 0 where
-  pub below : y < n
+-- the parents from x down: none is above its child
+pub record Sinks (x : ℕ) (ws : List ℕ) : Type 0 where
+  pub inside : x < length ws
+  pub small : x < 2 ^ 32
+  pub sinks : (y : ℕ) → y ≤ x → getD ws y 0 ≤ y
+
+-- y is in the class of x
+pub record Classed (n x : ℕ) (ws₀ ws : List ℕ) (y : ℕ) : Type 0 where
   pub low : Low n ws
-  pub len : length ws ≡ length ws₀
   pub keep : SameFrom n ws₀ ws
   pub rep : (rep : ℕ → ℕ) → Rep n ws₀ rep → (rep y ≡ rep x) × Rep n ws rep
+
+-- find's loop
+pub record Finding (x : ℕ) (ws₀ ws : List ℕ) (y : ℕ) : Type 0 where
+  pub below : y ≤ x
+  pub sinks : Sinks x ws
+  pub len : length ws ≡ length ws₀
+  pub class : (n : ℕ) → Low n ws₀ → x < n → Classed n x ws₀ ws y

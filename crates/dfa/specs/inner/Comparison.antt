@@ -1,6 +1,6 @@
--- Hopcroft and Karp's comparison, breadth first in the order of the letters. Words are kept last letter first; entry k
--- of the queue
--- is E k; rep is the representative of each class. Assumes nothing.
+-- Hopcroft and Karp's comparison, breadth first in the order of the letters: entry k of the queue is E k, and rep is
+-- the
+-- representative of each class. Assumes nothing.
 use mathlib.Core.Bool.{Bool, cond, false, true}
 use mathlib.Core.List.{List, [], _∷_}
 use mathlib.Core.Logic.{_⊎_}
@@ -13,19 +13,21 @@ use Rattle.dfa.specs.Word.{Less, after}
 abbrev pub Le : List ℕ → List ℕ → Type 0
 Le x y = (x ≡ y) ⊎ Less x y
 
+-- the states pp and qq, reached from the two that are compared by the word wd
 pub record Entry : Type 0 where
   pub pp : ℕ
   pub qq : ℕ
   pub wd : List ℕ
 
+-- the class of a becomes that of b
 abbrev pub merge : (ℕ → ℕ) → ℕ → ℕ → ℕ → ℕ
 merge rep a b x = cond (eqb (rep x) (rep a)) (rep b) (rep x)
 
--- how many of the first n states stand for their class
 abbrev pub one-if : Bool → ℕ
 one-if true = 1
 one-if false = 0
 
+-- how many of the first n states represent their class
 unfoldable pub roots : (ℕ → ℕ) → ℕ → ℕ
 roots rep zero = 0
 roots rep (suc x) = one-if (eqb (rep x) x) + roots rep x
@@ -39,6 +41,7 @@ abbrev pub Cl : (ℕ → Entry) → ℕ → List ℕ → ℕ → ℕ → Type 0
 Cl E tail x a b = (f : ℕ → Bool) → ((k : ℕ) → k < tail → Le (E k .wd) x → f (E k .pp) ≡ f (E k .qq)) → f a ≡ f b
 
 module _ (n : ℕ) (δ : ℕ → ℕ → ℕ) (fin : ℕ → Bool) (p₀ q₀ : ℕ) where
+  -- an entry's two states agree, and each letter leads them to states that are tied
   abbrev pub Closed : Entry → (ℕ → Entry) → ℕ → Type 0
   Closed e E tail = (fin (e .pp) ≡ fin (e .qq)) × ((m : ℕ) → Cl E tail (m ∷ e .wd) (δ (e .pp) m) (δ (e .qq) m))
 

@@ -7,14 +7,14 @@ use lib.ListN.{getD, set}
 use Rattle.dfa.specs.inner.Classes.{Low, Rep}
 use Rattle.dfa.specs.inner.Comparison.{Entry, merge, snoc}
 
--- entry k of the queue
+-- the words from n on are the entries E
 pub record Queue (n : ℕ) (ws : List ℕ) (tail : ℕ) (E : ℕ → Entry) : Type 0 where
   pub first : (k : ℕ) → k < tail → getD ws (n + 4 * k) 0 ≡ E k .pp
   pub second : (k : ℕ) → k < tail → getD ws (n + 4 * k + 1) 0 ≡ E k .qq
   pub from : (k : ℕ) → k < tail → 0 < k → getD ws (n + 4 * k + 2) 0 < k
   pub word : (k : ℕ) → k < tail → 0 < k → E k .wd ≡ getD ws (n + 4 * k + 3) 0 ∷ E (getD ws (n + 4 * k + 2) 0) .wd
 
--- an entry is put at place k of the queue
+-- an entry is put at base
 abbrev pub pushed : List ℕ → ℕ → ℕ → ℕ → ℕ → ℕ → List ℕ
 pushed ws base p q from letter = set (set (set (set ws base p) (base + 1) q) (base + 2) from) (base + 3) letter
 
@@ -38,5 +38,5 @@ pub record Visited (n tail from letter p q r : ℕ) (ws ws′ : List ℕ) : Type
   pub low : Low n ws′
   pub cases : (E : ℕ → Entry) (rep : ℕ → ℕ) → ((x : ℕ) → rep (rep x) ≡ rep x) → Queue n ws tail E → Rep n ws rep
     → Kept n tail p q r ws′ E rep
-    ⊎ (Joined n tail r (entryOf p q from letter E) p q ws′ E rep ⊎ Joined n tail r (entryOf p q from letter E) q p ws′
-      E rep)
+    ⊎ (Joined n tail r (entryOf p q from letter E) p q ws′ E rep
+      ⊎ Joined n tail r (entryOf p q from letter E) q p ws′ E rep)

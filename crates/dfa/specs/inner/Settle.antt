@@ -66,6 +66,6 @@ pub record Redirected (n : ℕ) (ws₀ ws : List ℕ) (i : ℕ) : Type 0 where
   pub len : length ws ≡ length ws₀
   pub low : SameBelow (5 * n + n + 1) ws₀ ws
   pub letters : (j : ℕ) → getD ws (5 * n + n + 1 + 2 * j) 0 ≡ getD ws₀ (5 * n + n + 1 + 2 * j) 0
-  pub past : (j : ℕ) → getD ws₀ (5 * n) 0 ≤ j → j < i → getD ws (5 * n + n + 2 + 2 * j) 0 ≡ ended ws₀ n
-    (getD ws₀ (5 * n + n + 2 + 2 * j) 0)
+  pub past : (j : ℕ) → getD ws₀ (5 * n) 0 ≤ j → j < i
+    → getD ws (5 * n + n + 2 + 2 * j) 0 ≡ ended ws₀ n (getD ws₀ (5 * n + n + 2 + 2 * j) 0)
   pub later : (j : ℕ) → i ≤ j → getD ws (5 * n + n + 2 + 2 * j) 0 ≡ getD ws₀ (5 * n + n + 2 + 2 * j) 0

@@ -29,6 +29,7 @@ pub record Half (G : List ℕ) (t : Task) (ws : List ℕ) (head tail lo : ℕ) :
   pub reps : Rep (t .n) ws rep
   pub mid : Mid (t .n) (δ G (t .n)) (accepting (t .f) (t .g)) (t .p) (t .q) E head tail lo rep
 
+-- the edges from i to ie and from j to je are left, and the letters below lo are done
 pub record Turn (G : List ℕ) (t : Task) (head : ℕ) (ws : List ℕ) (i ie j je last : ℕ) : Type 0 where
   pub lo : ℕ
   pub half : Half G t ws head last lo

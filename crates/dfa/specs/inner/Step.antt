@@ -23,12 +23,14 @@ pub record Next (G : List ℕ) (n i ie j je m : ℕ) : Type 0 where
   pub small : m < 2 ^ 27
   pub hit : ((i < ie) × (letter G n i ≡ m)) ⊎ ((j < je) × (letter G n j ≡ m))
 
+-- the edges of p and of q
 pub record Ended (G : List ℕ) (p q : ℕ) (r : Ends) : Type 0 where
   pub i-is : r .i ≡ getD G p 0
   pub ie-is : r .ie ≡ getD G (p + 1) 0
   pub j-is : r .j ≡ getD G q 0
   pub je-is : r .je ≡ getD G (q + 1) 0
 
+-- the next letter, where it leads on each side, and the cursors behind it
 pub record Moved (G : List ℕ) (n i ie j je : ℕ) (r : Move) : Type 0 where
   pub next : Next G n i ie j je (r .letter)
   pub a-is : r .a ≡ look G n (r .letter) (ie - i) i
@@ -36,6 +38,7 @@ pub record Moved (G : List ℕ) (n i ie j je : ℕ) (r : Move) : Type 0 where
   pub pi : Past G n i ie (r .letter) (r .i)
   pub pj : Past G n j je (r .letter) (r .j)
 
+-- scan's loop
 pub record Scanning (G : List ℕ) (n p m i end : ℕ) : Type 0 where
   pub edges : Edges G n i end
   pub left : look G n m (end - i) i ≡ δ G n p m

@@ -1,6 +1,6 @@
+
 use native.Mathlib.Omega.{arith}
 use borrow.Author.Needs.{needs}
-use Rattle.dfa.proofs.laws.Classes.{alone-low}
 use Rattle.dfa.proofs.laws.Run.{start-state}
 use Rattle.dfa.proofs.search.prepare.Statement.{statement}
 use Rattle.dfa.proofs.search.prepare.Tie as tie
@@ -9,11 +9,9 @@ singles-requires : tie.Need-singles-requires
 singles-requires c κs = search needs
 
 link-requires : tie.Need-link-requires
-link-requires c κs = (alone-low _ _ (omega (arith, c .before .before .before .singles .kept,
-    c .before .before .before .before .before .before .pre .0))
-    (c .before .before .before .before .before .before .pre .1 .0) (c .before .before .before .singles .ensures),
-    (c .before .before .before .before .before .before .pre .1 .1 .0,
-    c .before .before .before .before .before .before .pre .1 .1 .1 .0))
+link-requires c κs = let n = c .before .before .before .before .before .before .pre .1 .0 in
+    omega (arith, c .before .before .before .singles .kept, c .before .before .before .before .before .before .pre .0,
+    c .before .before .before .before .before .before .pre .1 .1)
 
 push-requires : tie.Need-push-requires
 push-requires c κs = search needs

@@ -1,7 +1,7 @@
 use borrow.Author.Needs.{needs}
 use Rattle.dfa.proofs.laws.Live.{no-true}
-use Rattle.dfa.proofs.checked.words_ok.Statement.{statement}
-use Rattle.dfa.proofs.checked.words_ok.Tie as tie
+use Rattle.dfa.proofs.tested.words_ok.Statement.{statement}
+use Rattle.dfa.proofs.tested.words_ok.Tie as tie
 
 returns : tie.Need-returns
 returns c = λ e. no-true e

@@ -5,8 +5,8 @@ use Prim.Native.Nat.{ℕ, _≤_, _<_, _-_}
 use Rattle.dfa.proofs.laws.Live.{no-true}
 use Rattle.dfa.proofs.laws.Tested.{edges-ok, all-more}
 use Rattle.dfa.specs.inner.Tested.{EdgeOk}
-use Rattle.dfa.proofs.checked.edges_ok.Statement.{statement}
-use Rattle.dfa.proofs.checked.edges_ok.Tie as tie
+use Rattle.dfa.proofs.tested.edges_ok.Statement.{statement}
+use Rattle.dfa.proofs.tested.edges_ok.Tie as tie
 
 abbrev Inv-loop : tie.InvT-loop
 Inv-loop graph n i end k₀ k = (i ≤ k) × ((k ≤ end) × ((x : ℕ) → i ≤ x → x < k → EdgeOk graph n x end))

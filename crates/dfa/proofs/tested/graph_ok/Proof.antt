@@ -6,8 +6,8 @@ use lib.ListN.{getD}
 use Rattle.dfa.proofs.laws.Live.{no-true}
 use Rattle.dfa.proofs.laws.Tested.{all-more}
 use Rattle.dfa.specs.Graph.{Edges}
-use Rattle.dfa.proofs.checked.graph_ok.Statement.{statement}
-use Rattle.dfa.proofs.checked.graph_ok.Tie as tie
+use Rattle.dfa.proofs.tested.graph_ok.Statement.{statement}
+use Rattle.dfa.proofs.tested.graph_ok.Tie as tie
 
 abbrev Inv-loop : tie.InvT-loop
 Inv-loop graph n p₀ p = (p ≤ n) × ((x : ℕ) → x < p → Edges graph n (getD graph x 0) (getD graph (x + 1) 0))

@@ -4,8 +4,8 @@ use Prim.Native.Nat.{ℕ, _-_, _≤_, _<_}
 use lib.ListN.{getD}
 use Rattle.dfa.proofs.laws.Live.{no-true}
 use Rattle.dfa.proofs.laws.Tested.{all-more}
-use Rattle.dfa.proofs.checked.silent_ok.Statement.{statement}
-use Rattle.dfa.proofs.checked.silent_ok.Tie as tie
+use Rattle.dfa.proofs.tested.silent_ok.Statement.{statement}
+use Rattle.dfa.proofs.tested.silent_ok.Tie as tie
 
 abbrev Inv-loop : tie.InvT-loop
 Inv-loop words n p₀ p = (p ≤ n) × ((x : ℕ) → x < p → getD words x 0 ≤ n)

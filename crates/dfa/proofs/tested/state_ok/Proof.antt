@@ -1,7 +1,7 @@
 use borrow.Author.Needs.{needs}
 use Rattle.dfa.proofs.laws.Live.{no-true}
-use Rattle.dfa.proofs.checked.state_ok.Statement.{statement}
-use Rattle.dfa.proofs.checked.state_ok.Tie as tie
+use Rattle.dfa.proofs.tested.state_ok.Statement.{statement}
+use Rattle.dfa.proofs.tested.state_ok.Tie as tie
 
 at-requires : tie.Need-at-requires
 at-requires c κs = search needs

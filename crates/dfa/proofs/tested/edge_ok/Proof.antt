@@ -1,7 +1,7 @@
 use borrow.Author.Needs.{needs}
 use Rattle.dfa.proofs.laws.Live.{no-true}
-use Rattle.dfa.proofs.checked.edge_ok.Statement.{statement}
-use Rattle.dfa.proofs.checked.edge_ok.Tie as tie
+use Rattle.dfa.proofs.tested.edge_ok.Statement.{statement}
+use Rattle.dfa.proofs.tested.edge_ok.Tie as tie
 
 add-at : tie.Need-add-at
 add-at c = search needs
