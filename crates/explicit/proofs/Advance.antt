@@ -47,7 +47,8 @@ module _ {K : ℕ} {A : Type 0} (step : Index K → Action (Index K) A) where
   view (out a) = stops {x = out a} tt
   view dead = stops {x = dead} tt
 
-  skip-visible : (o : Action (Index K) A) (F : Next (Index K) A → Next (Index K) A) (x : Next (Index K) A) → Visible o →
+  skip-visible : (o : Action (Index K) A) (F : Next (Index K) A → Next (Index K) A) (x : Next (Index K) A) → Visible o
+    →
       skipped o F x ≡ x
   unfolding skipped Visible
   skip-visible (go y) F x v = absurd v
@@ -136,7 +137,8 @@ module _ {K : ℕ} {A : Type 0} (step : Index K → Action (Index K) A) where
   going-none x (stops h) g = absurd (g 0 (omega arith) h)
   going-none x (goes e) g = rw e
 
-  going-more : (k : ℕ) → ((y : Next (Index K) A) → Going k y → settle step k y ≡ dead) → (x : Next (Index K) A) → View x →
+  going-more : (k : ℕ) → ((y : Next (Index K) A) → Going k y → settle step k y ≡ dead) → (x : Next (Index K) A) → View
+    x →
       Going (suc k) x → settle step (suc k) x ≡ dead
   unfolding settle skipped advances
   going-more k rec x (stops h) g = absurd (g 0 (omega arith) h)
@@ -155,7 +157,8 @@ module _ {K : ℕ} {A : Type 0} (step : Index K → Action (Index K) A) where
       go-on (inl (c, k, r)) =
           let b = rank-bound step r in
           let e : c + (m - c) ≡ m = omega arith in
-          ap (λ (j : ℕ). advances j x) (sym e) ∙ advances-sum c (m - c) x ∙ stays (m - c) (advances c x) (rank-stops r)
+          ap (λ (j : ℕ). advances j x) (sym e) ∙ advances-sum c (m - c) x ∙ stays (m - c) (advances c x)
+            (rank-stops r)
           ∙ sym (rank-settles r K b)
       go-on (inr g) = absurd (g m (omega arith) h)
 

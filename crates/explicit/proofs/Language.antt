@@ -13,7 +13,8 @@ use Rattle.language.specs.Play.{Complete}
 use Rattle.machine.specs.Action.{Next, to, out, dead, Action, hear, mapAction}
 use Rattle.machine.specs.Numbered.{single, iso, sum, sum-code}
 use Rattle.machine.specs.Settle.{Index, settle, run}
-use Rattle.machine.specs.Sheet.{start, sheet, spots, numbered-sheet, numbered-spots, index, numbered-step, steps, begin}
+use Rattle.machine.specs.Sheet.{start, sheet, spots, numbered-sheet, numbered-spots, index, numbered-step, steps}
+use Rattle.machine.specs.Sheet.{begin}
 use Rattle.machine.proofs.EdgeLaws.{Visible}
 use Rattle.machine.proofs.Silent.{Stops}
 use Rattle.machine.proofs.Accepts.{language}

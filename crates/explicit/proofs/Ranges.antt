@@ -14,7 +14,8 @@ use Rattle.language.specs.Move.{Word}
 use Rattle.language.specs.Play.{Complete}
 use Rattle.language.specs.Term as t
 use Rattle.records.specs.Rule.{values}
-use Rattle.sheet.specs.Written.{Written, skip, diverge, truth, number, call, fetch, operate, assign, sequence, while, choose}
+use Rattle.sheet.specs.Written.{Written, skip, diverge, truth, number, call, fetch, operate, assign, sequence, while}
+use Rattle.sheet.specs.Written.{choose}
 use Rattle.sheet.specs.Written.{new, Writtens, none, more, Name, declare, retire, Sheet}
 use Rattle.sheet.specs.Meaning.{Block, Meaning, private, named, retired, free, outward, declared, meaning, tyOf}
 use Rattle.sheet.specs.Meaning.{byMeaning, resolve, resolveArgs, termOf, typeOf}
@@ -39,7 +40,8 @@ unfolding TyIn tyOf
 type-in N h ty = go (eqb ty 0) (eqb ty 1) (eqb ty 2)
   where
     go : (a b c : Bool) →
-        TyIn N (pick a command (pick b (expression (values N ty)) (pick c (expression (values N ty)) (variable (values N ty)))))
+        TyIn N (pick a command
+          (pick b (expression (values N ty)) (pick c (expression (values N ty)) (variable (values N ty)))))
     go true b c = tt
     go false true c = values-in N h ty
     go false false true = values-in N h ty
@@ -94,7 +96,8 @@ module _ (N : Numbers) (above : 0 < N .z) (ns : List Name) (f : (id : ℕ) → F
     term-in (truth b) bs h = tt
     term-in (number b) bs h = tt
     term-in (call id ws) bs h =
-        use-in bs id ws (meaning ns bs id) (h .0) (few-meaning bs id) (h .1) (λ tys l g. args-in ws bs tys 0 (omega arith) g)
+        use-in bs id ws (meaning ns bs id) (h .0) (few-meaning bs id) (h .1)
+          (λ tys l g. args-in ws bs tys 0 (omega arith) g)
     term-in (fetch v) bs h = term-in v bs (h .0)
     term-in (operate op l r) bs h = (term-in l bs (h .1), term-in r bs (h .3))
     term-in (assign v e) bs h = (term-in v bs (h .0), term-in e bs (h .2))
@@ -103,7 +106,8 @@ module _ (N : Numbers) (above : 0 < N .z) (ns : List Name) (f : (id : ℕ) → F
     term-in (while b c) bs h = (term-in b bs (h .0), term-in c bs (h .2))
     term-in (new id d c) bs h = term-in c _ (h .4)
 
-    args-in : (ws : Writtens) (bs : List Block) (tys : List ℕ) (k : ℕ) → length tys + k < 5 → FineArgs N ns bs ws tys →
+    args-in : (ws : Writtens) (bs : List Block) (tys : List ℕ) (k : ℕ) → length tys + k < 5 → FineArgs N ns bs ws tys
+      →
         InRangeArgs N (resolveArgs N ns bs ws tys) k
     args-in none bs tys k l h = tt
     args-in (more w ws) bs [] k l h = absurd h
@@ -116,6 +120,7 @@ pub sheet-small : (S : Sheet) → Accepted S → (u : Word) → Complete (tyOf (
 unfolding termOf
 sheet-small S A u c =
     let N = S .numbers in
-    let r = term-in N (A .z-above) (S .names) (few-declared [] (S .names) (A .fine-names)) (S .term) [] (A .fine-term) in
+    let r =
+        term-in N (A .z-above) (S .names) (few-declared [] (S .names) (A .fine-names)) (S .term) [] (A .fine-term) in
     complete-small N (tyOf N (typeOf S)) (termOf S) (type-in N (A .z-above) (typeOf S)) r
       (scoped-of (termOf S) (accepted-typed S A)) u c

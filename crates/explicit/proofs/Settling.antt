@@ -21,7 +21,8 @@ use Rattle.dfa.specs.Graph as graph
 use Rattle.dfa.specs.Graph.{δ, look, target, Graph}
 use Rattle.dfa.specs.Silent.{stepped, moved, Settled, Settling}
 use Rattle.explicit.specs.Explicit.{packed, silentWord, Explicit}
-use Rattle.explicit.proofs.Advance.{advance, advances, advances-last, View, stops, goes, view, advance-stop, advance-go, go-not-stop, settle-dead, stopped, unstopped}
+use Rattle.explicit.proofs.Advance.{advance, advances, advances-last, View, stops, goes, view, advance-stop}
+use Rattle.explicit.proofs.Advance.{advance-go, go-not-stop, settle-dead, stopped, unstopped}
 
 -- a visible action has no silent step
 quiet : (o n : ℕ) {K : ℕ} (a : Action (Index K) (Unit {0})) → Visible a → silentWord o n a ≡ 0
@@ -56,10 +57,12 @@ module _ {N : Numbers} {S G : List ℕ} {n o K : ℕ} {step : Index K → Action
   steps-on : (m : ℕ) (x : Next (Index K) (Unit {0})) → moved S m (packed o n x) ≡ packed o n (advances step m x)
   unfolding moved advances
   steps-on zero x = refl
-  steps-on (suc m) x = rw (steps-on m x) (one-step (advances step m x) ∙ ap (packed o n) (sym (advances-last step m x)))
+  steps-on (suc m) x =
+      rw (steps-on m x) (one-step (advances step m x) ∙ ap (packed o n) (sym (advances-last step m x)))
 
   -- a state settles where the machine settles
-  pub settles : (x : Next (Index K) (Unit {0})) {y : ℕ} → Settled S n (packed o n x) y → y ≡ packed o n (settle step K x)
+  pub settles : (x : Next (Index K) (Unit {0})) {y : ℕ} → Settled S n (packed o n x) y → y ≡ packed o n
+    (settle step K x)
   unfolding packed
   settles x R =
       let m = R .steps in

@@ -6,7 +6,8 @@ use Prim.Native.Nat.{ℕ, zero, suc, _+_, _≤_, _<_}
 use native.Mathlib.Omega.{arith}
 use Rattle.language.specs.declared.Numbers.{Numbers}
 use Rattle.language.specs.Number.{numbers}
-use Rattle.language.specs.Ty.{Ty, command, expression, variable, Question, run, ask, read, write, Answer, done, ok, value}
+use Rattle.language.specs.Ty.{Ty, command, expression, variable, Question, run, ask, read, write, Answer, done, ok}
+use Rattle.language.specs.Ty.{value}
 use Rattle.language.specs.Ty.{Answers, to-run, to-ask, to-read, to-write}
 use Rattle.language.specs.Move.{Event, question, answer, at, private, Move, move, Word, valueOf}
 use Rattle.language.specs.Term as t

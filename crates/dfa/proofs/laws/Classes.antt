@@ -18,7 +18,8 @@ rep-frame n ws ws′ rep s r = record { up = λ x h. rw (s x h) (r .up x h);
   root = λ x h e. r .root x h (sym (s x h) ∙ e) }
 
 pub low-frame : (n : ℕ) (ws ws′ : List ℕ) → SameBelow n ws ws′ → length ws′ ≡ length ws → Low n ws → Low n ws′
-low-frame n ws ws′ s l w = record { room = omega (arith, w .room); few = w .few; low = λ x h. rw (s x h) (w .low x h) }
+low-frame n ws ws′ s l w =
+    record { room = omega (arith, w .room); few = w .few; low = λ x h. rw (s x h) (w .low x h) }
 
 -- a state may get its grandparent for its parent
 module _ (n : ℕ) (ws : List ℕ) (x : ℕ) (x-lt : x < n) (w : Low n ws) where

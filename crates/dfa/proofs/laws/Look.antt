@@ -64,7 +64,8 @@ look-lt G n m (suc k) i p h = go (look-lt G n m k (suc i) p (λ j a b. h j (omeg
 pub δ-lt : (G : List ℕ) (n p m : ℕ) → Graph G n → p < n → δ G n p m < n
 δ-lt G n p m g h =
   let e = g .edges p h in
-  look-lt G n m (getD G (p + 1) 0 - getD G p 0) (getD G p 0) (g .some) (λ j a b. e .small j a (omega (arith, e .le)) .1)
+  look-lt G n m (getD G (p + 1) 0 - getD G p 0) (getD G p 0) (g .some)
+    (λ j a b. e .small j a (omega (arith, e .le)) .1)
 
 -- the edges after the first
 pub edges-tail : (G : List ℕ) (n i end : ℕ) → Edges G n i end → i < end → Edges G n (i + 1) end

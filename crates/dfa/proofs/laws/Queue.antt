@@ -115,7 +115,8 @@ module _ (n tail from letter p q a b : ℕ) (ws w₁ w₂ : List ℕ) (f₁ : Fo
     new-reps : (rep : ℕ → ℕ) → Rep n w₃ rep → Rep n w₄ rep
     new-reps rep = rep-frame n w₃ w₄ rep below₄
 
-  visit-down : b < a → Visited n tail from letter p q (suc tail) ws (pushed (set w₂ a b) (n + 4 * tail) p q from letter)
+  visit-down : b < a → Visited n tail from letter p q (suc tail) ws
+    (pushed (set w₂ a b) (n + 4 * tail) p q from letter)
   visit-down h =
     let lo = linked-low n w₂ a b h (f₁ .below) (f₂ .low) in
     let ke = set-from n a b w₂ (f₁ .below) in

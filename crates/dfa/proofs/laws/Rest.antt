@@ -34,7 +34,8 @@ module _ (g : ℕ) (ws ys : List ℕ) (room : g ≤ length ws) (len : length ys 
   pub back-take : take g (ys ++ drop g ws) ≡ ys
   back-take = take-at ys (drop g ws) g ys-len
 
-  pub back : (P : List ℕ → List ℕ → Type 0) → P (rest g ws) ys → P (rest g (ys ++ drop g ws)) (take g (ys ++ drop g ws))
+  pub back : (P : List ℕ → List ℕ → Type 0) → P (rest g ws) ys → P (rest g (ys ++ drop g ws))
+    (take g (ys ++ drop g ws))
   back P h = subst (λ v. P v (take g (ys ++ drop g ws))) (sym back-rest) (subst (λ v. P (rest g ws) v)
     (sym back-take) h)
 

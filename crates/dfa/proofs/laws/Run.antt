@@ -64,7 +64,8 @@ module _ (G : List ℕ) (t : Task) (s : Setting G t) (ws : List ℕ) (head tail 
     spell (suc b) zero l w = rw (ap (λ (e : Entry). e .wd) (u .top .inv .start)) none
     spell (suc b) (suc k) l w =
       let f = u .queue .from (suc k) w (omega arith) in
-      rw (u .queue .word (suc k) w (omega arith)) (more (suc k) (omega arith) f (spell b _ (omega arith) (omega arith)))
+      rw (u .queue .word (suc k) w (omega arith))
+        (more (suc k) (omega arith) f (spell b _ (omega arith) (omega arith)))
 
     pub run-told : accepting (t .f) (t .g) p ≢ accepting (t .f) (t .g) q → Told G t ws head
     run-told e = record

@@ -198,7 +198,8 @@ redirect-again n i x y ws₀ ws ws′ g w r h ex ey e′ = subst (λ v. Redirect
     was j a b (no q) = getD-set-other ws _ (5 * n + n + 2 + 2 * j) y 0 (λ e. q (omega arith))
       ∙ r .past j a (omega arith)
 
-pub copy-small : (n i v : ℕ) (ws₀ ws : List ℕ) → Steps n ws₀ → Copied n ws₀ ws i → i < n → v ≡ stepped ws i → v < 2 ^ 32
+pub copy-small : (n i v : ℕ) (ws₀ ws : List ℕ) → Steps n ws₀ → Copied n ws₀ ws i → i < n → v ≡ stepped ws i → v < 2 ^
+  32
 copy-small n i v ws₀ ws s c h e =
   let l = stepped-lt n ws i (λ p u. rw (c .only .low p u) (s .small p u)) h in omega (arith, s .few)
 
@@ -210,7 +211,8 @@ copy-again n i v ws₀ ws ws′ s c h e e′ = subst (λ w. Copied n ws₀ w (i 
   ; done = row-all (λ p z. p < i + 1 → z ≡ stepped ws₀ p) ws n i v (omega (arith, s .room, c .only .len))
       (λ u. e ∙ ap (λ z. cond (eqb z 0) i (z - 1)) (c .only .low i h)) (λ p q u. c .done p (omega arith)) })
 
-pub redirect-first : (n i : ℕ) (ws : List ℕ) → Graph (rest (5 * n) ws) n → i ≡ getD ws (5 * n) 0 → Redirected n ws ws i
+pub redirect-first : (n i : ℕ) (ws : List ℕ) → Graph (rest (5 * n) ws) n → i ≡ getD ws (5 * n) 0 → Redirected n ws ws
+  i
 redirect-first n i ws g e = let s = scan n ws g in record
   { start = omega arith; le = omega (arith, s .rises); len = refl; low = λ j h. refl; letters = λ j. refl
   ; past = λ j a b. absurd (omega arith); later = λ j h. refl }

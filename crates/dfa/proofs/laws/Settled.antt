@@ -60,7 +60,8 @@ module _ (S G G′ : List ℕ) (n : ℕ) (g : Graph G n) (s : Silent n S) (t : S
       (go (look-settled m k (suc i) (λ j a b. f j (omega arith) (omega arith))) (eqb (letter G n i) m))
       where
         go : Settled S n (look G n m k (suc i)) (look G′ n m k (suc i)) → (b : Bool)
-          → Settled S n (cond b (target G n i) (look G n m k (suc i))) (cond b (target G′ n i) (look G′ n m k (suc i)))
+          → Settled S n (cond b (target G n i) (look G n m k (suc i)))
+            (cond b (target G′ n i) (look G′ n m k (suc i)))
         go ih true = f i (omega arith) (omega arith)
         go ih false = ih
 

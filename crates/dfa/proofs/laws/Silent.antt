@@ -47,7 +47,8 @@ pigeonhole (suc N) (suc k) s low apart = omega (arith, pigeonhole N k other othe
     other-low i h = go (ℕ-discrete (s i) N)
       where
         go : Dec (s i ≡ N) → other i < N
-        go (yes e) = let a = apart i k h (omega arith) in let l = low k (omega arith) in rw (is-last i e) (omega arith)
+        go (yes e) =
+            let a = apart i k h (omega arith) in let l = low k (omega arith) in rw (is-last i e) (omega arith)
         go (no e) = let l = low i (omega arith) in rw (is-own i e) (omega arith)
 
     other-apart : (i j : ℕ) → i < j → j < k → other i ≢ other j

@@ -31,7 +31,8 @@ spelled-wide n ws j w h (more {u} k l f s) =
 
 pub spelled-length : (n : ℕ) (ws : List ℕ) (j : ℕ) (w : List ℕ) → Spelled n ws j w → length w ≤ j
 spelled-length n ws j w none = omega arith
-spelled-length n ws j w (more {u} k l f s) = let r = spelled-length n ws (getD ws (n + 4 * k + 2) 0) u s in omega arith
+spelled-length n ws j w (more {u} k l f s) =
+    let r = spelled-length n ws (getD ws (n + 4 * k + 2) 0) u s in omega arith
 
 module _ (n k : ℕ) (ws₀ : List ℕ) (t : Trail n (take (5 * n) ws₀) k) (room : 5 * n + n ≤ length ws₀) where
   pub spells-first : (d : ℕ) → ((u : List ℕ) → Spelled n ws₀ k u → d ≡ length u) → Spells n k d ws₀ ws₀ d k

@@ -23,7 +23,8 @@ pub empty : (n : ℕ) (ws : List ℕ) (e : ℕ) (v : List ℕ) → e ≤ 0 → S
 empty n ws e v h none = refl
 empty n ws e v h (more k l f s) = absurd (omega arith)
 
-trail-spell : (n : ℕ) (ws : List ℕ) (k : ℕ) → Trail n ws k → (b j : ℕ) → j < b → j ≤ k → (u : List ℕ) × Spelled n ws j u
+trail-spell : (n : ℕ) (ws : List ℕ) (k : ℕ) → Trail n ws k → (b j : ℕ) → j < b → j ≤ k → (u : List ℕ) × Spelled n ws j
+  u
 trail-spell n ws k t zero j h l = absurd (omega arith)
 trail-spell n ws k t (suc b) zero h l = ([], none)
 trail-spell n ws k t (suc b) (suc j) h l =

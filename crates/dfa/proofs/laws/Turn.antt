@@ -20,12 +20,15 @@ use Rattle.dfa.proofs.laws.Look.{after-lt, look-before, δ-lt}
 use Rattle.dfa.proofs.laws.Merge.{snoc-old}
 
 -- the states of an entry are states
-module _ (G : List ℕ) (t : Task) (s : Setting G t) (ws : List ℕ) (head last lo : ℕ) (h : Half G t ws head last lo) where
+module _ (G : List ℕ) (t : Task) (s : Setting G t) (ws : List ℕ) (head last lo : ℕ) (h : Half G t ws head last lo)
+  where
   pub p-low : h .E head .pp < t .n
-  p-low = rw (h .mid .inv .reach head (h .mid .here) .0) (after-lt G (t .n) (t .p) (s .graph) (s .p-lt) (h .E head .wd))
+  p-low =
+      rw (h .mid .inv .reach head (h .mid .here) .0) (after-lt G (t .n) (t .p) (s .graph) (s .p-lt) (h .E head .wd))
 
   pub q-low : h .E head .qq < t .n
-  q-low = rw (h .mid .inv .reach head (h .mid .here) .1) (after-lt G (t .n) (t .q) (s .graph) (s .q-lt) (h .E head .wd))
+  q-low =
+      rw (h .mid .inv .reach head (h .mid .here) .1) (after-lt G (t .n) (t .q) (s .graph) (s .q-lt) (h .E head .wd))
 
   pub last-low : last < t .n
   last-low = omega (arith, h .mid .inv .count, roots-1 _ _ _ _ _ (h .E) (suc head) last (h .rep)
@@ -47,7 +50,8 @@ pub record Ranges (n head tail : ℕ) (G ws : List ℕ) : Type 0 where
 pub bounds : (G : List ℕ) (t : Task) (s : Setting G t) (ws : List ℕ) (head last lo : ℕ) → Half G t ws head last lo
   → Ranges (t .n) head last G ws
 bounds G t s ws head last lo h = record
-  { head-lt = omega (arith, h .mid .here, last-low G t s ws head last lo h); tail-lt = last-low G t s ws head last lo h
+  { head-lt =
+      omega (arith, h .mid .here, last-low G t s ws head last lo h); tail-lt = last-low G t s ws head last lo h
   ; few = s .graph .few; room = h .low .room; graph = s .graph .room }
 
 pub p-at : (G : List ℕ) (t : Task) (s : Setting G t) (ws : List ℕ) (head last lo : ℕ) → Half G t ws head last lo
@@ -186,4 +190,5 @@ turn-last G t head ws i ie j je last u h = rw add-one (record
   { E = u .half .E; rep = u .half .rep; low = u .half .low; queue = u .half .queue; reps = u .half .reps
   ; top = finish _ _ _ _ _ (u .half .E) head last (u .lo) (u .half .rep) (u .half .mid)
       (λ m l. u .ti m l ∙ look-before G (t .n) m i ie (u .ei) (λ v. absurd (omega (arith, u .ei .le, u .ej .le)))
-        ∙ sym (u .tj m l ∙ look-before G (t .n) m j je (u .ej) (λ v. absurd (omega (arith, u .ei .le, u .ej .le))))) })
+        ∙ sym (u .tj m l ∙ look-before G (t .n) m j je (u .ej) (λ v. absurd (omega (arith, u .ei .le, u .ej .le)))))
+          })

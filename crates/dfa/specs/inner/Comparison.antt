@@ -48,7 +48,8 @@ module _ (n : ℕ) (δ : ℕ → ℕ → ℕ) (fin : ℕ → Bool) (p₀ q₀ : 
   -- the entries from head on may still be expanded
   pub record Inv (E : ℕ → Entry) (head tail : ℕ) (rep : ℕ → ℕ) : Type 0 where
     pub reach : (k : ℕ) → k < tail → (E k .pp ≡ after δ p₀ (E k .wd)) × (E k .qq ≡ after δ q₀ (E k .wd))
-    pub clos : (f : ℕ → Bool) → ((k : ℕ) → k < tail → f (E k .pp) ≡ f (E k .qq)) → (a b : ℕ) → rep a ≡ rep b → f a ≡ f b
+    pub clos : (f : ℕ → Bool) → ((k : ℕ) → k < tail → f (E k .pp) ≡ f (E k .qq)) → (a b : ℕ) → rep a ≡ rep b → f a ≡ f
+      b
     pub inc : (k l : ℕ) → k < l → l < tail → Less (E k .wd) (E l .wd)
     pub some : 0 < tail
     pub start : E 0 ≡ record { pp = p₀; qq = q₀; wd = [] }

@@ -23,7 +23,8 @@ goal-requires-2 c κs = (c .before .before .before .before .before .pre .1 .0,
     (c .before .before .before .before .before .pre .1 .1 .0,
     (next _ _ _ _ _ _ _ _ _ (c .before .before .before .before .before .pre .0)
     (c .before .before .before .before .before .pre .1 .0) (c .before .before .before .before .before .pre .1 .1 .1)
-    (c .before .before .before .lead .ensures) (c .before .before .lead2 .ensures) (c .before .least .ensures)) .lowj))
+    (c .before .before .before .lead .ensures) (c .before .before .lead2 .ensures) (c .before .least .ensures))
+      .lowj))
 
 past-requires : tie.Need-past-requires
 past-requires c κs = (c .before .before .before .before .before .before .pre .0,

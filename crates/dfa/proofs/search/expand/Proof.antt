@@ -10,7 +10,8 @@ use Rattle.dfa.proofs.search.expand.Statement.{statement}
 use Rattle.dfa.proofs.search.expand.Tie as tie
 
 abbrev Inv-loop : tie.InvT-loop
-Inv-loop words₀ t head tail size cut p q i₀ ie j₀ je last₀ words i j last = Expanding t head words₀ words i ie j je last
+Inv-loop words₀ t head tail size cut p q i₀ ie j₀ je last₀ words i j last = Expanding t head words₀ words i ie j je
+  last
 
 abbrev μ-loop : tie.MeasureT-loop
 μ-loop words₀ t head tail size cut p q i₀ ie j₀ je last₀ words i j last = ie + je - (i + j)

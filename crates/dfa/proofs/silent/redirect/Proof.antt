@@ -31,7 +31,8 @@ at-requires-2 c κs = let s = scan (c .before .before .before .before .args .n)
     (c .before .before .before .before .args .words .now) (c .before .before .before .before .pre .0) in omega arith
 
 loop-holds : tie.Need-loop-holds Inv-loop μ-loop
-loop-holds c = redirect-first _ _ _ (c .before .before .before .before .before .pre .0) (c .before .before .at .ensures)
+loop-holds c =
+    redirect-first _ _ _ (c .before .before .before .before .before .pre .0) (c .before .before .at .ensures)
 
 add-at : tie.Need-add-at Inv-loop μ-loop
 add-at c = let s = scan (c .before .before .before .before .before .before .before .before .args .n)

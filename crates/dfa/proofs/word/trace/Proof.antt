@@ -30,7 +30,8 @@ loop-holds c = (refl, (omega arith, (omega arith, λ u s. (c .before .depth .ens
 
 sub-i : tie.Need-sub-i Inv-loop μ-loop
 sub-i c = let w = trail-spelled _ _ _ (c .before .before .before .before .before .before .pre) in
-    let z = trace-pos _ _ _ _ _ _ (c .loop-test .taken) (c .before .loop .inv .1 .1 .1 (w .0) (w .1) .1) in omega arith
+    let z =
+        trace-pos _ _ _ _ _ _ (c .loop-test .taken) (c .before .loop .inv .1 .1 .1 (w .0) (w .1) .1) in omega arith
 
 mul-at : tie.Need-mul-at Inv-loop μ-loop
 mul-at c = let t = c .before .before .before .before .before .before .before .pre in
