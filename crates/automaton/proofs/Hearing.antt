@@ -112,12 +112,12 @@ written-none [] u = refl
 written-none (v ∷ vs) u =
     rw (ne-eqb 0 (suc (length vs)) (omega arith)) (ap (λ (l : List ℕ). v ∷ l) (written-none vs u))
 
-stuck : (b : Bool) → _≡_ {A = Did} (pick b Stuck Stuck) Stuck
+pub stuck : (b : Bool) → _≡_ {A = Did} (pick b Stuck Stuck) Stuck
 stuck true = refl
 stuck false = refl
 
 -- the kind of a move at a place is not that of none
-kind-below : (i j : ℕ) (e : Event) → eqb (moveOf (move (at i j) e) .kind) 255 ≡ false
+pub kind-below : (i j : ℕ) (e : Event) → eqb (moveOf (move (at i j) e) .kind) 255 ≡ false
 unfolding moveOf kindQ kindA
 kind-below i j (question run) = refl
 kind-below i j (question ask) = refl

@@ -2,4 +2,10 @@ pub mod Advance
 pub mod Settling
 pub mod Spelling
 pub mod Ranges
+pub mod Faithfully
+pub mod RangedSteps
 pub mod Language
+pub mod Writing
+pub mod Automata
+pub mod Ranks
+pub mod Loops

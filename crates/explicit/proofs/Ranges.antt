@@ -1,4 +1,5 @@
--- The term of an accepted sheet has ids, arguments and data in range, so that every move of its complete plays has a letter.
+-- The term of an accepted sheet has ids, arguments and data in range, so that every move of its complete
+-- plays has a letter.
 use mathlib.Core.Path.{_≡_, refl, sym, ap, _∙_}
 use mathlib.Core.Bool.{Bool, true, false}
 use mathlib.Core.List.{List, [], _∷_}
@@ -21,19 +22,21 @@ use Rattle.sheet.specs.Meaning.{Block, Meaning, private, named, retired, free, 
 use Rattle.sheet.specs.Meaning.{byMeaning, resolve, resolveArgs, termOf, typeOf}
 use Rattle.sheet.specs.Fine.{FineUse, Fine, FineArgs, FineNames, Accepted}
 use Rattle.sheet.proofs.WellTyped.{accepted-typed}
+use Rattle.machine.specs.Range.{TyIn, InRange, InRangeArgs}
 use Rattle.machine.proofs.Scope.{scoped-of}
 use Rattle.explicit.proofs.Settling.{AllSmall}
-use Rattle.explicit.proofs.Spelling.{TyIn, InRange, InRangeArgs, complete-small}
+use Rattle.explicit.proofs.Spelling.{complete-small}
 
 -- the types of a sheet
-values-in : (N : Numbers) → 0 < N .z → (ty : ℕ) → values N ty ≤ numbers N
+values-in : (N : Numbers) → 0 < N .z → (ty : ℕ) → (0 < values N ty) × (values N ty ≤ numbers N)
 unfolding values numbers
 values-in N h ty = go (eqb ty 1) (eqb ty 3)
   where
-    go : (a b : Bool) → pick a 2 (pick b 2 (2 * N .z + 1)) ≤ 2 * N .z + 1
-    go true b = omega arith
-    go false true = omega arith
-    go false false = omega arith
+    go : (a b : Bool) →
+        (0 < pick a 2 (pick b 2 (2 * N .z + 1))) × (pick a 2 (pick b 2 (2 * N .z + 1)) ≤ 2 * N .z + 1)
+    go true b = (omega arith, omega arith)
+    go false true = (omega arith, omega arith)
+    go false false = (omega arith, omega arith)
 
 pub type-in : (N : Numbers) → 0 < N .z → (ty : ℕ) → TyIn N (tyOf N ty)
 unfolding TyIn tyOf
@@ -114,13 +117,16 @@ module _ (N : Numbers) (above : 0 < N .z) (ns : List Name) (f : (id : ℕ) → F
     args-in (more w ws) bs (ty ∷ tys) k l h =
         (omega arith, type-in N above ty, term-in w bs (h .0), args-in ws bs tys (suc k) (omega arith) (h .2))
 
+-- THEOREM: the term of an accepted sheet is in range
+pub sheet-range : (S : Sheet) → Accepted S → InRange (S .numbers) (termOf S)
+unfolding termOf
+sheet-range S A =
+    term-in (S .numbers) (A .z-above) (S .names) (few-declared [] (S .names) (A .fine-names)) (S .term) []
+      (A .fine-term)
+
 -- THEOREM: every move of a complete play of an accepted sheet has a letter
 pub sheet-small : (S : Sheet) → Accepted S → (u : Word) → Complete (tyOf (S .numbers) (typeOf S)) (termOf S) u →
     AllSmall (S .numbers) u
-unfolding termOf
 sheet-small S A u c =
-    let N = S .numbers in
-    let r =
-        term-in N (A .z-above) (S .names) (few-declared [] (S .names) (A .fine-names)) (S .term) [] (A .fine-term) in
-    complete-small N (tyOf N (typeOf S)) (termOf S) (type-in N (A .z-above) (typeOf S)) r
-      (scoped-of (termOf S) (accepted-typed S A)) u c
+    complete-small (S .numbers) (tyOf (S .numbers) (typeOf S)) (termOf S)
+      (type-in (S .numbers) (A .z-above) (typeOf S)) (sheet-range S A) (scoped-of (termOf S) (accepted-typed S A)) u c

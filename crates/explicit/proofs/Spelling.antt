@@ -2,12 +2,10 @@
 use mathlib.Core.Path.{_≡_, refl, ap}
 use mathlib.Core.Logic.{inl, inr}
 use mathlib.Core.List.{List, [], _∷_, _++_}
-use Prim.Native.Nat.{ℕ, zero, suc, _+_, _≤_, _<_}
+use Prim.Native.Nat.{ℕ, zero, suc, _+_, _<_}
 use native.Mathlib.Omega.{arith}
 use Rattle.language.specs.declared.Numbers.{Numbers}
-use Rattle.language.specs.Number.{numbers}
-use Rattle.language.specs.Ty.{Ty, command, expression, variable, Question, run, ask, read, write, Answer, done, ok}
-use Rattle.language.specs.Ty.{value}
+use Rattle.language.specs.Ty.{Ty, Question, run, ask, read, write, Answer, done, ok, value}
 use Rattle.language.specs.Ty.{Answers, to-run, to-ask, to-read, to-write}
 use Rattle.language.specs.Move.{Event, question, answer, at, private, Move, move, Word, valueOf}
 use Rattle.language.specs.Term as t
@@ -15,36 +13,10 @@ use Rattle.language.specs.Term.{Term, skip, diverge, const, name, fetch, operat
 use Rattle.language.specs.Term.{Args, no-args, arg}
 use Rattle.language.specs.Play.{Cat, Star, end, more, hide, Use, Plays, PlaysArg, whole, Complete}
 use Rattle.language.proofs.LetterLaws.{Values, Small}
+use Rattle.machine.specs.Range.{TyIn, InRange, InRangeArgs}
 use Rattle.machine.proofs.Block.{Tidy, clear, seen, used}
 use Rattle.machine.proofs.Scope.{Scoped, tidy}
 use Rattle.explicit.proofs.Settling.{AllSmall}
-
--- the data of a type is at most that of numbers
-unfoldable pub TyIn : Numbers → Ty → Type 0
-TyIn N command = Unit
-TyIn N (expression m) = m ≤ numbers N
-TyIn N (variable m) = m ≤ numbers N
-
--- the ids of a term's names and the numbers of their arguments are bytes, their types in range
-unfoldable mutual
-  pub InRange : Numbers → Term → Type 0
-  InRange N skip = Unit
-  InRange N diverge = Unit
-  InRange N (const v) = Unit
-  InRange N (t.private i) = Unit
-  InRange N (name i T args) = (i < 256) × TyIn N T × InRangeArgs N args 0
-  InRange N (fetch X) = InRange N X
-  InRange N (operate m o L R) = InRange N L × InRange N R
-  InRange N (assign m X E) = InRange N X × InRange N E
-  InRange N (seq C M) = InRange N C × InRange N M
-  InRange N (while B C) = InRange N B × InRange N C
-  InRange N (cond B C M) = InRange N B × InRange N C × InRange N M
-  InRange N (new m h C) = InRange N C
-
-  -- arguments j, j + 1, .., counted from 0
-  pub InRangeArgs : Numbers → Args → ℕ → Type 0
-  InRangeArgs N no-args j = Unit
-  InRangeArgs N (arg T M args) j = (suc j < 256) × TyIn N T × InRange N M × InRangeArgs N args (suc j)
 
 module _ (N : Numbers) where
   -- every move is private or has a letter
@@ -71,9 +43,9 @@ module _ (N : Numbers) where
       Small N (move (at i j) (question q)) × Small N (move (at i j) (answer a))
   unfolding TyIn Small Values valueOf
   asked b to-run i j h k = ((h, k, tt), (h, k, tt))
-  asked b (to-ask l) i j h k = ((h, k, tt), (h, k, omega arith))
-  asked b (to-read l) i j h k = ((h, k, tt), (h, k, omega arith))
-  asked b (to-write l) i j h k = ((h, k, omega arith), (h, k, tt))
+  asked b (to-ask l) i j h k = ((h, k, tt), (h, k, omega (arith, b .1)))
+  asked b (to-read l) i j h k = ((h, k, tt), (h, k, omega (arith, b .1)))
+  asked b (to-write l) i j h k = ((h, k, omega (arith, b .1)), (h, k, tt))
 
   star-loose : {L : Word → Type 0} → ((u : Word) → L u → Loose u) → {u : Word} → Star L u → Loose u
   unfolding Loose

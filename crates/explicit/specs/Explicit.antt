@@ -1,5 +1,5 @@
--- The explicit automaton of a machine, read off words: the states from o on, then the end, and the dead state n - 1, which
--- automata in the same words share.
+-- The explicit automaton of a machine, read off words: the states from o on, then the end, and the dead state n - 1,
+-- which automata in the same words share.
 use mathlib.Core.Path.{_≡_}
 use mathlib.Core.List.{List}
 use Prim.Native.Nat.{ℕ, suc, _+_, _-_, _<_}
@@ -33,5 +33,7 @@ pub record Explicit (N : Numbers) (S G : List ℕ) (n o : ℕ) {K : ℕ} (step :
   pub end-stays : getD S (o + K) 0 ≡ 0
   pub dead-stays : getD S (n - 1) 0 ≡ 0
   pub edges : (k : Index K) (m : Move) → Small N m → δ G n (o + k .0) (letter N m) ≡ packed o n (edge (step k) m)
+  -- a letter of no move leads to the dead state
+  pub others : (k : Index K) (x : ℕ) → ((m : Move) → Small N m → letter N m ≡ x → ⊥) → δ G n (o + k .0) x ≡ n - 1
   pub end-edges : (m : ℕ) → δ G n (o + K) m ≡ n - 1
   pub dead-edges : (m : ℕ) → δ G n (n - 1) m ≡ n - 1

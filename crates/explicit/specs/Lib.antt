@@ -1,1 +1,2 @@
 pub mod Explicit
+pub mod inner

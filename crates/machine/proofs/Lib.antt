@@ -18,3 +18,5 @@ pub mod Pigeonhole
 pub mod Silent
 pub mod Settled
 pub mod Accepts
+pub mod Totals
+pub mod Degrees

@@ -7,3 +7,5 @@ pub mod Numbering
 pub mod Edge
 pub mod Settle
 pub mod Sheet
+pub mod Range
+pub mod Degree

@@ -1,0 +1,42 @@
+use borrow.Author.Needs.{needs}
+use borrow.Author.Tests.{le-leb, lt-leb, lt-ltb, le-ltb, eq-eqb, ne-eqb}
+use Rattle.explicit.specs.inner.States.{openedOf}
+use Rattle.explicit.proofs.whole.opened.Statement.{statement}
+use Rattle.explicit.proofs.whole.opened.Tie as tie
+
+returns : tie.Need-returns
+unfolding openedOf
+returns c = simp (ne-eqb _ _ (c .if1 .taken))
+
+returns-2 : tie.Need-returns-2
+unfolding openedOf
+returns-2 c = simp (eq-eqb _ _ (c .before .before .if1 .left), ne-eqb _ _ (c .if2 .taken))
+
+cell-requires : tie.Need-cell-requires
+cell-requires c κs = search needs
+
+cell-requires-2 : tie.Need-cell-requires-2
+cell-requires-2 c κs = search needs
+
+question-number-requires : tie.Need-question-number-requires
+question-number-requires c κs = search needs
+
+returns-3 : tie.Need-returns-3
+unfolding openedOf
+returns-3 c = simp (← c .before .before .before .cell .ensures, ← c .before .before .cell2 .ensures, ← c .before .question-number .ensures, eq-eqb _ _ (c .before .before .before .before .before .before .if1 .left), eq-eqb _ _ (c .before .before .before .before .if2 .left), eq-eqb _ _ (c .if3 .taken))
+
+sub-place : tie.Need-sub-place
+sub-place c = search needs
+
+cell-requires-3 : tie.Need-cell-requires-3
+cell-requires-3 c κs = search needs
+
+place-requires : tie.Need-place-requires
+place-requires c κs = search needs
+
+returns-4 : tie.Need-returns-4
+unfolding openedOf
+returns-4 c = simp (← c .before .before .before .before .before .cell .ensures, ← c .before .before .before .before .cell2 .ensures, ← c .before .before .before .question-number .ensures, ← c .before .cell3 .ensures, ← c .place .ensures, eq-eqb _ _ (c .before .before .before .before .before .before .before .before .if1 .left), eq-eqb _ _ (c .before .before .before .before .before .before .if2 .left), ne-eqb _ _ (c .before .before .if3 .left))
+
+pub opened-spec : {M : Type 1} → statement M
+opened-spec = tie.close (tie.spec returns returns-2 cell-requires cell-requires-2 question-number-requires returns-3 sub-place cell-requires-3 place-requires returns-4)

@@ -1,0 +1,7 @@
+-- What the code computes, case by case, and what it means: cited by inner contracts and theorems only.
+pub mod States
+pub mod Rows
+pub mod Moves
+pub mod Acts
+pub mod Ranged
+pub mod Shown

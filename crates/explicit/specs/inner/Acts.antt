@@ -1,0 +1,46 @@
+-- What it means that the code's answer at a state shows the machine's action there.
+use mathlib.Core.Path.{_≡_}
+use mathlib.Core.List.{List, []}
+use Prim.Native.Nat.{ℕ, _<_, _≤_}
+use lib.ListN.{length}
+use Rattle.language.specs.declared.Numbers.{Numbers}
+use Rattle.language.specs.Ty.{Ty}
+use Rattle.language.specs.Move.{Event, at, Move, move}
+use Rattle.machine.specs.Action.{Next, to, out, dead, Heard, Listen, calling, opening, Hears, Action, go, say, hear}
+use Rattle.machine.specs.Edge.{edge-hear}
+use Rattle.machine.specs.Settle.{Index}
+use Rattle.sheet.specs.table.Rep.{TyRow}
+use Rattle.automaton.specs.declared.Move.{Move as Record}
+use Rattle.automaton.specs.declared.Out.{Out}
+use Rattle.automaton.specs.declared.Out.the-variants.{Go, Exit, Say, Hear, Stuck}
+use Rattle.automaton.specs.walk.Shows.{moveOf, Awaits}
+
+-- whom a state waits for: a name at a place of the table, or the asker of the whole term, which is at the root
+pub data Waits (N : Numbers) (t : List ℕ) : Listen → ℕ → ℕ → ℕ → Type 0 where
+  calls : {l : Listen} {node q x : ℕ} → Awaits N t l node q x → Waits N t l node q x
+  opens : {T : Ty} {root : ℕ} → TyRow t root T → Waits N t (opening 255 T) root 7 0
+
+-- where a silent step or a move that is heard leads
+unfoldable pub Leads : {K : ℕ} → Next (Index K) (Unit {0}) → Out → Type 0
+Leads (to s) o = (l : ℕ) × (u : ℕ) × (o ≡ Go (s .0) l u)
+Leads (out a) o = ⊥
+Leads dead o = o ≡ Stuck
+
+-- a move that is said; the end has the number K
+unfoldable pub Says : {K : ℕ} → Move → Next (Index K) (Unit {0}) → Out → Type 0
+Says m (to s) o = o ≡ Say (moveOf m) (s .0)
+Says {K} m (out a) o = o ≡ Say (moveOf m) K
+Says m dead o = ⊥
+
+module _ (N : Numbers) (t : List ℕ) {K : ℕ} where
+  -- a wait: where no move is given the state says whom it waits for, and where one is given it shows what follows it
+  pub data Listens (m : Record) (l : Listen) (k : (r : Heard) → Hears l r → Next (Index K) (Unit {0})) (o : Out) :
+      Type 0 where
+    waits : {node q x : ℕ} → m .kind ≡ 255 → Waits N t l node q x → o ≡ Hear node q x → Listens m l k o
+    leads : (i j : ℕ) (e : Event) → m ≡ moveOf (move (at i j) e) → Leads (edge-hear l k (move (at i j) e)) o →
+      Listens m l k o
+
+  unfoldable pub Acts : Record → Action (Index K) (Unit {0}) → Out → Type 0
+  Acts m (go x) o = Leads x o
+  Acts m (say y x) o = Says y x o
+  Acts m (hear l k) o = Listens m l k o

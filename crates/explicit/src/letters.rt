@@ -1,0 +1,139 @@
+// The moves that a waiting state takes: for each kind and argument the values below a limit, in the order of the signed
+// values; and the letter of a move.
+use automaton::Move;
+use automaton::row::{cell, name_count, name_id, part_class, part_values};
+use crate::Ear;
+use language::Numbers;
+ghost use mathlib.Core.Path.{_≡_};
+ghost use Prim.Native.Nat.{_%_};
+ghost use Rattle.language.specs.Letter.{rank};
+ghost use Rattle.explicit.specs.inner.Moves.{codeAt, letterOf, questionLimit, answerLimit, limitOf, earOf};
+
+// The value of number r in the order of the signed values.
+pub fn code_at(n: Numbers, r: usize) -> usize
+    ensures { λ x. ⌜ x ≡ codeAt n r ⌝ }
+{
+    let z = n.z as usize;
+    if r < z {
+        return r + z + 1;
+    }
+    r - z
+}
+
+// The rank of a value.
+pub fn rank_of(n: Numbers, value: usize) -> usize
+    ensures { λ r. ⌜ r ≡ rank n (value % 65536) ⌝ }
+{
+    let z = n.z as usize;
+    let v = value % 65536;
+    if v <= z {
+        return 128 + v;
+    }
+    if 128 + v < 2 * z + 1 {
+        return 0;
+    }
+    128 + v - (2 * z + 1)
+}
+
+// The letter of a move.
+pub fn letter_of(n: Numbers, m: Move) -> usize
+    ensures { λ r. ⌜ r ≡ letterOf n m ⌝ }
+{
+    let place = m.kind % 8 * 16777216 + m.id % 256 * 65536 + m.arg % 256 * 256;
+    if m.kind < 5 {
+        return place;
+    }
+    place + rank_of(n, m.value)
+}
+
+// How many values a question of a kind has at a type: none where it is no question of the type, and one where it
+// carries no value.
+pub fn question_limit(class: usize, values: usize, kind: usize) -> usize
+    ensures { λ r. ⌜ r ≡ questionLimit class values kind ⌝ }
+{
+    if class == 0 {
+        if kind == 0 {
+            return 1;
+        }
+        return 0;
+    }
+    if class == 1 {
+        if kind == 2 {
+            return 1;
+        }
+        return 0;
+    }
+    if kind == 3 {
+        return 1;
+    }
+    if kind == 6 {
+        return values;
+    }
+    0
+}
+
+// The same for the answers of a kind to the question q of value x.
+pub fn answer_limit(class: usize, values: usize, q: usize, x: usize, kind: usize) -> usize
+    ensures { λ r. ⌜ r ≡ answerLimit class values q x kind ⌝ }
+{
+    if class == 0 {
+        if q == 0 {
+            if kind == 1 {
+                return 1;
+            }
+        }
+        return 0;
+    }
+    if class == 1 {
+        if q == 2 {
+            if kind == 5 {
+                return values;
+            }
+        }
+        return 0;
+    }
+    if q == 3 {
+        if kind == 5 {
+            return values;
+        }
+        return 0;
+    }
+    if q == 6 {
+        if x < values {
+            if kind == 4 {
+                return 1;
+            }
+        }
+    }
+    0
+}
+
+// The same for the moves of a kind at an argument of the one a state waits for; argument 0 is the name itself.
+pub fn limit(t: &[u16], e: Ear, kind: usize, arg: usize) -> usize
+    ensures { λ r. ⌜ r ≡ limitOf (now (t .entry)) e kind arg ⌝ }
+{
+    let at = e.at;
+    if e.kind == 7 {
+        if arg == 0 {
+            return question_limit(cell(t, at, 2), cell(t, at, 3), kind);
+        }
+        return 0;
+    }
+    if arg == 0 {
+        return answer_limit(cell(t, at, 2), cell(t, at, 3), e.kind, e.value, kind);
+    }
+    if name_count(t, at) < arg {
+        return 0;
+    }
+    question_limit(part_class(t, at, arg - 1), part_values(t, at, arg - 1), kind)
+}
+
+// Whom the state k waits for.
+pub fn ear_of(t: &[u16], state: usize, at: usize, kind: usize, value: usize) -> Ear
+    ensures { λ r. ⌜ r ≡ earOf (now (t .entry)) state at kind value ⌝ }
+{
+    if kind == 7 {
+        return Ear { state, id: 255, at, kind, value };
+    }
+    Ear { state, id: name_id(t, at), at, kind, value }
+}
