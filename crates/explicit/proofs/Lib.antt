@@ -4,6 +4,15 @@ pub mod Spelling
 pub mod Ranges
 pub mod Faithfully
 pub mod RangedSteps
+pub mod Codes
+pub mod EdgeLists
+pub mod Heard
+pub mod HeardEdges
+pub mod HeardCount
+pub mod HeardLetters
+pub mod LeftOut
+pub mod SoundRows
+pub mod RightRows
 pub mod Language
 pub mod Writing
 pub mod Automata
