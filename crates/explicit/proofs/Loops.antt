@@ -13,11 +13,11 @@ use Rattle.automaton.specs.declared.Out.the-variants.{Go, Exit, Say, Hear, Stuc
 use Rattle.automaton.specs.walk.Row.{sumOf}
 use Rattle.explicit.specs.declared.Ear.{Ear}
 use Rattle.explicit.specs.declared.Site.{Site}
-use Rattle.explicit.specs.inner.States.{sheetAt}
+use Rattle.explicit.specs.inner.States.{spotsOf, sheetAt}
 use Rattle.explicit.specs.inner.Rows.{Edge, Row, withEdge, withEdges, past, withHead, withRow, before, withRows}
-use Rattle.explicit.specs.inner.Rows.{noEdges}
 use Rattle.explicit.specs.inner.Moves.{codeAt, letterOf, limitOf, earOf, targetOf, silentOf, edgeBy, valueEdge}
 use Rattle.explicit.specs.inner.Moves.{valueEdges, blockEdges, heardEdges, edgesOf, rowFor, rowOf}
+use Rattle.explicit.specs.inner.Moves.{edgesAfter, filledOf}
 use Rattle.explicit.proofs.Writing.{with-append, past-append}
 
 -- e′ and ws′ are what follows from the edge e and the words ws when the edges xs are written
@@ -176,11 +176,12 @@ filled-again {k = k} F f w =
     rw (add-one) (record { returned = rw (← F .returned) f; written = rw (← F .returned, ← F .written) w })
 
 -- with the end
-pub filled-last : {row : ℕ → Row} {n o e k e′ all : ℕ} {ws ws′ ws″ : List ℕ} → Filled row n o e ws k e′ ws′ → k ≡ all →
-  ws″ ≡ withHead ws′ n (sumOf o all) e′ 0 →
-  (e′ ≡ before e row all) × (ws″ ≡ withRow (withRows ws n o e row all) n o all (before e row all) noEdges)
-unfolding withRow withEdges
-filled-last F z w = rw (← z, ← F .returned, ← F .written) (refl, rw z w)
+pub filled-last : (t : List ℕ) (N : Numbers) (s : Site) (e k e′ all p : ℕ) (ws ws′ ws″ : List ℕ) →
+  Filled (rowOf t N s) (s .n) (s .o) e ws k e′ ws′ → k ≡ all → all ≡ spotsOf t (s .root) → p ≡ sumOf (s .o) all →
+  ws″ ≡ withHead ws′ (s .n) p e′ 0 → (e′ ≡ edgesAfter t N s e) × (ws″ ≡ filledOf t N s ws e)
+unfolding edgesAfter filledOf withRow withEdges
+filled-last t N s e k e′ all p ws ws′ ws″ F z a q w =
+    rw (← a, ← z, ← F .returned, ← F .written) (refl, rw (z, ← q) w)
 
 -- the loop over values takes them all
 pub numbers-all : (N : Numbers) (r : ℕ) → r ≤ 2 * N .z + 1 → 2 * N .z + 1 ≤ r → r ≡ numbers N

@@ -5,3 +5,4 @@ pub mod Moves
 pub mod Acts
 pub mod Ranged
 pub mod Shown
+pub mod Ready

@@ -8,11 +8,9 @@ use language::Numbers;
 ghost use mathlib.Core.Path.{_≡_};
 ghost use Prim.Native.Nat.{_-_, _%_};
 ghost use lib.ListN.{set};
-ghost use Rattle.language.specs.Number.{numbers};
-ghost use Rattle.explicit.specs.inner.Rows.{withEdge, withEdges, past, withHead, withRow, withRows, before, closedOf};
-ghost use Rattle.explicit.specs.inner.Rows.{noEdges};
-ghost use Rattle.explicit.specs.inner.Moves.{targetOf, visibleOf, silentOf, valueEdge, blockEdges, heardEdges, rowOf};
-ghost use Rattle.explicit.specs.inner.States.{spotsOf};
+ghost use Rattle.explicit.specs.inner.Rows.{withEdge, withEdges, past, withHead, withRow, closedOf};
+ghost use Rattle.explicit.specs.inner.Moves.{targetOf, visibleOf, silentOf, valueEdge, blockEdges, heardEdges};
+ghost use Rattle.explicit.specs.inner.Moves.{rowOf, edgesAfter, filledOf};
 
 // Word i becomes v, where there is such a word.
 fn put(words: &mut [u32], i: usize, v: usize)
@@ -159,11 +157,8 @@ fn write_row(t: &[u16], n: Numbers, s: Site, words: &mut [u32], k: usize, e: usi
 
 // The automaton of a sheet: the states from s.o on, the end last, their edges from edge e on. Gives the edge after them.
 pub fn fill(t: &[u16], n: Numbers, s: Site, words: &mut [u32], e: usize) -> usize
-    ensures returned { λ x. ⌜ x ≡ before e (rowOf (now (t .entry)) n s) (spotsOf (now (t .entry)) (s .root)) ⌝ }
-    ensures written { λ x. ⌜ now (words .exit) ≡ withRow
-        (withRows (now (words .entry)) (s .n) (s .o) e (rowOf (now (t .entry)) n s) (spotsOf (now (t .entry)) (s .root)))
-        (s .n) (s .o) (spotsOf (now (t .entry)) (s .root))
-        (before e (rowOf (now (t .entry)) n s) (spotsOf (now (t .entry)) (s .root))) noEdges ⌝ }
+    ensures returned { λ x. ⌜ x ≡ edgesAfter (now (t .entry)) n s e ⌝ }
+    ensures written { λ x. ⌜ now (words .exit) ≡ filledOf (now (t .entry)) n s (now (words .entry)) e ⌝ }
 {
     let all = spots_of(t, s.root);
     let mut k = 0;

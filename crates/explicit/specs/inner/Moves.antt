@@ -14,8 +14,8 @@ use Rattle.automaton.specs.declared.Out.the-variants.{Go, Exit, Say, Hear, Stuc
 use Rattle.automaton.specs.walk.Row.{sumOf, nameId, nameCount, partClass, partValues}
 use Rattle.explicit.specs.declared.Ear.{Ear}
 use Rattle.explicit.specs.declared.Site.{Site}
-use Rattle.explicit.specs.inner.States.{sheetAt}
-use Rattle.explicit.specs.inner.Rows.{Edge, Row}
+use Rattle.explicit.specs.inner.States.{spotsOf, sheetAt}
+use Rattle.explicit.specs.inner.Rows.{Edge, Row, noEdges, withRow, before, withRows}
 
 -- the value of number r in the order of the signed values
 unfoldable pub codeAt : Numbers → ℕ → ℕ
@@ -118,3 +118,13 @@ module _ (t : List ℕ) (N : Numbers) (s : Site) where
 
   unfoldable pub rowOf : ℕ → Row
   rowOf k = rowFor k (sheetAt t N (s .root) k (record { kind = 255; id = 0; arg = 0; value = 0 }))
+
+  -- the edge after those of the sheet, where its first edge is e
+  unfoldable pub edgesAfter : ℕ → ℕ
+  edgesAfter e = before e rowOf (spotsOf t (s .root))
+
+  -- the words with the states of the sheet, the end last
+  unfoldable pub filledOf : List ℕ → ℕ → List ℕ
+  filledOf ws e =
+      withRow (withRows ws (s .n) (s .o) e rowOf (spotsOf t (s .root))) (s .n) (s .o) (spotsOf t (s .root))
+        (edgesAfter e) noEdges

@@ -43,7 +43,7 @@ same-length : tie.Need-same-length Inv-loop μ-loop
 same-length c = search needs
 
 returns : tie.Need-returns Inv-loop μ-loop
-returns c = simp (← c .before .before .before .before .before .before .before .spots-of .ensures) (filled-last (c .before .before .before .before .before .before .loop .inv .1 .1) (omega (arith, c .before .before .before .before .before .before .loop .inv .0, c .before .before .before .before .before .loop-test .left)) (simp (← c .before .before .before .sum .ensures) (c .before .before .write-head .ensures)))
+returns c = filled-last _ _ _ _ _ _ _ _ _ _ _ (c .before .before .before .before .before .before .loop .inv .1 .1) (omega (arith, c .before .before .before .before .before .before .loop .inv .0, c .before .before .before .before .before .loop-test .left)) (c .before .before .before .before .before .before .before .spots-of .ensures) (c .before .before .before .sum .ensures) (c .before .before .write-head .ensures)
 
 pub fill-spec : {M : Type 1} → statement M
 fill-spec = tie.close (tie.spec Inv-loop μ-loop spots-of-requires loop-holds write-row-requires add-k loop-less loop-again sum-requires write-head-requires same-length returns)
