@@ -9,10 +9,9 @@ use Rattle.sheet.specs.Meaning.{typeOf}
 use Rattle.sheet.specs.Fine.{Accepted}
 use Rattle.comparer.specs.Plays.{CompletePlay, reckoned, Alike}
 
--- equal headings and result types
+-- the ranges, the rules and the result types are equal, as they are where headings and result types are
 pub record Comparable (S T : Sheet) : Type 0 where
   pub numbers : S .numbers ≡ T .numbers
-  pub names : S .names ≡ T .names
   pub types : typeOf S ≡ typeOf T
 
 -- "plays differ exactly when they differ within S + T - 1 moves"

@@ -1,2 +1,6 @@
 pub mod Plays
 pub mod Demands
+pub mod Records
+pub mod Refusals
+pub mod Promise
+pub mod inner

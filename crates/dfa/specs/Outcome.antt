@@ -1,7 +1,8 @@
 -- What the comparison of two states answers. Assumes nothing.
 use mathlib.Core.List.{List}
 use mathlib.Core.Path.{_≡_}
-use Prim.Native.Nat.{_<_, ℕ}
+use Prim.Native.Nat.{_+_, _*_, _<_, ℕ}
+use lib.ListN.{getD}
 use Rattle.dfa.specs.Graph.{Graph, δ}
 use Rattle.dfa.specs.Spelled.{Spelled, Trail}
 use Rattle.dfa.specs.Word.{First, accepting, after}
@@ -21,6 +22,8 @@ pub record Told (G : List ℕ) (t : Task) (ws : List ℕ) (k : ℕ) : Type 0 whe
   pub first : First (t .n) (δ G (t .n)) (accepting (t .f) (t .g)) (t .p) (t .q) word
   pub spelled : Spelled (t .n) ws k word
   pub trail : Trail (t .n) ws k
+  -- the first state of the entry is where the word leads from the first of the two
+  pub left : getD ws (t .n + 4 * k) 0 ≡ after (δ G (t .n)) (t .p) word
 
 -- no word tells the two states apart; or the word of entry k is the first that does
 abbrev pub Outcome : List ℕ → Task → List ℕ → Verdict → Type 0

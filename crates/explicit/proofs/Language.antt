@@ -40,7 +40,7 @@ module _ (T : Ty) (M : Term) where
 
   module _ {N : Numbers} {S G G′ : List ℕ} {n o : ℕ} (t : Typed [] M T) (E : Explicit N S G n o (steps T M))
       (g : Graph G n) (R : Settling n S G G′) where
-    from-start : packed o n (begin T M) ≡ o
+    pub from-start : packed o n (begin T M) ≡ o
     unfolding packed
     from-start = rw begin-start (omega (arith, start-first))
 

@@ -18,3 +18,6 @@ pub mod Writing
 pub mod Automata
 pub mod Ranks
 pub mod Loops
+pub mod SheetRows
+pub mod Placed
+pub mod Filled

@@ -296,11 +296,11 @@ rows-shown ws n o row r (suc c) same fine l R S =
       (row-shown vs n o c (o + c) row refl (omega arith) (rw (same c (omega arith)) (fine c (omega arith))) R′ T)
 
 -- a state without edges
-none-fine : (n : ℕ) → Fine n noEdges
+pub none-fine : (n : ℕ) → Fine n noEdges
 unfolding Rising
 none-fine n = record { silent-state = omega arith; rising = tt }
 
-none-more : (row : ℕ → Row) (p : ℕ) → row p ≡ noEdges → edgesBelow row (suc p) ≡ edgesBelow row p
+pub none-more : (row : ℕ → Row) (p : ℕ) → row p ≡ noEdges → edgesBelow row (suc p) ≡ edgesBelow row p
 unfolding edgesBelow
 none-more row p e = rw e (omega arith)
 

@@ -6,3 +6,4 @@ pub mod Acts
 pub mod Ranged
 pub mod Shown
 pub mod Ready
+pub mod Sheets

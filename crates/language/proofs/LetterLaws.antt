@@ -37,7 +37,7 @@ module _ (N : Numbers) (few : N .z ≤ 127) where
       go true e = omega (arith, leb-true v (N .z) e)
       go false e = omega (arith, leb-false v (N .z) e)
 
-  ranked-byte : (vs : List ℕ) → Values N vs → ranked N vs < 256
+  pub ranked-byte : (vs : List ℕ) → Values N vs → ranked N vs < 256
   unfolding ranked Values
   ranked-byte [] h = omega arith
   ranked-byte (v ∷ vs) h = rank-byte v h
@@ -101,7 +101,7 @@ module _ (N : Numbers) (few : N .z ≤ 127) where
           let k = leb-false v (N .z) e in
           back (128 + v - (2 * N .z + 1)) _ refl (λ l. absurd (omega arith)) (λ l. omega arith)
 
-  event-again : (e : Event) → Values N (valueOf e) → eventOf N (kind e) (ranked N (valueOf e)) ≡ e
+  pub event-again : (e : Event) → Values N (valueOf e) → eventOf N (kind e) (ranked N (valueOf e)) ≡ e
   unfolding eventOf kind valueOf ranked Values
   event-again (question run) h = refl
   event-again (question ask) h = refl

@@ -74,7 +74,8 @@ module _ (G : List ℕ) (t : Task) (s : Setting G t) (ws : List ℕ) (head tail 
         (λ z. e (ap (accepting (t .f) (t .g)) p-is ∙ z ∙ ap (accepting (t .f) (t .g)) (sym q-is)))
       ; spelled = spell (suc head) head (omega arith) h
       ; trail = record { few = s .graph .few; room = u .low .room; below = omega (arith, tail-low);
-        from = λ j g l. u .queue .from j (omega arith) g } }
+        from = λ j g l. u .queue .from j (omega arith) g }
+      ; left = u .queue .first head h ∙ u .top .inv .reach head h .0 }
 
   pub run-same : tail ≤ head → (x : List ℕ) → accepting (t .f) (t .g) (after (δ G (t .n)) (t .p) x) ≡ accepting (t .f)
     (t .g) (after (δ G (t .n)) (t .q) x)

@@ -1,0 +1,50 @@
+-- Demand 3, the length rules of document 02, proved for all sheets in order.
+use Prim.Native.Nat.{_+_, _-_, _≤_}
+use native.Mathlib.Omega.{arith}
+use mathlib.Core.Path.{_≡_, sym, ap₂, subst}
+use mathlib.Core.Logic.{_↔_}
+use mathlib.Core.List.{[]}
+use lib.ListN.{length}
+use Rattle.language.specs.Ty.{Ty}
+use Rattle.language.specs.Typing.{Typed}
+use Rattle.language.specs.Move.{Word}
+use Rattle.language.specs.Play.{Complete}
+use Rattle.language.specs.Weight.{size}
+use Rattle.machine.specs.Range.{InRange}
+use Rattle.sheet.specs.Written.{Sheet}
+use Rattle.sheet.specs.Meaning.{tyOf, termOf, typeOf}
+use Rattle.sheet.proofs.WellTyped.{accepted-typed}
+use Rattle.explicit.proofs.Ranges.{type-in, sheet-range}
+use Rattle.comparer.specs.Demands.{Comparable, DifferShort, PlayShort}
+use Rattle.comparer.proofs.Lengths.{differ-short, play-short}
+
+-- the type of the term of a sheet
+abbrev whole-type : Sheet → Ty
+whole-type S = tyOf (S .numbers) (typeOf S)
+
+-- comparable sheets have terms of one type
+one-type : (S T : Sheet) → Comparable S T → whole-type S ≡ whole-type T
+one-type S T c = ap₂ tyOf (c .numbers) (c .types)
+
+-- THEOREM: plays differ exactly when they differ within S + T - 1 moves
+pub differs : DifferShort
+differs S T A B c =
+    ((λ h u l. h u),
+     subst (λ X. ((u : Word) → length u ≤ size (whole-type S) (termOf S) + size X (termOf T) - 1 →
+           Complete (whole-type S) (termOf S) u ↔ Complete X (termOf T) u) →
+         (u : Word) → Complete (whole-type S) (termOf S) u ↔ Complete X (termOf T) u)
+       (one-type S T c)
+       (differ-short (whole-type S) (termOf S) (termOf T) (S .numbers) (omega (arith, A .z-below))
+         (accepted-typed S A) typed (type-in (S .numbers) (A .z-above) (typeOf S)) (sheet-range S A) in-range))
+  where
+    typed : Typed [] (termOf T) (whole-type S)
+    typed = subst (λ X. Typed [] (termOf T) X) (sym (one-type S T c)) (accepted-typed T B)
+    in-range : InRange (S .numbers) (termOf T)
+    in-range = subst (λ N. InRange N (termOf T)) (sym (c .numbers)) (sheet-range T B)
+
+-- THEOREM: a sheet has a complete play exactly when it has one of at most S - 1 moves
+pub plays : PlayShort
+plays S A =
+    ((λ p. play-short (whole-type S) (termOf S) (S .numbers) (omega (arith, A .z-below)) (accepted-typed S A)
+       (type-in (S .numbers) (A .z-above) (typeOf S)) (sheet-range S A) (p .0) (p .1)),
+     (λ p. (p .0, p .1 .0)))

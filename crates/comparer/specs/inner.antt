@@ -1,0 +1,7 @@
+-- What the code computes and keeps, cited by inner contracts only.
+pub mod Bytes
+pub mod Built
+pub mod Walk
+pub mod Spell
+pub mod Handed
+pub mod Deciding

@@ -1,0 +1,35 @@
+// The automata of sheets in the working words, ready to be walked and compared.
+use dfa::silent::settle;
+use explicit::Site;
+use explicit::fill::{close, fill};
+use language::Numbers;
+ghost use Prim.Native.Nat.{_+_};
+ghost use Rattle.comparer.specs.inner.Built.{OneReady, OneBuilt, TwoReady, TwoBuilt};
+
+// The automaton of a sheet of size `all`, with one state more, the dead one.
+pub fn build_one(t: &[u16], n: Numbers, root: usize, all: usize, words: &mut [u32])
+    requires { ⌜ OneReady n (now t) root all (now words) ⌝ }
+    ensures { λ r. ⌜ ((R : OneReady n (now (t .entry)) root all (now (words .entry)))
+        → OneBuilt n (R .type) (R .term) (all + 1) (now (words .exit))) ⌝ }
+{
+    let states = all + 1;
+    let s = Site { root, n: states, o: 0 };
+    let e = fill(t, n, s, words, 0);
+    close(words, states, e);
+    settle(words, states);
+}
+
+// The automata of two sheets of sizes `all` and `more`, one after the other, and the dead state.
+pub fn build_two(t: &[u16], u: &[u16], n: Numbers, root: usize, other: usize, all: usize, more: usize, words: &mut [u32])
+    requires { ⌜ TwoReady n (now t) (now u) root other all more (now words) ⌝ }
+    ensures { λ r. ⌜ ((R : TwoReady n (now (t .entry)) (now (u .entry)) root other all more (now (words .entry)))
+        → TwoBuilt n (R .type) (R .term) (R .other-term) (all + more + 1) (now (words .exit))) ⌝ }
+{
+    let states = all + more + 1;
+    let s = Site { root, n: states, o: 0 };
+    let e = fill(t, n, s, words, 0);
+    let s2 = Site { root: other, n: states, o: all };
+    let e2 = fill(u, n, s2, words, e);
+    close(words, states, e2);
+    settle(words, states);
+}

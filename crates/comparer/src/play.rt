@@ -1,0 +1,103 @@
+// The records of a play, and the letters of their moves.
+use records::head::byte_at;
+ghost use mathlib.Core.Path.{_≡_};
+ghost use Prim.Native.Nat.{_+_, _≤_, _%_};
+ghost use lib.ListN.{length, set, take, drop};
+ghost use Rattle.comparer.specs.Records.{parse};
+ghost use Rattle.comparer.specs.inner.Bytes.{widthOf, counted, letterFrom, firstLetter, withRecord, afterRecord};
+ghost use Rattle.comparer.specs.inner.Bytes.{withRecords};
+
+// What a play's bytes are: so many records, or the place of the first bad one.
+pub enum Parsed {
+    Moves(usize),
+    Bad(usize),
+}
+
+// How many bytes a record of a kind has, 0 where there is no such kind.
+pub fn width_of(kind: usize) -> usize
+    ensures { λ r. ⌜ r ≡ widthOf kind ⌝ }
+{
+    if kind < 5 {
+        return 3;
+    }
+    if kind < 7 {
+        return 4;
+    }
+    0
+}
+
+// How many records a play has.
+pub fn count_moves(play: &[u8]) -> Parsed
+    ensures { λ r. ⌜ r ≡ counted 0 (parse 0 (now (play .entry))) ⌝ }
+{
+    let mut at = 0;
+    let mut count = 0;
+    while at < play.len() {
+        let w = width_of(byte_at(play, at) as usize);
+        if w == 0 {
+            return Parsed::Bad(at);
+        }
+        if play.len() - at < w {
+            return Parsed::Bad(at);
+        }
+        at += w;
+        count += 1;
+    }
+    Parsed::Moves(count)
+}
+
+// The letter of a record's bytes.
+pub fn letter_from(kind: u8, id: u8, arg: u8, value: u8) -> usize
+    ensures { λ r. ⌜ r ≡ letterFrom kind id arg value ⌝ }
+{
+    let place = kind as usize * 16777216 + id as usize * 65536 + arg as usize * 256;
+    if kind < 5 {
+        return place;
+    }
+    place + (value as usize + 128) % 256
+}
+
+// The letter of the record with which the bytes begin.
+pub fn first_letter(s: &[u8]) -> usize
+    ensures { λ r. ⌜ r ≡ firstLetter (now (s .entry)) ⌝ }
+{
+    letter_from(byte_at(s, 0), byte_at(s, 1), byte_at(s, 2), byte_at(s, 3))
+}
+
+// Byte i becomes v, where there is such a byte.
+fn put(s: &mut [u8], i: usize, v: usize)
+    ensures { λ r. ⌜ now (s .exit) ≡ set (now (s .entry)) i (v % 256) ⌝ }
+{
+    if i < s.len() {
+        s[i] = (v % 256) as u8;
+    }
+}
+
+// Writes the record of a letter from a place on: the place after it.
+pub fn write_record(s: &mut [u8], at: usize, l: usize) -> usize
+    requires { ⌜ at ≤ 32772 ⌝ }
+    ensures returned { λ r. ⌜ r ≡ afterRecord at l ⌝ }
+    ensures written { λ r. ⌜ now (s .exit) ≡ withRecord (now (s .entry)) at l ⌝ }
+{
+    put(s, at, l / 16777216);
+    put(s, at + 1, l / 65536);
+    put(s, at + 2, l / 256);
+    if l / 16777216 < 5 {
+        return at + 3;
+    }
+    put(s, at + 3, l % 256 + 128);
+    at + 4
+}
+
+// Writes the records of the letters in the words from base on, len of them, from the start.
+pub fn write_play(words: &[u32], base: usize, len: usize, s: &mut [u8])
+    requires { ⌜ (len ≤ 8193) × (base + len ≤ length (now words)) ⌝ }
+    ensures { λ r. ⌜ now (s .exit) ≡ withRecords (now (s .entry)) 0 (take len (drop base (now (words .entry)))) ⌝ }
+{
+    let mut at = 0;
+    let mut i = 0;
+    while i < len {
+        at = write_record(s, at, words[base + i] as usize);
+        i += 1;
+    }
+}
