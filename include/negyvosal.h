@@ -1,4 +1,4 @@
-/* Negyvosal: checks routines written as sheets. For C and C++; link libabi.a. */
+/* Negyvosal: checks, follows and compares routines written as sheets. For C and C++; link libabi.a. */
 #ifndef NEGYVOSAL_H
 #define NEGYVOSAL_H
 
@@ -13,30 +13,61 @@ extern "C" {
  *
  *   word 0                     word 1     word 2     word 3
  *   NEGYVOSAL_REFUSED (0)      number     sheet      place
- *   NEGYVOSAL_ACCEPTED (1)     type       size       0
+ *   NEGYVOSAL_ACCEPTED (1)     type       size       0            check
+ *   NEGYVOSAL_FOLLOWS (2)      count      complete   0            follow
+ *   NEGYVOSAL_SAME (3)         0          0          0            compare
+ *   NEGYVOSAL_APART (4)        sheet      moves      0            compare
  *
- * number: the cause of the refusal, 1 to 11.
- * sheet:  which sheet: NEGYVOSAL_OLD, NEGYVOSAL_NEW or NEGYVOSAL_BOTH. A service on one sheet names it old.
- * place:  the byte of the sheet at which it is refused, counted from 0, or as the cause says.
- * type:   0 command, 1 truth expression, 2 number expression, 3 truth variable, 4 number variable.
- * size:   the reckoned size of the sheet, at most 4,096.
+ * number:   the cause of the refusal, 1 to 15.
+ * sheet:    which sheet: NEGYVOSAL_OLD, NEGYVOSAL_NEW or NEGYVOSAL_BOTH. A service on one sheet names it old.
+ * place:    the byte at which it is refused, counted from 0, or as the cause says.
+ * type:     0 command, 1 truth expression, 2 number expression, 3 truth variable, 4 number variable.
+ * size:     the reckoned size of the sheet, at most 4,096.
+ * count:    how many moves at the start of the play begin some complete play of the sheet.
+ * complete: 1 where the whole play is a complete play of the sheet, else 0.
+ * moves:    how many moves the play has that one sheet has and the other has not.
+ *
+ * Of a count or a place that does not fit a word, in a play of 4 GiB and more, the low 32 bits are given.
  */
 #define NEGYVOSAL_WORDS 4
 
 #define NEGYVOSAL_REFUSED 0
 #define NEGYVOSAL_ACCEPTED 1
+#define NEGYVOSAL_FOLLOWS 2
+#define NEGYVOSAL_SAME 3
+#define NEGYVOSAL_APART 4
 
 #define NEGYVOSAL_OLD 0
 #define NEGYVOSAL_NEW 1
 #define NEGYVOSAL_BOTH 2
 
-/* Checks a sheet of `sheet_length` bytes, writes its answer into the first four words of `out` and returns 1. Words after
- * the four stay as they were. Where `out_length` is below four it writes nothing and returns 0.
+/* Working words that follow needs for a sheet of size s, and compare for sheets of sizes s and t; and the bytes of play
+ * space that compare needs. */
+#define NEGYVOSAL_FOLLOW_WORDS(s) (32 * ((size_t)(s) + 1))
+#define NEGYVOSAL_COMPARE_WORDS(s, t) (32 * ((size_t)(s) + (t) + 1))
+#define NEGYVOSAL_COMPARE_SPACE(s, t) (4 * ((size_t)(s) + (t) - 1))
+
+/* Every service writes its answer into the first four words of `out` and returns 1. Words after the four stay as they
+ * were. Where `out_length` is below four it changes nothing and returns 0.
  *
- * Any bytes and any lengths are fine. The sheet is only read. Neither pointer may be null, even with a length of 0, and
- * `out` may not overlap the sheet. Calls keep nothing between them and may run at the same time. A call takes less than
- * 256 KiB of stack. */
+ * Any bytes and any lengths are fine. Sheets and plays are only read. No pointer may be null, even with a length of 0, and
+ * what is written (`words`, `space`, `out`) may overlap nothing else that is lent. Calls keep nothing between them and may
+ * run at the same time. A call takes less than 512 KiB of stack.
+ *
+ * A refusal leaves `words` and `space` as they were. After any other answer every working word is 0. */
+
+/* Checks a sheet. */
 uint32_t negyvosal_check(const uint8_t *sheet, size_t sheet_length, uint32_t *out, size_t out_length);
+
+/* Follows a play, given as move records, through a sheet. */
+uint32_t negyvosal_follow(const uint8_t *sheet, size_t sheet_length, const uint8_t *play, size_t play_length,
+                          uint32_t *words, size_t words_length, uint32_t *out, size_t out_length);
+
+/* Compares two sheets. Where they are apart, the records of the first play that only one of them has stand at the start
+ * of `space`, and the rest of it is as it was; "same" leaves `space` untouched. */
+uint32_t negyvosal_compare(const uint8_t *old_sheet, size_t old_length, const uint8_t *new_sheet, size_t new_length,
+                           uint32_t *words, size_t words_length, uint8_t *space, size_t space_length, uint32_t *out,
+                           size_t out_length);
 
 #ifdef __cplusplus
 }

@@ -1,2 +1,3 @@
 pub mod Words
 pub mod Handed
+pub mod Told

@@ -1,4 +1,5 @@
--- Silent steps of a machine, one by one: where they stop, settling stops there; where they go on for ever, settling is dead.
+-- Silent steps of a machine, one by one: where they stop, settling stops there; where they go on for ever, settling
+-- is dead.
 use mathlib.Core.Path.{_≡_, refl, sym, ap, _∙_}
 use mathlib.Core.Logic.{_⊎_, inl, inr}
 use Prim.Native.Nat.{ℕ, zero, suc, _+_, _-_, _≤_}

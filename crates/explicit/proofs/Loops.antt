@@ -70,7 +70,8 @@ module _ (t : List ℕ) (N : Numbers) (s : Site) (ear : Ear) where
   unfolding blockEdges
   block-none kind arg e l ws c z = rw (eq-eqb (limitOf t ear kind arg) 0 (sym c ∙ z)) (wrote-none ws (s .n) e)
 
-  pub values-first : (kind arg below e : ℕ) (ws : List ℕ) → Wrote ws (s .n) e (valueEdges t N s ear kind arg below 0) e ws
+  pub values-first : (kind arg below e : ℕ) (ws : List ℕ) → Wrote ws (s .n) e (valueEdges t N s ear kind arg below 0)
+      e ws
   unfolding valueEdges
   values-first kind arg below e ws = wrote-none ws (s .n) e
 

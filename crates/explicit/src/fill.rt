@@ -85,7 +85,18 @@ fn silent_of(s: Site, o: Out) -> usize
 }
 
 // The edge by the value of number r, where it is below the limit.
-fn hear_value(t: &[u16], n: Numbers, s: Site, words: &mut [u32], ear: Ear, kind: usize, arg: usize, below: usize, r: usize, e: usize) -> usize
+fn hear_value(
+    t: &[u16],
+    n: Numbers,
+    s: Site,
+    words: &mut [u32],
+    ear: Ear,
+    kind: usize,
+    arg: usize,
+    below: usize,
+    r: usize,
+    e: usize,
+) -> usize
     ensures returned { λ x. ⌜ x ≡ past e (valueEdge (now (t .entry)) n s ear kind arg below r) ⌝ }
     ensures written { λ x. ⌜ now (words .exit) ≡ withEdges (now (words .entry)) (s .n) e
         (valueEdge (now (t .entry)) n s ear kind arg below r) ⌝ }
@@ -138,7 +149,8 @@ fn hear(t: &[u16], n: Numbers, s: Site, words: &mut [u32], ear: Ear, e: usize) -
 // The state k of the sheet, its edges from edge e on.
 fn write_row(t: &[u16], n: Numbers, s: Site, words: &mut [u32], k: usize, e: usize) -> usize
     ensures returned { λ x. ⌜ x ≡ past e (rowOf (now (t .entry)) n s k .edges) ⌝ }
-    ensures written { λ x. ⌜ now (words .exit) ≡ withRow (now (words .entry)) (s .n) (s .o) k e (rowOf (now (t .entry)) n s k) ⌝ }
+    ensures written { λ x. ⌜ now (words .exit)
+        ≡ withRow (now (words .entry)) (s .n) (s .o) k e (rowOf (now (t .entry)) n s k) ⌝ }
 {
     let none = Move { kind: 255, id: 0, arg: 0, value: 0 };
     let o = sheet_at(t, n, s.root, k, none);
@@ -155,7 +167,8 @@ fn write_row(t: &[u16], n: Numbers, s: Site, words: &mut [u32], k: usize, e: usi
     }
 }
 
-// The automaton of a sheet: the states from s.o on, the end last, their edges from edge e on. Gives the edge after them.
+// The automaton of a sheet: the states from s.o on, the end last, their edges from edge e on. Gives the edge after
+// them.
 pub fn fill(t: &[u16], n: Numbers, s: Site, words: &mut [u32], e: usize) -> usize
     ensures returned { λ x. ⌜ x ≡ edgesAfter (now (t .entry)) n s e ⌝ }
     ensures written { λ x. ⌜ now (words .exit) ≡ filledOf (now (t .entry)) n s (now (words .entry)) e ⌝ }

@@ -8,7 +8,8 @@ use automaton::up::rise;
 use automaton::{Move, Out, Spot};
 use language::Numbers;
 ghost use mathlib.Core.Path.{_≡_};
-ghost use Rattle.explicit.specs.inner.States.{openedOf, atStart, withinOf, repliedOf, afterOf, sheetAt, spotsOf};
+ghost use Rattle.explicit.specs.inner.States.{openedOf, atStart, withinOf, repliedOf, afterOf, sheetAt};
+ghost use Rattle.explicit.specs.inner.States.{spotsOf};
 
 // The first question enters its copy of the term.
 fn opened(t: &[u16], root: usize, m: Move) -> Out

@@ -1,4 +1,5 @@
--- Rows of an automaton and how they are written into words: word p is the silent word of the state p, word 5 n + p its
+-- Rows of an automaton and how they are written into words: word p is the silent word of the state p, word 5 n + p
+-- its
 -- first edge, and edge e is the words 6 n + 1 + 2 e, its letter, and 6 n + 2 + 2 e, its target.
 use Prim.Native.Nat.{ℕ, zero, suc, _-_, _%_}
 use mathlib.Core.List.{List, [], _∷_}

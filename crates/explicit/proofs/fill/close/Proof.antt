@@ -21,7 +21,10 @@ same-length c = search needs
 
 returns : tie.Need-returns
 unfolding closedOf
-returns c = simp (← c .before .before .before .before .before .before .before .before .dead .ensures, ← c .before .before .before .before .before .before .before .write-head .ensures, ← c .before .before .before .place .ensures, ← c .before .before .put .ensures)
+returns c =
+    simp (← c .before .before .before .before .before .before .before .before .dead .ensures, ← c .before .before
+    .before .before .before .before .before .write-head .ensures, ← c .before .before .before .place .ensures, ← c
+    .before .before .put .ensures)
 
 pub close-spec : {M : Type 1} → statement M
 close-spec = tie.close (tie.spec dead-requires write-head-requires place-requires put-requires same-length returns)

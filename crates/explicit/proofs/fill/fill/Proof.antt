@@ -31,7 +31,9 @@ loop-less : tie.Need-loop-less Inv-loop μ-loop
 loop-less c = search needs
 
 loop-again : tie.Need-loop-again Inv-loop μ-loop
-loop-again c = (search needs, (search needs, filled-again (c .before .before .before .before .before .loop .inv .1 .1) (c .before .before .write-row .ensures .0) (c .before .before .write-row .ensures .1)))
+loop-again c =
+    (search needs, (search needs, filled-again (c .before .before .before .before .before .loop .inv .1 .1) (c .before
+    .before .write-row .ensures .0) (c .before .before .write-row .ensures .1)))
 
 sum-requires : tie.Need-sum-requires Inv-loop μ-loop
 sum-requires c κs = search needs
@@ -43,7 +45,13 @@ same-length : tie.Need-same-length Inv-loop μ-loop
 same-length c = search needs
 
 returns : tie.Need-returns Inv-loop μ-loop
-returns c = filled-last _ _ _ _ _ _ _ _ _ _ _ (c .before .before .before .before .before .before .loop .inv .1 .1) (omega (arith, c .before .before .before .before .before .before .loop .inv .0, c .before .before .before .before .before .loop-test .left)) (c .before .before .before .before .before .before .before .spots-of .ensures) (c .before .before .before .sum .ensures) (c .before .before .write-head .ensures)
+returns c =
+    filled-last _ _ _ _ _ _ _ _ _ _ _ (c .before .before .before .before .before .before .loop .inv .1 .1) (omega
+    (arith, c .before .before .before .before .before .before .loop .inv .0, c .before .before .before .before .before
+    .loop-test .left)) (c .before .before .before .before .before .before .before .spots-of .ensures) (c .before
+    .before .before .sum .ensures) (c .before .before .write-head .ensures)
 
 pub fill-spec : {M : Type 1} → statement M
-fill-spec = tie.close (tie.spec Inv-loop μ-loop spots-of-requires loop-holds write-row-requires add-k loop-less loop-again sum-requires write-head-requires same-length returns)
+fill-spec = tie.close
+    (tie.spec Inv-loop μ-loop spots-of-requires loop-holds write-row-requires add-k loop-less loop-again sum-requires
+    write-head-requires same-length returns)

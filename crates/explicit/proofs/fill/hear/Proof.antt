@@ -28,13 +28,18 @@ loop-less : tie.Need-loop-less Inv-loop μ-loop
 loop-less c = search needs
 
 loop-again : tie.Need-loop-again Inv-loop μ-loop
-loop-again c = (search needs, (search needs, heard-again _ _ _ _ _ _ _ _ _ _ _ (c .before .before .before .before .before .loop .inv .1 .1) (wrote (c .before .before .hear-block .ensures .0) (c .before .before .hear-block .ensures .1))))
+loop-again c =
+    (search needs, (search needs, heard-again _ _ _ _ _ _ _ _ _ _ _ (c .before .before .before .before .before .loop
+    .inv .1 .1) (wrote (c .before .before .hear-block .ensures .0) (c .before .before .hear-block .ensures .1))))
 
 same-length : tie.Need-same-length Inv-loop μ-loop
 same-length c = c .before .loop .inv .1 .0
 
 returns : tie.Need-returns Inv-loop μ-loop
-returns c = told (heard-last _ _ _ _ _ _ _ _ _ (omega (arith, c .before .loop .inv .0, c .loop-test .left)) (c .before .loop .inv .1 .1))
+returns c =
+    told (heard-last _ _ _ _ _ _ _ _ _ (omega (arith, c .before .loop .inv .0, c .loop-test .left)) (c .before .loop
+    .inv .1 .1))
 
 pub hear-spec : {M : Type 1} → statement M
-hear-spec = tie.close (tie.spec Inv-loop μ-loop loop-holds hear-block-requires add-b loop-less loop-again same-length returns)
+hear-spec = tie.close
+    (tie.spec Inv-loop μ-loop loop-holds hear-block-requires add-b loop-less loop-again same-length returns)

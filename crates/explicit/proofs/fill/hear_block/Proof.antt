@@ -5,13 +5,15 @@ use mathlib.Core.Path.{_≡_, refl}
 use lib.ListN.{length}
 use Rattle.language.specs.Number.{numbers}
 use Rattle.explicit.specs.inner.Moves.{valueEdges}
-use Rattle.explicit.proofs.Loops.{Wrote, told, wrote, block-none, values-first, values-again, block-some, numbers-all}
+use Rattle.explicit.proofs.Loops.{Wrote, told, wrote, block-none, values-first, values-again, block-some}
+use Rattle.explicit.proofs.Loops.{numbers-all}
 use Rattle.explicit.proofs.fill.hear_block.Statement.{statement}
 use Rattle.explicit.proofs.fill.hear_block.Tie as tie
 
 abbrev Inv-loop : tie.InvT-loop
 Inv-loop t n s words₀ ear kind arg e below all r₀ next₀ words r next =
-    (r ≤ all) × ((length words ≡ length words₀) × Wrote words₀ (s .n) e (valueEdges t n s ear kind arg below r) next words)
+    (r ≤ all) × ((length words ≡ length words₀) × Wrote words₀ (s .n) e (valueEdges t n s ear kind arg below r) next
+        words)
 
 abbrev μ-loop : tie.MeasureT-loop
 μ-loop t n s words₀ ear kind arg e below all r₀ next₀ words r next = all - r
@@ -44,13 +46,20 @@ loop-less : tie.Need-loop-less Inv-loop μ-loop
 loop-less c = search needs
 
 loop-again : tie.Need-loop-again Inv-loop μ-loop
-loop-again c = (search needs, (search needs, values-again _ _ _ _ _ _ _ _ _ _ _ _ _ _ (c .before .before .before .before .before .loop .inv .1 .1) (wrote (c .before .before .hear-value .ensures .0) (c .before .before .hear-value .ensures .1))))
+loop-again c =
+    (search needs, (search needs, values-again _ _ _ _ _ _ _ _ _ _ _ _ _ _ (c .before .before .before .before .before
+    .loop .inv .1 .1) (wrote (c .before .before .hear-value .ensures .0) (c .before .before .hear-value .ensures
+    .1))))
 
 same-length : tie.Need-same-length Inv-loop μ-loop
 same-length c = c .before .loop .inv .1 .0
 
 returns-2 : tie.Need-returns-2 Inv-loop μ-loop
-returns-2 c = told (block-some _ _ _ _ _ _ _ _ _ _ _ _ (c .before .before .before .before .limit .ensures) (c .before .before .before .if1 .left) (numbers-all _ _ (c .before .loop .inv .0) (c .loop-test .left)) (c .before .loop .inv .1 .1))
+returns-2 c =
+    told (block-some _ _ _ _ _ _ _ _ _ _ _ _ (c .before .before .before .before .limit .ensures) (c .before .before
+    .before .if1 .left) (numbers-all _ _ (c .before .loop .inv .0) (c .loop-test .left)) (c .before .loop .inv .1 .1))
 
 pub hear-block-spec : {M : Type 1} → statement M
-hear-block-spec = tie.close (tie.spec Inv-loop μ-loop limit-requires returns cast-all mul-all add-all loop-holds hear-value-requires add-r loop-less loop-again same-length returns-2)
+hear-block-spec = tie.close
+    (tie.spec Inv-loop μ-loop limit-requires returns cast-all mul-all add-all loop-holds hear-value-requires add-r
+    loop-less loop-again same-length returns-2)

@@ -28,7 +28,14 @@ same-length : tie.Need-same-length
 same-length c = search needs
 
 returns-2 : tie.Need-returns-2
-returns-2 c = told (value-some _ _ _ _ _ _ _ _ _ _ _ _ _ _ _ _ (c .before .before .before .before .before .before .before .before .before .code-at .ensures) (c .before .before .before .before .before .before .before .before .if1 .left) (c .before .before .before .before .before .before .before .sheet-at .ensures) (c .before .before .before .before .before .letter-of .ensures) (c .before .before .before .before .target-of .ensures) (c .before .before .before .write-edge .ensures) (c .sum .ensures))
+returns-2 c =
+    told (value-some _ _ _ _ _ _ _ _ _ _ _ _ _ _ _ _ (c .before .before .before .before .before .before .before
+    .before .before .code-at .ensures) (c .before .before .before .before .before .before .before .before .if1 .left)
+    (c .before .before .before .before .before .before .before .sheet-at .ensures) (c .before .before .before .before
+    .before .letter-of .ensures) (c .before .before .before .before .target-of .ensures) (c .before .before .before
+    .write-edge .ensures) (c .sum .ensures))
 
 pub hear-value-spec : {M : Type 1} → statement M
-hear-value-spec = tie.close (tie.spec code-at-requires returns sheet-at-requires letter-of-requires target-of-requires write-edge-requires sum-requires same-length returns-2)
+hear-value-spec = tie.close
+    (tie.spec code-at-requires returns sheet-at-requires letter-of-requires target-of-requires write-edge-requires
+    sum-requires same-length returns-2)

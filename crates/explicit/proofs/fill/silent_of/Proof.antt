@@ -19,7 +19,9 @@ sum-requires c κs = search needs
 
 returns-2 : tie.Need-returns-2
 unfolding silentOf
-returns-2 c = simp (← c .before .before .before .visible .ensures, c .before .before .if1 .left, ← c .before .target-of .ensures, ← c .sum .ensures)
+returns-2 c =
+    simp (← c .before .before .before .visible .ensures, c .before .before .if1 .left, ← c .before .target-of
+    .ensures, ← c .sum .ensures)
 
 pub silent-of-spec : {M : Type 1} → statement M
 silent-of-spec = tie.close (tie.spec visible-requires returns target-of-requires sum-requires returns-2)

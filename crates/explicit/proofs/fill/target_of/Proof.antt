@@ -55,4 +55,6 @@ unfolding targetOf
 returns-5 c = simp (c .before .enum-told4 .given .1, ← c .dead4 .ensures, c .before .before .match .keys5)
 
 pub target-of-spec : {M : Type 1} → statement M
-target-of-spec = tie.close (tie.spec enum-known-o sum-requires enum-told dead-requires enum-told-2 dead-requires-2 enum-told-3 dead-requires-3 enum-told-4 dead-requires-4 returns returns-2 returns-3 returns-4 returns-5)
+target-of-spec = tie.close
+    (tie.spec enum-known-o sum-requires enum-told dead-requires enum-told-2 dead-requires-2 enum-told-3
+    dead-requires-3 enum-told-4 dead-requires-4 returns returns-2 returns-3 returns-4 returns-5)

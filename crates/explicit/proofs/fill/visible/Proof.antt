@@ -40,4 +40,6 @@ unfolding visibleOf
 returns-5 c = simp (c .enum-told5 .given .1, c .before .match .keys5)
 
 pub visible-spec : {M : Type 1} → statement M
-visible-spec = tie.close (tie.spec enum-told enum-told-2 enum-told-3 enum-told-4 enum-told-5 returns returns-2 returns-3 returns-4 returns-5)
+visible-spec = tie.close
+    (tie.spec enum-told enum-told-2 enum-told-3 enum-told-4 enum-told-5 returns returns-2 returns-3 returns-4
+    returns-5)

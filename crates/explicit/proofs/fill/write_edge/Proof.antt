@@ -27,7 +27,14 @@ same-length c = search needs
 
 returns : tie.Need-returns
 unfolding withEdge edgeAt
-returns c = simp (← c .before .before .before .before .before .before .before .before .before .before .before .place .ensures, ← c .before .before .before .before .before .before .before .before .before .before .sum .ensures, ← c .before .before .before .before .before .before .before .before .before .sum2 .ensures, ← c .before .before .before .before .before .before .before .put .ensures, ← c .before .before .before .sum3 .ensures, ← c .before .before .put2 .ensures)
+returns c =
+    simp (← c .before .before .before .before .before .before .before .before .before .before .before .place .ensures,
+    ← c .before .before .before .before .before .before .before .before .before .before .sum .ensures, ← c .before
+    .before .before .before .before .before .before .before .before .sum2 .ensures, ← c .before .before .before
+    .before .before .before .before .put .ensures, ← c .before .before .before .sum3 .ensures, ← c .before .before
+    .put2 .ensures)
 
 pub write-edge-spec : {M : Type 1} → statement M
-write-edge-spec = tie.close (tie.spec place-requires sum-requires sum-requires-2 put-requires sum-requires-3 put-requires-2 same-length returns)
+write-edge-spec = tie.close
+    (tie.spec place-requires sum-requires sum-requires-2 put-requires sum-requires-3 put-requires-2 same-length
+    returns)

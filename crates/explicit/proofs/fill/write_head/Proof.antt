@@ -18,7 +18,9 @@ same-length c = search needs
 
 returns : tie.Need-returns
 unfolding withHead
-returns c = simp (← c .before .before .before .before .before .before .before .put .ensures, ← c .before .before .before .place .ensures, ← c .before .before .put2 .ensures)
+returns c =
+    simp (← c .before .before .before .before .before .before .before .put .ensures, ← c .before .before .before
+    .place .ensures, ← c .before .before .put2 .ensures)
 
 pub write-head-spec : {M : Type 1} → statement M
 write-head-spec = tie.close (tie.spec put-requires place-requires put-requires-2 same-length returns)

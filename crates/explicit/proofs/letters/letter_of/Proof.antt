@@ -36,4 +36,5 @@ unfolding letterOf
 returns-2 c = simp (← c .rank-of .ensures, le-ltb _ _ (c .before .if1 .left))
 
 pub letter-of-spec : {M : Type 1} → statement M
-letter-of-spec = tie.close (tie.spec mul-place mul-place-2 add-place mul-place-3 add-place-2 returns rank-of-requires add-result returns-2)
+letter-of-spec = tie.close
+    (tie.spec mul-place mul-place-2 add-place mul-place-3 add-place-2 returns rank-of-requires add-result returns-2)

@@ -15,7 +15,9 @@ question-limit-requires c κs = search needs
 
 returns : tie.Need-returns
 unfolding limitOf
-returns c = simp (← c .before .before .cell .ensures, ← c .before .cell2 .ensures, ← c .question-limit .ensures, eq-eqb _ _ (c .before .before .before .before .if1 .taken), eq-eqb _ _ (c .before .before .before .if2 .taken))
+returns c =
+    simp (← c .before .before .cell .ensures, ← c .before .cell2 .ensures, ← c .question-limit .ensures, eq-eqb _ _ (c
+    .before .before .before .before .if1 .taken), eq-eqb _ _ (c .before .before .before .if2 .taken))
 
 returns-2 : tie.Need-returns-2
 unfolding limitOf
@@ -32,14 +34,18 @@ answer-limit-requires c κs = search needs
 
 returns-3 : tie.Need-returns-3
 unfolding limitOf
-returns-3 c = simp (← c .before .before .cell3 .ensures, ← c .before .cell4 .ensures, ← c .answer-limit .ensures, ne-eqb _ _ (c .before .before .before .before .if1 .left), eq-eqb _ _ (c .before .before .before .if3 .taken))
+returns-3 c =
+    simp (← c .before .before .cell3 .ensures, ← c .before .cell4 .ensures, ← c .answer-limit .ensures, ne-eqb _ _ (c
+    .before .before .before .before .if1 .left), eq-eqb _ _ (c .before .before .before .if3 .taken))
 
 name-count-requires : tie.Need-name-count-requires
 name-count-requires c κs = search needs
 
 returns-4 : tie.Need-returns-4
 unfolding limitOf
-returns-4 c = simp (← c .before .name-count .ensures, ne-eqb _ _ (c .before .before .before .if1 .left), ne-eqb _ _ (c .before .before .if3 .left), lt-ltb _ _ (c .if4 .taken))
+returns-4 c =
+    simp (← c .before .name-count .ensures, ne-eqb _ _ (c .before .before .before .if1 .left), ne-eqb _ _ (c .before
+    .before .if3 .left), lt-ltb _ _ (c .if4 .taken))
 
 sub-part-class : tie.Need-sub-part-class
 sub-part-class c = search needs
@@ -58,7 +64,14 @@ question-limit-requires-2 c κs = search needs
 
 returns-5 : tie.Need-returns-5
 unfolding limitOf
-returns-5 c = simp (← c .before .before .before .before .name-count .ensures, ← c .before .before .part-class .ensures, ← c .before .part-values .ensures, ← c .question-limit2 .ensures, ne-eqb _ _ (c .before .before .before .before .before .before .if1 .left), ne-eqb _ _ (c .before .before .before .before .before .if3 .left), le-ltb _ _ (c .before .before .before .if4 .left))
+returns-5 c =
+    simp (← c .before .before .before .before .name-count .ensures, ← c .before .before .part-class .ensures, ← c
+    .before .part-values .ensures, ← c .question-limit2 .ensures, ne-eqb _ _ (c .before .before .before .before
+    .before .before .if1 .left), ne-eqb _ _ (c .before .before .before .before .before .if3 .left), le-ltb _ _ (c
+    .before .before .before .if4 .left))
 
 pub limit-spec : {M : Type 1} → statement M
-limit-spec = tie.close (tie.spec cell-requires cell-requires-2 question-limit-requires returns returns-2 cell-requires-3 cell-requires-4 answer-limit-requires returns-3 name-count-requires returns-4 sub-part-class part-class-requires sub-part-values part-values-requires question-limit-requires-2 returns-5)
+limit-spec = tie.close
+    (tie.spec cell-requires cell-requires-2 question-limit-requires returns returns-2 cell-requires-3 cell-requires-4
+    answer-limit-requires returns-3 name-count-requires returns-4 sub-part-class part-class-requires sub-part-values
+    part-values-requires question-limit-requires-2 returns-5)

@@ -46,4 +46,6 @@ unfolding rank numbers
 returns-3 c = rw (lt-leb _ _ (c .before .if1 .left)) (omega (arith, c .if2 .left))
 
 pub rank-of-spec : {M : Type 1} → statement M
-rank-of-spec = tie.close (tie.spec cast-z add-result returns add-if2 mul-if2 add-if2-2 returns-2 add-result-2 mul-result add-result-3 sub-result returns-3)
+rank-of-spec = tie.close
+    (tie.spec cast-z add-result returns add-if2 mul-if2 add-if2-2 returns-2 add-result-2 mul-result add-result-3
+    sub-result returns-3)

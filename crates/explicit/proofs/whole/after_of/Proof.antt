@@ -21,7 +21,10 @@ place-requires c κs = search needs
 
 returns : tie.Need-returns
 unfolding afterOf
-returns c = simp (← c .before .before .before .before .cell .ensures, ← c .before .before .before .cell2 .ensures, ← c .before .before .questions .ensures, ← c .before .cell3 .ensures, ← c .place .ensures)
+returns c =
+    simp (← c .before .before .before .before .cell .ensures, ← c .before .before .before .cell2 .ensures, ← c .before
+    .before .questions .ensures, ← c .before .cell3 .ensures, ← c .place .ensures)
 
 pub after-of-spec : {M : Type 1} → statement M
-after-of-spec = tie.close (tie.spec cell-requires cell-requires-2 questions-requires cell-requires-3 place-requires returns)
+after-of-spec = tie.close
+    (tie.spec cell-requires cell-requires-2 questions-requires cell-requires-3 place-requires returns)

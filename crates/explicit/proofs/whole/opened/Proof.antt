@@ -23,7 +23,10 @@ question-number-requires c κs = search needs
 
 returns-3 : tie.Need-returns-3
 unfolding openedOf
-returns-3 c = simp (← c .before .before .before .cell .ensures, ← c .before .before .cell2 .ensures, ← c .before .question-number .ensures, eq-eqb _ _ (c .before .before .before .before .before .before .if1 .left), eq-eqb _ _ (c .before .before .before .before .if2 .left), eq-eqb _ _ (c .if3 .taken))
+returns-3 c =
+    simp (← c .before .before .before .cell .ensures, ← c .before .before .cell2 .ensures, ← c .before
+    .question-number .ensures, eq-eqb _ _ (c .before .before .before .before .before .before .if1 .left), eq-eqb _ _
+    (c .before .before .before .before .if2 .left), eq-eqb _ _ (c .if3 .taken))
 
 sub-place : tie.Need-sub-place
 sub-place c = search needs
@@ -36,7 +39,13 @@ place-requires c κs = search needs
 
 returns-4 : tie.Need-returns-4
 unfolding openedOf
-returns-4 c = simp (← c .before .before .before .before .before .cell .ensures, ← c .before .before .before .before .cell2 .ensures, ← c .before .before .before .question-number .ensures, ← c .before .cell3 .ensures, ← c .place .ensures, eq-eqb _ _ (c .before .before .before .before .before .before .before .before .if1 .left), eq-eqb _ _ (c .before .before .before .before .before .before .if2 .left), ne-eqb _ _ (c .before .before .if3 .left))
+returns-4 c =
+    simp (← c .before .before .before .before .before .cell .ensures, ← c .before .before .before .before .cell2
+    .ensures, ← c .before .before .before .question-number .ensures, ← c .before .cell3 .ensures, ← c .place .ensures,
+    eq-eqb _ _ (c .before .before .before .before .before .before .before .before .if1 .left), eq-eqb _ _ (c .before
+    .before .before .before .before .before .if2 .left), ne-eqb _ _ (c .before .before .if3 .left))
 
 pub opened-spec : {M : Type 1} → statement M
-opened-spec = tie.close (tie.spec returns returns-2 cell-requires cell-requires-2 question-number-requires returns-3 sub-place cell-requires-3 place-requires returns-4)
+opened-spec = tie.close
+    (tie.spec returns returns-2 cell-requires cell-requires-2 question-number-requires returns-3 sub-place
+    cell-requires-3 place-requires returns-4)

@@ -22,7 +22,9 @@ within-requires c κs = search needs
 
 returns-2 : tie.Need-returns-2
 unfolding sheetAt
-returns-2 c = simp (← c .before .before .after-of .ensures, ← c .within .ensures, ne-eqb _ _ (c .before .before .before .if1 .left), lt-ltb _ _ (c .before .if2 .taken))
+returns-2 c =
+    simp (← c .before .before .after-of .ensures, ← c .within .ensures, ne-eqb _ _ (c .before .before .before .if1
+    .left), lt-ltb _ _ (c .before .if2 .taken))
 
 cell-requires : tie.Need-cell-requires
 cell-requires c κs = search needs
@@ -38,7 +40,12 @@ spots-of-requires c κs = search needs
 
 returns-3 : tie.Need-returns-3
 unfolding sheetAt
-returns-3 c = simp (← c .before .before .before .before .before .after-of .ensures, ← c .before .before .before .cell .ensures, ← c .before .before .cell2 .ensures, ← c .before .replied .ensures, ← c .spots-of .ensures, ne-eqb _ _ (c .before .before .before .before .before .before .if1 .left), le-ltb _ _ (c .before .before .before .before .if2 .left))
+returns-3 c =
+    simp (← c .before .before .before .before .before .after-of .ensures, ← c .before .before .before .cell .ensures,
+    ← c .before .before .cell2 .ensures, ← c .before .replied .ensures, ← c .spots-of .ensures, ne-eqb _ _ (c .before
+    .before .before .before .before .before .if1 .left), le-ltb _ _ (c .before .before .before .before .if2 .left))
 
 pub sheet-at-spec : {M : Type 1} → statement M
-sheet-at-spec = tie.close (tie.spec at-start-requires returns after-of-requires sub-within within-requires returns-2 cell-requires cell-requires-2 replied-requires spots-of-requires returns-3)
+sheet-at-spec = tie.close
+    (tie.spec at-start-requires returns after-of-requires sub-within within-requires returns-2 cell-requires
+    cell-requires-2 replied-requires spots-of-requires returns-3)

@@ -21,7 +21,10 @@ sum-requires c κs = search needs
 
 returns : tie.Need-returns
 unfolding spotsOf
-returns c = simp (← c .before .before .before .before .after-of .ensures, ← c .before .before .before .cell .ensures, ← c .before .before .cell2 .ensures, ← c .before .answers .ensures, ← c .sum .ensures)
+returns c =
+    simp (← c .before .before .before .before .after-of .ensures, ← c .before .before .before .cell .ensures, ← c
+    .before .before .cell2 .ensures, ← c .before .answers .ensures, ← c .sum .ensures)
 
 pub spots-of-spec : {M : Type 1} → statement M
-spots-of-spec = tie.close (tie.spec after-of-requires cell-requires cell-requires-2 answers-requires sum-requires returns)
+spots-of-spec = tie.close
+    (tie.spec after-of-requires cell-requires cell-requires-2 answers-requires sum-requires returns)

@@ -31,11 +31,20 @@ rise-requires c κs = search needs
 
 returns : tie.Need-returns
 unfolding withinOf onSpot
-returns c = simp (c .before .d .given .1, ← c .before .before .before .before .before .before .cell .ensures, ← c .before .before .before .before .before .cell2 .ensures, ← c .before .before .before .before .cell3 .ensures, ← c .before .before .before .arg-in .ensures)
+returns c =
+    simp (c .before .d .given .1, ← c .before .before .before .before .before .before .cell .ensures, ← c .before
+    .before .before .before .before .cell2 .ensures, ← c .before .before .before .before .cell3 .ensures, ← c .before
+    .before .before .arg-in .ensures)
 
 returns-2 : tie.Need-returns-2
 unfolding withinOf onSpot
-returns-2 c = simp (c .before .before .before .d2 .given .1, ← c .before .before .before .before .before .before .before .before .cell .ensures, ← c .before .before .before .before .before .before .before .cell2 .ensures, ← c .before .before .before .before .before .before .cell3 .ensures, ← c .before .before .before .before .before .arg-in .ensures, ← c .before .step-at .ensures, ← c .rise .ensures)
+returns-2 c =
+    simp (c .before .before .before .d2 .given .1, ← c .before .before .before .before .before .before .before .before
+    .cell .ensures, ← c .before .before .before .before .before .before .before .cell2 .ensures, ← c .before .before
+    .before .before .before .before .cell3 .ensures, ← c .before .before .before .before .before .arg-in .ensures, ← c
+    .before .step-at .ensures, ← c .rise .ensures)
 
 pub within-spec : {M : Type 1} → statement M
-within-spec = tie.close (tie.spec cell-requires cell-requires-2 cell-requires-3 arg-in-requires enum-known-d enum-known-d-2 step-at-requires rise-requires returns returns-2)
+within-spec = tie.close
+    (tie.spec cell-requires cell-requires-2 cell-requires-3 arg-in-requires enum-known-d enum-known-d-2
+    step-at-requires rise-requires returns returns-2)

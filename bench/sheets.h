@@ -1,0 +1,47 @@
+/* Sheets for timing: so many statements `while e = e do c` in sequence. Each weighs 2 K + 4 and has on average
+ * (1 + K) / 2 edges a state in its tests, which is the most that a sheet can have. */
+#ifndef SHEETS_H
+#define SHEETS_H
+
+#include <stddef.h>
+#include <stdint.h>
+
+enum { DECLARE = 1, USE = 20, OPERATE = 22, SEQUENCE = 24, WHILE = 26, EQUAL = 4, C = 8, E = 9 };
+
+struct sheet {
+    uint8_t bytes[4096];
+    size_t length;
+};
+
+static void put(struct sheet *s, int byte) { s->bytes[s->length++] = (uint8_t)byte; }
+
+static void declare(struct sheet *s, int id, int type) {
+    int record[] = {DECLARE, id, type, 0, 255, 255, 255, 255};
+    for (int i = 0; i < 8; i++) put(s, record[i]);
+}
+
+/* `count` statements, halved as long as there are more than `group`, then one after the other. */
+static void statements(struct sheet *s, int count, int group) {
+    static const int loop[] = {WHILE, OPERATE, EQUAL, USE, E, USE, E, USE, C};
+    if (count == 1) {
+        for (int i = 0; i < 9; i++) put(s, loop[i]);
+        return;
+    }
+    int left = count > group ? count / 2 : 1;
+    put(s, SEQUENCE);
+    statements(s, left, group);
+    statements(s, count - left, group);
+}
+
+/* The sheet of at most `size` states; sheets with other groups have the same plays. */
+static struct sheet loops(int z, int size, int group) {
+    struct sheet s = {{0}, 0};
+    put(&s, z);
+    put(&s, 0);
+    declare(&s, C, 0);
+    declare(&s, E, 2);
+    statements(&s, (size - 3) / (2 * (2 * z + 1) + 4), group);
+    return s;
+}
+
+#endif

@@ -1,0 +1,27 @@
+/* Compares two routines: skip, and f(skip) where f may or may not call its argument; then follows the play shown. */
+#include <stdio.h>
+
+#include "negyvosal.h"
+
+/* Z = 1, rule 0; name 7 takes a command and is a command. */
+#define HEADING 1, 0, 1, 7, 0, 1, 0, 255, 255, 255
+
+int main(void) {
+    static const uint8_t old_sheet[] = {HEADING, 20, 7, 16};      /* f(skip) */
+    static const uint8_t new_sheet[] = {HEADING, 20, 7, 17, 0};   /* f(diverge) */
+    static uint32_t words[16384];
+    uint8_t space[2040];
+    uint32_t out[NEGYVOSAL_WORDS];
+    size_t bytes = 0;
+
+    negyvosal_compare(old_sheet, sizeof old_sheet, new_sheet, sizeof new_sheet, words, 16384, space, sizeof space, out,
+                      NEGYVOSAL_WORDS);
+    if (out[0] != NEGYVOSAL_APART) return 1;
+    printf("apart in %s %u\n", out[1] == NEGYVOSAL_OLD ? "old" : "new", (unsigned)out[2]);
+    for (uint32_t i = 0; i < out[2]; i++) bytes += space[bytes] < 5 ? 3 : 4;
+
+    negyvosal_follow(new_sheet, sizeof new_sheet, space, bytes, words, 16384, out, NEGYVOSAL_WORDS);
+    if (out[0] != NEGYVOSAL_FOLLOWS) return 1;
+    printf("new follows %u complete %s\n", (unsigned)out[1], out[2] ? "yes" : "no");
+    return 0;
+}

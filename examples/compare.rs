@@ -1,0 +1,51 @@
+//! Compares two routines: c; c against c; then follows the play shown.
+
+extern "C" {
+    fn negyvosal_follow(
+        sheet: *const u8, sheet_length: usize, play: *const u8, play_length: usize, words: *mut u32, words_length: usize,
+        out: *mut u32, out_length: usize,
+    ) -> u32;
+    fn negyvosal_compare(
+        old: *const u8, old_length: usize, new: *const u8, new_length: usize, words: *mut u32, words_length: usize,
+        space: *mut u8, space_length: usize, out: *mut u32, out_length: usize,
+    ) -> u32;
+}
+
+fn compare(old: &[u8], new: &[u8], words: &mut [u32], space: &mut [u8]) -> [u32; 4] {
+    let mut out = [0; 4];
+    // SAFETY: every pointer comes with the length of its slice, and the slices do not overlap.
+    unsafe {
+        negyvosal_compare(
+            old.as_ptr(), old.len(), new.as_ptr(), new.len(), words.as_mut_ptr(), words.len(), space.as_mut_ptr(),
+            space.len(), out.as_mut_ptr(), out.len(),
+        );
+    }
+    out
+}
+
+fn follow(sheet: &[u8], play: &[u8], words: &mut [u32]) -> [u32; 4] {
+    let mut out = [0; 4];
+    // SAFETY: as above.
+    unsafe {
+        negyvosal_follow(
+            sheet.as_ptr(), sheet.len(), play.as_ptr(), play.len(), words.as_mut_ptr(), words.len(), out.as_mut_ptr(),
+            out.len(),
+        );
+    }
+    out
+}
+
+fn main() {
+    // Z = 1, rule 0; name 8 is a command.
+    let heading = [1, 0, 1, 8, 0, 0, 255, 255, 255, 255];
+    let old = [&heading[..], &[24, 20, 8, 20, 8]].concat();
+    let new = [&heading[..], &[20, 8]].concat();
+    let (mut words, mut space) = (vec![0; 16384], [0; 2040]);
+    let [kind, sheet, moves, _] = compare(&old, &new, &mut words, &mut space);
+    assert_eq!(kind, 4, "the sheets are apart");
+    println!("apart in {} {moves}", ["old", "new"][sheet as usize]);
+    let bytes = (0..moves).fold(0, |at, _| at + if space[at] < 5 { 3 } else { 4 });
+    let [kind, count, complete, _] = follow(&old, &space[..bytes], &mut words);
+    assert_eq!(kind, 2, "the play is followed");
+    println!("old follows {count} complete {}", if complete == 1 { "yes" } else { "no" });
+}
