@@ -6,3 +6,8 @@ pub mod Letters
 pub mod OnePlay
 pub mod TwoPlays
 pub mod LivePlay
+pub mod Parsing
+pub mod Counting
+pub mod WritingPlays
+pub mod Written
+pub mod Building

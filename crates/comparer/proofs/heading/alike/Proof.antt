@@ -1,0 +1,25 @@
+use borrow.Author.Needs.{needs}
+use borrow.Author.Tests.{eq-eqb, ne-eqb, not-true, not-false}
+use Rattle.comparer.specs.Refusals.{comparable}
+use Rattle.comparer.proofs.heading.alike.Statement.{statement}
+use Rattle.comparer.proofs.heading.alike.Tie as tie
+
+returns : tie.Need-returns
+unfolding comparable
+returns c = simp (ne-eqb _ _ (c .if1 .taken))
+
+same-first-requires : tie.Need-same-first-requires
+same-first-requires c κs = search needs
+
+returns-2 : tie.Need-returns-2
+unfolding comparable
+returns-2 c = simp (← c .before .same-first .ensures, eq-eqb _ _ (c .before .before .if1 .left), not-true (c .before
+    .same-first .result) (c .if2 .taken))
+
+returns-3 : tie.Need-returns-3
+unfolding comparable
+returns-3 c = simp (← c .before .same-first .ensures, eq-eqb _ _ (c .before .before .if1 .left), not-false (c .before
+    .same-first .result) (c .if2 .left))
+
+pub alike-spec : {M : Type 1} → statement M
+alike-spec = tie.close (tie.spec returns same-first-requires returns-2 returns-3)

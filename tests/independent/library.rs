@@ -1,0 +1,207 @@
+//! The proved library through its C boundary. Every call tests that the library changes nothing but what it may.
+
+use crate::services::{records, Answer};
+
+extern "C" {
+    fn negyvosal_check(sheet: *const u8, sheet_length: usize, out: *mut u32, out_length: usize) -> u32;
+
+    fn negyvosal_follow(
+        sheet: *const u8,
+        sheet_length: usize,
+        play: *const u8,
+        play_length: usize,
+        words: *mut u32,
+        words_length: usize,
+        out: *mut u32,
+        out_length: usize,
+    ) -> u32;
+
+    fn negyvosal_compare(
+        old: *const u8,
+        old_length: usize,
+        new: *const u8,
+        new_length: usize,
+        words: *mut u32,
+        words_length: usize,
+        space: *mut u8,
+        space_length: usize,
+        out: *mut u32,
+        out_length: usize,
+    ) -> u32;
+}
+
+const GUARD: usize = 16;
+
+/// Elements lent to a call, with guards of a known pattern before and after them.
+struct Lent<T> {
+    name: &'static str,
+    before: Vec<T>,
+    memory: Vec<T>,
+}
+
+impl<T: Copy + PartialEq + std::fmt::Debug> Lent<T> {
+    fn new(name: &'static str, values: &[T], pattern: impl Fn(usize) -> T) -> Lent<T> {
+        let mut before: Vec<T> = (0..GUARD).map(&pattern).collect();
+        before.extend_from_slice(values);
+        before.extend((GUARD..2 * GUARD).map(&pattern));
+        Lent { name, memory: before.clone(), before }
+    }
+
+    fn length(&self) -> usize {
+        self.before.len() - 2 * GUARD
+    }
+
+    fn start(&self) -> *const T {
+        self.memory[GUARD..].as_ptr()
+    }
+
+    fn start_mut(&mut self) -> *mut T {
+        self.memory[GUARD..].as_mut_ptr()
+    }
+
+    fn now(&self) -> &[T] {
+        &self.memory[GUARD..GUARD + self.length()]
+    }
+
+    /// The first elements are the given ones, and all else is as it was.
+    fn expect(&self, first: &[T]) -> Result<(), String> {
+        let wanted = self.before[..GUARD].iter().chain(first).chain(&self.before[GUARD + first.len()..]);
+        match self.memory.iter().zip(wanted).position(|(is, should)| is != should) {
+            None => Ok(()),
+            Some(i) => {
+                let place = i as isize - GUARD as isize;
+                Err(format!("{}[{place}] is {:?} after the call", self.name, self.memory[i]))
+            }
+        }
+    }
+}
+
+fn pattern(i: usize) -> u32 {
+    (i as u32).wrapping_add(3).wrapping_mul(0x85EBCA77)
+}
+
+fn lent_bytes(name: &'static str, bytes: &[u8]) -> Lent<u8> {
+    Lent::new(name, bytes, |i| pattern(i) as u8)
+}
+
+fn lent_words(name: &'static str, length: usize) -> Lent<u32> {
+    let values: Vec<u32> = (0..length).map(pattern).collect();
+    Lent::new(name, &values, |i| !pattern(i))
+}
+
+/// The four words of an answer, once it is sure that the call returned 1 and wrote no others.
+fn answer(told: u32, out: &Lent<u32>) -> Result<[u32; 4], String> {
+    if told != 1 {
+        return Err(format!("it returns {told}"));
+    }
+    let words = [0, 1, 2, 3].map(|i| out.now()[i]);
+    out.expect(&words)?;
+    Ok(words)
+}
+
+/// Working words are all 0 after an accepted call, and untouched after a refusal.
+fn expect_words(words: &Lent<u32>, accepted: bool) -> Result<(), String> {
+    words.expect(&vec![0; if accepted { words.length() } else { 0 }])
+}
+
+/// What the library answers; `room` is how many words are lent for the answer, at least four.
+pub fn check(sheet: &[u8], room: usize) -> Result<[u32; 4], String> {
+    let sheet = lent_bytes("sheet", sheet);
+    let mut out = lent_words("out", room);
+    // SAFETY: every pointer is to as many elements as its length says, and none overlap.
+    let told = unsafe { negyvosal_check(sheet.start(), sheet.length(), out.start_mut(), out.length()) };
+    sheet.expect(&[])?;
+    answer(told, &out)
+}
+
+pub fn follow(sheet: &[u8], play: &[u8], words: usize, room: usize) -> Result<[u32; 4], String> {
+    let sheet = lent_bytes("sheet", sheet);
+    let play = lent_bytes("play", play);
+    let mut words = lent_words("words", words);
+    let mut out = lent_words("out", room);
+    // SAFETY: every pointer is to as many elements as its length says, and none overlap.
+    let told = unsafe {
+        negyvosal_follow(
+            sheet.start(),
+            sheet.length(),
+            play.start(),
+            play.length(),
+            words.start_mut(),
+            words.length(),
+            out.start_mut(),
+            out.length(),
+        )
+    };
+    sheet.expect(&[])?;
+    play.expect(&[])?;
+    let got = answer(told, &out)?;
+    expect_words(&words, got[0] != 0)?;
+    Ok(got)
+}
+
+/// What compare gives: the words of its answer, and play space.
+pub struct Compared {
+    pub words: [u32; 4],
+    space: Lent<u8>,
+}
+
+impl Compared {
+    /// Play space starts with these bytes, and the rest of it is untouched.
+    pub fn expect_space(&self, first: &[u8]) -> Result<(), String> {
+        self.space.expect(first)
+    }
+
+    /// Play space as it is now.
+    pub fn space(&self) -> &[u8] {
+        self.space.now()
+    }
+}
+
+pub fn compare(old: &[u8], new: &[u8], words: usize, space: usize, room: usize) -> Result<Compared, String> {
+    let old = lent_bytes("old", old);
+    let new = lent_bytes("new", new);
+    let mut words = lent_words("words", words);
+    let filling: Vec<u8> = (0..space).map(|i| !pattern(i) as u8).collect();
+    let mut space = lent_bytes("space", &filling);
+    let mut out = lent_words("out", room);
+    // SAFETY: every pointer is to as many elements as its length says, and none overlap.
+    let told = unsafe {
+        negyvosal_compare(
+            old.start(),
+            old.length(),
+            new.start(),
+            new.length(),
+            words.start_mut(),
+            words.length(),
+            space.start_mut(),
+            space.length(),
+            out.start_mut(),
+            out.length(),
+        )
+    };
+    old.expect(&[])?;
+    new.expect(&[])?;
+    let got = answer(told, &out)?;
+    expect_words(&words, got[0] != 0)?;
+    Ok(Compared { words: got, space })
+}
+
+/// The four words that an answer should have.
+pub fn words_of(answer: &Answer) -> [u32; 4] {
+    match answer {
+        Answer::Refused { number, sheet, place } => [0, *number, sheet.word(), *place as u32],
+        Answer::Accepted { kind, size } => [1, *kind, *size as u32, 0],
+        Answer::Followed { count, complete } => [2, *count as u32, *complete as u32, 0],
+        Answer::Same => [3, 0, 0, 0],
+        Answer::Apart { sheet, play } => [4, sheet.word(), play.len() as u32, 0],
+        Answer::Unknown => [u32::MAX; 4],
+    }
+}
+
+/// The bytes that an answer should write into play space.
+pub fn bytes_of(answer: &Answer) -> Vec<u8> {
+    match answer {
+        Answer::Apart { play, .. } => records(play),
+        _ => vec![],
+    }
+}

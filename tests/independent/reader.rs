@@ -1,0 +1,249 @@
+//! Reads a sheet from its bytes, or gives the first refusal in document 01's order.
+//!
+//! The reader keeps the open records, those with parts still to come, on a stack of its own. A record is closed as soon
+//! as its last byte is read; closing judges its type as a part of the record below it, and may close that one too.
+
+use crate::sheet::{Data, Heading, Kind, Operator, Record, Term, Type};
+
+pub const LONGEST: usize = 4096;
+pub const LARGEST: u64 = 4096;
+const DEEPEST: usize = 32;
+const MOST_RECORDS: usize = 32;
+
+/// The number of a refusal of one sheet, and its place.
+#[derive(Clone, Copy, Debug, PartialEq)]
+pub struct Fault {
+    pub number: u32,
+    pub place: usize,
+}
+
+fn fault<T>(number: u32, place: usize) -> Result<T, Fault> {
+    Err(Fault { number, place })
+}
+
+/// An accepted sheet.
+#[derive(Clone, Debug)]
+pub struct Sheet {
+    pub heading: Heading,
+    /// How many bytes the heading has.
+    pub heading_length: usize,
+    pub term: Term,
+    pub size: u64,
+}
+
+/// A record whose parts are not all read.
+struct Open {
+    place: usize,
+    kind: Kind,
+    /// The declared types of a name's arguments; empty for all other kinds.
+    declared: Vec<Type>,
+    parts: Vec<Term>,
+}
+
+/// What a part has to be.
+enum Demand {
+    Any,
+    AnyVariable,
+    Only(Type),
+}
+
+struct Reader<'a> {
+    bytes: &'a [u8],
+    at: usize,
+    heading: Heading,
+    open: Vec<Open>,
+}
+
+/// The sheet with these bytes, or its refusal.
+pub fn read(bytes: &[u8]) -> Result<Sheet, Fault> {
+    if bytes.len() > LONGEST {
+        return fault(1, LONGEST);
+    }
+    let heading = Heading { z: 0, wraps: false, records: Vec::new() };
+    let mut reader = Reader { bytes, at: 0, heading, open: Vec::new() };
+    reader.read_heading()?;
+    let heading_length = reader.at;
+    let term = reader.read_term()?;
+    if reader.at < bytes.len() {
+        return fault(10, reader.at);
+    }
+    let size = term.size(reader.heading.z);
+    if size > LARGEST {
+        return fault(11, 0);
+    }
+    Ok(Sheet { heading: reader.heading, heading_length, term, size })
+}
+
+impl Reader<'_> {
+    /// The next byte as `judge` takes it; 2 where the sheet has ended, 3 where `judge` does not take it.
+    fn next<T>(&mut self, judge: impl Fn(u8) -> Option<T>) -> Result<T, Fault> {
+        let Some(&byte) = self.bytes.get(self.at) else {
+            return fault(2, self.bytes.len());
+        };
+        let Some(value) = judge(byte) else {
+            return fault(3, self.at);
+        };
+        self.at += 1;
+        Ok(value)
+    }
+
+    fn next_id(&mut self) -> Result<u8, Fault> {
+        self.next(|b| (b < 255).then_some(b))
+    }
+
+    fn next_type(&mut self) -> Result<Type, Fault> {
+        self.next(Type::from_byte)
+    }
+
+    /// An id that no name record has had so far.
+    fn next_unused_id(&mut self) -> Result<u8, Fault> {
+        let id = self.next_id()?;
+        match self.heading.record(id) {
+            Some(_) => fault(4, self.at - 1),
+            None => Ok(id),
+        }
+    }
+
+    fn read_heading(&mut self) -> Result<(), Fault> {
+        self.heading.z = self.next(|b| (1..=7).contains(&b).then_some(b as i8))?;
+        self.heading.wraps = self.next(|b| (b < 2).then_some(b == 1))?;
+        while let Some(kind @ (1 | 2)) = self.bytes.get(self.at) {
+            if self.heading.records.len() == MOST_RECORDS {
+                return fault(9, self.at);
+            }
+            self.at += 1;
+            let record =
+                if *kind == 1 { self.read_declaration()? } else { Record::Retire { id: self.next_unused_id()? } };
+            self.heading.records.push(record);
+        }
+        Ok(())
+    }
+
+    fn read_declaration(&mut self) -> Result<Record, Fault> {
+        let id = self.next_unused_id()?;
+        let result = self.next_type()?;
+        let count = self.next(|b| (b <= 4).then_some(b as usize))?;
+        let mut arguments = Vec::new();
+        for j in 0..4 {
+            if j < count {
+                arguments.push(self.next_type()?);
+            } else {
+                self.next(|b| (b == 255).then_some(()))?;
+            }
+        }
+        Ok(Record::Declare { id, result, arguments })
+    }
+
+    fn read_term(&mut self) -> Result<Term, Fault> {
+        loop {
+            let mut newest = self.read_record()?;
+            while newest.parts.len() == newest.wanted() {
+                let part = Term::new(newest.kind, newest.parts);
+                let Some(mut below) = self.open.pop() else {
+                    return Ok(part);
+                };
+                if !below.demand().met_by(part.gives) {
+                    return fault(7, newest.place);
+                }
+                below.parts.push(part);
+                newest = below;
+            }
+            self.open.push(newest);
+        }
+    }
+
+    /// The kind and the body of a record, without its parts.
+    fn read_record(&mut self) -> Result<Open, Fault> {
+        let place = self.at;
+        let byte = self.next(|b| (16..=27).contains(&b).then_some(b))?;
+        if self.open.len() == DEEPEST {
+            return fault(8, place);
+        }
+        let mut declared = Vec::new();
+        let kind = match byte {
+            16 => Kind::Skip,
+            17 => Kind::Diverge(self.next_type()?),
+            18 => Kind::Constant(Data::Truth, self.next(|b| (b < 2).then_some(b as i8))?),
+            19 => Kind::Constant(Data::Number, self.next_number()?),
+            20 => self.read_use(&mut declared)?,
+            21 => Kind::Fetch,
+            22 => Kind::Operate(self.next(Operator::from_byte)?),
+            23 => Kind::Assign,
+            24 => Kind::Sequence,
+            25 => Kind::If,
+            26 => Kind::While,
+            _ => Kind::New { id: self.next_unused_id()?, data: self.next(Data::from_byte)? },
+        };
+        Ok(Open { place, kind, declared, parts: Vec::new() })
+    }
+
+    fn next_number(&mut self) -> Result<i8, Fault> {
+        let z = self.heading.z;
+        self.next(|b| Data::Number.values(z).contains(&(b as i8)).then_some(b as i8))
+    }
+
+    /// A use: of the innermost open block with that id, else of the name declared.
+    fn read_use(&mut self, declared: &mut Vec<Type>) -> Result<Kind, Fault> {
+        let id = self.next_id()?;
+        if let Some(kind) = self.private(id) {
+            return Ok(kind);
+        }
+        match self.heading.record(id) {
+            None => fault(5, self.at - 1),
+            Some(Record::Retire { .. }) => fault(6, self.at - 1),
+            Some(Record::Declare { result, arguments, .. }) => {
+                declared.clone_from(arguments);
+                Ok(Kind::Name { id, result: *result })
+            }
+        }
+    }
+
+    fn private(&self, id: u8) -> Option<Kind> {
+        let blocks = self.open.iter().filter_map(|open| match open.kind {
+            Kind::New { id, data } => Some((id, data)),
+            _ => None,
+        });
+        let (level, (id, data)) = blocks.enumerate().filter(|(_, block)| block.0 == id).last()?;
+        Some(Kind::Private { id, data, level })
+    }
+}
+
+impl Open {
+    /// How many parts the record has.
+    fn wanted(&self) -> usize {
+        match self.kind {
+            Kind::Skip | Kind::Diverge(_) | Kind::Constant(..) | Kind::Private { .. } => 0,
+            Kind::Name { .. } => self.declared.len(),
+            Kind::Fetch | Kind::New { .. } => 1,
+            Kind::Operate(_) | Kind::Assign | Kind::Sequence | Kind::While => 2,
+            Kind::If => 3,
+        }
+    }
+
+    /// What the next part has to be.
+    fn demand(&self) -> Demand {
+        let truth = Type::Expression(Data::Truth);
+        match (&self.kind, self.parts.len()) {
+            (Kind::Name { .. }, j) => Demand::Only(self.declared[j]),
+            (Kind::Operate(operator), _) => Demand::Only(Type::Expression(operator.takes())),
+            (Kind::Fetch, _) | (Kind::Assign, 0) => Demand::AnyVariable,
+            (Kind::Assign, _) => {
+                Demand::Only(Type::Expression(self.parts[0].gives.data().expect("a variable has data")))
+            }
+            (Kind::If, 0) | (Kind::While, 0) => Demand::Only(truth),
+            (Kind::If, 1) | (Kind::Sequence, 1) => Demand::Any,
+            (Kind::If, _) => Demand::Only(self.parts[1].gives),
+            _ => Demand::Only(Type::Command),
+        }
+    }
+}
+
+impl Demand {
+    fn met_by(&self, gives: Type) -> bool {
+        match self {
+            Demand::Any => true,
+            Demand::AnyVariable => matches!(gives, Type::Variable(_)),
+            Demand::Only(wanted) => *wanted == gives,
+        }
+    }
+}

@@ -1,0 +1,200 @@
+//! The three services of document 01: their refusals in order, their answers, and how the program prints them.
+
+use crate::compare::{first_difference, Difference};
+use crate::machine::{Machine, Move};
+use crate::reader::{read, Fault, Sheet};
+
+#[derive(Clone, Copy, Debug, PartialEq)]
+pub enum Which {
+    Old,
+    New,
+    Both,
+}
+
+impl Which {
+    pub fn word(self) -> u32 {
+        self as u32
+    }
+
+    fn name(self) -> &'static str {
+        match self {
+            Which::Old => "old",
+            Which::New => "new",
+            Which::Both => "both",
+        }
+    }
+}
+
+#[derive(Clone, Debug, PartialEq)]
+pub enum Answer {
+    Refused {
+        number: u32,
+        sheet: Which,
+        place: usize,
+    },
+    Accepted {
+        kind: u32,
+        size: u64,
+    },
+    Followed {
+        count: usize,
+        complete: bool,
+    },
+    Same,
+    Apart {
+        sheet: Which,
+        play: Vec<Move>,
+    },
+    /// No answer of document 01: the search over pairs was given up.
+    Unknown,
+}
+
+fn refused(fault: Fault, sheet: Which) -> Answer {
+    Answer::Refused { number: fault.number, sheet, place: fault.place }
+}
+
+fn refused_both(number: u32) -> Answer {
+    Answer::Refused { number, sheet: Which::Both, place: 0 }
+}
+
+pub fn check(bytes: &[u8]) -> Answer {
+    match read(bytes) {
+        Err(fault) => refused(fault, Which::Old),
+        Ok(sheet) => Answer::Accepted { kind: sheet.term.gives.byte() as u32, size: sheet.size },
+    }
+}
+
+/// The working words that follow needs.
+pub fn words_to_follow(size: u64) -> u64 {
+    32 * (size + 1)
+}
+
+/// The working words that compare needs.
+pub fn words_to_compare(old: u64, new: u64) -> u64 {
+    32 * (old + new + 1)
+}
+
+/// The bytes of play space that compare needs.
+pub fn space_to_compare(old: u64, new: u64) -> u64 {
+    4 * (old + new - 1)
+}
+
+pub fn follow(bytes: &[u8], play: &[u8], words: usize) -> Answer {
+    let sheet = match read(bytes) {
+        Err(fault) => return refused(fault, Which::Old),
+        Ok(sheet) => sheet,
+    };
+    if (words as u64) < words_to_follow(sheet.size) {
+        return refused_both(13);
+    }
+    match read_play(play) {
+        Err(place) => Answer::Refused { number: 15, sheet: Which::Old, place },
+        Ok(moves) => {
+            let (count, complete) = Machine::of(&sheet).follow(&moves);
+            Answer::Followed { count, complete }
+        }
+    }
+}
+
+/// The moves of a play, or the place of its first bad record.
+pub fn read_play(bytes: &[u8]) -> Result<Vec<Move>, usize> {
+    let mut moves = Vec::new();
+    let mut at = 0;
+    while at < bytes.len() {
+        let record = Move::length(bytes[at]).and_then(|length| bytes.get(at..at + length));
+        let record = record.ok_or(at)?;
+        let value = record.get(3).map_or(0, |&b| b as i8);
+        moves.push(Move { kind: record[0], id: record[1], argument: record[2], value });
+        at += record.len();
+    }
+    Ok(moves)
+}
+
+/// The first moves of a play, or none where the bytes do not begin with as many records.
+pub fn first_moves(bytes: &[u8], count: usize) -> Option<Vec<Move>> {
+    let mut length = 0;
+    for _ in 0..count {
+        length += Move::length(*bytes.get(length)?)?;
+    }
+    read_play(bytes.get(..length)?).ok()
+}
+
+pub fn compare(old: &[u8], new: &[u8], words: usize, space: usize, most_pairs: usize) -> Answer {
+    match read_both(old, new, words, space) {
+        Err(answer) => answer,
+        Ok((a, b)) => compare_machines(&Machine::of(&a), &Machine::of(&b), most_pairs),
+    }
+}
+
+/// Both sheets, or what compare refuses them with.
+pub fn read_both(old: &[u8], new: &[u8], words: usize, space: usize) -> Result<(Sheet, Sheet), Answer> {
+    let a = read(old).map_err(|fault| refused(fault, Which::Old))?;
+    let b = read(new).map_err(|fault| refused(fault, Which::New))?;
+    if old[..a.heading_length] != new[..b.heading_length] || a.term.gives != b.term.gives {
+        return Err(refused_both(12));
+    }
+    if (words as u64) < words_to_compare(a.size, b.size) {
+        return Err(refused_both(13));
+    }
+    if (space as u64) < space_to_compare(a.size, b.size) {
+        return Err(refused_both(14));
+    }
+    Ok((a, b))
+}
+
+pub fn compare_machines(old: &Machine, new: &Machine, most_pairs: usize) -> Answer {
+    match first_difference(old, new, most_pairs) {
+        Difference::Same => Answer::Same,
+        Difference::TooMany => Answer::Unknown,
+        Difference::Apart { in_old, play } => {
+            Answer::Apart { sheet: if in_old { Which::Old } else { Which::New }, play }
+        }
+    }
+}
+
+/// The records of a play.
+pub fn records(play: &[Move]) -> Vec<u8> {
+    let mut bytes = Vec::new();
+    play.iter().for_each(|m| m.write(&mut bytes));
+    bytes
+}
+
+/// The lines that show an answer. Those of a comparison come after the line with the sizes.
+pub fn text(answer: &Answer) -> String {
+    match answer {
+        Answer::Refused { number, sheet, place } => format!("refused {number} {} {place}\n", sheet.name()),
+        Answer::Accepted { kind, size } => format!("accepted type {kind} size {size}\n"),
+        Answer::Followed { count, complete } => {
+            format!("follows {count} complete {}\n", if *complete { "yes" } else { "no" })
+        }
+        Answer::Same => "same\n".to_string(),
+        Answer::Apart { sheet, play } => {
+            let head = format!("apart in {} {}\n", sheet.name(), play.len());
+            play.iter().fold(head, |lines, m| lines + &move_text(m))
+        }
+        Answer::Unknown => "unknown\n".to_string(),
+    }
+}
+
+fn move_text(m: &Move) -> String {
+    if m.kind < 5 {
+        format!("{} {} {}\n", m.kind, m.id, m.argument)
+    } else {
+        format!("{} {} {} {}\n", m.kind, m.id, m.argument, m.value)
+    }
+}
+
+/// What the program of document 01 prints for two sheets.
+pub fn compare_text(old: &[u8], new: &[u8], words: usize, space: usize) -> String {
+    let answer = compare(old, new, words, space, usize::MAX);
+    let sizes = match (check(old), check(new)) {
+        (Answer::Accepted { size: a, .. }, Answer::Accepted { size: b, .. }) => {
+            format!("old {a} new {b}\n")
+        }
+        _ => String::new(),
+    };
+    match answer {
+        Answer::Refused { .. } => text(&answer),
+        _ => sizes + &text(&answer),
+    }
+}

@@ -1,0 +1,297 @@
+//! The sheet as written: types, name records, terms, and the bytes they are written with.
+
+/// The data of an expression or a variable.
+#[derive(Clone, Copy, Debug, PartialEq, Eq, Hash)]
+pub enum Data {
+    Truth,
+    Number,
+}
+
+impl Data {
+    pub const ALL: [Data; 2] = [Data::Truth, Data::Number];
+
+    /// The byte of a new's data.
+    pub fn from_byte(byte: u8) -> Option<Data> {
+        match byte {
+            1 => Some(Data::Truth),
+            2 => Some(Data::Number),
+            _ => None,
+        }
+    }
+
+    pub fn byte(self) -> u8 {
+        match self {
+            Data::Truth => 1,
+            Data::Number => 2,
+        }
+    }
+
+    /// The values, from the lowest.
+    pub fn values(self, z: i8) -> std::ops::RangeInclusive<i8> {
+        match self {
+            Data::Truth => 0..=1,
+            Data::Number => -z..=z,
+        }
+    }
+
+    /// How many values there are: document 01's K.
+    pub fn count(self, z: i8) -> u64 {
+        self.values(z).count() as u64
+    }
+}
+
+#[derive(Clone, Copy, Debug, PartialEq, Eq, Hash)]
+pub enum Type {
+    Command,
+    Expression(Data),
+    Variable(Data),
+}
+
+impl Type {
+    pub const ALL: [Type; 5] = [
+        Type::Command,
+        Type::Expression(Data::Truth),
+        Type::Expression(Data::Number),
+        Type::Variable(Data::Truth),
+        Type::Variable(Data::Number),
+    ];
+
+    pub fn from_byte(byte: u8) -> Option<Type> {
+        Type::ALL.get(byte as usize).copied()
+    }
+
+    pub fn byte(self) -> u8 {
+        Type::ALL.iter().position(|&t| t == self).expect("all types are listed") as u8
+    }
+
+    /// The data of an expression or a variable; a command has none.
+    pub fn data(self) -> Option<Data> {
+        match self {
+            Type::Command => None,
+            Type::Expression(data) | Type::Variable(data) => Some(data),
+        }
+    }
+
+    /// How many questions there are.
+    pub fn questions(self, z: i8) -> u64 {
+        match self {
+            Type::Command | Type::Expression(_) => 1,
+            Type::Variable(data) => 1 + data.count(z),
+        }
+    }
+
+    /// How many answers there are, summed over the questions.
+    pub fn answers(self, z: i8) -> u64 {
+        match self {
+            Type::Command => 1,
+            Type::Expression(data) => data.count(z),
+            Type::Variable(data) => 2 * data.count(z),
+        }
+    }
+}
+
+#[derive(Clone, Copy, Debug, PartialEq, Eq, Hash)]
+pub enum Operator {
+    Plus,
+    Minus,
+    Times,
+    Remainder,
+    Equal,
+    Less,
+    And,
+    Or,
+    /// Equal on truths.
+    Alike,
+}
+
+impl Operator {
+    pub const ALL: [Operator; 9] = [
+        Operator::Plus,
+        Operator::Minus,
+        Operator::Times,
+        Operator::Remainder,
+        Operator::Equal,
+        Operator::Less,
+        Operator::And,
+        Operator::Or,
+        Operator::Alike,
+    ];
+
+    pub fn from_byte(byte: u8) -> Option<Operator> {
+        Operator::ALL.get(byte as usize).copied()
+    }
+
+    /// The data of both operands.
+    pub fn takes(self) -> Data {
+        match self {
+            Operator::And | Operator::Or | Operator::Alike => Data::Truth,
+            _ => Data::Number,
+        }
+    }
+
+    /// The data of the result.
+    pub fn gives(self) -> Data {
+        match self {
+            Operator::Plus | Operator::Minus | Operator::Times | Operator::Remainder => Data::Number,
+            _ => Data::Truth,
+        }
+    }
+}
+
+/// A record of the heading.
+#[derive(Clone, Debug, PartialEq)]
+pub enum Record {
+    Declare { id: u8, result: Type, arguments: Vec<Type> },
+    Retire { id: u8 },
+}
+
+impl Record {
+    pub fn id(&self) -> u8 {
+        match self {
+            Record::Declare { id, .. } | Record::Retire { id } => *id,
+        }
+    }
+
+    pub fn write(&self, out: &mut Vec<u8>) {
+        match self {
+            Record::Declare { id, result, arguments } => {
+                out.extend([1, *id, result.byte(), arguments.len() as u8]);
+                out.extend((0..4).map(|j| arguments.get(j).map_or(255, |t| t.byte())));
+            }
+            Record::Retire { id } => out.extend([2, *id]),
+        }
+    }
+}
+
+/// The bytes up to the term: the range of numbers, the overflow rule and the name records.
+#[derive(Clone, Debug, PartialEq)]
+pub struct Heading {
+    pub z: i8,
+    pub wraps: bool,
+    pub records: Vec<Record>,
+}
+
+impl Heading {
+    pub fn record(&self, id: u8) -> Option<&Record> {
+        self.records.iter().find(|r| r.id() == id)
+    }
+
+    pub fn write(&self, out: &mut Vec<u8>) {
+        out.extend([self.z as u8, self.wraps as u8]);
+        self.records.iter().for_each(|r| r.write(out));
+    }
+}
+
+/// What a record of the term is; its parts stand beside it in a `Term`.
+#[derive(Clone, Debug, PartialEq)]
+pub enum Kind {
+    Skip,
+    Diverge(Type),
+    Constant(Data, i8),
+    /// A use of a declared name.
+    Name {
+        id: u8,
+        result: Type,
+    },
+    /// A use of a private variable; `level` counts the blocks around the one that it belongs to.
+    Private {
+        id: u8,
+        data: Data,
+        level: usize,
+    },
+    Fetch,
+    Operate(Operator),
+    Assign,
+    Sequence,
+    If,
+    While,
+    New {
+        id: u8,
+        data: Data,
+    },
+}
+
+#[derive(Clone, Debug, PartialEq)]
+pub struct Term {
+    pub kind: Kind,
+    pub gives: Type,
+    pub parts: Vec<Term>,
+}
+
+impl Term {
+    /// A term with its type; that the parts have the types they should is judged elsewhere.
+    pub fn new(kind: Kind, parts: Vec<Term>) -> Term {
+        let gives = match &kind {
+            Kind::Skip | Kind::Assign | Kind::While | Kind::New { .. } => Type::Command,
+            Kind::Diverge(result) | Kind::Name { result, .. } => *result,
+            Kind::Constant(data, _) => Type::Expression(*data),
+            Kind::Private { data, .. } => Type::Variable(*data),
+            Kind::Fetch => Type::Expression(parts[0].gives.data().expect("a variable has data")),
+            Kind::Operate(operator) => Type::Expression(operator.gives()),
+            Kind::Sequence | Kind::If => parts[1].gives,
+        };
+        Term { kind, gives, parts }
+    }
+
+    pub fn write(&self, out: &mut Vec<u8>) {
+        match &self.kind {
+            Kind::Skip => out.push(16),
+            Kind::Diverge(result) => out.extend([17, result.byte()]),
+            Kind::Constant(Data::Truth, value) => out.extend([18, *value as u8]),
+            Kind::Constant(Data::Number, value) => out.extend([19, *value as u8]),
+            Kind::Name { id, .. } | Kind::Private { id, .. } => out.extend([20, *id]),
+            Kind::Fetch => out.push(21),
+            Kind::Operate(operator) => out.extend([22, *operator as u8]),
+            Kind::Assign => out.push(23),
+            Kind::Sequence => out.push(24),
+            Kind::If => out.push(25),
+            Kind::While => out.push(26),
+            Kind::New { id, data } => out.extend([27, *id, data.byte()]),
+        }
+        self.parts.iter().for_each(|p| p.write(out));
+    }
+
+    /// The number of records.
+    pub fn records(&self) -> usize {
+        1 + self.parts.iter().map(Term::records).sum::<usize>()
+    }
+
+    pub fn depth(&self) -> usize {
+        1 + self.parts.iter().map(Term::depth).max().unwrap_or(0)
+    }
+
+    /// Document 01's weight. It stays at the highest number rather than wrap.
+    pub fn weight(&self, z: i8) -> u64 {
+        let part = |i: usize| self.parts[i].weight(z);
+        let count = |i: usize| self.parts[i].gives.data().map_or(1, |d| d.count(z));
+        match &self.kind {
+            Kind::Skip | Kind::Diverge(_) | Kind::Constant(..) => 1,
+            Kind::Private { .. } => 2,
+            Kind::Name { .. } => self.parts.iter().fold(2, |sum: u64, p| {
+                let asked = p.gives.questions(z).saturating_mul(p.weight(z));
+                sum.saturating_add(asked.saturating_add(p.gives.answers(z)))
+            }),
+            Kind::Fetch => part(0),
+            Kind::Operate(_) => part(0).saturating_add(count(0).saturating_mul(part(1))),
+            Kind::Assign => part(1).saturating_add(count(0).saturating_mul(part(0))),
+            Kind::Sequence | Kind::If | Kind::While => {
+                self.parts.iter().fold(0, |sum: u64, p| sum.saturating_add(p.weight(z)))
+            }
+            Kind::New { data, .. } => data.count(z).saturating_mul(part(0)),
+        }
+    }
+
+    /// Document 01's reckoned size of a whole term.
+    pub fn size(&self, z: i8) -> u64 {
+        let asked = self.gives.questions(z).saturating_mul(self.weight(z));
+        asked.saturating_add(2 + self.gives.answers(z))
+    }
+}
+
+/// The bytes of a sheet.
+pub fn written(heading: &Heading, term: &Term) -> Vec<u8> {
+    let mut bytes = Vec::new();
+    heading.write(&mut bytes);
+    term.write(&mut bytes);
+    bytes
+}

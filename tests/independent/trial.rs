@@ -1,0 +1,184 @@
+//! Runs random cases through the services here and through the library, and reports where they disagree.
+
+use crate::cases::{case, Case};
+use crate::library::{self, bytes_of, words_of, Compared};
+use crate::machine::Machine;
+use crate::random::Random;
+use crate::reader::Sheet;
+use crate::services::{self, Answer, Which};
+use crate::vectors::hex;
+
+/// The most pairs that one comparison visits.
+const MOST_PAIRS: usize = 300_000;
+
+/// How often each thing happened.
+#[derive(Default)]
+struct Counts {
+    accepted: usize,
+    followed: usize,
+    complete: usize,
+    same: usize,
+    apart: usize,
+    capped: usize,
+    refused: [usize; 16],
+    /// Comparisons of two sheets without any play.
+    empty: usize,
+    longest_play: usize,
+    largest: u64,
+    most_states: usize,
+    /// Comparisons in which some silent walk goes round for ever.
+    rounds: usize,
+}
+
+impl Counts {
+    fn note(&mut self, answer: &Answer) {
+        match answer {
+            Answer::Refused { number, .. } => self.refused[*number as usize] += 1,
+            Answer::Accepted { size, .. } => {
+                self.accepted += 1;
+                self.largest = self.largest.max(*size);
+            }
+            Answer::Followed { complete, .. } => {
+                self.followed += 1;
+                self.complete += *complete as usize;
+            }
+            Answer::Same => self.same += 1,
+            Answer::Apart { play, .. } => {
+                self.apart += 1;
+                self.longest_play = self.longest_play.max(play.len());
+            }
+            Answer::Unknown => self.capped += 1,
+        }
+    }
+
+    fn print(&self) {
+        println!("check: {} accepted, sizes up to {}", self.accepted, self.largest);
+        println!("follow: {} followed, {} of them complete", self.followed, self.complete);
+        println!("compare: {} same, {} of them without plays", self.same, self.empty);
+        println!("compare: {} apart, by up to {} moves", self.apart, self.longest_play);
+        println!("compare: {} with over {MOST_PAIRS} pairs, tried in part only", self.capped);
+        println!("compare: up to {} states, {} times with a silent loop", self.most_states, self.rounds);
+        let refused = self.refused.iter().enumerate().filter(|(_, count)| **count > 0);
+        let refused: Vec<String> = refused.map(|(number, count)| format!("{number}: {count}")).collect();
+        println!("refused, by number: {}", refused.join(", "));
+    }
+}
+
+/// Runs that many cases; whether there was no disagreement.
+pub fn run(seed: u64, count: u64) -> bool {
+    let mut counts = Counts::default();
+    let mut disagreements = 0;
+    for i in 0..count {
+        let mut random = Random::new(seed, i);
+        let case = case(&mut random);
+        let room = 4 + random.below(4);
+        if let Err(what) = run_case(&case, room, &mut counts) {
+            disagreements += 1;
+            println!("case {i}: {}: {what}", shown(&case));
+        }
+    }
+    counts.print();
+    println!("{count} cases, {disagreements} disagreements");
+    disagreements == 0
+}
+
+fn shown(case: &Case) -> String {
+    match case {
+        Case::Check { sheet } => format!("check {}", hex(sheet)),
+        Case::Follow { sheet, play, words } => {
+            format!("follow {} play {} words {words}", hex(sheet), hex(play))
+        }
+        Case::Compare { old, new, words, space, .. } => {
+            format!("compare {} and {} words {words} space {space}", hex(old), hex(new))
+        }
+    }
+}
+
+fn run_case(case: &Case, room: usize, counts: &mut Counts) -> Result<(), String> {
+    match case {
+        Case::Check { sheet } => {
+            let answer = services::check(sheet);
+            counts.note(&answer);
+            expect_words(&answer, library::check(sheet, room)?)
+        }
+        Case::Follow { sheet, play, words } => {
+            let answer = services::follow(sheet, play, *words);
+            counts.note(&answer);
+            expect_words(&answer, library::follow(sheet, play, *words, room)?)
+        }
+        Case::Compare { old, new, words, space, alike } => {
+            let got = library::compare(old, new, *words, *space, room)?;
+            match services::read_both(old, new, *words, *space) {
+                Ok((a, b)) => run_compare(&a, &b, *alike, &got, counts),
+                Err(answer) => {
+                    counts.note(&answer);
+                    expect_words(&answer, got.words)?;
+                    got.expect_space(&[])
+                }
+            }
+        }
+    }
+}
+
+fn expect_words(answer: &Answer, got: [u32; 4]) -> Result<(), String> {
+    let wanted = words_of(answer);
+    if wanted == got {
+        Ok(())
+    } else {
+        Err(format!("expected {wanted:?}, the library gives {got:?}"))
+    }
+}
+
+/// Two sheets that compare accepts.
+fn run_compare(a: &Sheet, b: &Sheet, alike: bool, got: &Compared, counts: &mut Counts) -> Result<(), String> {
+    let (old, new) = (Machine::of(a), Machine::of(b));
+    expect_states(a, &old)?;
+    expect_states(b, &new)?;
+    let answer = services::compare_machines(&old, &new, MOST_PAIRS);
+    counts.note(&answer);
+    counts.most_states = counts.most_states.max(old.reached).max(new.reached);
+    counts.rounds += (old.goes_round() || new.goes_round()) as usize;
+    counts.empty += (answer == Answer::Same && old.start().is_none()) as usize;
+    match &answer {
+        Answer::Unknown => expect_some_answer(&old, &new, got),
+        Answer::Apart { .. } if alike => Err("a tidied copy is apart".to_string()),
+        Answer::Apart { play, .. } if play.len() as u64 > a.size + b.size - 1 => {
+            Err(format!("the play has {} moves", play.len()))
+        }
+        _ => {
+            expect_words(&answer, got.words)?;
+            got.expect_space(&bytes_of(&answer))
+        }
+    }
+}
+
+/// The reckoned size bounds the states in which a move is due.
+fn expect_states(sheet: &Sheet, machine: &Machine) -> Result<(), String> {
+    if machine.reached as u64 <= sheet.size {
+        Ok(())
+    } else {
+        Err(format!("{} states in size {}", machine.reached, sheet.size))
+    }
+}
+
+/// Of a pair whose search was given up: the answer is "same", or a complete play of exactly the sheet named.
+fn expect_some_answer(old: &Machine, new: &Machine, got: &Compared) -> Result<(), String> {
+    if got.words == words_of(&Answer::Same) {
+        return got.expect_space(&[]);
+    }
+    let moves = got.words[2] as usize;
+    let shown = services::first_moves(got.space(), moves).ok_or("play space holds no such play")?;
+    let sheet = if got.words[1] == 0 { Which::Old } else { Which::New };
+    let answer = Answer::Apart { sheet, play: shown };
+    expect_words(&answer, got.words)?;
+    let bytes = bytes_of(&answer);
+    got.expect_space(&bytes)?;
+    let Answer::Apart { play, .. } = answer else {
+        return Ok(());
+    };
+    if old.follow(&play).1 == (sheet == Which::Old) && new.follow(&play).1 == (sheet == Which::New) {
+        Ok(())
+    } else {
+        Err("the play shown is not complete in exactly that sheet".to_string())
+    }
+}

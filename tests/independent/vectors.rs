@@ -1,0 +1,167 @@
+//! Runs the cases of vector files, one JSON object a line, through the services here.
+
+use crate::services;
+use std::collections::HashMap;
+
+/// A value of a case: the objects hold texts and whole numbers only.
+enum Value {
+    Text(String),
+    Number(usize),
+}
+
+type Case = HashMap<String, Value>;
+
+/// A reader of one line.
+struct Line<'a> {
+    rest: &'a str,
+}
+
+impl Line<'_> {
+    fn blank(&mut self) {
+        self.rest = self.rest.trim_start();
+    }
+
+    /// Whether the character comes next; then it is passed over.
+    fn passes(&mut self, wanted: char) -> bool {
+        self.blank();
+        match self.rest.strip_prefix(wanted) {
+            Some(rest) => {
+                self.rest = rest;
+                true
+            }
+            None => false,
+        }
+    }
+
+    fn expect(&mut self, wanted: char) -> Result<(), String> {
+        if self.passes(wanted) {
+            Ok(())
+        } else {
+            Err(format!("'{wanted}' expected before '{}'", self.rest))
+        }
+    }
+
+    fn text(&mut self) -> Result<String, String> {
+        self.expect('"')?;
+        let mut text = String::new();
+        let mut letters = self.rest.chars();
+        loop {
+            match letters.next() {
+                None => return Err("a text without an end".to_string()),
+                Some('"') => break,
+                Some('\\') => match letters.next() {
+                    Some('n') => text.push('\n'),
+                    Some(letter @ ('"' | '\\' | '/')) => text.push(letter),
+                    other => return Err(format!("an escape that is not known: {other:?}")),
+                },
+                Some(letter) => text.push(letter),
+            }
+        }
+        self.rest = letters.as_str();
+        Ok(text)
+    }
+
+    fn value(&mut self) -> Result<Value, String> {
+        self.blank();
+        if self.rest.starts_with('"') {
+            return Ok(Value::Text(self.text()?));
+        }
+        let end = self.rest.find(|c: char| !c.is_ascii_digit()).unwrap_or(self.rest.len());
+        let (digits, rest) = self.rest.split_at(end);
+        self.rest = rest;
+        digits.parse().map(Value::Number).map_err(|_| format!("a value expected before '{rest}'"))
+    }
+
+    fn case(&mut self) -> Result<Case, String> {
+        let mut case = Case::new();
+        self.expect('{')?;
+        loop {
+            let name = self.text()?;
+            self.expect(':')?;
+            case.insert(name, self.value()?);
+            if !self.passes(',') {
+                break;
+            }
+        }
+        self.expect('}')?;
+        self.blank();
+        if self.rest.is_empty() {
+            Ok(case)
+        } else {
+            Err(format!("more after the case: '{}'", self.rest))
+        }
+    }
+}
+
+fn text<'a>(case: &'a Case, name: &str) -> Result<&'a str, String> {
+    match case.get(name) {
+        Some(Value::Text(text)) => Ok(text),
+        _ => Err(format!("no text '{name}'")),
+    }
+}
+
+fn number(case: &Case, name: &str) -> Result<usize, String> {
+    match case.get(name) {
+        Some(Value::Number(number)) => Ok(*number),
+        _ => Err(format!("no number '{name}'")),
+    }
+}
+
+/// The bytes that a text gives in hex.
+pub fn bytes(hex: &str) -> Result<Vec<u8>, String> {
+    let digits: Option<Vec<u32>> = hex.chars().map(|c| c.to_digit(16)).collect();
+    match digits {
+        Some(digits) if digits.len() % 2 == 0 => Ok(digits.chunks(2).map(|d| (16 * d[0] + d[1]) as u8).collect()),
+        _ => Err(format!("not in hex: '{hex}'")),
+    }
+}
+
+pub fn hex(bytes: &[u8]) -> String {
+    bytes.iter().map(|b| format!("{b:02x}")).collect()
+}
+
+/// What a case gives.
+fn outcome(case: &Case) -> Result<String, String> {
+    let part = |name: &str| bytes(text(case, name)?);
+    match text(case, "service")? {
+        "check" => Ok(services::text(&services::check(&part("sheet")?))),
+        "follow" => {
+            let words = number(case, "words")?;
+            Ok(services::text(&services::follow(&part("sheet")?, &part("play")?, words)))
+        }
+        "compare" => {
+            let (words, space) = (number(case, "words")?, number(case, "space")?);
+            Ok(services::compare_text(&part("old")?, &part("new")?, words, space))
+        }
+        other => Err(format!("service {other} is not known")),
+    }
+}
+
+fn run_line(line: &str) -> Result<(), String> {
+    let case = Line { rest: line }.case()?;
+    let (wanted, got) = (text(&case, "expect")?, outcome(&case)?);
+    if wanted == got {
+        Ok(())
+    } else {
+        Err(format!("expected {wanted:?}, got {got:?}"))
+    }
+}
+
+/// Runs the files; whether all cases give what they should.
+pub fn run(files: &[String]) -> Result<bool, String> {
+    let (mut passed, mut failed) = (0, 0);
+    for file in files {
+        let lines = std::fs::read_to_string(file).map_err(|e| format!("{file}: {e}"))?;
+        for (i, line) in lines.lines().enumerate() {
+            match run_line(line) {
+                Ok(()) => passed += 1,
+                Err(what) => {
+                    failed += 1;
+                    println!("{file}:{}: {what}", i + 1);
+                }
+            }
+        }
+    }
+    println!("{passed} passed, {failed} failed");
+    Ok(failed == 0)
+}
