@@ -38,6 +38,7 @@ module _ {N : Numbers} {t : List ℕ} {root all : ℕ} {ws : List ℕ} (R : OneR
     ; unsettled = rest (5 * (all + 1)) ws₂
     ; shows = one-closed .shows
     ; graph = one-closed .graph
+    ; quiet = one-closed .silent
     ; settled = S
     ; barren = one-closed .barren }
 
@@ -69,4 +70,5 @@ module _ {N : Numbers} {t u : List ℕ} {root other all more : ℕ} {ws : List �
     ; shows = two-closed .shows-old
     ; other-shows = two-closed .shows-new
     ; graph = two-closed .graph
+    ; quiet = two-closed .silent
     ; settled = S }

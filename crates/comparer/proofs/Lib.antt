@@ -11,3 +11,9 @@ pub mod Counting
 pub mod WritingPlays
 pub mod Written
 pub mod Building
+pub mod ReadSheets
+pub mod ShowPlay
+pub mod DecidePlays
+pub mod ComparePlays
+pub mod PlayOrder
+pub mod Unique

@@ -10,7 +10,7 @@ use Rattle.language.specs.Weight.{size}
 use Rattle.machine.specs.Sheet.{steps}
 use Rattle.automaton.specs.walk.Shows.{Words}
 use Rattle.dfa.specs.Graph.{rest, Graph}
-use Rattle.dfa.specs.Silent.{Settling}
+use Rattle.dfa.specs.Silent.{Silent, Settling}
 use Rattle.explicit.specs.Explicit.{Explicit}
 use Rattle.explicit.specs.inner.Ready.{Ready}
 
@@ -28,6 +28,7 @@ pub record OneBuilt (N : Numbers) (T : Ty) (M : Term) (n : ℕ) (ws : List ℕ) 
   pub unsettled : List ℕ
   pub shows : Explicit N silent-words unsettled n 0 (steps T M)
   pub graph : Graph unsettled n
+  pub quiet : Silent n silent-words
   pub settled : Settling n silent-words unsettled (rest (5 * n) ws)
   pub barren : getD unsettled (n - 1) 0 ≡ getD unsettled n 0
 
@@ -48,4 +49,5 @@ pub record TwoBuilt (N : Numbers) (T : Ty) (M M′ : Term) (n : ℕ) (ws : List 
   pub shows : Explicit N silent-words unsettled n 0 (steps T M)
   pub other-shows : Explicit N silent-words unsettled n (size T M) (steps T M′)
   pub graph : Graph unsettled n
+  pub quiet : Silent n silent-words
   pub settled : Settling n silent-words unsettled (rest (5 * n) ws)

@@ -1,0 +1,152 @@
+-- What compare promises allows one answer only.
+use mathlib.Core.Path.{_≡_, refl, sym, ap, _∙_, subst}
+use mathlib.Core.Bool.{Bool, true, false}
+use mathlib.Core.Logic.{_⊎_, inl, inr}
+use mathlib.Core.List.{List}
+use mathlib.Core.Option.{Option, none, some}
+use Prim.Native.Nat.{ℕ, zero, suc, _+_, _*_, _-_}
+use native.Mathlib.Omega.{arith}
+use lib.ListN.{length}
+use lib.Dec.{ltb}
+use Rattle.language.specs.Choice.{pick}
+use Rattle.language.specs.Move.{Word, Before}
+use Rattle.explicit.proofs.Settling.{AllSmall}
+use Rattle.explicit.proofs.Ranges.{sheet-small}
+use Rattle.sheet.specs.Written.{Sheet}
+use Rattle.sheet.specs.Fine.{Accepted}
+use Rattle.sheet.specs.Reader.{Answer, got, refused, Whole, whole, sizeOf, numbersAt, sheetOf, sheetIn, checks}
+use Rattle.sheet.specs.Reader.{accepted, readSheet, written}
+use Rattle.sheet.proofs.Right.{gives}
+use Rattle.comparer.specs.Plays.{Alike, Only, FirstPlay}
+use Rattle.comparer.specs.Refusals.{Refusal, refusing, comparable, rootOf, onRead, compareRefusal}
+use Rattle.comparer.specs.Promise.{Holds, Decided, same, apart, ComparedBy, ComparePromise}
+use Rattle.comparer.specs.declared.Comparison.{Comparison}
+use Rattle.comparer.proofs.ReadSheets.{taken-got}
+use Rattle.comparer.proofs.ComparePlays.{as-one}
+use Rattle.comparer.proofs.PlayOrder.{before-total}
+
+-- bytes hold one sheet
+pub one-sheet : {s : List ℕ} {S T : Sheet} → Holds s S → Holds s T → S ≡ T
+one-sheet h k = let e = sym (h .reads) ∙ k .reads in cc
+
+-- a sheet that bytes hold is in order
+pub held-accepted : {s : List ℕ} {S : Sheet} → Holds s S → Accepted S
+held-accepted {s} {S} h = gives s S (h .type) (h .size) (h .reads) .1
+
+-- its numbers are those of the first two bytes
+pub held-numbers : {s : List ℕ} {S : Sheet} → Holds s S → S .numbers ≡ numbersAt s
+unfolding readSheet checks sheetIn
+held-numbers {s} {S} h = go (sheetOf s) (h .reads)
+  where
+    go : (A : Answer Whole) → checks (numbersAt s) A ≡ accepted S (h .type) (h .size) → S .numbers ≡ numbersAt s
+    go (got (whole ns root t) ty w end) e =
+        let f : record { numbers = numbersAt s; names = ns; term = written t } ≡ S = cc in
+        sym (ap (λ (X : Sheet). X .numbers) f)
+    go (refused n p) e = let z : _≡_ {A = ℕ} 0 1 = cc in absurd (omega arith)
+
+-- sheets whose comparison is not refused have the same numbers
+same-numbers : (old new : List ℕ) (words space : ℕ) → compareRefusal old new words space ≡ none →
+    numbersAt old ≡ numbersAt new
+unfolding compareRefusal onRead
+same-numbers old new words space h = go (sheetOf old) (sheetOf new) refl refl h
+  where
+    judged : ℕ → ℕ → ℕ → ℕ → ℕ → ℕ → Option Refusal
+    judged root ty w other b v =
+        let S = sizeOf (numbersAt old) ty w in
+        let T = sizeOf (numbersAt new) b v in
+        pick (comparable old new root other ty b)
+        (pick (ltb words (32 * (S + T + 1))) (refusing 13 2 0)
+        (pick (ltb space (4 * (S + T - 1))) (refusing 14 2 0) none))
+        (refusing 12 2 0)
+    go : (A B : Answer Whole) → sheetOf old ≡ A → sheetOf new ≡ B →
+        onRead A 0 (λ root ty w. onRead B 1 (λ other b v. judged root ty w other b v)) ≡ none →
+        numbersAt old ≡ numbersAt new
+    go (got x ty w end) (got y b v end′) e f k =
+        by (comparable old new (rootOf x) (rootOf y) ty b) refl k
+      where
+        by : (c : Bool) → comparable old new (rootOf x) (rootOf y) ty b ≡ c →
+            pick c (pick (ltb words (32 * (sizeOf (numbersAt old) ty w + sizeOf (numbersAt new) b v + 1)))
+              (refusing 13 2 0)
+              (pick (ltb space (4 * (sizeOf (numbersAt old) ty w + sizeOf (numbersAt new) b v - 1)))
+                (refusing 14 2 0) none)) (refusing 12 2 0) ≡ none →
+            numbersAt old ≡ numbersAt new
+        by true d k = as-one (rootOf y) (taken-got e) (sym d) refl .numbers
+        by false d k = let z : _≡_ {A = ℕ} 0 1 = cc in absurd (omega arith)
+    go (got x ty w end) (refused n p) e f k = let z : _≡_ {A = ℕ} 0 1 = cc in absurd (omega arith)
+    go (refused n p) B e f k = let z : _≡_ {A = ℕ} 0 1 = cc in absurd (omega arith)
+
+-- two sheets in order of the same numbers
+module _ (S T : Sheet) (A : Accepted S) (B : Accepted T) (e : S .numbers ≡ T .numbers) where
+  -- every move of a play of one of them has a letter
+  only-small : (which : ℕ) (u : Word) → Only which S T u → AllSmall (S .numbers) u
+  unfolding Only
+  only-small zero u h = sheet-small S A u (h .0)
+  only-small (suc zero) u h = subst (λ N. AllSmall N u) (sym e) (sheet-small T B u (h .0))
+  only-small (suc (suc k)) u h = absurd h
+
+  -- a play of exactly one of them tells them apart
+  only-differ : (which : ℕ) (u : Word) → Only which S T u → Alike S T u → ⊥
+  unfolding Only
+  only-differ zero u h a = h .1 (a .0 (h .0))
+  only-differ (suc zero) u h a = h .1 (a .1 (h .0))
+  only-differ (suc (suc k)) u h a = absurd h
+
+  -- and is one sheet's
+  only-one : (which other : ℕ) (u : Word) → Only which S T u → Only other S T u → which ≡ other
+  unfolding Only
+  only-one zero zero u h k = refl
+  only-one zero (suc zero) u h k = absurd (k .1 (h .0))
+  only-one zero (suc (suc j)) u h k = absurd k
+  only-one (suc zero) zero u h k = absurd (h .1 (k .0))
+  only-one (suc zero) (suc zero) u h k = refl
+  only-one (suc zero) (suc (suc j)) u h k = absurd k
+  only-one (suc (suc i)) other u h k = absurd h
+
+  -- there is one first play
+  one-first : (which other : ℕ) (u v : Word) → FirstPlay S T which u → FirstPlay S T other v → u ≡ v
+  one-first which other u v f g =
+      by (before-total (S .numbers) (omega (arith, A .z-below)) u v (only-small which u (f .only))
+        (only-small other v (g .only)))
+    where
+      by : Before (S .numbers) u v ⊎ ((u ≡ v) ⊎ Before (S .numbers) v u) → u ≡ v
+      by (inl b) = absurd (only-differ which u (f .only) (g .earlier u b))
+      by (inr (inl d)) = d
+      by (inr (inr b)) = absurd (only-differ other v (g .only) (f .earlier v b))
+
+  -- THEOREM: there is one decision
+  pub one-decision : {space : List ℕ} {r r₂ : Comparison} {space₁ space₂ : List ℕ} → Decided S T space r space₁ →
+      Decided S T space r₂ space₂ → (r ≡ r₂) × (space₁ ≡ space₂)
+  one-decision (same h) (same k) = (h .answer ∙ sym (k .answer), h .space-kept ∙ sym (k .space-kept))
+  one-decision (same h) (apart k) =
+      absurd (only-differ (k .which) (k .play) (k .first .only) (h .plays (k .play)))
+  one-decision (apart h) (same k) =
+      absurd (only-differ (h .which) (h .play) (h .first .only) (k .plays (h .play)))
+  one-decision (apart h) (apart k) =
+      let p : h .play ≡ k .play = one-first (h .which) (k .which) (h .play) (k .play) (h .first) (k .first) in
+      let w : h .which ≡ k .which =
+            only-one (h .which) (k .which) (h .play) (h .first .only) (rw p (k .first .only)) in
+      (h .answer ∙ rw (p, w) (sym (k .answer)), h .written ∙ rw p (sym (k .written)))
+
+-- THEOREM: what compare promises allows one answer only
+pub compare-unique : (old new ws space : List ℕ) {r r₂ : Comparison} {ws₁ ws₂ space₁ space₂ : List ℕ} →
+    ComparePromise old new ws space r ws₁ space₁ → ComparePromise old new ws space r₂ ws₂ space₂ →
+    (r ≡ r₂) × ((ws₁ ≡ ws₂) × (space₁ ≡ space₂))
+unfolding ComparedBy
+compare-unique old new ws space {r} {r₂} {ws₁} {ws₂} {space₁} {space₂} p q =
+    go (compareRefusal old new (length ws) (length space)) refl p q
+  where
+    go : (x : Option Refusal) → compareRefusal old new (length ws) (length space) ≡ x →
+        ComparedBy x old new ws space r ws₁ space₁ → ComparedBy x old new ws space r₂ ws₂ space₂ →
+        (r ≡ r₂) × ((ws₁ ≡ ws₂) × (space₁ ≡ space₂))
+    go (some x) e h k = (h .0 ∙ sym (k .0), (h .1 .0 ∙ sym (k .1 .0), h .1 .1 ∙ sym (k .1 .1)))
+    go none e h k =
+        let S = h .first-sheet in
+        let T = h .second-sheet in
+        let s : k .first-sheet ≡ S = one-sheet (k .first-held) (h .first-held) in
+        let t : k .second-sheet ≡ T = one-sheet (k .second-held) (h .second-held) in
+        let n : S .numbers ≡ T .numbers =
+              held-numbers (h .first-held) ∙ same-numbers old new (length ws) (length space) e
+              ∙ sym (held-numbers (h .second-held)) in
+        let d : Decided S T space r₂ space₂ = rw (s, t) at (k .decided) in
+        let o = one-decision S T (held-accepted (h .first-held)) (held-accepted (h .second-held)) n (h .decided) d in
+        (o .0, (h .cleared ∙ sym (k .cleared), o .1))
