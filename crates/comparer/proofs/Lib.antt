@@ -17,3 +17,7 @@ pub mod DecidePlays
 pub mod ComparePlays
 pub mod PlayOrder
 pub mod Unique
+pub mod Listing
+pub mod Search
+pub mod Worked
+pub mod Table

@@ -3,4 +3,5 @@ pub mod Demands
 pub mod Records
 pub mod Refusals
 pub mod Promise
+pub mod Worked
 pub mod inner

@@ -1,0 +1,63 @@
+-- Every row of the table of sheets worked through holds: one computation over the whole table.
+use mathlib.Core.Path.{_≡_, refl}
+use mathlib.Core.Bool.{true}
+use native.Mathlib.Decide.{decLt, ℕ-discrete}
+use Rattle.language.specs.Number.{numbers, inRange, modulo, code, signed, fromByte}
+use Rattle.language.specs.Term.{apply}
+use Rattle.language.specs.Typing.{operands}
+use Rattle.language.specs.Operator.{fit, truth, operate}
+use Rattle.language.specs.Move.{kind, valueOf}
+use Rattle.records.specs.Kind.{shapeOf}
+use Rattle.records.specs.Standing.{isVariable, variableStanding, dataOf, declaredStanding, recordOf}
+use Rattle.records.specs.Head as head
+use Rattle.records.specs.Head.{byteOf, onByte, withBody, limited, constant, used, useOf, dataByte, newOf, bodyOf}
+use Rattle.records.specs.Head.{blank, headOf}
+use Rattle.records.specs.Rule.{values, questions, answers, operandType, resultType, accepts, typeOf, factor, extra}
+use Rattle.records.specs.Rule.{own}
+use Rattle.records.specs.Scope.{entered}
+use Rattle.sheet.specs.Heading as heading
+use Rattle.sheet.specs.Heading.{both, unused, fresh, argument, declareOf, declareAt}
+use Rattle.sheet.specs.Meaning as meaning
+use Rattle.sheet.specs.Meaning.{outward, declared, tyOf, useType, typed, byMeaning, resolve, termOf}
+use Rattle.sheet.specs.Reader as reader
+use Rattle.sheet.specs.Reader.{bind, onHead, onJudged, partsOf, isNew, scopedOf, readPart, withName, onShape, nameOf}
+use Rattle.sheet.specs.Reader.{namesStep, namesOf, sizeOf, sheetOf, rest, build, written, checks, sheetIn, readSheet}
+use Rattle.machine.specs.Action.{who, heard, mapNext, mapAction}
+use Rattle.machine.specs.Decide.{when, map-dec, fits?, answers-to, answers?, fits-at?, hears?, same-move?}
+use Rattle.machine.specs.Position.{entry}
+use Rattle.machine.specs.Step.{onDone, onOk, onValue, onTruth, onSome, cell, access, enter, listen, step}
+use Rattle.machine.specs.Numbered as numbers-of
+use Rattle.machine.specs.Numbered.{single, iso, sum-code, sum-decode, sum, product-decode, product}
+use Rattle.machine.specs.Numbering.{alone, numbered-questions, numbered-answers, numbered-replies, numbered-name}
+use Rattle.machine.specs.Numbering.{numbered-use, numbered}
+use Rattle.machine.specs.Sheet.{opens, sheet, numbered-sheet, numbered-spots, numbered-step, steps, begin}
+use Rattle.machine.specs.Edge.{received, edge-hear, edge}
+use Rattle.machine.specs.Settle.{skipped, settle, next, run}
+use Rattle.comparer.specs.Worked.{table, AllWorked}
+use Rattle.comparer.proofs.Listing.{all, below, questionsOf, answersOf, askedOf, heardOf, movesOf, movesAt}
+use Rattle.comparer.proofs.Search.{lessValue, less, earlier, listed, union, insert, sorted, ends, coded}
+use Rattle.comparer.proofs.Search.{stateBy, stateOf, firstOf, paired, movesBoth, nextPairs, reached, closed}
+use Rattle.comparer.proofs.Search.{related, agree, agreeBelow, agreeAfter, foremost, only, first, found}
+use Rattle.comparer.proofs.Worked.{firstFound, decided, rowRead, rowChecked, checked-rows}
+
+-- the rows of the table are checked
+table-checked : all rowChecked table ≡ true
+unfolding readSheet checks sheetOf reader.closed bind namesOf namesStep onShape nameOf onJudged declareOf both
+  heading.below unused fresh argument declareAt withName readPart scopedOf isNew reader.recordOf partsOf
+  onHead sizeOf sheetIn values questions answers operandType resultType accepts typeOf factor extra own
+  entered shapeOf isVariable variableStanding dataOf declaredStanding recordOf byteOf onByte withBody limited
+  constant used useOf dataByte newOf bodyOf blank headOf head.onShape numbers inRange reader.first rest build
+  written modulo code signed fromByte apply operands fit truth operate kind valueOf outward declared
+  meaning.meaning tyOf useType typed byMeaning resolve termOf meaning.typeOf who heard mapNext mapAction when
+  map-dec fits? answers-to answers? fits-at? hears? same-move? entry onDone onOk onValue onTruth onSome cell
+  access enter listen step single numbers-of.values iso sum-code sum-decode sum product-decode product alone
+  numbered-questions numbered-answers numbered-replies numbered-name numbered-use numbered opens sheet
+  numbered-sheet numbered-spots numbered-step steps begin received edge-hear edge skipped settle next run all
+  below questionsOf answersOf askedOf heardOf movesOf movesAt lessValue less earlier listed union insert
+  sorted ends coded stateBy stateOf firstOf paired movesBoth nextPairs reached closed related agree agreeBelow
+  agreeAfter foremost only first found firstFound decided rowRead rowChecked decLt ℕ-discrete
+table-checked = refl
+
+-- THEOREM: every row of the table holds
+pub table-worked : AllWorked
+table-worked = checked-rows table table-checked
