@@ -21,3 +21,9 @@ pub mod Listing
 pub mod Search
 pub mod Worked
 pub mod Table
+pub mod ParsingSteps
+pub mod WalkingPlays
+pub mod SearchingPlays
+pub mod PlayRecords
+pub mod FollowPlays
+pub mod FollowAnswers

@@ -38,12 +38,12 @@ alone f x = ((λ e. eqb-true x f (by (eqb x f) e)), (λ e. rw (eq-eqb x f e)))
     by false e = e
 
 -- a word after a word
-walk-append : (d : ℕ → ℕ → ℕ) (p : ℕ) (w x : List ℕ) → walk d p (w ++ x) ≡ walk d (walk d p w) x
+pub walk-append : (d : ℕ → ℕ → ℕ) (p : ℕ) (w x : List ℕ) → walk d p (w ++ x) ≡ walk d (walk d p w) x
 walk-append d p [] x = refl
 walk-append d p (m ∷ w) x = walk-append d (d p m) w x
 
 -- f is in reach from p exactly if a word of letters, first letter first, leads there
-live-walk : (G : List ℕ) (n f p : ℕ) → Live G n f p ↔ ((x : List ℕ) × (walk (δ G n) p x ≡ f))
+pub live-walk : (G : List ℕ) (n f p : ℕ) → Live G n f p ↔ ((x : List ℕ) × (walk (δ G n) p x ≡ f))
 live-walk G n f p =
     ((λ l. (turned (l .0), walk-turned (δ G n) p (l .0) ∙ alone f _ .0 (l .1))),
      (λ h. (turned (h .0), alone f _ .1
