@@ -28,8 +28,10 @@ use Rattle.records.specs.declared.head.Byte.{Byte}
 use Rattle.records.proofs.HeadLaws.{head-good}
 use Rattle.sheet.specs.Written.{Name}
 use Rattle.sheet.specs.Heading.{both, below, unused, fresh, argument, declareOf, retireOf, declareAt, retireAt}
-use Rattle.sheet.specs.Reader.{Tree, Answer, got, refused, bind, onHead, onJudged, partsOf, recordOf, isNew, scopedOf, readPart}
-use Rattle.sheet.specs.Reader.{Whole, whole, onShape, nameOf, namesStep, namesOf, sizeOf, closed, numbersAt, nothing, sheetOf}
+use Rattle.sheet.specs.Reader.{Tree, Answer, got, refused, bind, onHead, onJudged, partsOf, recordOf, isNew, scopedOf}
+use Rattle.sheet.specs.Reader.{readPart}
+use Rattle.sheet.specs.Reader.{Whole, whole, onShape, nameOf, namesStep, namesOf, sizeOf, closed, numbersAt, nothing}
+use Rattle.sheet.specs.Reader.{sheetOf}
 use Rattle.sheet.specs.Reader.{checks, readSheet}
 use Rattle.sheet.specs.Check.{checkedOf}
 use Rattle.sheet.specs.declared.heading.Judged.{Judged}
@@ -206,7 +208,8 @@ module _ (s : List ℕ) where
   fresh-in : (st : List ℕ) (at : ℕ) → at ≤ n → Told (fresh s st at)
   unfolding fresh JudgedIn
   fresh-in st at h =
-      both-in n (below s at 255) _ (below-in at 255) (either Told (eqb (getD st (getD s at 0) 0) 0) (λ e. tt) (λ e. h))
+      both-in n (below s at 255) _ (below-in at 255) (either Told (eqb (getD st (getD s at 0) 0) 0) (λ e. tt) (λ e.
+          h))
 
   argument-in : (at j : ℕ) → Told (argument s at j)
   unfolding argument
@@ -241,7 +244,8 @@ module _ (s : List ℕ) where
         (bind (readPart 32 N s st 0 at) (λ t ty w end. got (whole [] at t) ty w end))
         (refused 3 at))
       go h (Declare b) =
-          name-in rec (f h) left st at b (declaredStanding at) (declareOf s st at) (declareAt s at) h (declare-in st at h)
+          name-in rec (f h) left st at b (declaredStanding at) (declareOf s st at) (declareAt s at) h (declare-in st
+              at h)
       go h (Retire b) =
           name-in rec (f h) left st at b 1 (retireOf s st at) (retireAt s at) h (fresh-in st (at + 1) (omega arith))
       go h (Part b p R) = in-bind n (readPart 32 N s st 0 at) _ (part-in 32 N st 0 at) (λ t ty w end q. q)
@@ -257,7 +261,8 @@ module _ (s : List ℕ) where
   unfolding closed In
   closed-in N A h =
       in-bind n A _ h (λ t ty w end q.
-        either Within (ltb end n) (λ e. q) (λ e. either Within (ltb 4096 (sizeOf N ty w)) (λ d. omega arith) (λ d. q)))
+        either Within (ltb end n) (λ e. q) (λ e. either Within (ltb 4096 (sizeOf N ty w)) (λ d. omega arith) (λ d.
+            q)))
 
   -- so at most 4,096
   abbrev Small : Answer Whole → Type 0

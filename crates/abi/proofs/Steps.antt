@@ -10,7 +10,8 @@ use Rattle.sheet.specs.declared.check.Checked.the-variants.{Accepted, Refused}
 use Rattle.abi.specs.Words.{wordsOf, answered, told}
 use Rattle.abi.specs.Handed.{Handed}
 
-four : (out : List ℕ) (k a b c : ℕ) → 4 ≤ length out → set (set (set (set out 0 k) 1 a) 2 b) 3 c ≡ k ∷ a ∷ b ∷ c ∷ drop 4 out
+four : (out : List ℕ) (k a b c : ℕ) → 4 ≤ length out → set (set (set (set out 0 k) 1 a) 2 b) 3 c ≡ k ∷ a ∷ b ∷ c ∷
+    drop 4 out
 four (x ∷ y ∷ z ∷ w ∷ out) k a b c h = refl
 four [] k a b c h = absurd (omega arith)
 four (x ∷ []) k a b c h = absurd (omega arith)
@@ -44,6 +45,7 @@ module _ {x : Checked} (out : List ℕ) where
   unfolding wordsOf
   refused-words e = rw e
 
-  pub accepted-words : {ty size : ℕ} → x ≡ Accepted ty size → answered (1 ∷ ty ∷ size ∷ 0 ∷ []) out ≡ answered (wordsOf x) out
+  pub accepted-words : {ty size : ℕ} → x ≡ Accepted ty size → answered (1 ∷ ty ∷ size ∷ 0 ∷ []) out ≡ answered
+      (wordsOf x) out
   unfolding wordsOf
   accepted-words e = rw e
