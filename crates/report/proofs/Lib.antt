@@ -1,0 +1,7 @@
+pub mod Pages
+pub mod Decimals
+pub mod Printed
+pub mod Answers
+pub mod Fits
+pub mod Causes
+pub mod Never

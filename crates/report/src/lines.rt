@@ -1,0 +1,150 @@
+// The lines, written at a cursor: each function answers the place after what it has written.
+use crate::write::{decimal, text};
+use records::head::byte_at;
+use sheet::check::{Checked, check};
+ghost use mathlib.Core.Path.{_≡_};
+ghost use Prim.Native.Nat.{_≤_};
+ghost use lib.ListN.{length, drop};
+ghost use Rattle.language.specs.Number.{fromByte};
+ghost use Rattle.sheet.specs.Reader.{readSheet};
+ghost use Rattle.report.specs.Page.{page, pushes};
+ghost use Rattle.report.specs.Text.{sheetName, refusedText, sizeIn, sizesText, apartText, signedDigits, valueText};
+ghost use Rattle.report.specs.Text.{moveText, firstMove, width, movesText};
+
+// The name of a sheet: 0 old, 1 new, else both.
+fn sheet_name(out: &mut [u8], at: usize, sheet: u8) -> usize
+    ensures { λ r. ⌜ page (now (out .exit)) r ≡ pushes (sheetName sheet) (page (now (out .entry)) at) ⌝ }
+{
+    if sheet == 0 {
+        return text(out, at, b"old");
+    }
+    if sheet == 1 {
+        return text(out, at, b"new");
+    }
+    text(out, at, b"both")
+}
+
+// A refusal: number, sheet and place.
+pub fn refused(out: &mut [u8], at: usize, number: u8, sheet: u8, place: usize) -> usize
+    ensures { λ r. ⌜ page (now (out .exit)) r
+        ≡ pushes (refusedText number sheet place) (page (now (out .entry)) at) ⌝ }
+{
+    let a = text(out, at, b"refused ");
+    let b = decimal(out, a, number as usize);
+    let c = text(out, b, b" ");
+    let d = sheet_name(out, c, sheet);
+    let e = text(out, d, b" ");
+    let f = decimal(out, e, place);
+    text(out, f, b"\n")
+}
+
+// The size of a sheet that is accepted, else 0.
+fn size_in(s: &[u8]) -> usize
+    ensures { λ r. ⌜ r ≡ sizeIn (readSheet (now (s .entry))) ⌝ }
+{
+    let Checked::Accepted { ty: _, size } = check(s) else {
+        return 0;
+    };
+    size as usize
+}
+
+// The sizes of two sheets.
+pub fn sizes(out: &mut [u8], at: usize, old: &[u8], new: &[u8]) -> usize
+    ensures { λ r. ⌜ page (now (out .exit)) r
+        ≡ pushes (sizesText (sizeIn (readSheet (now (old .entry)))) (sizeIn (readSheet (now (new .entry)))))
+            (page (now (out .entry)) at) ⌝ }
+{
+    let a = text(out, at, b"old ");
+    let b = decimal(out, a, size_in(old));
+    let c = text(out, b, b" new ");
+    let d = decimal(out, c, size_in(new));
+    text(out, d, b"\n")
+}
+
+// The sheet that has the play, and its number of moves.
+pub fn apart(out: &mut [u8], at: usize, sheet: u8, moves: usize) -> usize
+    ensures { λ r. ⌜ page (now (out .exit)) r ≡ pushes (apartText sheet moves) (page (now (out .entry)) at) ⌝ }
+{
+    let a = text(out, at, b"apart in ");
+    let b = sheet_name(out, a, sheet);
+    let c = text(out, b, b" ");
+    let d = decimal(out, c, moves);
+    text(out, d, b"\n")
+}
+
+// The number that a byte stands for, in two's complement.
+fn signed(out: &mut [u8], at: usize, b: u8) -> usize
+    ensures { λ r. ⌜ page (now (out .exit)) r ≡ pushes (signedDigits (fromByte b)) (page (now (out .entry)) at) ⌝ }
+{
+    if b < 128 {
+        return decimal(out, at, b as usize);
+    }
+    let next = text(out, at, b"-");
+    decimal(out, next, 256 - b as usize)
+}
+
+// The value of a move, where its kind has one.
+fn value(out: &mut [u8], at: usize, kind: u8, b: u8) -> usize
+    ensures { λ r. ⌜ page (now (out .exit)) r ≡ pushes (valueText kind b) (page (now (out .entry)) at) ⌝ }
+{
+    if kind < 5 {
+        return at;
+    }
+    let next = text(out, at, b" ");
+    signed(out, next, b)
+}
+
+// A move.
+fn move_line(out: &mut [u8], at: usize, kind: u8, id: u8, argument: u8, b: u8) -> usize
+    ensures { λ r. ⌜ page (now (out .exit)) r
+        ≡ pushes (moveText kind id argument b) (page (now (out .entry)) at) ⌝ }
+{
+    let x = decimal(out, at, kind as usize);
+    let y = text(out, x, b" ");
+    let z = decimal(out, y, id as usize);
+    let u = text(out, z, b" ");
+    let v = decimal(out, u, argument as usize);
+    let w = value(out, v, kind, b);
+    text(out, w, b"\n")
+}
+
+// The move with whose record the bytes begin.
+fn first_move(out: &mut [u8], at: usize, s: &[u8]) -> usize
+    ensures { λ r. ⌜ page (now (out .exit)) r ≡ pushes (firstMove (now (s .entry))) (page (now (out .entry)) at) ⌝ }
+{
+    move_line(out, at, byte_at(s, 0), byte_at(s, 1), byte_at(s, 2), byte_at(s, 3))
+}
+
+// The place after the record at a place, at most the end.
+fn after(s: &[u8], place: usize) -> usize
+    requires { ⌜ place ≤ length (now s) ⌝ }
+    ensures within { λ r. ⌜ r ≤ length (now (s .entry)) ⌝ }
+    ensures rest { λ r. ⌜ drop r (now (s .entry)) ≡ drop (width (drop place (now (s .entry)))) (drop place (now (s .entry))) ⌝ }
+{
+    let left = s.len() - place;
+    if byte_at(s, place) < 5 {
+        if left < 3 {
+            return s.len();
+        }
+        return place + 3;
+    }
+    if left < 4 {
+        return s.len();
+    }
+    place + 4
+}
+
+// So many moves, whose records stand one after the other from the start.
+pub fn moves(out: &mut [u8], at: usize, count: usize, s: &[u8]) -> usize
+    ensures { λ r. ⌜ page (now (out .exit)) r ≡ pushes (movesText count (now (s .entry))) (page (now (out .entry)) at) ⌝ }
+{
+    let mut next = at;
+    let mut place = 0;
+    let mut i = 0;
+    while i < count {
+        next = first_move(out, next, &s[place..]);
+        place = after(s, place);
+        i += 1;
+    }
+    next
+}
