@@ -83,7 +83,8 @@ fn answer_compare(out: &mut [u32], r: Comparison) -> u32
     }
 }
 
-// The service follow: the answer in the first four words of out, and 1; or 0, and nothing is changed, where out has fewer.
+// The service follow: the answer in the first four words of out, and 1; or 0, and nothing is changed, where out has
+// fewer.
 #[no_mangle]
 pub extern "C" fn negyvosal_follow(sheet: &[u8], play: &[u8], words: &mut [u32], out: &mut [u32]) -> u32
     ensures { λ r. ⌜ FollowTold (now (sheet .entry)) (now (play .entry)) (now (words .entry)) (now (out .entry)) r

@@ -32,8 +32,8 @@ abbrev pub Begins : Sheet → List (List ℕ) → ℕ → Type 0
 Begins S rs k =
     (u : Word) × (CompletePlay S u × ((k ≤ length u) × (take k (map (record-of (S .numbers)) u) ≡ take k rs)))
 
--- "the greatest number of moves at the start of the play that begin some complete play of the term (0 where the term has
--- none), and whether the whole given play is complete"
+-- "the greatest number of moves at the start of the play that begin some complete play of the term (0 where the term
+-- has none), and whether the whole given play is complete"
 pub record Counted (S : Sheet) (rs : List (List ℕ)) (count : ℕ) (complete : Bool) : Type 0 where
   pub within : count ≤ length rs
   pub begins : (k : ℕ) → k ≤ length rs → Begins S rs k → (k ≤ count) × Begins S rs count
@@ -66,8 +66,8 @@ pub record SamePlays (S T : Sheet) (space : List ℕ) (r : Comparison) (space′
   pub plays : (u : Word) → Alike S T u
   pub space-kept : space′ ≡ space
 
--- "apart": the sheet that has the first play, its number of moves, and its records at the start of play space, the rest of
--- it untouched
+-- "apart": the sheet that has the first play, its number of moves, and its records at the start of play space, the rest
+-- of it untouched
 pub record ApartPlays (S T : Sheet) (space : List ℕ) (r : Comparison) (space′ : List ℕ) : Type 0 where
   pub which : ℕ
   pub play : Word

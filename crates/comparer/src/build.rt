@@ -20,7 +20,16 @@ pub fn build_one(t: &[u16], n: Numbers, root: usize, all: usize, words: &mut [u3
 }
 
 // The automata of two sheets of sizes `all` and `more`, one after the other, and the dead state.
-pub fn build_two(t: &[u16], u: &[u16], n: Numbers, root: usize, other: usize, all: usize, more: usize, words: &mut [u32])
+pub fn build_two(
+    t: &[u16],
+    u: &[u16],
+    n: Numbers,
+    root: usize,
+    other: usize,
+    all: usize,
+    more: usize,
+    words: &mut [u32],
+)
     requires { ⌜ TwoReady n (now t) (now u) root other all more (now words) ⌝ }
     ensures { λ r. ⌜ ((R : TwoReady n (now (t .entry)) (now (u .entry)) root other all more (now (words .entry)))
         → TwoBuilt n (R .type) (R .term) (R .other-term) (all + more + 1) (now (words .exit))) ⌝ }

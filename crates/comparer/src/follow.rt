@@ -78,9 +78,11 @@ fn refuse(c: Cause) -> Following
     Following::Refused { number: c.number, sheet: c.sheet, place: c.place }
 }
 
-// How many moves at the start of the play begin some complete play of the sheet, and whether the whole play is complete.
+// How many moves at the start of the play begin some complete play of the sheet, and whether the whole play is
+// complete.
 pub fn follow(sheet: &[u8], play: &[u8], words: &mut [u32]) -> Following
-    ensures { λ r. ⌜ FollowPromise (now (sheet .entry)) (now (play .entry)) (now (words .entry)) r (now (words .exit)) ⌝ }
+    ensures { λ r. ⌜ FollowPromise (now (sheet .entry)) (now (play .entry)) (now (words .entry)) r
+        (now (words .exit)) ⌝ }
 {
     let mut t = [0u16; 36864];
     let x = read_sheet(sheet, &mut t);

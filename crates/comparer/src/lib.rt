@@ -27,8 +27,8 @@ pub enum Following {
     Refused { number: u8, sheet: u8, place: usize },
 }
 
-// The answer of compare: the same complete plays; or the sheet that has the first play that only one of them has, and its
-// number of moves; or the refusal.
+// The answer of compare: the same complete plays; or the sheet that has the first play that only one of them has, and
+// its number of moves; or the refusal.
 pub enum Comparison {
     Same,
     Apart { sheet: u8, moves: usize },

@@ -48,7 +48,8 @@ OnlyTerm (suc zero) T M M′ u = Complete T M′ u × (Complete T M u → ⊥)
 OnlyTerm (suc (suc k)) T M M′ u = ⊥
 
 -- the same plays, the space untouched; or the first play of exactly one, and its records
-pub data Verdicts (N : Numbers) (T : Ty) (M M′ : Term) (space : List ℕ) (r : Comparison) (space′ : List ℕ) : Type 0 where
+pub data Verdicts (N : Numbers) (T : Ty) (M M′ : Term) (space : List ℕ) (r : Comparison) (space′ : List ℕ) :
+    Type 0 where
   alike : r ≡ Same → ((u : Word) → Complete T M u ↔ Complete T M′ u) → space′ ≡ space →
     Verdicts N T M M′ space r space′
   differ : (which : ℕ) (play : Word) → r ≡ Apart which (length play) → OnlyTerm which T M M′ play →
