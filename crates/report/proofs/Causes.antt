@@ -55,7 +55,8 @@ unfolding Caused bind
 on-bind (got x ty w next) k p f = f x ty w next
 on-bind (refused a b) k p f = p
 
-on-head : {X : Type 0} (h : Head) (k : Record → Answer X) → Headed h → ((r : Record) → Caused (k r)) → Caused (onHead h k)
+on-head : {X : Type 0} (h : Head) (k : Record → Answer X) → Headed h → ((r : Record) → Caused (k r)) → Caused (onHead
+    h k)
 unfolding Caused Headed onHead
 on-head (Good r) k p f = f r
 on-head (Bad a b) k p f = p
@@ -130,7 +131,8 @@ module _ (s : List ℕ) where
   unfolding headOf Headed
   head-caused st N left at =
       either Headed (leb (length s) at) (omega arith)
-      (on-shape (shapeOf (getD s at 0)) at _ (λ b p R. either Headed (eqb left 0) (omega arith) (body-caused R st N _)))
+      (on-shape (shapeOf (getD s at 0)) at _ (λ b p R. either Headed (eqb left 0) (omega arith) (body-caused R st N
+          _)))
 
   -- the parts of a term
   parts-caused : (N : Numbers) (rec : ℕ → Answer Tree) → ((at : ℕ) → Caused (rec at)) →
@@ -174,7 +176,8 @@ module _ (s : List ℕ) where
   fresh-caused : (st : List ℕ) (at : ℕ) → Told (fresh s st at)
   unfolding fresh Told
   fresh-caused st at =
-      on-both (below s at 255) _ (below-caused at 255) (either Told (eqb (getD st (getD s at 0) 0) 0) tt (omega arith))
+      on-both (below s at 255) _ (below-caused at 255) (either Told (eqb (getD st (getD s at 0) 0) 0) tt (omega
+          arith))
 
   argument-caused : (at j : ℕ) → Told (argument s at j)
   unfolding argument
@@ -208,7 +211,8 @@ module _ (s : List ℕ) where
         (bind (readPart 32 N s st 0 at) (λ t ty w end. got (whole [] at t) ty w end))
         (refused 3 at))
       go (Declare b) =
-          name-caused rec f left st at b (declaredStanding at) (declareOf s st at) (declareAt s at) (declare-caused st at)
+          name-caused rec f left st at b (declaredStanding at) (declareOf s st at) (declareAt s at) (declare-caused st
+              at)
       go (Retire b) =
           name-caused rec f left st at b 1 (retireOf s st at) (retireAt s at) (fresh-caused st (at + 1))
       go (Part b p R) = on-bind (readPart 32 N s st 0 at) _ (part-caused 32 N st 0 at) (λ t ty w end. tt)
@@ -236,4 +240,5 @@ module _ (s : List ℕ) where
       (either Caused (ltb 7 (getD s 0 0)) (omega arith)
       (either Caused (leb (length s) 1) (omega arith)
       (either Caused (ltb 1 (getD s 1 0)) (omega arith)
-      (closed-caused (numbersAt s) (namesOf 32 (numbersAt s) s nothing 2) (names-caused 32 (numbersAt s) nothing 2)))))))
+      (closed-caused (numbersAt s) (namesOf 32 (numbersAt s) s nothing 2) (names-caused 32 (numbersAt s) nothing
+          2)))))))

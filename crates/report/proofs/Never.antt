@@ -1,4 +1,5 @@
--- With 16,384 working words and 2,040 bytes of play space compare never refuses with 14: "so that it can print 13 and never
+-- With 16,384 working words and 2,040 bytes of play space compare never refuses with 14: "so that it can print 13 and
+-- never
 -- 14" (document 01). The words do for sizes that add up to 511 at most, and the bytes do for those.
 use Prim.Native.Nat.{ℕ, _+_, _-_, _*_, _≤_}
 use native.Mathlib.Omega.{arith}

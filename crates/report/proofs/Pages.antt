@@ -37,7 +37,8 @@ unfolding pushes
 none p = refl
 
 -- the loop over the bytes of a text
-pub text-again : {q r : Page} (p : Page) (s : List ℕ) (i : ℕ) → i < length s → q ≡ pushes (take i s) p → r ≡ pushed (getD s i 0) q →
+pub text-again : {q r : Page} (p : Page) (s : List ℕ) (i : ℕ) → i < length s → q ≡ pushes (take i s) p → r ≡ pushed
+    (getD s i 0) q →
     r ≡ pushes (take (i + 1) s) p
 text-again {q} {r} p s i h e d = rw (add-one, take-suc s i 0) (after p (take i s) (getD s i 0 ∷ []) e (one q r _ d))
 

@@ -1,5 +1,7 @@
--- What the program prints, as bytes. Document 01, "A program reads `old.sheet` and `new.sheet`": "Line 1: both sizes. Line 2:
--- the sheet and the number of moves, or `same` alone. Then one move a line: kind, id, argument and, where it has one, the
+-- What the program prints, as bytes. Document 01, "A program reads `old.sheet` and `new.sheet`": "Line 1: both sizes.
+-- Line 2:
+-- the sheet and the number of moves, or `same` alone. Then one move a line: kind, id, argument and, where it has one,
+-- the
 -- signed value. A refusal is one line, `refused 7 old 3`: number, sheet, place."
 use Prim.Native.Nat.{ℕ, zero, suc, _+_, _/_, _%_}
 use Prim.Native.Char.{code}
@@ -42,7 +44,8 @@ sheetName (suc (suc n)) = ascii "both"
 -- "refused 7 old 3"
 unfoldable pub refusedText : ℕ → ℕ → ℕ → List ℕ
 refusedText number sheet place =
-    ascii "refused " ++ (digits number ++ (ascii " " ++ (sheetName sheet ++ (ascii " " ++ (digits place ++ ascii "\n")))))
+    ascii "refused " ++ (digits number ++ (ascii " " ++ (sheetName sheet ++ (ascii " " ++ (digits place ++ ascii
+        "\n")))))
 
 -- "old 4 new 4"
 unfoldable pub sizesText : ℕ → ℕ → List ℕ
@@ -59,7 +62,8 @@ valueText kind byte = pick (ltb kind 5) [] (ascii " " ++ signedDigits (fromByte 
 -- "5 255 0 -1"
 unfoldable pub moveText : ℕ → ℕ → ℕ → ℕ → List ℕ
 moveText kind id argument byte =
-    digits kind ++ (ascii " " ++ (digits id ++ (ascii " " ++ (digits argument ++ (valueText kind byte ++ ascii "\n")))))
+    digits kind ++ (ascii " " ++ (digits id ++ (ascii " " ++ (digits argument ++ (valueText kind byte ++ ascii
+        "\n")))))
 
 -- the move with whose record the bytes begin
 unfoldable pub firstMove : List ℕ → List ℕ

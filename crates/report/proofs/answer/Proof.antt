@@ -38,21 +38,29 @@ same-length c = search needs
 
 returns : tie.Need-returns
 returns c =
-    text-refused _ _ _ _ (c .before .before .before .before .before .r .given .1) (c .before .before .refused .ensures)
+    text-refused _ _ _ _ (c .before .before .before .before .before .r .given .1) (c .before .before .refused
+        .ensures)
 
 same-length-2 : tie.Need-same-length-2
 same-length-2 c = search needs
 
 returns-2 : tie.Need-returns-2
 returns-2 c =
-    text-same _ _ _ _ (c .before .before .before .before .before .before .before .before .before .enum-told .given .1) (c .before .before .before .before .before .before .before .sizes .ensures) (c .before .before .text .ensures)
+    text-same _ _ _ _ (c .before .before .before .before .before .before .before .before .before .enum-told .given .1)
+        (c .before .before .before .before .before .before .before .sizes .ensures) (c .before .before .text .ensures)
 
 same-length-3 : tie.Need-same-length-3
 same-length-3 c = search needs
 
 returns-3 : tie.Need-returns-3
 returns-3 c =
-    text-apart _ _ _ _ (c .before .before .before .before .before .before .before .before .before .before .before .before .before .r2 .given .1) (c .before .before .before .before .before .before .before .before .before .before .sizes2 .ensures) (c .before .before .before .before .before .before .apart .ensures) (c .before .before .moves .ensures)
+    text-apart _ _ _ _ (c .before .before .before .before .before .before .before .before .before .before .before
+        .before .before .r2 .given .1) (c .before .before .before .before .before .before .before .before .before
+        .before .sizes2 .ensures) (c .before .before .before .before .before .before .apart .ensures) (c .before
+        .before .moves .ensures)
 
 pub answer-spec : {M : Type 1} → statement M
-answer-spec = tie.close (tie.spec enum-known-r refused-requires enum-told sizes-requires slice-aggregate-text text-requires enum-known-r-2 sizes-requires-2 apart-requires moves-requires same-length returns same-length-2 returns-2 same-length-3 returns-3)
+answer-spec = tie.close
+    (tie.spec enum-known-r refused-requires enum-told sizes-requires slice-aggregate-text text-requires enum-known-r-2
+    sizes-requires-2 apart-requires moves-requires same-length returns same-length-2 returns-2 same-length-3
+    returns-3)

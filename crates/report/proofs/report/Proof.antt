@@ -20,7 +20,9 @@ same-length-3 c = search needs
 
 returns : tie.Need-returns
 returns c =
-    (record { answer = _; compared = c .before .before .before .before .before .before .before .before .before .compare .ensures; written = c .before .before .answer .ensures }, counts _ _ _ _ (c .before .before .answer .ensures))
+    (record { answer = _; compared = c .before .before .before .before .before .before .before .before .before
+        .compare .ensures; written = c .before .before .answer .ensures }, counts _ _ _ _ (c .before .before .answer
+        .ensures))
 
 pub report-spec : {M : Type 1} → statement M
 report-spec = tie.close (tie.spec compare-requires answer-requires same-length same-length-2 same-length-3 returns)

@@ -34,7 +34,14 @@ same-length c = search needs
 returns : tie.Need-returns
 unfolding apartText
 returns c =
-    after _ _ _ (c .before .before .before .before .before .before .before .before .before .before .before .before .before .before .before .before .before .before .before .before .text .ensures) (after _ _ _ (c .before .before .before .before .before .before .before .before .before .before .before .before .before .before .before .before .sheet-name .ensures) (after _ _ _ (c .before .before .before .before .before .before .before .before .before .before .before .text2 .ensures) (after _ _ _ (c .before .before .before .before .before .before .before .decimal .ensures) (c .before .before .text3 .ensures))))
+    after _ _ _ (c .before .before .before .before .before .before .before .before .before .before .before .before
+        .before .before .before .before .before .before .before .before .text .ensures) (after _ _ _ (c .before
+        .before .before .before .before .before .before .before .before .before .before .before .before .before
+        .before .before .sheet-name .ensures) (after _ _ _ (c .before .before .before .before .before .before .before
+        .before .before .before .before .text2 .ensures) (after _ _ _ (c .before .before .before .before .before
+        .before .before .decimal .ensures) (c .before .before .text3 .ensures))))
 
 pub apart-spec : {M : Type 1} → statement M
-apart-spec = tie.close (tie.spec slice-aggregate-text text-requires sheet-name-requires slice-aggregate-text-2 text-requires-2 decimal-requires slice-aggregate-text-3 text-requires-3 same-length returns)
+apart-spec = tie.close
+    (tie.spec slice-aggregate-text text-requires sheet-name-requires slice-aggregate-text-2 text-requires-2
+    decimal-requires slice-aggregate-text-3 text-requires-3 same-length returns)

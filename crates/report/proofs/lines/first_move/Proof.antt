@@ -23,8 +23,12 @@ same-length c = search needs
 
 returns : tie.Need-returns
 returns c =
-    move-line _ _ _ _ _ _ (c .before .before .before .before .before .before .byte-at .ensures) (c .before .before .before .before .before .byte-at2 .ensures) (c .before .before .before .before .byte-at3 .ensures) (c .before .before .before .byte-at4 .ensures)
+    move-line _ _ _ _ _ _ (c .before .before .before .before .before .before .byte-at .ensures) (c .before .before
+        .before .before .before .byte-at2 .ensures) (c .before .before .before .before .byte-at3 .ensures) (c .before
+        .before .before .byte-at4 .ensures)
     (c .before .before .move-line .ensures)
 
 pub first-move-spec : {M : Type 1} → statement M
-first-move-spec = tie.close (tie.spec byte-at-requires byte-at-requires-2 byte-at-requires-3 byte-at-requires-4 move-line-requires same-length returns)
+first-move-spec = tie.close
+    (tie.spec byte-at-requires byte-at-requires-2 byte-at-requires-3 byte-at-requires-4 move-line-requires same-length
+    returns)

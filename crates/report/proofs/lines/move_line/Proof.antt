@@ -40,7 +40,19 @@ same-length c = search needs
 returns : tie.Need-returns
 unfolding moveText
 returns c =
-    after _ _ _ (c .before .before .before .before .before .before .before .before .before .before .before .before .before .before .before .before .before .before .before .before .before .before .before .before .before .before .before .before .before .decimal .ensures) (after _ _ _ (c .before .before .before .before .before .before .before .before .before .before .before .before .before .before .before .before .before .before .before .before .before .before .before .before .text .ensures) (after _ _ _ (c .before .before .before .before .before .before .before .before .before .before .before .before .before .before .before .before .before .before .before .before .decimal2 .ensures) (after _ _ _ (c .before .before .before .before .before .before .before .before .before .before .before .before .before .before .before .text2 .ensures) (after _ _ _ (c .before .before .before .before .before .before .before .before .before .before .before .decimal3 .ensures) (after _ _ _ (c .before .before .before .before .before .before .before .value .ensures) (c .before .before .text3 .ensures))))))
+    after _ _ _ (c .before .before .before .before .before .before .before .before .before .before .before .before
+        .before .before .before .before .before .before .before .before .before .before .before .before .before
+        .before .before .before .before .decimal .ensures) (after _ _ _ (c .before .before .before .before .before
+        .before .before .before .before .before .before .before .before .before .before .before .before .before
+        .before .before .before .before .before .before .text .ensures) (after _ _ _ (c .before .before .before
+        .before .before .before .before .before .before .before .before .before .before .before .before .before
+        .before .before .before .before .decimal2 .ensures) (after _ _ _ (c .before .before .before .before .before
+        .before .before .before .before .before .before .before .before .before .before .text2 .ensures) (after _ _ _
+        (c .before .before .before .before .before .before .before .before .before .before .before .decimal3 .ensures)
+        (after _ _ _ (c .before .before .before .before .before .before .before .value .ensures) (c .before .before
+        .text3 .ensures))))))
 
 pub move-line-spec : {M : Type 1} → statement M
-move-line-spec = tie.close (tie.spec decimal-requires slice-aggregate-text text-requires decimal-requires-2 slice-aggregate-text-2 text-requires-2 decimal-requires-3 value-requires slice-aggregate-text-3 text-requires-3 same-length returns)
+move-line-spec = tie.close
+    (tie.spec decimal-requires slice-aggregate-text text-requires decimal-requires-2 slice-aggregate-text-2
+    text-requires-2 decimal-requires-3 value-requires slice-aggregate-text-3 text-requires-3 same-length returns)

@@ -43,14 +43,19 @@ loop-less c = search needs
 
 loop-again : tie.Need-loop-again Inv-loop μ-loop
 loop-again c =
-    (search needs, (c .after .ensures .0, (search needs, moves-again _ _ (c .before .before .before .before .before .before .before .loop .i) (c .before .before .before .before .before .before .before .loop .place) _ _
-    (c .before .before .before .before .before .before .before .loop .inv .1 .1 .1) _ (c .after .result) (c .before .before .before .before .before .before .loop-test .taken) (c .before .before .before .first-move .ensures) (c .after .ensures .1))))
+    (search needs, (c .after .ensures .0, (search needs, moves-again _ _ (c .before .before .before .before .before
+        .before .before .loop .i) (c .before .before .before .before .before .before .before .loop .place) _ _
+    (c .before .before .before .before .before .before .before .loop .inv .1 .1 .1) _ (c .after .result) (c .before
+        .before .before .before .before .before .loop-test .taken) (c .before .before .before .first-move .ensures) (c
+        .after .ensures .1))))
 
 same-length : tie.Need-same-length Inv-loop μ-loop
 same-length c = c .before .loop .inv .1 .1 .0
 
 returns : tie.Need-returns Inv-loop μ-loop
-returns c = moves-end _ _ (c .before .loop .i) (c .before .loop .place) _ _ (c .before .loop .inv .1 .1 .1) (c .before .loop .inv .0) (c .loop-test .left)
+returns c =
+    moves-end _ _ (c .before .loop .i) (c .before .loop .place) _ _ (c .before .loop .inv .1 .1 .1) (c .before .loop
+    .inv .0) (c .loop-test .left)
 
 pub moves-spec : {M : Type 1} → statement M
 moves-spec =

@@ -43,7 +43,20 @@ same-length c = search needs
 returns : tie.Need-returns
 unfolding refusedText
 returns c =
-    after _ _ _ (c .before .before .before .before .before .before .before .before .before .before .before .before .before .before .before .before .before .before .before .before .before .before .before .before .before .before .before .before .before .text .ensures) (after _ _ _ (c .before .before .before .before .before .before .before .before .before .before .before .before .before .before .before .before .before .before .before .before .before .before .before .before .before .decimal .ensures) (after _ _ _ (c .before .before .before .before .before .before .before .before .before .before .before .before .before .before .before .before .before .before .before .before .text2 .ensures) (after _ _ _ (c .before .before .before .before .before .before .before .before .before .before .before .before .before .before .before .before .sheet-name .ensures) (after _ _ _ (c .before .before .before .before .before .before .before .before .before .before .before .text3 .ensures) (after _ _ _ (c .before .before .before .before .before .before .before .decimal2 .ensures) (c .before .before .text4 .ensures))))))
+    after _ _ _ (c .before .before .before .before .before .before .before .before .before .before .before .before
+        .before .before .before .before .before .before .before .before .before .before .before .before .before
+        .before .before .before .before .text .ensures) (after _ _ _ (c .before .before .before .before .before
+        .before .before .before .before .before .before .before .before .before .before .before .before .before
+        .before .before .before .before .before .before .before .decimal .ensures) (after _ _ _ (c .before .before
+        .before .before .before .before .before .before .before .before .before .before .before .before .before
+        .before .before .before .before .before .text2 .ensures) (after _ _ _ (c .before .before .before .before
+        .before .before .before .before .before .before .before .before .before .before .before .before .sheet-name
+        .ensures) (after _ _ _ (c .before .before .before .before .before .before .before .before .before .before
+        .before .text3 .ensures) (after _ _ _ (c .before .before .before .before .before .before .before .decimal2
+        .ensures) (c .before .before .text4 .ensures))))))
 
 pub refused-spec : {M : Type 1} → statement M
-refused-spec = tie.close (tie.spec slice-aggregate-text text-requires decimal-requires slice-aggregate-text-2 text-requires-2 sheet-name-requires slice-aggregate-text-3 text-requires-3 decimal-requires-2 slice-aggregate-text-4 text-requires-4 same-length returns)
+refused-spec = tie.close
+    (tie.spec slice-aggregate-text text-requires decimal-requires slice-aggregate-text-2 text-requires-2
+    sheet-name-requires slice-aggregate-text-3 text-requires-3 decimal-requires-2 slice-aggregate-text-4
+    text-requires-4 same-length returns)

@@ -37,10 +37,13 @@ same-length-3 : tie.Need-same-length-3
 same-length-3 c = search needs
 
 returns-3 : tie.Need-returns-3
-returns-3 c = name-both _ _ (c .before .before .before .before .before .before .if1 .left) (c .before .before .before .before .before .if2 .left) (c .before .before .text3 .ensures)
+returns-3 c =
+    name-both _ _ (c .before .before .before .before .before .before .if1 .left) (c .before .before .before .before
+    .before .if2 .left) (c .before .before .text3 .ensures)
 
 pub sheet-name-spec : {M : Type 1} → statement M
 sheet-name-spec =
     tie.close
-    (tie.spec slice-aggregate-text text-requires same-length returns slice-aggregate-text-2 text-requires-2 same-length-2
+    (tie.spec slice-aggregate-text text-requires same-length returns slice-aggregate-text-2 text-requires-2
+        same-length-2
     returns-2 slice-aggregate-text-3 text-requires-3 same-length-3 returns-3)

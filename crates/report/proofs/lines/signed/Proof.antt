@@ -30,7 +30,10 @@ same-length-2 c = search needs
 
 returns-2 : tie.Need-returns-2
 returns-2 c =
-    below-0 _ _ (c .before .before .before .before .before .before .before .before .before .if1 .left) (search needs) (c .before .before .before .before .before .before .text .ensures) (c .before .before .decimal2 .ensures)
+    below-0 _ _ (c .before .before .before .before .before .before .before .before .before .if1 .left) (search needs)
+        (c .before .before .before .before .before .before .text .ensures) (c .before .before .decimal2 .ensures)
 
 pub signed-spec : {M : Type 1} → statement M
-signed-spec = tie.close (tie.spec decimal-requires same-length returns slice-aggregate-text text-requires sub-decimal decimal-requires-2 same-length-2 returns-2)
+signed-spec = tie.close
+    (tie.spec decimal-requires same-length returns slice-aggregate-text text-requires sub-decimal decimal-requires-2
+    same-length-2 returns-2)

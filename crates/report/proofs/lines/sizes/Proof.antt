@@ -41,8 +41,17 @@ same-length c = search needs
 returns : tie.Need-returns
 unfolding sizesText
 returns c =
-    sizes-line _ _ _ _ _ (c .before .before .before .before .before .before .before .before .before .before .before .before .before .before .before .before .before .before .size-in .ensures) (c .before .before .before .before .before .before .before .before .size-in2 .ensures)
-    (after _ _ _ (c .before .before .before .before .before .before .before .before .before .before .before .before .before .before .before .before .before .before .before .before .before .before .text .ensures) (after _ _ _ (c .before .before .before .before .before .before .before .before .before .before .before .before .before .before .before .before .before .decimal .ensures) (after _ _ _ (c .before .before .before .before .before .before .before .before .before .before .before .before .text2 .ensures) (after _ _ _ (c .before .before .before .before .before .before .before .decimal2 .ensures) (c .before .before .text3 .ensures)))))
+    sizes-line _ _ _ _ _ (c .before .before .before .before .before .before .before .before .before .before .before
+        .before .before .before .before .before .before .before .size-in .ensures) (c .before .before .before .before
+        .before .before .before .before .size-in2 .ensures)
+    (after _ _ _ (c .before .before .before .before .before .before .before .before .before .before .before .before
+        .before .before .before .before .before .before .before .before .before .before .text .ensures) (after _ _ _
+        (c .before .before .before .before .before .before .before .before .before .before .before .before .before
+        .before .before .before .before .decimal .ensures) (after _ _ _ (c .before .before .before .before .before
+        .before .before .before .before .before .before .before .text2 .ensures) (after _ _ _ (c .before .before
+        .before .before .before .before .before .decimal2 .ensures) (c .before .before .text3 .ensures)))))
 
 pub sizes-spec : {M : Type 1} → statement M
-sizes-spec = tie.close (tie.spec slice-aggregate-text text-requires size-in-requires decimal-requires slice-aggregate-text-2 text-requires-2 size-in-requires-2 decimal-requires-2 slice-aggregate-text-3 text-requires-3 same-length returns)
+sizes-spec = tie.close
+    (tie.spec slice-aggregate-text text-requires size-in-requires decimal-requires slice-aggregate-text-2
+    text-requires-2 size-in-requires-2 decimal-requires-2 slice-aggregate-text-3 text-requires-3 same-length returns)

@@ -21,7 +21,8 @@ same-length c = search needs
 
 returns-2 : tie.Need-returns-2
 returns-2 c =
-    some-value _ _ _ (c .before .before .before .before .before .before .before .before .before .if1 .left) (c .before .before .before .before .before .before .text .ensures) (c .before .before .signed .ensures)
+    some-value _ _ _ (c .before .before .before .before .before .before .before .before .before .if1 .left) (c .before
+        .before .before .before .before .before .text .ensures) (c .before .before .signed .ensures)
 
 pub value-spec : {M : Type 1} → statement M
 value-spec = tie.close (tie.spec returns slice-aggregate-text text-requires signed-requires same-length returns-2)

@@ -39,7 +39,8 @@ module _ (t : ℕ) where
   decimal-same-length c = search needs
 
   decimal-returns : decimal-lts.Need-returns (decimal-calls t) (decimal-at t) decimal.Post
-  decimal-returns c = decimal-one _ _ (c .before .before .before .before .if1 .taken) (c .before .before .push .ensures)
+  decimal-returns c =
+      decimal-one _ _ (c .before .before .before .before .if1 .taken) (c .before .before .push .ensures)
 
   decimal-decimal-requires : decimal-lts.Need-decimal-requires (decimal-calls t) (decimal-at t) decimal.Post
   decimal-decimal-requires c κs = search needs
@@ -57,7 +58,9 @@ module _ (t : ℕ) where
   decimal-same-length-2 c = search needs
 
   decimal-returns-2 : decimal-lts.Need-returns-2 (decimal-calls t) (decimal-at t) decimal.Post
-  decimal-returns-2 c = decimal-more _ _ (c .before .before .before .before .before .before .before .before .if1 .left) (c .before .before .before .before .before .before .decimal .ensures) (c .before .before .push2 .ensures)
+  decimal-returns-2 c =
+      decimal-more _ _ (c .before .before .before .before .before .before .before .before .if1 .left) (c .before
+      .before .before .before .before .before .decimal .ensures) (c .before .before .push2 .ensures)
 
 pub +decimal-spec : {M : Type 1} → statement M
 +decimal-spec =

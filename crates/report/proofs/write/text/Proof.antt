@@ -32,7 +32,8 @@ loop-less c = search needs
 
 loop-again : tie.Need-loop-again Inv-loop μ-loop
 loop-again c =
-    (search needs, (search needs, text-again _ _ _ (c .before .before .before .before .before .loop-test .taken) (c .before .before .before .before .before .before .loop .inv .1 .1) (c .before .before .push .ensures)))
+    (search needs, (search needs, text-again _ _ _ (c .before .before .before .before .before .loop-test .taken) (c
+        .before .before .before .before .before .before .loop .inv .1 .1) (c .before .before .push .ensures)))
 
 same-length : tie.Need-same-length Inv-loop μ-loop
 same-length c = c .before .loop .inv .1 .0
