@@ -1,7 +1,7 @@
 pub mod Plays
-pub mod Demands
 pub mod Records
 pub mod Refusals
 pub mod Promise
+pub mod Demands
 pub mod Worked
 pub mod inner

@@ -3,5 +3,4 @@ pub mod Decimals
 pub mod Printed
 pub mod Answers
 pub mod Fits
-pub mod Causes
 pub mod Never

@@ -1,6 +1,5 @@
--- With 16,384 working words and 2,040 bytes of play space compare never refuses with 14: "so that it can print 13 and
--- never
--- 14" (document 01). The words do for sizes that add up to 511 at most, and the bytes do for those.
+-- With 16,384 working words and 2,040 bytes of play space compare never refuses with 14: "so that it can print 13
+-- and never 14" (document 01). The words do for sizes that add up to 511 at most, and the bytes do for those.
 use Prim.Native.Nat.{ℕ, _+_, _-_, _*_, _≤_}
 use native.Mathlib.Omega.{arith}
 use mathlib.Core.Path.{_≡_, refl, sym}
@@ -12,7 +11,7 @@ use borrow.Author.Tests.{ltb-true, ltb-false}
 use Rattle.language.specs.Choice.{pick}
 use Rattle.sheet.specs.Reader.{Answer, got, refused, Whole, sheetOf, sizeOf, numbersAt}
 use Rattle.comparer.specs.Refusals.{Refusal, refusing, comparable, rootOf, onRead, compareRefusal}
-use Rattle.report.proofs.Causes.{Caused, sheet-caused}
+use Rattle.comparer.proofs.FromCheck.{Caused, sheet-caused}
 
 -- no refusal, or one whose number is not 14
 unfoldable Not14 : Option Refusal → Type 0
@@ -23,7 +22,7 @@ on-read : (A : Answer Whole) (sheet : ℕ) (k : ℕ → ℕ → ℕ → Option R
     ((root ty w : ℕ) → Not14 (k root ty w)) → Not14 (onRead A sheet k)
 unfolding onRead Not14 Caused
 on-read (got x ty w end) sheet k c f = f (rootOf x) ty w
-on-read (refused number place) sheet k c f = λ e. omega arith
+on-read (refused number place) sheet k c f = λ e. omega (arith, c .1)
 
 -- the words and the bytes, for sizes that add up to n
 lent : (t u v : Bool) (n : ℕ) → u ≡ ltb 16384 (32 * (n + 1)) → v ≡ ltb 2040 (4 * (n - 1)) →

@@ -1,8 +1,6 @@
 -- What the program prints, as bytes. Document 01, "A program reads `old.sheet` and `new.sheet`": "Line 1: both sizes.
--- Line 2:
--- the sheet and the number of moves, or `same` alone. Then one move a line: kind, id, argument and, where it has one,
--- the
--- signed value. A refusal is one line, `refused 7 old 3`: number, sheet, place."
+-- Line 2: the sheet and the number of moves, or `same` alone. Then one move a line: kind, id, argument and, where it
+-- has one, the signed value. A refusal is one line, `refused 7 old 3`: number, sheet, place."
 use Prim.Native.Nat.{ℕ, zero, suc, _+_, _/_, _%_}
 use Prim.Native.Char.{code}
 use Prim.Native.String.{String, [] as end, _∷_ as _then_}

@@ -1,4 +1,4 @@
--- A refusal by check has a number of at most 11.
+-- A refusal by check has a number from 1 to 11.
 use Prim.Native.Nat.{ℕ, zero, suc, _+_, _≤_}
 use native.Mathlib.Omega.{arith}
 use mathlib.Core.Bool.{Bool, true, false}
@@ -31,6 +31,10 @@ use Rattle.sheet.specs.Reader.{nothing, sheetOf}
 use Rattle.sheet.specs.declared.heading.Judged.{Judged}
 use Rattle.sheet.specs.declared.heading.Judged.the-variants.{Good as Fine, Bad as Wrong}
 
+-- the numbers of check
+abbrev pub FromCheck : ℕ → Type 0
+FromCheck k = (1 ≤ k) × (k ≤ 11)
+
 -- a choice by a test
 either : {X : Type 0} (P : X → Type 0) (t : Bool) {a b : X} → P a → P b → P (pick t a b)
 either P true p q = p
@@ -39,15 +43,15 @@ either P false p q = q
 -- a head, a judgement or something read whose refusal has such a number
 unfoldable Headed : Head → Type 0
 Headed (Good r) = Unit
-Headed (Bad k p) = k ≤ 11
+Headed (Bad k p) = FromCheck k
 
 unfoldable Told : Judged → Type 0
 Told Fine = Unit
-Told (Wrong k p) = k ≤ 11
+Told (Wrong k p) = FromCheck k
 
 unfoldable pub Caused : {X : Type 0} → Answer X → Type 0
 Caused (got x ty w next) = Unit
-Caused (refused k p) = k ≤ 11
+Caused (refused k p) = FromCheck k
 
 on-bind : {X Y : Type 0} (A : Answer X) (k : X → ℕ → ℕ → ℕ → Answer Y) → Caused A →
     ((x : X) (ty w next : ℕ) → Caused (k x ty w next)) → Caused (bind A k)
@@ -55,8 +59,8 @@ unfolding Caused bind
 on-bind (got x ty w next) k p f = f x ty w next
 on-bind (refused a b) k p f = p
 
-on-head : {X : Type 0} (h : Head) (k : Record → Answer X) → Headed h → ((r : Record) → Caused (k r)) → Caused (onHead
-    h k)
+on-head : {X : Type 0} (h : Head) (k : Record → Answer X) → Headed h → ((r : Record) → Caused (k r)) →
+    Caused (onHead h k)
 unfolding Caused Headed onHead
 on-head (Good r) k p f = f r
 on-head (Bad a b) k p f = p
@@ -76,8 +80,8 @@ module _ (s : List ℕ) where
   on-byte : (at limit : ℕ) (k : ℕ → Head) → ((b : ℕ) → Headed (k b)) → Headed (onByte (byteOf s at limit) k)
   unfolding byteOf onByte Headed
   on-byte at limit k f =
-      either (λ (x : Byte). Headed (onByte x k)) (leb (length s) at) (omega arith)
-      (either (λ (x : Byte). Headed (onByte x k)) (leb limit (getD s at 0)) (omega arith) (f (getD s at 0)))
+      either (λ (x : Byte). Headed (onByte x k)) (leb (length s) at) (omega arith, omega arith)
+      (either (λ (x : Byte). Headed (onByte x k)) (leb limit (getD s at 0)) (omega arith, omega arith) (f (getD s at 0)))
 
   limited-caused : (r : Record) (limit : ℕ) → Headed (limited s r limit)
   unfolding limited Headed
@@ -85,24 +89,24 @@ module _ (s : List ℕ) where
 
   constant-caused : (N : Numbers) (r : Record) → Headed (constant s N r)
   unfolding constant Headed
-  constant-caused N r = on-byte (r .place + 1) 256 _ (λ a. either Headed (inRange N a) tt (omega arith))
+  constant-caused N r = on-byte (r .place + 1) 256 _ (λ a. either Headed (inRange N a) tt (omega arith, omega arith))
 
   use-caused : (st : List ℕ) (r : Record) → Headed (useOf s st r)
   unfolding useOf Headed
   use-caused st r =
       on-byte (r .place + 1) 255 _ (λ id.
-        either Headed (eqb (getD st id 0) 0) (omega arith) (either Headed (eqb (getD st id 0) 1) (omega arith) tt))
+        either Headed (eqb (getD st id 0) 0) (omega arith, omega arith) (either Headed (eqb (getD st id 0) 1) (omega arith, omega arith) tt))
 
   data-caused : (r : Record) (id : ℕ) → Headed (dataByte s r id)
   unfolding dataByte Headed
-  data-caused r id = on-byte (r .place + 2) 3 _ (λ d. either Headed (eqb d 0) (omega arith) tt)
+  data-caused r id = on-byte (r .place + 2) 3 _ (λ d. either Headed (eqb d 0) (omega arith, omega arith) tt)
 
   new-caused : (st : List ℕ) (r : Record) → Headed (newOf s st r)
   unfolding newOf Headed
   new-caused st r =
       on-byte (r .place + 1) 255 _ (λ id.
-        either Headed (eqb (getD st id 0) 1) (omega arith)
-        (either Headed (isVariable (getD st id 0)) (data-caused r id) (omega arith)))
+        either Headed (eqb (getD st id 0) 1) (omega arith, omega arith)
+        (either Headed (isVariable (getD st id 0)) (data-caused r id) (omega arith, omega arith)))
 
   body-caused : (R : Rule) (st : List ℕ) (N : Numbers) (r : Record) → Headed (bodyOf R s st N r)
   unfolding bodyOf Headed
@@ -130,8 +134,8 @@ module _ (s : List ℕ) where
   head-caused : (st : List ℕ) (N : Numbers) (left at : ℕ) → Headed (headOf s st N left at)
   unfolding headOf Headed
   head-caused st N left at =
-      either Headed (leb (length s) at) (omega arith)
-      (on-shape (shapeOf (getD s at 0)) at _ (λ b p R. either Headed (eqb left 0) (omega arith) (body-caused R st N
+      either Headed (leb (length s) at) (omega arith, omega arith)
+      (on-shape (shapeOf (getD s at 0)) at _ (λ b p R. either Headed (eqb left 0) (omega arith, omega arith) (body-caused R st N
           _)))
 
   -- the parts of a term
@@ -144,7 +148,7 @@ module _ (s : List ℕ) where
         either Caused (accepts (r .rule) s r j prev ty)
           (on-bind (partsOf rec N s r count (j + 1) ty next) _ (parts-caused N rec f r count (j + 1) ty next)
             (λ ts last v end. tt))
-          (omega arith))
+          (omega arith, omega arith))
 
   record-caused : (N : Numbers) (rec : ℕ → Answer Tree) → ((at : ℕ) → Caused (rec at)) → (r : Record) →
       Caused (recordOf rec N s r)
@@ -166,12 +170,12 @@ module _ (s : List ℕ) where
   below-caused : (at limit : ℕ) → Told (below s at limit)
   unfolding below Told
   below-caused at limit =
-      either Told (leb (length s) at) (omega arith) (either Told (leb limit (getD s at 0)) (omega arith) tt)
+      either Told (leb (length s) at) (omega arith, omega arith) (either Told (leb limit (getD s at 0)) (omega arith, omega arith) tt)
 
   unused-caused : (at : ℕ) → Told (unused s at)
   unfolding unused Told
   unused-caused at =
-      either Told (leb (length s) at) (omega arith) (either Told (eqb (getD s at 0) 255) tt (omega arith))
+      either Told (leb (length s) at) (omega arith, omega arith) (either Told (eqb (getD s at 0) 255) tt (omega arith, omega arith))
 
   fresh-caused : (st : List ℕ) (at : ℕ) → Told (fresh s st at)
   unfolding fresh Told
@@ -196,14 +200,14 @@ module _ (s : List ℕ) where
       Caused (nameOf rec left s st at body c judged name)
   unfolding nameOf Caused
   name-caused rec f left st at body c judged name j =
-      either Caused (eqb left 0) (omega arith)
+      either Caused (eqb left 0) (omega arith, omega arith)
       (on-judged judged _ j
         (on-bind (rec (set st (getD s (at + 1) 0) c) (at + 1 + body)) _ (f _ _) (λ x ty w end. tt)))
 
   step-caused : (rec : List ℕ → ℕ → Answer Whole) (left : ℕ) (N : Numbers) (st : List ℕ) (at : ℕ) →
       ((st : List ℕ) (at : ℕ) → Caused (rec st at)) → Caused (namesStep rec left N s st at)
   unfolding namesStep onShape retireOf Caused
-  step-caused rec left N st at f = either Caused (leb (length s) at) (omega arith) (go (shapeOf (getD s at 0)))
+  step-caused rec left N st at f = either Caused (leb (length s) at) (omega arith, omega arith) (go (shapeOf (getD s at 0)))
     where
       go : (x : Shape) → Caused (onShape x
         (λ body. nameOf rec left s st at body (declaredStanding at) (declareOf s st at) (declareAt s at))
@@ -211,16 +215,16 @@ module _ (s : List ℕ) where
         (bind (readPart 32 N s st 0 at) (λ t ty w end. got (whole [] at t) ty w end))
         (refused 3 at))
       go (Declare b) =
-          name-caused rec f left st at b (declaredStanding at) (declareOf s st at) (declareAt s at) (declare-caused st
-              at)
+          name-caused rec f left st at b (declaredStanding at) (declareOf s st at) (declareAt s at)
+            (declare-caused st at)
       go (Retire b) =
           name-caused rec f left st at b 1 (retireOf s st at) (retireAt s at) (fresh-caused st (at + 1))
       go (Part b p R) = on-bind (readPart 32 N s st 0 at) _ (part-caused 32 N st 0 at) (λ t ty w end. tt)
-      go Unknown = omega arith
+      go Unknown = (omega arith, omega arith)
 
   names-caused : (left : ℕ) (N : Numbers) (st : List ℕ) (at : ℕ) → Caused (namesOf left N s st at)
   unfolding namesOf Caused
-  names-caused zero N st at = step-caused (λ st′ at′. refused 9 at) 0 N st at (λ st′ at′. omega arith)
+  names-caused zero N st at = step-caused (λ st′ at′. refused 9 at) 0 N st at (λ st′ at′. (omega arith, omega arith))
   names-caused (suc left) N st at =
       step-caused (namesOf left N s) (suc left) N st at (λ st′ at′. names-caused left N st′ at′)
 
@@ -229,16 +233,16 @@ module _ (s : List ℕ) where
   unfolding closed Caused
   closed-caused N A h =
       on-bind A _ h (λ t ty w end.
-        either Caused (ltb end (length s)) (omega arith) (either Caused (ltb 4096 (sizeOf N ty w)) (omega arith) tt))
+        either Caused (ltb end (length s)) (omega arith, omega arith) (either Caused (ltb 4096 (sizeOf N ty w)) (omega arith, omega arith) tt))
 
   pub sheet-caused : Caused (sheetOf s)
   unfolding sheetOf Caused
   sheet-caused =
-      either Caused (ltb 4096 (length s)) (omega arith)
-      (either Caused (leb (length s) 0) (omega arith)
-      (either Caused (eqb (getD s 0 0) 0) (omega arith)
-      (either Caused (ltb 7 (getD s 0 0)) (omega arith)
-      (either Caused (leb (length s) 1) (omega arith)
-      (either Caused (ltb 1 (getD s 1 0)) (omega arith)
-      (closed-caused (numbersAt s) (namesOf 32 (numbersAt s) s nothing 2) (names-caused 32 (numbersAt s) nothing
-          2)))))))
+      either Caused (ltb 4096 (length s)) (omega arith, omega arith)
+      (either Caused (leb (length s) 0) (omega arith, omega arith)
+      (either Caused (eqb (getD s 0 0) 0) (omega arith, omega arith)
+      (either Caused (ltb 7 (getD s 0 0)) (omega arith, omega arith)
+      (either Caused (leb (length s) 1) (omega arith, omega arith)
+      (either Caused (ltb 1 (getD s 1 0)) (omega arith, omega arith)
+      (closed-caused (numbersAt s) (namesOf 32 (numbersAt s) s nothing 2)
+        (names-caused 32 (numbersAt s) nothing 2)))))))
