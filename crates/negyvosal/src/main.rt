@@ -1,4 +1,4 @@
-// Compares old.sheet and new.sheet and prints whether they have the same complete plays, else the first play that only
+// Compares old.sheet and new.sheet, and prints that they have the same complete plays, or the first play that only
 // one of them has.
 use libc::STDOUT_FILENO;
 ghost use Rattle.io.specs.Counts.{Counts};

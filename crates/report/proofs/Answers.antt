@@ -2,7 +2,7 @@
 use Prim.Native.Nat.{ℕ}
 use native.Mathlib.Omega.{arith}
 use mathlib.Core.Path.{_≡_, refl, sym, _∙_}
-use mathlib.Core.List.{List, _++_}
+use mathlib.Core.List.{List}
 use lib.ListN.{getD}
 use Rattle.sheet.specs.Reader.{Checks, accepted, rejected, readSheet}
 use Rattle.sheet.specs.Check.{checkedOf}
@@ -62,4 +62,4 @@ module _ (p : Page) (old new space : List ℕ) {r : Comparison} where
       q′ ≡ pushes (apartText sheet moves) q → q″ ≡ pushes (movesText moves space) q′ →
       q″ ≡ pushes (textOf old new r space) p
   unfolding textOf
-  text-apart {q = q} e h l k = rw e (after p _ _ h (after q _ _ l k))
+  text-apart e h l k = rw e (after p _ _ (after p _ _ h l) k)

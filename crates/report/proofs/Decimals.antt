@@ -2,8 +2,8 @@
 use Prim.Native.Nat.{ℕ, zero, suc, _+_, _-_, _/_, _%_, _≤_, _<_}
 use native.Mathlib.Omega.{arith}
 use native.Mathlib.Nat.{div-lt-self}
-use mathlib.Core.Path.{_≡_, refl, sym, ap, _∙_}
-use mathlib.Core.List.{List, [], _∷_, _++_}
+use mathlib.Core.Path.{_≡_, ap}
+use mathlib.Core.List.{[], _∷_, _++_}
 use lib.Dec.{ltb}
 use borrow.Author.Tests.{lt-ltb, le-ltb, ltb-false}
 use Rattle.language.specs.Number.{fromByte}
@@ -31,8 +31,7 @@ pub digits-more : (v : ℕ) → 10 ≤ v → digits v ≡ digits (v / 10) ++ ((4
 unfolding digits digitsIn
 digits-more v h =
     let k : v / 10 < v = div-lt-self (omega arith) (omega arith) in
-    rw (le-ltb v 10 h) (ap (λ (xs : List ℕ). xs ++ ((48 + v % 10) ∷ [])) (enough v (suc (v / 10)) (v / 10) k (omega
-        arith)))
+    rw (le-ltb v 10 h, enough v (suc (v / 10)) (v / 10) k (omega arith))
 
 -- the number of a byte, in two's complement
 pub signed-low : (b : ℕ) → b < 128 → signedDigits (fromByte b) ≡ digits b
@@ -53,8 +52,8 @@ decimal-more {q} {r} p v h e d =
     rw (digits-more v h) (after p (digits (v / 10)) ((48 + v % 10) ∷ []) e (one q r (48 + v % 10) d))
 
 -- the number of a byte, written
-pub from-0 : {q : Page} (p : Page) (b : ℕ) → b < 128 → q ≡ pushes (digits b) p → q ≡ pushes (signedDigits (fromByte
-    b)) p
+pub from-0 : {q : Page} (p : Page) (b : ℕ) → b < 128 → q ≡ pushes (digits b) p →
+    q ≡ pushes (signedDigits (fromByte b)) p
 from-0 p b h e = rw (signed-low b h) e
 
 pub below-0 : {q r : Page} (p : Page) (b : ℕ) → 128 ≤ b → b < 256 → q ≡ pushes (ascii "-") p →

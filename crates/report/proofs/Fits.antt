@@ -1,20 +1,19 @@
 -- Where there is room for the text, out begins with it, the rest of out is as it was, and the count is its length.
-use Prim.Native.Nat.{ℕ, suc, _+_, _≤_, _<_}
+use Prim.Native.Nat.{ℕ, suc, _+_, _≤_}
 use native.Mathlib.Omega.{arith}
 use native.Mathlib.Nat.{zero-add}
 use native.Mathlib.Numerals.{add-one}
-use mathlib.Core.Path.{_≡_, refl, sym, ap, _∙_}
-use mathlib.Core.Bool.{Bool, true, false}
-use mathlib.Core.List.{List, [], _∷_, _++_, append-assoc}
+use mathlib.Core.Path.{_≡_, sym, ap, _∙_}
+use mathlib.Core.List.{List, [], _∷_, _++_}
 use lib.Dec.{ltb}
-use lib.ListN.{length, take, drop, set, length-set, length-take}
+use lib.ListN.{length, drop, set, length-set}
 use lib.Seq.{sets, sets-eq, length-take-le}
-use borrow.Author.Tests.{lt-ltb, le-ltb, ltb-true}
+use borrow.Author.Tests.{ltb-true}
 use Rattle.language.proofs.NumberLaws.{by-test}
 use Rattle.report.specs.Page.{Page, page, pushed, pushes, Counts}
 use Rattle.report.specs.Text.{textOf}
 use Rattle.report.specs.Reported.{Reported}
-use Rattle.report.proofs.Pages.{pushed-room, pushed-full}
+use Rattle.report.proofs.Pages.{pushed-room}
 
 -- the cursor stays within
 pushed-within : (v : ℕ) (p : Page) → p .at ≤ length (p .out) → pushed v p .at ≤ length (pushed v p .out)

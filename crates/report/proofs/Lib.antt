@@ -4,3 +4,4 @@ pub mod Printed
 pub mod Answers
 pub mod Fits
 pub mod Never
+pub mod Sample

@@ -1,6 +1,6 @@
--- With 16,384 working words and 2,040 bytes of play space compare never refuses with 14: "so that it can print 13
--- and never 14" (document 01). The words do for sizes that add up to 511 at most, and the bytes do for those.
-use Prim.Native.Nat.{ℕ, _+_, _-_, _*_, _≤_}
+-- With 16,384 working words and 2,040 bytes of play space compare never refuses with 14. Document 01: "so that it can
+-- print 13 and never 14". The words do for sizes that add up to 511 at most, and the bytes do for those.
+use Prim.Native.Nat.{ℕ, _+_, _-_, _*_}
 use native.Mathlib.Omega.{arith}
 use mathlib.Core.Path.{_≡_, refl, sym}
 use mathlib.Core.Bool.{Bool, true, false}
@@ -42,6 +42,7 @@ not-14 old new =
         lent (comparable old new root other ty type-of-other) _ _
           (sizeOf (numbersAt old) ty w + sizeOf (numbersAt new) type-of-other v) refl refl))
 
+-- for all old and new sheets
 pub never-14 : (old new : List ℕ) (x : Refusal) → compareRefusal old new 16384 2040 ≡ some x → x .number ≡ 14 → ⊥
 unfolding Not14
 never-14 old new x e = rw e at (not-14 old new)

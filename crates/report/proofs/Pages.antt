@@ -1,11 +1,10 @@
--- Writing at a cursor: one text after another, and a text that there is room for.
-use Prim.Native.Nat.{ℕ, suc, _+_, _≤_, _<_}
-use native.Mathlib.Omega.{arith}
+-- Writing at a cursor: one text after another.
+use Prim.Native.Nat.{ℕ, _+_, _≤_, _<_}
 use native.Mathlib.Numerals.{add-one}
-use mathlib.Core.Path.{_≡_, refl, sym, ap, _∙_}
-use mathlib.Core.List.{List, [], _∷_, _++_, append-assoc}
-use lib.ListN.{length, getD, take, drop, set, length-set}
-use lib.Seq.{take-all, take-suc, take-suc-set, drop-set-lt}
+use mathlib.Core.Path.{_≡_, refl}
+use mathlib.Core.List.{List, [], _∷_, _++_}
+use lib.ListN.{length, getD, take, set}
+use lib.Seq.{take-all, take-suc}
 use borrow.Author.Tests.{lt-ltb, le-ltb}
 use Rattle.report.specs.Page.{Page, page, pushed, pushes}
 
@@ -32,14 +31,14 @@ pub one : (p q : Page) (v : ℕ) → q ≡ pushed v p → q ≡ pushes (v ∷ []
 unfolding pushes
 one p q v e = e
 
+-- no byte
 pub none : (p : Page) → p ≡ pushes [] p
 unfolding pushes
 none p = refl
 
 -- the loop over the bytes of a text
-pub text-again : {q r : Page} (p : Page) (s : List ℕ) (i : ℕ) → i < length s → q ≡ pushes (take i s) p → r ≡ pushed
-    (getD s i 0) q →
-    r ≡ pushes (take (i + 1) s) p
+pub text-again : {q r : Page} (p : Page) (s : List ℕ) (i : ℕ) → i < length s → q ≡ pushes (take i s) p →
+    r ≡ pushed (getD s i 0) q → r ≡ pushes (take (i + 1) s) p
 text-again {q} {r} p s i h e d = rw (add-one, take-suc s i 0) (after p (take i s) (getD s i 0 ∷ []) e (one q r _ d))
 
 pub text-end : {q : Page} (p : Page) (s : List ℕ) (i : ℕ) → i ≤ length s → length s ≤ i → q ≡ pushes (take i s) p →

@@ -2,7 +2,7 @@
 use Prim.Native.Nat.{ℕ, zero, suc, _+_, _-_, _≤_, _<_}
 use native.Mathlib.Omega.{arith}
 use mathlib.Core.Path.{_≡_, refl, sym, ap, _∙_}
-use mathlib.Core.List.{List, [], _∷_, _++_}
+use mathlib.Core.List.{List, [], _∷_}
 use lib.ListN.{length, getD, take, drop, length-drop}
 use lib.Seq.{take-all, drop-drop, getD-drop}
 use borrow.Author.Tests.{lt-ltb, le-ltb}
@@ -48,14 +48,14 @@ pub lent : (s : List ℕ) (place : ℕ) → take (length s - place) (drop place 
 lent s place = take-all (length s - place) (drop place s) (omega (arith, length-drop place s))
 
 -- the loop over the moves: its start, a turn and its end
-pub moves-start : (s : List ℕ) (count : ℕ) (p : Page) → pushes (movesText (count - 0) (drop 0 s)) p ≡ pushes
-    (movesText count s) p
+pub moves-start : (s : List ℕ) (count : ℕ) (p : Page) →
+    pushes (movesText (count - 0) (drop 0 s)) p ≡ pushes (movesText count s) p
 moves-start s count p = ap (λ (n : ℕ). pushes (movesText n s) p) (omega arith)
 
 module _ (s : List ℕ) (count i place : ℕ) (p₀ p : Page)
   (inv : pushes (movesText (count - i) (drop place s)) p ≡ pushes (movesText count s) p₀) where
-  pub moves-again : (q : Page) (next : ℕ) → i < count → q ≡ pushes (firstMove (take (length s - place) (drop place
-      s))) p →
+  pub moves-again : (q : Page) (next : ℕ) → i < count →
+      q ≡ pushes (firstMove (take (length s - place) (drop place s))) p →
       drop next s ≡ drop (width (drop place s)) (drop place s) →
       pushes (movesText (count - (i + 1)) (drop next s)) q ≡ pushes (movesText count s) p₀
   unfolding movesText
@@ -69,13 +69,13 @@ module _ (s : List ℕ) (count i place : ℕ) (p₀ p : Page)
   moves-end h l = let n : count - i ≡ 0 = omega arith in rw n at inv
 
 -- the names of the sheets
-pub name-old : {q : Page} (p : Page) (sheet : ℕ) → sheet ≡ 0 → q ≡ pushes (ascii "old") p → q ≡ pushes (sheetName
-    sheet) p
+pub name-old : {q : Page} (p : Page) (sheet : ℕ) → sheet ≡ 0 → q ≡ pushes (ascii "old") p →
+    q ≡ pushes (sheetName sheet) p
 unfolding sheetName
 name-old p sheet h e = rw h e
 
-pub name-new : {q : Page} (p : Page) (sheet : ℕ) → sheet ≡ 1 → q ≡ pushes (ascii "new") p → q ≡ pushes (sheetName
-    sheet) p
+pub name-new : {q : Page} (p : Page) (sheet : ℕ) → sheet ≡ 1 → q ≡ pushes (ascii "new") p →
+    q ≡ pushes (sheetName sheet) p
 unfolding sheetName
 name-new p sheet h e = rw h e
 

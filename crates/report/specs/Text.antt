@@ -42,16 +42,15 @@ sheetName (suc (suc n)) = ascii "both"
 -- "refused 7 old 3"
 unfoldable pub refusedText : ℕ → ℕ → ℕ → List ℕ
 refusedText number sheet place =
-    ascii "refused " ++ (digits number ++ (ascii " " ++ (sheetName sheet ++ (ascii " " ++ (digits place ++ ascii
-        "\n")))))
+    ascii "refused " ++ digits number ++ ascii " " ++ sheetName sheet ++ ascii " " ++ digits place ++ ascii "\n"
 
 -- "old 4 new 4"
 unfoldable pub sizesText : ℕ → ℕ → List ℕ
-sizesText old new = ascii "old " ++ (digits old ++ (ascii " new " ++ (digits new ++ ascii "\n")))
+sizesText old new = ascii "old " ++ digits old ++ ascii " new " ++ digits new ++ ascii "\n"
 
 -- "apart in old 2"
 unfoldable pub apartText : ℕ → ℕ → List ℕ
-apartText sheet moves = ascii "apart in " ++ (sheetName sheet ++ (ascii " " ++ (digits moves ++ ascii "\n")))
+apartText sheet moves = ascii "apart in " ++ sheetName sheet ++ ascii " " ++ digits moves ++ ascii "\n"
 
 -- the value of a move, where its kind has one; the byte is two's complement
 unfoldable pub valueText : ℕ → ℕ → List ℕ
@@ -60,8 +59,7 @@ valueText kind byte = pick (ltb kind 5) [] (ascii " " ++ signedDigits (fromByte 
 -- "5 255 0 -1"
 unfoldable pub moveText : ℕ → ℕ → ℕ → ℕ → List ℕ
 moveText kind id argument byte =
-    digits kind ++ (ascii " " ++ (digits id ++ (ascii " " ++ (digits argument ++ (valueText kind byte ++ ascii
-        "\n")))))
+    digits kind ++ ascii " " ++ digits id ++ ascii " " ++ digits argument ++ valueText kind byte ++ ascii "\n"
 
 -- the move with whose record the bytes begin
 unfoldable pub firstMove : List ℕ → List ℕ
@@ -85,5 +83,5 @@ sizeIn (rejected number place) = 0
 unfoldable pub textOf : List ℕ → List ℕ → Comparison → List ℕ → List ℕ
 textOf old new Same space = sizesText (sizeIn (readSheet old)) (sizeIn (readSheet new)) ++ ascii "same\n"
 textOf old new (Apart sheet moves) space =
-    sizesText (sizeIn (readSheet old)) (sizeIn (readSheet new)) ++ (apartText sheet moves ++ movesText moves space)
+    sizesText (sizeIn (readSheet old)) (sizeIn (readSheet new)) ++ apartText sheet moves ++ movesText moves space
 textOf old new (Refused number sheet place) space = refusedText number sheet place

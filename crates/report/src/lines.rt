@@ -8,8 +8,8 @@ ghost use lib.ListN.{length, drop};
 ghost use Rattle.language.specs.Number.{fromByte};
 ghost use Rattle.sheet.specs.Reader.{readSheet};
 ghost use Rattle.report.specs.Page.{page, pushes};
-ghost use Rattle.report.specs.Text.{sheetName, refusedText, sizeIn, sizesText, apartText, signedDigits, valueText};
-ghost use Rattle.report.specs.Text.{moveText, firstMove, width, movesText};
+ghost use Rattle.report.specs.Text.{sheetName, refusedText, sizeIn, sizesText, apartText, signedDigits};
+ghost use Rattle.report.specs.Text.{valueText, moveText, firstMove, width, movesText};
 
 // The name of a sheet: 0 old, 1 new, else both.
 fn sheet_name(out: &mut [u8], at: usize, sheet: u8) -> usize
@@ -119,7 +119,8 @@ fn first_move(out: &mut [u8], at: usize, s: &[u8]) -> usize
 fn after(s: &[u8], place: usize) -> usize
     requires { ⌜ place ≤ length (now s) ⌝ }
     ensures within { λ r. ⌜ r ≤ length (now (s .entry)) ⌝ }
-    ensures rest { λ r. ⌜ drop r (now (s .entry)) ≡ drop (width (drop place (now (s .entry)))) (drop place (now (s .entry))) ⌝ }
+    ensures rest { λ r. ⌜ drop r (now (s .entry))
+        ≡ drop (width (drop place (now (s .entry)))) (drop place (now (s .entry))) ⌝ }
 {
     let left = s.len() - place;
     if byte_at(s, place) < 5 {
@@ -136,7 +137,8 @@ fn after(s: &[u8], place: usize) -> usize
 
 // So many moves, whose records stand one after the other from the start.
 pub fn moves(out: &mut [u8], at: usize, count: usize, s: &[u8]) -> usize
-    ensures { λ r. ⌜ page (now (out .exit)) r ≡ pushes (movesText count (now (s .entry))) (page (now (out .entry)) at) ⌝ }
+    ensures { λ r. ⌜ page (now (out .exit)) r
+        ≡ pushes (movesText count (now (s .entry))) (page (now (out .entry)) at) ⌝ }
 {
     let mut next = at;
     let mut place = 0;

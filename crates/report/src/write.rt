@@ -1,5 +1,5 @@
-// Bytes and numbers, written at a cursor: each function answers the place after what it has written. A byte is written
-// only where there is room for it.
+// Bytes and numbers, written at a cursor: each function answers the place after what it has written. A byte is
+// written only where there is room for it.
 ghost use mathlib.Core.Path.{_≡_};
 ghost use Rattle.report.specs.Page.{page, pushed, pushes};
 ghost use Rattle.report.specs.Text.{digits};

@@ -34,12 +34,12 @@ same-length c = search needs
 returns : tie.Need-returns
 unfolding apartText
 returns c =
-    after _ _ _ (c .before .before .before .before .before .before .before .before .before .before .before .before
-        .before .before .before .before .before .before .before .before .text .ensures) (after _ _ _ (c .before
-        .before .before .before .before .before .before .before .before .before .before .before .before .before
-        .before .before .sheet-name .ensures) (after _ _ _ (c .before .before .before .before .before .before .before
-        .before .before .before .before .text2 .ensures) (after _ _ _ (c .before .before .before .before .before
-        .before .before .decimal .ensures) (c .before .before .text3 .ensures))))
+    after _ _ _ (after _ _ _ (after _ _ _ (after _ _ _ (c .before .before .before .before .before .before .before
+        .before .before .before .before .before .before .before .before .before .before .before .before .before .text
+        .ensures) (c .before .before .before .before .before .before .before .before .before .before .before .before
+        .before .before .before .before .sheet-name .ensures)) (c .before .before .before .before .before .before
+        .before .before .before .before .before .text2 .ensures)) (c .before .before .before .before .before .before
+        .before .decimal .ensures)) (c .before .before .text3 .ensures)
 
 pub apart-spec : {M : Type 1} → statement M
 apart-spec = tie.close

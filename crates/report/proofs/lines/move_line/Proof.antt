@@ -40,17 +40,17 @@ same-length c = search needs
 returns : tie.Need-returns
 unfolding moveText
 returns c =
-    after _ _ _ (c .before .before .before .before .before .before .before .before .before .before .before .before
+    after _ _ _ (after _ _ _ (after _ _ _ (after _ _ _ (after _ _ _ (after _ _ _ (c .before .before .before .before
         .before .before .before .before .before .before .before .before .before .before .before .before .before
-        .before .before .before .before .decimal .ensures) (after _ _ _ (c .before .before .before .before .before
-        .before .before .before .before .before .before .before .before .before .before .before .before .before
-        .before .before .before .before .before .before .text .ensures) (after _ _ _ (c .before .before .before
-        .before .before .before .before .before .before .before .before .before .before .before .before .before
-        .before .before .before .before .decimal2 .ensures) (after _ _ _ (c .before .before .before .before .before
-        .before .before .before .before .before .before .before .before .before .before .text2 .ensures) (after _ _ _
-        (c .before .before .before .before .before .before .before .before .before .before .before .decimal3 .ensures)
-        (after _ _ _ (c .before .before .before .before .before .before .before .value .ensures) (c .before .before
-        .text3 .ensures))))))
+        .before .before .before .before .before .before .before .before .before .before .before .before .decimal
+        .ensures) (c .before .before .before .before .before .before .before .before .before .before .before .before
+        .before .before .before .before .before .before .before .before .before .before .before .before .text
+        .ensures)) (c .before .before .before .before .before .before .before .before .before .before .before .before
+        .before .before .before .before .before .before .before .before .decimal2 .ensures)) (c .before .before
+        .before .before .before .before .before .before .before .before .before .before .before .before .before .text2
+        .ensures)) (c .before .before .before .before .before .before .before .before .before .before .before
+        .decimal3 .ensures)) (c .before .before .before .before .before .before .before .value .ensures)) (c .before
+        .before .text3 .ensures)
 
 pub move-line-spec : {M : Type 1} → statement M
 move-line-spec = tie.close

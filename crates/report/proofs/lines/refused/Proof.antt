@@ -43,17 +43,17 @@ same-length c = search needs
 returns : tie.Need-returns
 unfolding refusedText
 returns c =
-    after _ _ _ (c .before .before .before .before .before .before .before .before .before .before .before .before
+    after _ _ _ (after _ _ _ (after _ _ _ (after _ _ _ (after _ _ _ (after _ _ _ (c .before .before .before .before
         .before .before .before .before .before .before .before .before .before .before .before .before .before
-        .before .before .before .before .text .ensures) (after _ _ _ (c .before .before .before .before .before
+        .before .before .before .before .before .before .before .before .before .before .before .before .text
+        .ensures) (c .before .before .before .before .before .before .before .before .before .before .before .before
         .before .before .before .before .before .before .before .before .before .before .before .before .before
-        .before .before .before .before .before .before .before .decimal .ensures) (after _ _ _ (c .before .before
+        .decimal .ensures)) (c .before .before .before .before .before .before .before .before .before .before .before
+        .before .before .before .before .before .before .before .before .before .text2 .ensures)) (c .before .before
         .before .before .before .before .before .before .before .before .before .before .before .before .before
-        .before .before .before .before .before .text2 .ensures) (after _ _ _ (c .before .before .before .before
-        .before .before .before .before .before .before .before .before .before .before .before .before .sheet-name
-        .ensures) (after _ _ _ (c .before .before .before .before .before .before .before .before .before .before
-        .before .text3 .ensures) (after _ _ _ (c .before .before .before .before .before .before .before .decimal2
-        .ensures) (c .before .before .text4 .ensures))))))
+        .before .sheet-name .ensures)) (c .before .before .before .before .before .before .before .before .before
+        .before .before .text3 .ensures)) (c .before .before .before .before .before .before .before .decimal2
+        .ensures)) (c .before .before .text4 .ensures)
 
 pub refused-spec : {M : Type 1} → statement M
 refused-spec = tie.close

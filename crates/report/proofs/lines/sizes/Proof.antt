@@ -43,13 +43,13 @@ unfolding sizesText
 returns c =
     sizes-line _ _ _ _ _ (c .before .before .before .before .before .before .before .before .before .before .before
         .before .before .before .before .before .before .before .size-in .ensures) (c .before .before .before .before
-        .before .before .before .before .size-in2 .ensures)
-    (after _ _ _ (c .before .before .before .before .before .before .before .before .before .before .before .before
-        .before .before .before .before .before .before .before .before .before .before .text .ensures) (after _ _ _
-        (c .before .before .before .before .before .before .before .before .before .before .before .before .before
-        .before .before .before .before .decimal .ensures) (after _ _ _ (c .before .before .before .before .before
-        .before .before .before .before .before .before .before .text2 .ensures) (after _ _ _ (c .before .before
-        .before .before .before .before .before .decimal2 .ensures) (c .before .before .text3 .ensures)))))
+        .before .before .before .before .size-in2 .ensures) (after _ _ _ (after _ _ _ (after _ _ _ (after _ _ _ (c
+        .before .before .before .before .before .before .before .before .before .before .before .before .before
+        .before .before .before .before .before .before .before .before .before .text .ensures) (c .before .before
+        .before .before .before .before .before .before .before .before .before .before .before .before .before
+        .before .before .decimal .ensures)) (c .before .before .before .before .before .before .before .before .before
+        .before .before .before .text2 .ensures)) (c .before .before .before .before .before .before .before .decimal2
+        .ensures)) (c .before .before .text3 .ensures))
 
 pub sizes-spec : {M : Type 1} → statement M
 sizes-spec = tie.close
