@@ -7,7 +7,7 @@ ghost use Prim.Native.Nat.{_+_};
 ghost use Rattle.comparer.specs.inner.Built.{OneReady, OneBuilt, TwoReady, TwoBuilt};
 
 // The automaton of a sheet of size `all`, with one state more, the dead one.
-pub fn build_one(t: &[u16], n: Numbers, root: usize, all: usize, words: &mut [u32])
+pub(crate) fn build_one(t: &[u16], n: Numbers, root: usize, all: usize, words: &mut [u32])
     requires { ⌜ OneReady n (now t) root all (now words) ⌝ }
     ensures { λ r. ⌜ ((R : OneReady n (now (t .entry)) root all (now (words .entry)))
         → OneBuilt n (R .type) (R .term) (all + 1) (now (words .exit))) ⌝ }
@@ -20,7 +20,7 @@ pub fn build_one(t: &[u16], n: Numbers, root: usize, all: usize, words: &mut [u3
 }
 
 // The automata of two sheets of sizes `all` and `more`, one after the other, and the dead state.
-pub fn build_two(
+pub(crate) fn build_two(
     t: &[u16],
     u: &[u16],
     n: Numbers,

@@ -6,7 +6,7 @@ ghost use mathlib.Core.Path.{_≡_};
 ghost use Rattle.comparer.specs.inner.Handed.{Handed, causeOf, HandedPlay, playCause};
 
 // The refusal of a sheet.
-pub fn cause_of(x: Reading, sheet: u8) -> Cause
+pub(crate) fn cause_of(x: Reading, sheet: u8) -> Cause
     requires { ⌜ Handed x ⌝ }
     ensures { λ r. ⌜ r ≡ causeOf x sheet ⌝ }
 {
@@ -17,7 +17,7 @@ pub fn cause_of(x: Reading, sheet: u8) -> Cause
 }
 
 // The refusal of a play.
-pub fn play_cause(x: Parsed) -> Cause
+pub(crate) fn play_cause(x: Parsed) -> Cause
     requires { ⌜ HandedPlay x ⌝ }
     ensures { λ r. ⌜ r ≡ playCause x ⌝ }
 {

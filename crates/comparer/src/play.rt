@@ -74,7 +74,7 @@ fn put(s: &mut [u8], i: usize, v: usize)
 }
 
 // Writes the record of a letter from a place on: the place after it.
-pub fn write_record(s: &mut [u8], at: usize, l: usize) -> usize
+pub(crate) fn write_record(s: &mut [u8], at: usize, l: usize) -> usize
     requires { ⌜ at ≤ 32772 ⌝ }
     ensures returned { λ r. ⌜ r ≡ afterRecord at l ⌝ }
     ensures written { λ r. ⌜ now (s .exit) ≡ withRecord (now (s .entry)) at l ⌝ }
@@ -90,7 +90,7 @@ pub fn write_record(s: &mut [u8], at: usize, l: usize) -> usize
 }
 
 // Writes the records of the letters in the words from base on, len of them, from the start.
-pub fn write_play(words: &[u32], base: usize, len: usize, s: &mut [u8])
+pub(crate) fn write_play(words: &[u32], base: usize, len: usize, s: &mut [u8])
     requires { ⌜ (len ≤ 8193) × (base + len ≤ length (now words)) ⌝ }
     ensures { λ r. ⌜ now (s .exit) ≡ withRecords (now (s .entry)) 0 (take len (drop base (now (words .entry)))) ⌝ }
 {
