@@ -33,6 +33,9 @@ static void statements(struct sheet *s, int count, int group) {
     statements(s, count - left, group);
 }
 
+/* How many statements a sheet of at most `size` states has. */
+static inline int loops_of(int z, int size) { return (size - 3) / (2 * (2 * z + 1) + 4); }
+
 /* The sheet of at most `size` states; sheets with other groups have the same plays. */
 static struct sheet loops(int z, int size, int group) {
     struct sheet s = {{0}, 0};
@@ -40,7 +43,7 @@ static struct sheet loops(int z, int size, int group) {
     put(&s, 0);
     declare(&s, C, 0);
     declare(&s, E, 2);
-    statements(&s, (size - 3) / (2 * (2 * z + 1) + 4), group);
+    statements(&s, loops_of(z, size), group);
     return s;
 }
 

@@ -4,6 +4,7 @@ mod counter;
 mod damage;
 mod limits;
 mod long;
+pub mod near;
 mod pairs;
 mod plays;
 
@@ -115,7 +116,7 @@ fn sheet_to_check(random: &mut Random) -> Vec<u8> {
 }
 
 /// A number near the one that is needed.
-fn near(random: &mut Random, needed: u64) -> usize {
+fn near_needed(random: &mut Random, needed: u64) -> usize {
     let needed = needed as usize;
     match random.below(40) {
         0 => needed - 1,
@@ -135,7 +136,7 @@ fn case_to_follow(random: &mut Random) -> Case {
     let (play, words) = match read(&sheet) {
         Ok(accepted) => {
             let machine = Machine::of(&accepted);
-            (play_for(random, &machine), near(random, words_to_follow(accepted.size)))
+            (play_for(random, &machine), near_needed(random, words_to_follow(accepted.size)))
         }
         Err(_) => (random_play(random), random.below(300)),
     };
@@ -164,8 +165,8 @@ fn case_to_compare(random: &mut Random) -> Case {
     alike &= spoilt > 4;
     let (words, space) = match (read(&old), read(&new)) {
         (Ok(a), Ok(b)) => {
-            let words = near(random, words_to_compare(a.size, b.size));
-            let space = near(random, space_to_compare(a.size, b.size));
+            let words = near_needed(random, words_to_compare(a.size, b.size));
+            let space = near_needed(random, space_to_compare(a.size, b.size));
             (words, space)
         }
         _ => (random.below(300), random.below(300)),

@@ -1,8 +1,9 @@
 //! An implementation of document 01's services that shares no code and no method with the proved library.
 //!
-//! `independent vectors FILE...` runs the cases of vector files through it, `independent random SEED COUNT` compares it
-//! with the library on random cases, and `independent compare OLD NEW [WORDS SPACE]` prints what document 01's program
-//! prints for two sheets in hex, or would with as many working words and bytes of play space.
+//! `independent vectors FILE...` runs the cases of vector files through it. `independent random SEED COUNT` compares it
+//! with the library on random cases, most of them short, and `independent near SEED COUNT` on sheets near the size
+//! limit. `independent compare OLD NEW [WORDS SPACE]` prints what document 01's program prints for two sheets in hex,
+//! or would with as many working words and bytes of play space.
 
 mod cases;
 mod compare;
@@ -19,7 +20,8 @@ mod vectors;
 
 use std::process::ExitCode;
 
-const USAGE: &str = "usage: independent vectors FILE... | random SEED COUNT | compare OLD NEW [WORDS SPACE]";
+const USAGE: &str =
+    "usage: independent vectors FILE... | random SEED COUNT | near SEED COUNT | compare OLD NEW [WORDS SPACE]";
 
 /// The working words and the bytes of play space of document 01's program.
 const WORDS: usize = 16_384;
@@ -31,7 +33,8 @@ fn run(arguments: &[String]) -> Result<bool, String> {
     let mode = arguments.next().map(String::as_str);
     match (mode, arguments.as_slice()) {
         (Some("vectors"), files @ [_, ..]) => vectors::run(files),
-        (Some("random"), [seed, count]) => Ok(trial::run(number(seed)?, number(count)?)),
+        (Some("random"), [seed, count]) => Ok(trial::run(number(seed)?, number(count)?, cases::case)),
+        (Some("near"), [seed, count]) => Ok(trial::run(number(seed)?, number(count)?, cases::near::case)),
         (Some("compare"), [old, new]) => print_comparison(old, new, WORDS, SPACE),
         (Some("compare"), [old, new, words, space]) => {
             print_comparison(old, new, number(words)? as usize, number(space)? as usize)

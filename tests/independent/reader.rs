@@ -7,8 +7,8 @@ use crate::sheet::{Data, Heading, Kind, Operator, Record, Term, Type};
 
 pub const LONGEST: usize = 4096;
 pub const LARGEST: u64 = 4096;
-const DEEPEST: usize = 32;
-const MOST_RECORDS: usize = 32;
+pub const DEEPEST: usize = 32;
+pub const MOST_RECORDS: usize = 32;
 
 /// The number of a refusal of one sheet, and its place.
 #[derive(Clone, Copy, Debug, PartialEq)]

@@ -1,6 +1,6 @@
 //! Runs random cases through the services here and through the library, and reports where they disagree.
 
-use crate::cases::{case, Case};
+use crate::cases::{near, Case};
 use crate::library::{self, bytes_of, words_of, Compared};
 use crate::machine::Machine;
 use crate::random::Random;
@@ -26,6 +26,8 @@ struct Counts {
     longest_play: usize,
     largest: u64,
     most_states: usize,
+    /// Comparisons of two sheets near the size limit.
+    near: usize,
     /// Comparisons in which some silent walk goes round for ever.
     rounds: usize,
 }
@@ -58,19 +60,20 @@ impl Counts {
         println!("compare: {} apart, by up to {} moves", self.apart, self.longest_play);
         println!("compare: {} with over {MOST_PAIRS} pairs, tried in part only", self.capped);
         println!("compare: up to {} states, {} times with a silent loop", self.most_states, self.rounds);
+        println!("compare: {} with both sizes {} or more", self.near, near::SMALLEST);
         let refused = self.refused.iter().enumerate().filter(|(_, count)| **count > 0);
         let refused: Vec<String> = refused.map(|(number, count)| format!("{number}: {count}")).collect();
         println!("refused, by number: {}", refused.join(", "));
     }
 }
 
-/// Runs that many cases; whether there was no disagreement.
-pub fn run(seed: u64, count: u64) -> bool {
+/// Runs that many cases as `make` makes them; whether there was no disagreement.
+pub fn run(seed: u64, count: u64, make: fn(&mut Random) -> Case) -> bool {
     let mut counts = Counts::default();
     let mut disagreements = 0;
     for i in 0..count {
         let mut random = Random::new(seed, i);
-        let case = case(&mut random);
+        let case = make(&mut random);
         let room = 4 + random.below(4);
         if let Err(what) = run_case(&case, room, &mut counts) {
             disagreements += 1;
@@ -137,6 +140,7 @@ fn run_compare(a: &Sheet, b: &Sheet, alike: bool, got: &Compared, counts: &mut C
     let answer = services::compare_machines(&old, &new, MOST_PAIRS);
     counts.note(&answer);
     counts.most_states = counts.most_states.max(old.reached).max(new.reached);
+    counts.near += (a.size.min(b.size) >= near::SMALLEST) as usize;
     counts.rounds += (old.goes_round() || new.goes_round()) as usize;
     counts.empty += (answer == Answer::Same && old.start().is_none()) as usize;
     match &answer {

@@ -1,12 +1,18 @@
 // From a position of a term to one of its parts: sums count the first part first, and a part that is copied for
 // each value has its positions at the value times its weight.
 use crate::name::{framed, in_name};
-use crate::row::{cell, part_at, part_values, part_weight, place, sum};
-use crate::store::level_value;
-use crate::{Move, Out, Spot};
+use crate::kinds::{ASSIGN, CONSTANT, FETCH, IF, NAME, NEW, OPERATE, SEQUENCE, SKIP, WHILE};
+use crate::moves::{ASK, DONE, READ, RUN, VALUE, WRITE};
+use crate::roles::{ASSIGNED, BLOCK, RIGHT, SAME, SELECT, TEST, THEN};
+use crate::row::{DETAIL, KIND, cell, part_at, part_values, part_weight, place, sum};
+use crate::{Out, Spot};
 ghost use mathlib.Core.Path.{_≡_};
 ghost use Rattle.automaton.specs.walk.Down.{leavesOf, inFetch, inSeq, inWhile, condIn, inCond, operateIn};
-ghost use Rattle.automaton.specs.walk.Down.{inOperate, assignIn, inAssign, inNew, inPrivate, downOf};
+ghost use Rattle.automaton.specs.walk.Down.{inOperate, assignIn, inAssign, inNew, downOf};
+ghost use Rattle.automaton.specs.walk.Name.{noMove};
+ghost use Rattle.sheet.specs.table.Rep.{word};
+ghost use mathlib.Core.List.{List};
+ghost use Prim.Native.Nat.{ℕ};
 
 // The exit with an answer.
 pub fn leaves(kind: usize, value: usize) -> Spot
@@ -21,8 +27,8 @@ pub fn in_fetch(t: &[u16], at: usize, k: usize) -> Spot
     ensures { λ r. ⌜ r ≡ inFetch (now (t .entry)) at k ⌝ }
 {
     let part = part_at(t, at, 0);
-    let f = framed(0, 0, 0, 0, 0, 0);
-    Spot::Inside { part, kind: 3, value: 0, k, f }
+    let f = framed(SAME, 0, 0, 0, 0, 0);
+    Spot::Inside { part, kind: READ, value: 0, k, f }
 }
 
 // Position k of a sequence.
@@ -32,11 +38,11 @@ pub fn in_seq(t: &[u16], at: usize, q: usize, x: usize, k: usize) -> Spot
     let w = part_weight(t, at, 0);
     if k < w {
         let part = part_at(t, at, 0);
-        let f = framed(1, 0, w, 0, 0, 0);
-        return Spot::Inside { part, kind: 0, value: 0, k, f };
+        let f = framed(THEN, 0, w, 0, 0, 0);
+        return Spot::Inside { part, kind: RUN, value: 0, k, f };
     }
     let part = part_at(t, at, 1);
-    let f = framed(0, w, 0, 0, 0, 0);
+    let f = framed(SAME, w, 0, 0, 0, 0);
     Spot::Inside { part, kind: q, value: x, k: k - w, f }
 }
 
@@ -47,12 +53,12 @@ pub fn in_while(t: &[u16], at: usize, k: usize) -> Spot
     let w = part_weight(t, at, 0);
     if k < w {
         let part = part_at(t, at, 0);
-        let f = framed(2, 0, w, 0, 0, 0);
-        return Spot::Inside { part, kind: 2, value: 0, k, f };
+        let f = framed(TEST, 0, w, 0, 0, 0);
+        return Spot::Inside { part, kind: ASK, value: 0, k, f };
     }
     let part = part_at(t, at, 1);
-    let f = framed(1, w, 0, 0, 0, 0);
-    Spot::Inside { part, kind: 0, value: 0, k: k - w, f }
+    let f = framed(THEN, w, 0, 0, 0, 0);
+    Spot::Inside { part, kind: RUN, value: 0, k: k - w, f }
 }
 
 // Position k of a choice: the test b weighs w, and the first branch m weighs v.
@@ -60,14 +66,14 @@ pub fn cond_in(b: usize, m: usize, n: usize, w: usize, v: usize, q: usize, x: us
     ensures { λ r. ⌜ r ≡ condIn b m n w v q x k ⌝ }
 {
     if k < w {
-        let f = framed(2, 0, w, sum(w, v), 0, 0);
-        return Spot::Inside { part: b, kind: 2, value: 0, k, f };
+        let f = framed(TEST, 0, w, sum(w, v), 0, 0);
+        return Spot::Inside { part: b, kind: ASK, value: 0, k, f };
     }
     if k - w < v {
-        let f = framed(0, w, 0, 0, 0, 0);
+        let f = framed(SAME, w, 0, 0, 0, 0);
         return Spot::Inside { part: m, kind: q, value: x, k: k - w, f };
     }
-    let f = framed(0, sum(w, v), 0, 0, 0, 0);
+    let f = framed(SAME, sum(w, v), 0, 0, 0, 0);
     Spot::Inside { part: n, kind: q, value: x, k: k - w - v, f }
 }
 
@@ -85,15 +91,15 @@ pub fn operate_in(left: usize, right: usize, w: usize, v: usize, op: usize, m: u
     ensures { λ r. ⌜ r ≡ operateIn left right w v op m k ⌝ }
 {
     if k < w {
-        let f = framed(3, 0, w, v, m, 0);
-        return Spot::Inside { part: left, kind: 2, value: 0, k, f };
+        let f = framed(SELECT, 0, w, v, m, 0);
+        return Spot::Inside { part: left, kind: ASK, value: 0, k, f };
     }
     if v == 0 {
         return Spot::Here { out: Out::Stuck };
     }
     let x = (k - w) / v;
-    let f = framed(4, place(x, v, w), x, op, m, 0);
-    Spot::Inside { part: right, kind: 2, value: 0, k: (k - w) % v, f }
+    let f = framed(RIGHT, place(x, v, w), x, op, m, 0);
+    Spot::Inside { part: right, kind: ASK, value: 0, k: (k - w) % v, f }
 }
 
 // Position k of the operation at a place.
@@ -103,7 +109,7 @@ pub fn in_operate(t: &[u16], at: usize, k: usize) -> Spot
     let w = part_weight(t, at, 0);
     let v = part_weight(t, at, 1);
     let m = part_values(t, at, 0);
-    operate_in(part_at(t, at, 0), part_at(t, at, 1), w, v, cell(t, at, 4), m, k)
+    operate_in(part_at(t, at, 0), part_at(t, at, 1), w, v, cell(t, at, DETAIL), m, k)
 }
 
 // Position k of an assignment: the expression e weighs w, and the variable v for each of its m values.
@@ -111,15 +117,15 @@ pub fn assign_in(var: usize, e: usize, w: usize, v: usize, m: usize, k: usize) -
     ensures { λ r. ⌜ r ≡ assignIn var e w v m k ⌝ }
 {
     if k < w {
-        let f = framed(3, 0, w, v, m, 0);
-        return Spot::Inside { part: e, kind: 2, value: 0, k, f };
+        let f = framed(SELECT, 0, w, v, m, 0);
+        return Spot::Inside { part: e, kind: ASK, value: 0, k, f };
     }
     if v == 0 {
         return Spot::Here { out: Out::Stuck };
     }
     let x = (k - w) / v;
-    let f = framed(5, place(x, v, w), 0, 0, 0, 0);
-    Spot::Inside { part: var, kind: 6, value: x, k: (k - w) % v, f }
+    let f = framed(ASSIGNED, place(x, v, w), 0, 0, 0, 0);
+    Spot::Inside { part: var, kind: WRITE, value: x, k: (k - w) % v, f }
 }
 
 // Position k of the assignment at a place.
@@ -142,46 +148,27 @@ pub fn in_new(t: &[u16], at: usize, q: usize, x: usize, k: usize, h: usize) -> S
     }
     let v = k / w;
     let part = part_at(t, at, 0);
-    let f = framed(7, place(v, w, 0), sum(h, 1), w, v, 0);
+    let f = framed(BLOCK, place(v, w, 0), sum(h, 1), w, v, 0);
     Spot::Inside { part, kind: q, value: x, k: k % w, f }
 }
 
-// Position k of a private variable: its own step, then the exit.
-pub fn in_private(t: &[u16], at: usize, q: usize, x: usize, k: usize, s: [u16; 32]) -> Out
-    ensures { λ r. ⌜ r ≡ inPrivate (now (t .entry)) at q x k s ⌝ }
+// Position k of the term at a place, asked the question q of value x, in h blocks, where it is no private variable.
+pub fn down(t: &[u16], at: usize, q: usize, x: usize, k: usize, h: usize) -> Spot
+    ensures { λ r. ⌜ ((s : List ℕ) → (word (now (t .entry)) at 0 ≡ 128 → ⊥)
+        → r ≡ downOf (now (t .entry)) at q x k s h noMove) ⌝ }
 {
-    let l = cell(t, at, 4);
-    if k == 0 {
-        return Out::Go { next: 1, level: 0, set: 0 };
-    }
-    if q == 3 {
-        return Out::Exit { kind: 5, value: level_value(s, l), level: 0, set: 0 };
-    }
-    if q == 6 {
-        if x < cell(t, at, 3) {
-            return Out::Exit { kind: 4, value: 0, level: sum(l, 1), set: x };
-        }
-    }
-    Out::Stuck
-}
-
-// Position k of the term at a place, asked the question q of value x.
-pub fn down(t: &[u16], at: usize, q: usize, x: usize, k: usize, s: [u16; 32], h: usize, m: Move) -> Spot
-    ensures { λ r. ⌜ r ≡ downOf (now (t .entry)) at q x k s h m ⌝ }
-{
-    let kind = cell(t, at, 0);
+    let kind = cell(t, at, KIND);
     match kind {
-        16 => leaves(1, 0),
-        18 => leaves(5, cell(t, at, 4)),
-        20 => in_name(t, at, q, x, k, m),
-        21 => in_fetch(t, at, k),
-        22 => in_operate(t, at, k),
-        23 => in_assign(t, at, k),
-        24 => in_seq(t, at, q, x, k),
-        25 => in_cond(t, at, q, x, k),
-        26 => in_while(t, at, k),
-        27 => in_new(t, at, q, x, k, h),
-        128 => Spot::Here { out: in_private(t, at, q, x, k, s) },
+        SKIP => leaves(DONE, 0),
+        CONSTANT => leaves(VALUE, cell(t, at, DETAIL)),
+        NAME => in_name(t, at, q, x, k),
+        FETCH => in_fetch(t, at, k),
+        OPERATE => in_operate(t, at, k),
+        ASSIGN => in_assign(t, at, k),
+        SEQUENCE => in_seq(t, at, q, x, k),
+        IF => in_cond(t, at, q, x, k),
+        WHILE => in_while(t, at, k),
+        NEW => in_new(t, at, q, x, k, h),
         _ => Spot::Here { out: Out::Stuck },
     }
 }

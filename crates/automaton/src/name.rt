@@ -1,18 +1,26 @@
 // Names: their positions are the question to them, the wait for their moves, the positions of their arguments, a
 // copy for each question, and the replies of their arguments.
-use crate::row::{name_count, name_id, part_at, part_class, part_values, part_weight, place, sum, cell};
-use crate::types::{answer_number, answers, question_kind, question_number, question_value, questions};
+use crate::moves::{DONE, NO_MOVE, OK, VALUE};
+use crate::roles::ARGUMENT;
+use crate::row::{CLASS, VALUES, cell, name_count, name_id, part_at, part_class, part_values, part_weight, place, sum};
+use crate::types::{COMMAND, answer_number, answers, question_kind, question_number, question_value, questions};
 use crate::{Frame, Move, Out, Spot};
 ghost use mathlib.Core.Path.{_≡_};
 ghost use Rattle.automaton.specs.walk.Name.{saidOf, framedOf, copiesOf, spotsOf, replyHere, replyOf, argHere};
 ghost use Rattle.automaton.specs.walk.Name.{inArgs, hearAnswer, hearQuestion, listenOf, atWait, inName};
+ghost use Rattle.automaton.specs.walk.Name.{noMove};
+
+// The first positions of a name: its question is put, its moves are waited for, its arguments begin.
+const CALL: usize = 0;
+const WAIT: usize = 1;
+const INNER: usize = 2;
 
 // A move is said, and the name waits.
 pub fn said(kind: usize, id: usize, arg: usize, value: usize) -> Out
     ensures { λ r. ⌜ r ≡ saidOf kind id arg value ⌝ }
 {
     let said = Move { kind, id, arg, value };
-    Out::Say { said, next: 1 }
+    Out::Say { said, next: WAIT }
 }
 
 // A frame.
@@ -44,13 +52,13 @@ pub fn spots(t: &[u16], at: usize, j: usize, n: usize) -> usize
 pub fn reply_here(id: usize, class: usize, values: usize, arg: usize, k: usize) -> Out
     ensures { λ r. ⌜ r ≡ replyHere id class values arg k ⌝ }
 {
-    if class == 0 {
-        return said(1, id, arg, 0);
+    if class == COMMAND {
+        return said(DONE, id, arg, 0);
     }
     if values <= k {
-        return said(4, id, arg, 0);
+        return said(OK, id, arg, 0);
     }
-    said(5, id, arg, k)
+    said(VALUE, id, arg, k)
 }
 
 // Reply k of n arguments from argument j on.
@@ -79,7 +87,7 @@ pub fn arg_in(part: usize, class: usize, values: usize, w: usize, k: usize, base
     let i = k / w;
     let kind = question_kind(class, i);
     let value = question_value(class, i);
-    let f = framed(6, place(i, w, base), after, class, values, i);
+    let f = framed(ARGUMENT, place(i, w, base), after, class, values, i);
     Spot::Inside { part, kind, value, k: k % w, f }
 }
 
@@ -105,7 +113,7 @@ pub fn hear_answer(t: &[u16], at: usize, q: usize, x: usize, m: Move) -> Out
 {
     let kind = m.kind;
     let value = m.value;
-    let i = answer_number(cell(t, at, 2), cell(t, at, 3), q, x, kind, value);
+    let i = answer_number(cell(t, at, CLASS), cell(t, at, VALUES), q, x, kind, value);
     if i == 0 {
         return Out::Stuck;
     }
@@ -123,7 +131,7 @@ pub fn hear_question(t: &[u16], at: usize, j: usize, m: Move) -> Out
     if i == 0 {
         return Out::Stuck;
     }
-    let base = sum(2, spots(t, at, 0, j));
+    let base = sum(INNER, spots(t, at, 0, j));
     let next = place(i - 1, part_weight(t, at, j), base);
     Out::Go { next, level: 0, set: 0 }
 }
@@ -146,27 +154,27 @@ pub fn listen(t: &[u16], at: usize, q: usize, x: usize, m: Move) -> Out
 pub fn waiting(t: &[u16], at: usize, q: usize, x: usize, m: Move) -> Out
     ensures { λ r. ⌜ r ≡ atWait (now (t .entry)) at q x m ⌝ }
 {
-    if m.kind == 255 {
+    if m.kind == NO_MOVE {
         return Out::Hear { at, kind: q, value: x };
     }
     listen(t, at, q, x, m)
 }
 
 // Position k of a name.
-pub fn in_name(t: &[u16], at: usize, q: usize, x: usize, k: usize, m: Move) -> Spot
-    ensures { λ r. ⌜ r ≡ inName (now (t .entry)) at q x k m ⌝ }
+pub fn in_name(t: &[u16], at: usize, q: usize, x: usize, k: usize) -> Spot
+    ensures { λ r. ⌜ r ≡ inName (now (t .entry)) at q x k noMove ⌝ }
 {
     let id = name_id(t, at);
-    if k == 0 {
+    if k == CALL {
         return Spot::Here { out: said(q, id, 0, x) };
     }
-    if k == 1 {
-        return Spot::Here { out: waiting(t, at, q, x, m) };
+    if k == WAIT {
+        return Spot::Here { out: Out::Hear { at, kind: q, value: x } };
     }
     let n = name_count(t, at);
     let all = spots(t, at, 0, n);
-    if k - 2 < all {
-        return in_args(t, at, 0, n, k - 2, 2, sum(2, all));
+    if k - INNER < all {
+        return in_args(t, at, 0, n, k - INNER, INNER, sum(INNER, all));
     }
-    Spot::Here { out: reply(t, id, at, 0, n, k - 2 - all) }
+    Spot::Here { out: reply(t, id, at, 0, n, k - INNER - all) }
 }

@@ -4,15 +4,26 @@ ghost use Prim.Native.Nat.{_+_};
 ghost use Rattle.sheet.specs.table.Rep.{word};
 ghost use Rattle.automaton.specs.walk.Row.{partWeight, partClass, partValues, nameId, nameCount, sumOf, placeOf};
 
+// The words of a row: the kind of the part, its weight, the class of its type and the number of values of its data, a
+// detail by its kind, and the places of its parts.
+pub const KIND: usize = 0;
+pub const WEIGHT: usize = 1;
+pub const CLASS: usize = 2;
+pub const VALUES: usize = 3;
+pub const DETAIL: usize = 4;
+pub const PARTS: usize = 5;
+// How many they are.
+const WORDS: usize = 9;
+
 // Word i of the row at a place, 0 past the end of the table.
 pub fn cell(t: &[u16], at: usize, i: usize) -> usize
     ensures { λ r. ⌜ r ≡ word (now (t .entry)) at i ⌝ }
 {
     let n = t.len();
-    if n / 9 < at {
+    if n / WORDS < at {
         return 0;
     }
-    let row = 9 * at;
+    let row = WORDS * at;
     if n - row <= i {
         return 0;
     }
@@ -25,48 +36,48 @@ pub fn part_at(t: &[u16], at: usize, j: usize) -> usize
     ensures { λ r. ⌜ r ≡ word (now (t .entry)) at (5 + j) ⌝ }
 {
     let n = t.len();
-    if n < 5 {
+    if n < PARTS {
         return 0;
     }
-    if n - 5 < j {
+    if n - PARTS < j {
         return 0;
     }
-    cell(t, at, 5 + j)
+    cell(t, at, PARTS + j)
 }
 
 // The weight of part j.
 pub fn part_weight(t: &[u16], at: usize, j: usize) -> usize
     ensures { λ r. ⌜ r ≡ partWeight (now (t .entry)) at j ⌝ }
 {
-    cell(t, part_at(t, at, j), 1)
+    cell(t, part_at(t, at, j), WEIGHT)
 }
 
 // The class of part j's type.
 pub fn part_class(t: &[u16], at: usize, j: usize) -> usize
     ensures { λ r. ⌜ r ≡ partClass (now (t .entry)) at j ⌝ }
 {
-    cell(t, part_at(t, at, j), 2)
+    cell(t, part_at(t, at, j), CLASS)
 }
 
 // How many values part j's data has.
 pub fn part_values(t: &[u16], at: usize, j: usize) -> usize
     ensures { λ r. ⌜ r ≡ partValues (now (t .entry)) at j ⌝ }
 {
-    cell(t, part_at(t, at, j), 3)
+    cell(t, part_at(t, at, j), VALUES)
 }
 
 // The id of a name.
 pub fn name_id(t: &[u16], at: usize) -> usize
     ensures { λ r. ⌜ r ≡ nameId (now (t .entry)) at ⌝ }
 {
-    cell(t, at, 4) % 256
+    cell(t, at, DETAIL) % 256
 }
 
 // How many arguments a name has.
 pub fn name_count(t: &[u16], at: usize) -> usize
     ensures { λ r. ⌜ r ≡ nameCount (now (t .entry)) at ⌝ }
 {
-    cell(t, at, 4) / 256
+    cell(t, at, DETAIL) / 256
 }
 
 // a + b, and 0 where one of them is too large.

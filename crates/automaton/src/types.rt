@@ -1,14 +1,20 @@
 // The questions and answers of a type, by number: a type is its class and the number of values of its data.
+use crate::moves::{ASK, DONE, OK, READ, RUN, VALUE, WRITE};
 use crate::row::sum;
 ghost use mathlib.Core.Path.{_≡_};
 ghost use Rattle.automaton.specs.walk.Types.{questionsOf, answersOf, questionKind, questionValue, questionNumber};
 ghost use Rattle.automaton.specs.walk.Types.{valueAnswer, answerNumber};
 
+// The classes of types.
+pub const COMMAND: usize = 0;
+pub const EXPRESSION: usize = 1;
+pub const VARIABLE: usize = 2;
+
 // How many questions a type has.
 pub fn questions(class: usize, values: usize) -> usize
     ensures { λ r. ⌜ r ≡ questionsOf class values ⌝ }
 {
-    if class == 2 {
+    if class == VARIABLE {
         return sum(1, values);
     }
     1
@@ -18,10 +24,10 @@ pub fn questions(class: usize, values: usize) -> usize
 pub fn answers(class: usize, values: usize) -> usize
     ensures { λ r. ⌜ r ≡ answersOf class values ⌝ }
 {
-    if class == 0 {
+    if class == COMMAND {
         return 1;
     }
-    if class == 1 {
+    if class == EXPRESSION {
         return values;
     }
     sum(values, values)
@@ -31,23 +37,23 @@ pub fn answers(class: usize, values: usize) -> usize
 pub fn question_kind(class: usize, i: usize) -> usize
     ensures { λ r. ⌜ r ≡ questionKind class i ⌝ }
 {
-    if class == 0 {
-        return 0;
+    if class == COMMAND {
+        return RUN;
     }
-    if class == 1 {
-        return 2;
+    if class == EXPRESSION {
+        return ASK;
     }
     if i == 0 {
-        return 3;
+        return READ;
     }
-    6
+    WRITE
 }
 
 // The value of question i.
 pub fn question_value(class: usize, i: usize) -> usize
     ensures { λ r. ⌜ r ≡ questionValue class i ⌝ }
 {
-    if class == 2 {
+    if class == VARIABLE {
         if 0 < i {
             return i - 1;
         }
@@ -59,22 +65,22 @@ pub fn question_value(class: usize, i: usize) -> usize
 pub fn question_number(class: usize, values: usize, kind: usize, value: usize) -> usize
     ensures { λ r. ⌜ r ≡ questionNumber class values kind value ⌝ }
 {
-    if class == 0 {
-        if kind == 0 {
+    if class == COMMAND {
+        if kind == RUN {
             return 1;
         }
         return 0;
     }
-    if class == 1 {
-        if kind == 2 {
+    if class == EXPRESSION {
+        if kind == ASK {
             return 1;
         }
         return 0;
     }
-    if kind == 3 {
+    if kind == READ {
         return 1;
     }
-    if kind == 6 {
+    if kind == WRITE {
         if value < values {
             return sum(value, 2);
         }
@@ -86,7 +92,7 @@ pub fn question_number(class: usize, values: usize, kind: usize, value: usize) -
 pub fn value_answer(values: usize, kind: usize, value: usize) -> usize
     ensures { λ r. ⌜ r ≡ valueAnswer values kind value ⌝ }
 {
-    if kind == 5 {
+    if kind == VALUE {
         if value < values {
             return sum(value, 1);
         }
@@ -99,26 +105,26 @@ pub fn value_answer(values: usize, kind: usize, value: usize) -> usize
 pub fn answer_number(class: usize, values: usize, q: usize, x: usize, kind: usize, value: usize) -> usize
     ensures { λ r. ⌜ r ≡ answerNumber class values q x kind value ⌝ }
 {
-    if class == 0 {
-        if q == 0 {
-            if kind == 1 {
+    if class == COMMAND {
+        if q == RUN {
+            if kind == DONE {
                 return 1;
             }
         }
         return 0;
     }
-    if class == 1 {
-        if q == 2 {
+    if class == EXPRESSION {
+        if q == ASK {
             return value_answer(values, kind, value);
         }
         return 0;
     }
-    if q == 3 {
+    if q == READ {
         return value_answer(values, kind, value);
     }
-    if q == 6 {
+    if q == WRITE {
         if x < values {
-            if kind == 4 {
+            if kind == OK {
                 return sum(sum(values, x), 1);
             }
         }

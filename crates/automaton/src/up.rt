@@ -1,18 +1,21 @@
 // From a step of a part to one of the term: what the part's exits and states become.
+use crate::moves::{DONE, OK, VALUE};
+use crate::roles::{ARGUMENT, ASSIGNED, BLOCK, RIGHT, SELECT, TEST, THEN};
 use crate::row::{place, sum};
 use crate::types::{answer_number, question_kind, question_value};
-use crate::{Frame, Out};
+use crate::{Frame, Out, Silent};
 use language::Numbers;
 use language::operator::{Outcome, operate};
 ghost use mathlib.Core.Path.{_≡_};
 ghost use Rattle.automaton.specs.walk.Up.{exitDone, exitTruth, exitValue, exitOperate, exitAssign, exitArgument};
-ghost use Rattle.automaton.specs.walk.Up.{exitNew, exitsOf, goesOf, riseOf};
+ghost use Rattle.automaton.specs.walk.Up.{exitNew, exitsOf, goesOf};
+ghost use Rattle.automaton.specs.declared.Out.the-variants.{Go};
 
 // Done leads on.
 pub fn exit_done(kind: usize, next: usize, level: usize, set: usize) -> Out
     ensures { λ r. ⌜ r ≡ exitDone kind next level set ⌝ }
 {
-    if kind == 1 {
+    if kind == DONE {
         return Out::Go { next, level, set };
     }
     Out::Stuck
@@ -22,13 +25,13 @@ pub fn exit_done(kind: usize, next: usize, level: usize, set: usize) -> Out
 pub fn exit_truth(kind: usize, value: usize, a: usize, b: usize, level: usize, set: usize) -> Out
     ensures { λ r. ⌜ r ≡ exitTruth kind value a b level set ⌝ }
 {
-    if kind == 5 {
+    if kind == VALUE {
         if value == 1 {
             return Out::Go { next: a, level, set };
         }
         if value == 0 {
             if b == 0 {
-                return Out::Exit { kind: 1, value: 0, level, set };
+                return Out::Exit { kind: DONE, value: 0, level, set };
             }
             return Out::Go { next: b, level, set };
         }
@@ -40,7 +43,7 @@ pub fn exit_truth(kind: usize, value: usize, a: usize, b: usize, level: usize, s
 pub fn exit_value(kind: usize, value: usize, f: Frame, level: usize, set: usize) -> Out
     ensures { λ r. ⌜ r ≡ exitValue kind value f level set ⌝ }
 {
-    if kind == 5 {
+    if kind == VALUE {
         if value < f.c {
             return Out::Go { next: place(value, f.b, f.a), level, set };
         }
@@ -52,14 +55,14 @@ pub fn exit_value(kind: usize, value: usize, f: Frame, level: usize, set: usize)
 pub fn exit_operate(n: Numbers, kind: usize, value: usize, f: Frame, level: usize, set: usize) -> Out
     ensures { λ r. ⌜ r ≡ exitOperate n kind value f level set ⌝ }
 {
-    if kind == 5 {
+    if kind == VALUE {
         if value < f.c {
             let op = (f.b % 256) as u8;
             let x = (f.a % 65536) as u16;
             let y = (value % 65536) as u16;
             let result = operate(n, op, x, y);
             return match result {
-                Outcome::Is { code } => Out::Exit { kind: 5, value: code as usize, level, set },
+                Outcome::Is { code } => Out::Exit { kind: VALUE, value: code as usize, level, set },
                 Outcome::Nothing => Out::Stuck,
             };
         }
@@ -71,8 +74,8 @@ pub fn exit_operate(n: Numbers, kind: usize, value: usize, f: Frame, level: usiz
 pub fn exit_assign(kind: usize, level: usize, set: usize) -> Out
     ensures { λ r. ⌜ r ≡ exitAssign kind level set ⌝ }
 {
-    if kind == 4 {
-        return Out::Exit { kind: 1, value: 0, level, set };
+    if kind == OK {
+        return Out::Exit { kind: DONE, value: 0, level, set };
     }
     Out::Stuck
 }
@@ -106,39 +109,26 @@ pub fn exits(n: Numbers, f: Frame, kind: usize, value: usize, level: usize, set:
 {
     let role = f.role;
     match role {
-        1 => exit_done(kind, f.a, level, set),
-        2 => exit_truth(kind, value, f.a, f.b, level, set),
-        3 => exit_value(kind, value, f, level, set),
-        4 => exit_operate(n, kind, value, f, level, set),
-        5 => exit_assign(kind, level, set),
-        6 => exit_argument(kind, value, f, level, set),
-        7 => exit_new(kind, value, f, level, set),
+        THEN => exit_done(kind, f.a, level, set),
+        TEST => exit_truth(kind, value, f.a, f.b, level, set),
+        SELECT => exit_value(kind, value, f, level, set),
+        RIGHT => exit_operate(n, kind, value, f, level, set),
+        ASSIGNED => exit_assign(kind, level, set),
+        ARGUMENT => exit_argument(kind, value, f, level, set),
+        BLOCK => exit_new(kind, value, f, level, set),
         _ => Out::Exit { kind, value, level, set },
     }
 }
 
 // A part's silent step: a block whose variable is written moves to the copy of that value.
-pub fn goes(f: Frame, next: usize, level: usize, set: usize) -> Out
-    ensures { λ r. ⌜ r ≡ goesOf f next level set ⌝ }
+pub fn goes(f: Frame, g: Silent) -> Silent
+    ensures { λ r. ⌜ Go (r .next) (r .level) (r .set) ≡ goesOf f (g .next) (g .level) (g .set) ⌝ }
 {
-    if f.role == 7 {
-        if level == f.a {
-            return Out::Go { next: place(set, f.b, next), level: 0, set: 0 };
+    if f.role == BLOCK {
+        if g.level == f.a {
+            return Silent { next: place(g.set, f.b, g.next), level: 0, set: 0 };
         }
-        return Out::Go { next: sum(f.base, next), level, set };
+        return Silent { next: sum(f.base, g.next), level: g.level, set: g.set };
     }
-    Out::Go { next: sum(f.base, next), level, set }
-}
-
-// A part's step.
-pub fn rise(n: Numbers, f: Frame, o: Out) -> Out
-    ensures { λ r. ⌜ r ≡ riseOf n f o ⌝ }
-{
-    match o {
-        Out::Go { next, level, set } => goes(f, next, level, set),
-        Out::Exit { kind, value, level, set } => exits(n, f, kind, value, level, set),
-        Out::Say { said, next } => Out::Say { said, next: sum(f.base, next) },
-        Out::Hear { at, kind, value } => Out::Hear { at, kind, value },
-        Out::Stuck => Out::Stuck,
-    }
+    Silent { next: sum(f.base, g.next), level: g.level, set: g.set }
 }

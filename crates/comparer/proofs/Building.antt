@@ -1,5 +1,5 @@
 -- The automata that the code builds, by what filling, closing and settling give.
-use Prim.Native.Nat.{ℕ, _+_, _*_}
+use Prim.Native.Nat.{ℕ, _+_, _*_, _≤_}
 use mathlib.Core.Path.{_≡_, sym, ap}
 use mathlib.Core.List.{List}
 use Rattle.language.specs.declared.Numbers.{Numbers}
@@ -7,15 +7,30 @@ use Rattle.automaton.specs.walk.Shows.{Words}
 use Rattle.dfa.specs.Graph.{rest, Graph}
 use Rattle.dfa.specs.Silent.{Silent, Settling}
 use Rattle.explicit.specs.declared.Site.{Site}
+use Rattle.explicit.specs.inner.States.{spotsOf}
 use Rattle.explicit.specs.inner.Moves.{edgesAfter, filledOf}
 use Rattle.explicit.specs.inner.Rows.{closedOf}
 use Rattle.explicit.specs.inner.Sheets.{OneSheet, TwoSheets}
+use Rattle.explicit.proofs.SheetRows.{spots-fit}
 use Rattle.explicit.proofs.Filled.{one-sheet, two-sheets}
 use Rattle.comparer.specs.inner.Built.{OneReady, OneBuilt, TwoReady, TwoBuilt}
 
 -- the site of a sheet whose first state is o, in an automaton of n states
 abbrev site : ℕ → ℕ → ℕ → Site
 site root n o = record { root = root; n = n; o = o }
+
+-- the states are few enough for the path
+pub one-fits : {N : Numbers} {t : List ℕ} {root all : ℕ} {ws : List ℕ} → OneReady N t root all ws → Words t →
+  spotsOf t root ≤ 65536
+one-fits {root = root} R W = spots-fit (site root 0 0) (R .ready W)
+
+pub old-fits : {N : Numbers} {t u : List ℕ} {root other all more : ℕ} {ws : List ℕ} →
+  TwoReady N t u root other all more ws → Words t → spotsOf t root ≤ 65536
+old-fits {root = root} R W = spots-fit (site root 0 0) (R .ready W)
+
+pub new-fits : {N : Numbers} {t u : List ℕ} {root other all more : ℕ} {ws : List ℕ} →
+  TwoReady N t u root other all more ws → Words u → spotsOf u other ≤ 65536
+new-fits {other = other} R W = spots-fit (site other 0 0) (R .other-ready W)
 
 -- one sheet, filled and closed
 module _ {N : Numbers} {t : List ℕ} {root all : ℕ} {ws : List ℕ} (R : OneReady N t root all ws) (W : Words t)
@@ -40,7 +55,8 @@ module _ {N : Numbers} {t : List ℕ} {root all : ℕ} {ws : List ℕ} (R : OneR
     ; graph = one-closed .graph
     ; quiet = one-closed .silent
     ; settled = S
-    ; barren = one-closed .barren }
+    ; barren = one-closed .barren
+    ; few = one-closed .few }
 
 -- two sheets, filled one after the other and closed
 module _ {N : Numbers} {t u : List ℕ} {root other all more : ℕ} {ws : List ℕ}

@@ -13,7 +13,8 @@ use Rattle.language.specs.Weight.{size}
 use Rattle.machine.specs.Sheet.{spots}
 use Rattle.machine.proofs.Accepts.{spots-size}
 use Rattle.dfa.specs.Graph.{rest, Graph}
-use Rattle.dfa.specs.Live.{Single}
+use Rattle.dfa.specs.Live.{Single, Markable, SameEdges, Marks}
+use Rattle.dfa.proofs.laws.SameEdges.{same-graph}
 use Rattle.explicit.proofs.Ranges.{type-in, sheet-range}
 use Rattle.sheet.specs.Meaning.{tyOf, termOf, typeOf}
 use Rattle.sheet.specs.Fine.{Accepted}
@@ -32,12 +33,13 @@ use Rattle.comparer.specs.Promise.{FollowedBy, FollowPromise}
 use Rattle.comparer.specs.declared.Cause.{Cause}
 use Rattle.comparer.specs.declared.Following.{Following}
 use Rattle.comparer.specs.declared.Following.the-variants.{Follows, Refused}
+use Rattle.comparer.specs.declared.follow.Reach.{Reach}
 use Rattle.comparer.specs.declared.play.Parsed.{Parsed}
 use Rattle.comparer.specs.declared.play.Parsed.the-variants.{Moves, Bad}
 use Rattle.comparer.specs.inner.Built.{OneReady, OneBuilt}
 use Rattle.comparer.specs.inner.Bytes.{counted}
 use Rattle.comparer.specs.inner.Handed.{Handed, causeOf, HandedPlay, playCause}
-use Rattle.comparer.specs.inner.Walk.{AtLeast, stateAfter, Longest}
+use Rattle.comparer.specs.inner.Walk.{AtLeast, Told, Reached}
 use Rattle.comparer.proofs.FollowPlays.{built-single, counts}
 use Rattle.comparer.proofs.WritingPlays.{good-moves}
 
@@ -220,33 +222,48 @@ module _ {s t : List ℕ} {N : Numbers} {root all : ℕ} (O : Opened s t N root 
           (termOf (O .tabled .sheet)))
 
     -- its end alone accepts
-    pub opened-single : Single (rest (5 * (all + 1)) ws′) (all + 1) (all - 1)
+    opened-single : Single (rest (5 * (all + 1)) ws′) (all + 1) (all - 1)
     opened-single = built-single built (omega (arith, end-at, opened-some)) end-at
 
-    -- and the words that keep it hold a graph
-    pub opened-graph : (G : List ℕ) → G ≡ rest (5 * (all + 1)) ws′ → Graph G (all + 1)
-    opened-graph G e = rw e (opened-single .graph)
+    -- there is room to mark its live states
+    pub opened-markable : length ws′ ≡ length ws → Markable (all + 1) (all - 1) ws′
+    opened-markable len =
+        let few : getD (rest (5 * (all + 1)) ws′) (all + 1) 0 ≤ 8 * (all + 1) =
+              omega (arith, built .settled .first (all + 1) (omega arith), built .few) in
+        record
+          { single = opened-single; end = omega (arith, opened-some)
+          ; few = omega (arith, opened-single .graph .few); room = omega arith }
 
-    -- THEOREM: the accepted answer is what follow promises
-    pub followed : (play G ws₃ : List ℕ) {x : Parsed} {total count last : ℕ} →
-        ((i : ℕ) → getD play i 0 < 256) → x ≡ counted 0 (parse 0 play) → x ≡ Moves total →
-        ((rs : List (List ℕ)) → parse 0 play ≡ moves rs → length rs ≡ total →
-          Longest (rest (5 * (all + 1)) ws′) (all + 1) (all - 1) rs count) →
-        G ≡ rest (5 * (all + 1)) ws′ →
-        ((rs : List (List ℕ)) → parse 0 play ≡ moves rs → last ≡ stateAfter G (all + 1) rs total) →
-        ws₃ ≡ replicate (length ws) 0 → FollowPromise s play ws (Follows count (eqb last (all - 1))) ws₃
-    unfolding FollowedBy
-    followed play G ws₃ {total = total} {count} {last} bytes e m L k w z =
-        let g = given-moves (parse 0 play) (sym m ∙ e) in
-        let rs = g .0 in
-        let p = g .1 .0 in
-        let l = g .1 .1 in
-        let at : last ≡ stateAfter (rest (5 * (all + 1)) ws′) (all + 1) rs (length rs) = rw (← k, l) (w rs p) in
-        rw (goes-through play ws rs room p) (record
-          { sheet = O .tabled .sheet
-          ; held = record { type = O .kind; size = _; reads = O .tabled .accepts }
-          ; records = rs; parsed = p; count = count; complete = eqb last (all - 1); answer = refl
-          ; counted = counts (O .tabled .sheet) (O .fine) (all + 1) ws′ built rs (good-moves play bytes rs p)
-              (all - 1) count (eqb last (all - 1)) end-at (L rs p l)
-              ((λ b. sym at ∙ eqb-true last (all - 1) b), (λ b. eq-eqb last (all - 1) (at ∙ b)))
-          ; cleared = z })
+    -- its live states are marked
+    module _ (ws″ : List ℕ) (M : Marks (rest (5 * (all + 1)) ws′) (all + 1) (all - 1) ws″ ×
+        SameEdges (all + 1) (rest (5 * (all + 1)) ws′) (rest (5 * (all + 1)) ws″)) where
+      -- the words hold a graph
+      pub opened-graph : Graph (rest (5 * (all + 1)) ws″) (all + 1)
+      opened-graph =
+          same-graph (rest (5 * (all + 1)) ws′) (rest (5 * (all + 1)) ws″) (all + 1) (opened-single .graph) (M .1)
+
+      unfoldable told : Told (all + 1) (all - 1) ws″
+      told = record
+        { automaton = rest (5 * (all + 1)) ws′; graph = opened-single .graph; same = M .1; marks = M .0 }
+
+      -- THEOREM: the accepted answer is what follow promises
+      pub followed : (play ws₃ : List ℕ) {x : Parsed} {total : ℕ} {r : Reach} →
+          ((i : ℕ) → getD play i 0 < 256) → x ≡ counted 0 (parse 0 play) → x ≡ Moves total →
+          ((f : ℕ) (T : Told (all + 1) f ws″) (rs : List (List ℕ)) → parse 0 play ≡ moves rs → length rs ≡ total →
+            Reached (T .automaton) (all + 1) f rs r) →
+          ws₃ ≡ replicate (length ws) 0 → FollowPromise s play ws (Follows (r .count) (eqb (r .last) (all - 1))) ws₃
+      unfolding FollowedBy told
+      followed play ws₃ {r = r} bytes e m L z =
+          let g = given-moves (parse 0 play) (sym m ∙ e) in
+          let rs = g .0 in
+          let p = g .1 .0 in
+          let R = L (all - 1) told rs p (g .1 .1) in
+          rw (goes-through play ws rs room p) (record
+            { sheet = O .tabled .sheet
+            ; held = record { type = O .kind; size = _; reads = O .tabled .accepts }
+            ; records = rs; parsed = p; count = r .count; complete = eqb (r .last) (all - 1); answer = refl
+            ; counted = counts (O .tabled .sheet) (O .fine) (all + 1) ws′ built rs (good-moves play bytes rs p)
+                (all - 1) (r .count) (eqb (r .last) (all - 1)) end-at (R .longest)
+                ((λ b. sym (R .last) ∙ eqb-true (r .last) (all - 1) b),
+                 (λ b. eq-eqb (r .last) (all - 1) (R .last ∙ b)))
+            ; cleared = z })

@@ -1,13 +1,10 @@
 -- The words of letters after which the end of an explicit automaton is in reach are those that begin a complete play.
 use mathlib.Core.Path.{_≡_, refl, sym, _∙_}
-use mathlib.Core.Bool.{Bool, true, false, cond}
 use mathlib.Core.Logic.{_↔_}
 use mathlib.Core.List.{List, [], _∷_, _++_}
 use Prim.Native.Nat.{ℕ, _-_, _≤_}
 use native.Mathlib.Omega.{arith}
-use lib.Dec.{eqb}
 use lib.ListN.{getD}
-use borrow.Author.Tests.{eqb-true, eq-eqb}
 use Rattle.language.specs.declared.Numbers.{Numbers}
 use Rattle.language.specs.Ty.{Ty}
 use Rattle.language.specs.Term.{Term}
@@ -22,32 +19,16 @@ use Rattle.dfa.specs.Graph.{δ, Graph}
 use Rattle.dfa.specs.Live.{Single, Live}
 use Rattle.dfa.specs.Reading.{walk}
 use Rattle.dfa.specs.Silent.{Silent, Settling}
-use Rattle.dfa.specs.Word.{accepting}
-use Rattle.dfa.proofs.laws.Reading.{turned, walk-turned, turned-turned}
+use Rattle.dfa.proofs.laws.Edges.{live-walk}
 use Rattle.dfa.proofs.laws.Settled.{settled-graph}
 use Rattle.explicit.specs.Explicit.{Explicit}
 use Rattle.comparer.specs.inner.Spell.{letters}
 use Rattle.comparer.proofs.OnePlay.{play-walks, walk-plays}
 
--- one state accepts
-alone : (f x : ℕ) → (accepting f f x ≡ true) ↔ (x ≡ f)
-alone f x = ((λ e. eqb-true x f (by (eqb x f) e)), (λ e. rw (eq-eqb x f e)))
-  where
-    by : (b : Bool) → cond b true b ≡ true → b ≡ true
-    by true e = refl
-    by false e = e
-
 -- a word after a word
-pub walk-append : (d : ℕ → ℕ → ℕ) (p : ℕ) (w x : List ℕ) → walk d p (w ++ x) ≡ walk d (walk d p w) x
+walk-append : (d : ℕ → ℕ → ℕ) (p : ℕ) (w x : List ℕ) → walk d p (w ++ x) ≡ walk d (walk d p w) x
 walk-append d p [] x = refl
 walk-append d p (m ∷ w) x = walk-append d (d p m) w x
-
--- f is in reach from p exactly if a word of letters, first letter first, leads there
-pub live-walk : (G : List ℕ) (n f p : ℕ) → Live G n f p ↔ ((x : List ℕ) × (walk (δ G n) p x ≡ f))
-live-walk G n f p =
-    ((λ l. (turned (l .0), walk-turned (δ G n) p (l .0) ∙ alone f _ .0 (l .1))),
-     (λ h. (turned (h .0), alone f _ .1
-       (sym (walk-turned (δ G n) p (turned (h .0))) ∙ rw (turned-turned (h .0)) (h .1)))))
 
 module _ {T : Ty} {M : Term} {N : Numbers} {S G G′ : List ℕ} {n : ℕ} (few : N .z ≤ 7) (t : Typed [] M T)
     (E : Explicit N S G n 0 (steps T M)) (g : Graph G n) (R : Settling n S G G′) (b : TyIn N T)

@@ -1,97 +1,108 @@
--- What the search for the longest beginning of a play whose state is live keeps.
+-- What the walk keeps that finds the longest beginning of a play whose state is live.
 use mathlib.Core.Path.{_≡_, refl, sym, ap, _∙_}
 use mathlib.Core.Bool.{Bool, true, false}
-use mathlib.Core.Logic.{_↔_, _⊎_, inl, inr}
-use mathlib.Core.List.{List, _++_, map}
-use Prim.Native.Nat.{ℕ, _+_, _*_, _-_, _≤_, _<_}
+use mathlib.Core.Logic.{_↔_, _≢_, _⊎_, inl, inr}
+use mathlib.Core.List.{List, [], _∷_, map}
+use Prim.Native.Nat.{ℕ, _+_, _*_, _≤_, _<_}
+use native.Mathlib.Decide.{ℕ-discrete}
 use native.Mathlib.Omega.{arith}
-use lib.ListN.{length, take, drop}
-use lib.Seq.{take-add}
-use Rattle.dfa.specs.Graph.{δ, rest}
+use lib.ListN.{length, getD, take}
+use Rattle.dfa.specs.Graph.{δ, rest, Graph}
 use Rattle.dfa.specs.Live.{Live}
 use Rattle.dfa.specs.Reading.{walk}
+use Rattle.dfa.proofs.laws.Look.{δ-lt}
+use Rattle.dfa.proofs.laws.SameEdges.{same-walk}
 use Rattle.comparer.specs.Records.{moves, parse}
 use Rattle.comparer.specs.inner.Bytes.{firstLetter}
-use Rattle.comparer.specs.inner.Walk.{AtLeast, stateAfter, Longest}
-use Rattle.comparer.proofs.LivePlay.{walk-append, live-walk}
+use Rattle.comparer.specs.inner.Walk.{AtLeast, stateAfter, Told, Reached}
+use Rattle.comparer.proofs.WalkingPlays.{Walked, walked-first, walked-state}
 
--- r tells whether the state after the first k records of a play is live
-abbrev pub Tells : List ℕ → ℕ → ℕ → List ℕ → ℕ → Bool → Type 0
-Tells G n f play k r = (rs : List (List ℕ)) → parse 0 play ≡ moves rs → (r ≡ true) ↔ Live G n f (stateAfter G n rs k)
+-- the mark of the state after k records
+abbrev mark : ℕ → List ℕ → List (List ℕ) → ℕ → ℕ
+mark n ws rs k = getD ws (2 * n + stateAfter (rest (5 * n) ws) n rs k) 0
 
--- what is told of the state after them is told of them
-pub tells-after : (G : List ℕ) (n f : ℕ) (play : List ℕ) (k p : ℕ) (r : Bool) →
-    ((rs : List (List ℕ)) → parse 0 play ≡ moves rs → p ≡ stateAfter G n rs k) → (r ≡ true) ↔ Live G n f p →
-    Tells G n f play k r
-tells-after G n f play k p r h t rs e = rw (← h rs e) t
+-- of the first i records, `count` are the last after which the state is marked
+pub record Searched (n : ℕ) (ws play : List ℕ) (total p at i count : ℕ) : Type 0 where
+  pub walked : Walked (rest (5 * n) ws) n play total p at i
+  pub upto : i ≤ total
+  pub within : count ≤ i
+  pub alive : (count ≡ 0) ⊎ (mark n ws (walked .all) count ≡ 1)
+  pub beyond : (k : ℕ) → count < k → k ≤ i → mark n ws (walked .all) k ≢ 1
 
--- fewer records are enough
-pub at-least : (play : List ℕ) (j k : ℕ) → j ≤ k → AtLeast play k → AtLeast play j
-at-least play j k l h = record { records = h .records; parsed = h .parsed; enough = omega (arith, h .enough) }
+-- before the first record
+pub search-first : (n : ℕ) (ws play : List ℕ) (total : ℕ) → Graph (rest (5 * n) ws) n → AtLeast play total →
+    Searched n ws play total 0 0 0 0
+search-first n ws play total g h = record
+  { walked = walked-first (rest (5 * n) ws) n play total g h; upto = omega arith; within = omega arith
+  ; alive = inl refl; beyond = λ k a b. absurd (omega arith) }
 
--- the state after fewer records is live too
-live-earlier : (G : List ℕ) (n f : ℕ) (rs : List (List ℕ)) (j k : ℕ) → j ≤ k →
-    Live G n f (stateAfter G n rs k) → Live G n f (stateAfter G n rs j)
-live-earlier G n f rs j k l h =
-    let x = take (k - j) (drop j (map firstLetter rs)) in
-    let goes = live-walk G n f (stateAfter G n rs k) .0 h in
-    let y = goes .0 in
-    let count : k ≡ j + (k - j) = omega arith in
-    let split : take k (map firstLetter rs) ≡ take j (map firstLetter rs) ++ x =
-          ap (λ i. take i (map firstLetter rs)) count ∙ take-add j (k - j) (map firstLetter rs) in
-    let step : stateAfter G n rs k ≡ walk (δ G n) (stateAfter G n rs j) x =
-          ap (walk (δ G n) 0) split ∙ walk-append (δ G n) 0 (take j (map firstLetter rs)) x in
-    live-walk G n f (stateAfter G n rs j) .1
-      (x ++ y, walk-append (δ G n) (stateAfter G n rs j) x y ∙ ap (λ p. walk (δ G n) p y) (sym step) ∙ goes .1)
+-- what is not said to be marked is not
+pub not-marked : (r : Bool) (m : ℕ) → r ≡ false → (r ≡ true) ↔ (m ≡ 1) → m ≢ 1
+not-marked r m e h k =
+    let t = h .1 k in
+    let z : _≡_ {A = ℕ} 0 1 = cc in
+    omega arith
 
--- after `low` records the state is live, or low is 0; after more than `high` it is not
-pub record Searched (n f : ℕ) (play : List ℕ) (total : ℕ) (ws₀ ws : List ℕ) (low high : ℕ) : Type 0 where
-  pub len : length ws ≡ length ws₀
-  pub kept : rest (5 * n) ws ≡ rest (5 * n) ws₀
-  pub ordered : low ≤ high
-  pub within : high ≤ total
-  pub alive : (rs : List (List ℕ)) → parse 0 play ≡ moves rs →
-    (low ≡ 0) ⊎ Live (rest (5 * n) ws₀) n f (stateAfter (rest (5 * n) ws₀) n rs low)
-  pub beyond : (rs : List (List ℕ)) → parse 0 play ≡ moves rs → length rs ≡ total → (k : ℕ) → high < k →
-    k ≤ length rs → Live (rest (5 * n) ws₀) n f (stateAfter (rest (5 * n) ws₀) n rs k) → ⊥
+module _ (n : ℕ) (ws play : List ℕ) (total p at i count p′ at′ : ℕ) (S : Searched n ws play total p at i count)
+    (W : Walked (rest (5 * n) ws) n play total p′ at′ (i + 1)) (h : i < total) where
+  -- the records of both are those of the play
+  same : S .walked .all ≡ W .all
+  same = let e = S .walked .whole in let f = W .whole in cc
 
--- before the search
-pub search-first : (n f : ℕ) (play : List ℕ) (total : ℕ) (ws : List ℕ) → Searched n f play total ws ws 0 total
-search-first n f play total ws = record
-  { len = refl; kept = refl; ordered = omega arith; within = omega arith; alive = λ rs e. inl refl
-  ; beyond = λ rs e t k h l. absurd (omega arith) }
+  -- the state after one more record
+  here : mark n ws (W .all) (i + 1) ≡ getD ws (2 * n + p′) 0
+  here = ap (λ q. getD ws (2 * n + q) 0) (sym (walked-state (rest (5 * n) ws) n play total p′ at′ (i + 1) W))
 
-module _ (n f : ℕ) (play : List ℕ) (total : ℕ) (ws₀ ws ws′ : List ℕ) (low high m : ℕ) (r : Bool)
-    (S : Searched n f play total ws₀ ws low high) (above : low < m) (below : m ≤ high)
-    (len : length ws′ ≡ length ws)
-    (told : Tells (rest (5 * n) ws) n f play m r × (rest (5 * n) ws′ ≡ rest (5 * n) ws)) where
-  -- what is told, of the words at the start
-  tells : Tells (rest (5 * n) ws₀) n f play m r
-  tells = rw (S .kept) at (told .0)
+  -- it is marked
+  pub search-marked : getD ws (2 * n + p′) 0 ≡ 1 → Searched n ws play total p′ at′ (i + 1) (i + 1)
+  search-marked e = record
+    { walked = W; upto = omega arith; within = omega arith; alive = inr (here ∙ e)
+    ; beyond = λ k a b. absurd (omega arith) }
 
-  -- m records are live: the search goes on above
-  pub search-up : r ≡ true → Searched n f play total ws₀ ws′ m high
-  search-up t = record
-    { len = len ∙ S .len; kept = told .1 ∙ S .kept; ordered = below; within = S .within
-    ; alive = λ rs e. inr (tells rs e .0 t); beyond = S .beyond }
+  -- it is not
+  pub search-unmarked : getD ws (2 * n + p′) 0 ≢ 1 → Searched n ws play total p′ at′ (i + 1) count
+  search-unmarked e = record
+    { walked = W; upto = omega arith; within = omega (arith, S .within)
+    ; alive = rw same at (S .alive)
+    ; beyond = λ k a b. by k a b (ℕ-discrete k (i + 1)) }
+    where
+      by : (k : ℕ) → count < k → k ≤ i + 1 → Dec (k ≡ i + 1) → mark n ws (W .all) k ≢ 1
+      by k a b (yes q) = rw q (λ m. e (sym here ∙ m))
+      by k a b (no q) = rw same at (S .beyond k a (omega arith))
 
-  -- m records are not: it goes on below
-  pub search-down : r ≡ false → Searched n f play total ws₀ ws′ low (m - 1)
-  search-down t = record
-    { len = len ∙ S .len; kept = told .1 ∙ S .kept; ordered = omega arith; within = omega (arith, S .within)
-    ; alive = S .alive
-    ; beyond = λ rs e c k h l a.
-        let live = tells rs e .1 (live-earlier (rest (5 * n) ws₀) n f rs m k (omega arith) a) in
-        let z : _≡_ {A = ℕ} 0 1 = cc (t, live) in
-        omega arith }
+-- a word leads to one of the states
+walk-below : (G : List ℕ) (n : ℕ) → Graph G n → (p : ℕ) (w : List ℕ) → p < n → walk (δ G n) p w < n
+walk-below G n g p [] h = h
+walk-below G n g p (m ∷ w) h = walk-below G n g (δ G n p m) w (δ-lt G n p m g h)
 
--- after the search
-pub search-last : (n f : ℕ) (play : List ℕ) (total : ℕ) (ws₀ ws : List ℕ) (low high : ℕ) →
-    Searched n f play total ws₀ ws low high → high ≤ low →
-    (low ≤ total) × (((rs : List (List ℕ)) → parse 0 play ≡ moves rs → length rs ≡ total →
-      Longest (rest (5 * n) ws₀) n f rs low) × (rest (5 * n) ws ≡ rest (5 * n) ws₀))
-search-last n f play total ws₀ ws low high S h =
-    (omega (arith, S .within, S .ordered), ((λ rs e t. record
-      { within = omega (arith, S .within, S .ordered)
-      ; alive = S .alive rs e
-      ; beyond = λ k l. S .beyond rs e t k (omega (arith, S .ordered)) }), S .kept))
+-- the words tell which beginnings are live
+module _ (n : ℕ) (ws : List ℕ) (f : ℕ) (T : Told n f ws) (rs : List (List ℕ)) where
+  -- a beginning leads to the same state
+  state : (k : ℕ) → stateAfter (rest (5 * n) ws) n rs k ≡ stateAfter (T .automaton) n rs k
+  state k = same-walk (T .automaton) (rest (5 * n) ws) n (T .graph) (T .same) 0 (take k (map firstLetter rs))
+    (T .graph .some)
+
+  tells : (k : ℕ) → (mark n ws rs k ≡ 1) ↔ Live (T .automaton) n f (stateAfter (T .automaton) n rs k)
+  tells k = rw (state k) (T .marks (stateAfter (T .automaton) n rs k)
+    (walk-below (T .automaton) n (T .graph) 0 (take k (map firstLetter rs)) (T .graph .some)))
+
+-- after the last record
+pub search-last : (n : ℕ) (ws play : List ℕ) (total p at i count : ℕ) →
+    Searched n ws play total p at i count → total ≤ i → (f : ℕ) (T : Told n f ws) (rs : List (List ℕ)) →
+    parse 0 play ≡ moves rs → length rs ≡ total →
+    Reached (T .automaton) n f rs (record { count = count; last = p })
+search-last n ws play total p at i count S h f T rs e l = record
+  { longest = record
+    { within = omega (arith, S .within, S .upto)
+    ; alive = live (rw same at (S .alive))
+    ; beyond = λ k a b m. (rw same at (S .beyond k a (omega arith))) (tells n ws f T rs k .1 m) }
+  ; last = (rw same at (walked-state (rest (5 * n) ws) n play total p at i (S .walked))) ∙ state n ws f T rs i ∙
+      ap (stateAfter (T .automaton) n rs) {x = i} {y = length rs} (omega (arith, S .upto)) }
+  where
+    same : S .walked .all ≡ rs
+    same = let d = S .walked .whole in cc
+
+    live : (count ≡ 0) ⊎ (mark n ws rs count ≡ 1) →
+        (count ≡ 0) ⊎ Live (T .automaton) n f (stateAfter (T .automaton) n rs count)
+    live (inl z) = inl z
+    live (inr z) = inr (tells n ws f T rs count .0 z)

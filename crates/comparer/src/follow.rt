@@ -4,71 +4,47 @@ use crate::build::build_one;
 use crate::causes::{cause_of, play_cause};
 use crate::play::{Parsed, count_moves, first_letter, width_of};
 use dfa::graph::next_state;
-use dfa::live::is_live;
+use dfa::live::{is_marked, mark_live};
 use dfa::words::clear;
 use records::head::byte_at;
 use sheet::check::{numbers_of, read_sheet, size_of};
 use sheet::names::Reading;
 ghost use mathlib.Core.Path.{_≡_};
-ghost use mathlib.Core.Bool.{true};
 ghost use mathlib.Core.List.{List};
-ghost use mathlib.Core.Logic.{_↔_};
-ghost use Prim.Native.Nat.{ℕ, _+_, _*_, _≤_, _<_};
+ghost use Prim.Native.Nat.{ℕ, _*_};
 ghost use lib.ListN.{length};
 ghost use Rattle.dfa.specs.Graph.{Graph, rest};
-ghost use Rattle.dfa.specs.Live.{Single, Live};
 ghost use Rattle.comparer.specs.Records.{moves, parse};
 ghost use Rattle.comparer.specs.Promise.{FollowPromise};
 ghost use Rattle.comparer.specs.declared.Following.the-variants.{Refused};
-ghost use Rattle.comparer.specs.inner.Walk.{AtLeast, stateAfter, Longest};
+ghost use Rattle.comparer.specs.inner.Walk.{AtLeast, Told, Reached};
 
-// The state after the first k moves of a play.
-fn state_after(words: &[u32], n: usize, play: &[u8], k: usize) -> usize
-    requires { ⌜ Graph (rest (5 * n) (now words)) n × AtLeast (now play) k ⌝ }
-    ensures { λ r. ⌜ (r < n) × ((rs : List (List ℕ)) → parse 0 (now (play .entry)) ≡ moves rs
-        → r ≡ stateAfter (rest (5 * n) (now (words .entry))) n rs k) ⌝ }
+// How many moves begin a complete play, and the state after the last move.
+pub struct Reach {
+    pub count: usize,
+    pub last: usize,
+}
+
+// The greatest number of moves, of `total`, with which a complete play begins: the last after which the state is
+// marked.
+fn longest(words: &[u32], n: usize, play: &[u8], total: usize) -> Reach
+    requires { ⌜ Graph (rest (5 * n) (now words)) n × AtLeast (now play) total ⌝ }
+    ensures { λ r. ⌜ ((f : ℕ) (T : Told n f (now (words .entry))) (rs : List (List ℕ))
+        → parse 0 (now (play .entry)) ≡ moves rs → length rs ≡ total → Reached (T .automaton) n f rs r) ⌝ }
 {
     let mut p = 0;
     let mut at = 0;
     let mut i = 0;
-    while i < k {
+    let mut count = 0;
+    while i < total {
         p = next_state(words, n, p, first_letter(&play[at..]));
         at += width_of(byte_at(play, at) as usize);
         i += 1;
-    }
-    p
-}
-
-// Whether a complete play begins with the first k moves: whether the end, f, can be reached from the state after them.
-fn live_after(words: &mut [u32], n: usize, play: &[u8], k: usize, f: usize) -> bool
-    requires { ⌜ Single (rest (5 * n) (now words)) n f × AtLeast (now play) k ⌝ }
-    ensures { λ r. ⌜ ((rs : List (List ℕ)) → parse 0 (now (play .entry)) ≡ moves rs
-        → (r ≡ true) ↔ Live (rest (5 * n) (now (words .entry))) n f
-            (stateAfter (rest (5 * n) (now (words .entry))) n rs k))
-        × (rest (5 * n) (now (words .exit)) ≡ rest (5 * n) (now (words .entry))) ⌝ }
-{
-    let p = state_after(words, n, play, k);
-    is_live(words, n, p, f)
-}
-
-// The greatest number of moves, of `total`, with which a complete play begins: what begins no play grows into none.
-fn longest(words: &mut [u32], n: usize, play: &[u8], total: usize, f: usize) -> usize
-    requires { ⌜ Single (rest (5 * n) (now words)) n f × AtLeast (now play) total ⌝ }
-    ensures { λ r. ⌜ (r ≤ total) × (((rs : List (List ℕ)) → parse 0 (now (play .entry)) ≡ moves rs → length rs ≡ total
-        → Longest (rest (5 * n) (now (words .entry))) n f rs r)
-        × (rest (5 * n) (now (words .exit)) ≡ rest (5 * n) (now (words .entry)))) ⌝ }
-{
-    let mut low = 0;
-    let mut high = total;
-    while low < high {
-        let middle = high - (high - low) / 2;
-        if live_after(words, n, play, middle, f) {
-            low = middle;
-        } else {
-            high = middle - 1;
+        if is_marked(words, n, p) {
+            count = i;
         }
     }
-    low
+    Reach { count, last: p }
 }
 
 // A refusal.
@@ -99,8 +75,10 @@ pub fn follow(sheet: &[u8], play: &[u8], words: &mut [u32]) -> Following
         return refuse(play_cause(parsed));
     };
     build_one(&t, n, root, size, words);
-    let count = longest(words, size + 1, play, total, size - 1);
-    let last = state_after(words, size + 1, play, total);
+    mark_live(words, size + 1, size - 1);
+    let reach = longest(words, size + 1, play, total);
     clear(words);
+    let count = reach.count;
+    let last = reach.last;
     Following::Follows { count, complete: last == size - 1 }
 }

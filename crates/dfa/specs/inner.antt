@@ -8,3 +8,5 @@ pub mod State
 pub mod Trace
 pub mod Settle
 pub mod Tested
+pub mod Links
+pub mod Marks

@@ -6,12 +6,11 @@ ghost use Rattle.dfa.specs.Answer.{Answered, Lives};
 ghost use Rattle.dfa.specs.Graph.{rest};
 ghost use Rattle.dfa.specs.Silent.{Settling};
 use crate::{Task, Verdict};
-use crate::live::is_live;
+use crate::live::{is_marked, mark_live};
 use crate::search::first_difference;
 use crate::silent::settle;
-use crate::tested::{silent_ok, words_ok};
+use crate::tested::{live_ok, silent_ok, words_ok};
 use crate::word::spell;
-use crate::words::at;
 
 // The requirements do not hold; no word tells the two states apart; the first that does has so many letters.
 pub enum Answer {
@@ -75,19 +74,14 @@ pub enum Life {
 pub fn live_checked(words: &mut [u32], n: usize, p: usize, f: usize) -> Life
     ensures { λ r. ⌜ Lives (rest (5 * n) (now (words .entry))) n f p r ⌝ }
 {
-    if !words_ok(words, n) {
+    if !live_ok(words, n, f) {
         return Life::Untold;
     }
     if n <= p {
         return Life::Untold;
     }
-    if f == n - 1 {
-        return Life::Untold;
-    }
-    if at(words, 5 * n + (n - 1)) != at(words, 5 * n + n) {
-        return Life::Untold;
-    }
-    if is_live(words, n, p, f) {
+    mark_live(words, n, f);
+    if is_marked(words, n, p) {
         return Life::Accepting;
     }
     Life::Barren

@@ -2,22 +2,31 @@
 ghost use mathlib.Core.Path.{_≡_};
 ghost use mathlib.Core.Bool.{true};
 ghost use mathlib.Core.Logic.{_↔_};
-ghost use Prim.Native.Nat.{_*_, _<_};
+ghost use Prim.Native.Nat.{_+_, _*_, _≤_, _<_};
+ghost use lib.ListN.{length, getD};
 ghost use Rattle.dfa.specs.Graph.{rest};
-ghost use Rattle.dfa.specs.Live.{Single, Live};
-use crate::{Task, Verdict};
-use crate::search::first_difference;
+ghost use Rattle.dfa.specs.Live.{Markable, SameEdges, Marks};
+use crate::links::link_edges;
+use crate::marks::{LIVE, mark};
+use crate::words::{at, clear};
 
-// Whether the state p accepts some word, where f alone accepts: whether a word tells p from the dead state.
-pub fn is_live(words: &mut [u32], n: usize, p: usize, f: usize) -> bool
-    requires { ⌜ Single (rest (5 * n) (now words)) n f × (p < n) ⌝ }
-    ensures { λ r. ⌜ ((r ≡ true) ↔ Live (rest (5 * n) (now (words .entry))) n f p)
-        × (rest (5 * n) (now (words .exit)) ≡ rest (5 * n) (now (words .entry))) ⌝ }
+// Word 2 n + p becomes 1 exactly where the state p is live, and f alone accepts. The words below 5 n and those behind
+// the graph may change.
+pub fn mark_live(words: &mut [u32], n: usize, f: usize)
+    requires { ⌜ Markable n f (now words) ⌝ }
+    ensures { λ r. ⌜ Marks (rest (5 * n) (now (words .entry))) n f (now (words .exit))
+        × SameEdges n (rest (5 * n) (now (words .entry))) (rest (5 * n) (now (words .exit))) ⌝ }
 {
-    let t = Task { n: n, p: p, q: n - 1, f: f, g: f };
-    let v = first_difference(words, t);
-    let Verdict::Apart(_) = v else {
-        return false;
-    };
-    true
+    let cut = 3 * n;
+    clear(&mut words[..cut]);
+    link_edges(words, n);
+    mark(words, n, f);
+}
+
+// Whether the state p is marked.
+pub fn is_marked(words: &[u32], n: usize, p: usize) -> bool
+    requires { ⌜ (n ≤ 8193) × ((p < n) × (3 * n ≤ length (now words))) ⌝ }
+    ensures { λ r. ⌜ (r ≡ true) ↔ (getD (now (words .entry)) (2 * n + p) 0 ≡ 1) ⌝ }
+{
+    at(words, 2 * n + p) == LIVE
 }

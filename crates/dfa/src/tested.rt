@@ -4,8 +4,10 @@ ghost use mathlib.Core.Bool.{true};
 ghost use Prim.Native.Nat.{_+_, _*_, _<_, _≤_};
 ghost use lib.ListN.{length, getD};
 ghost use Rattle.dfa.specs.Graph.{Graph, Edges, rest};
+ghost use Rattle.dfa.specs.Live.{Markable};
 ghost use Rattle.dfa.specs.Silent.{Silent};
 ghost use Rattle.dfa.specs.inner.Tested.{EdgeOk};
+use crate::links::EDGES;
 use crate::words::at;
 
 // Edge k and the next one, if it is before end, are in range and in order.
@@ -114,4 +116,24 @@ pub(crate) fn silent_ok(words: &[u32], n: usize) -> bool
         p += 1;
     }
     true
+}
+
+// Whether f may be the one accepting state, the dead state has no edges, and there is room to mark the live states.
+pub(crate) fn live_ok(words: &[u32], n: usize, f: usize) -> bool
+    ensures { λ r. ⌜ (r ≡ true → Markable n f (now (words .entry))) ⌝ }
+{
+    if !words_ok(words, n) {
+        return false;
+    }
+    if n - 1 <= f {
+        return false;
+    }
+    let end = at(words, 5 * n + n);
+    if at(words, 5 * n + (n - 1)) != end {
+        return false;
+    }
+    if EDGES < end {
+        return false;
+    }
+    6 * n + 1 + 3 * end <= words.len()
 }

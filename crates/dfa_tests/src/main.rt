@@ -115,6 +115,23 @@ fn barren() {
     tell(live_checked(&mut w, 3, 3, 0));
 }
 
+// 0 goes by 1 to 1 and by 2 to 2; 1 goes by 1 to itself; 2 goes by 1 to 3, which accepts; 4 is dead.
+fn reached() {
+    let mut w = [0u32; 48];
+    let g = [0, 2, 3, 4, 4, 4, 1, 1, 2, 2, 1, 1, 1, 3];
+    fill(&mut w, 25, &g);
+    say(b"a state two steps away:");
+    tell(live_checked(&mut w, 5, 0, 3));
+    say(b"one that leads nowhere:");
+    tell(live_checked(&mut w, 5, 1, 3));
+    say(b"the dead state:");
+    tell(live_checked(&mut w, 5, 4, 3));
+    let mut short = [0u32; 42];
+    fill(&mut short, 25, &g);
+    say(b"no room to mark:");
+    tell(live_checked(&mut short, 5, 0, 3));
+}
+
 // A chain of 120 steps by 7 from state 0 to state 120.
 fn chain(words: &mut [u32]) {
     let mut i: usize = 0;
@@ -153,6 +170,7 @@ fn main() {
     one_side();
     equal();
     barren();
+    reached();
     long();
     wrong();
 }

@@ -152,13 +152,16 @@ module _ {N : Numbers} {t : List ℕ} {root : ℕ} {T : Ty} {M : Term} (R : Read
       let vs = filledOf t N s ws 0 in
       let A = one-automaton ws long in
       let dead = one-dead (n - 1) (omega arith) in
+      let last : n - 1 ≡ size T M = omega arith in
       rw (c, f, a) (record
         { same-length = closed-length vs n (edgesAfter t N s 0) ∙ filled-length t N s ws 0
         ; graph = graph-of A
         ; silent = silent-of A
         ; shows = placed-explicit s R one-placed (omega (arith, spots-size T M)) (omega (arith, R .small)) _ A dead
         ; barren = first-of A (n - 1) (omega arith) ∙ sym (all-edges n one-rows (omega arith) dead) ∙
-            sym (first-of A n (omega arith)) })
+            sym (first-of A n (omega arith))
+        ; few = omega (arith, first-of A n (omega arith), all-edges n one-rows (omega arith) dead,
+            ap (edgesBelow one-rows) last, first-few R n one-placed) })
 
 -- two sheets
 module _ {N : Numbers} {t t′ : List ℕ} {root root′ : ℕ} {T : Ty} {M M′ : Term} (R : Ready N t root T M)

@@ -34,11 +34,11 @@ pub wrote : {ws ws′ : List ℕ} {n e e′ : ℕ} {xs : List Edge} → e′ ≡
   Wrote ws n e xs e′ ws′
 wrote f w = record { returned = f; written = w }
 
-wrote-none : (ws : List ℕ) (n e : ℕ) → Wrote ws n e [] e ws
+pub wrote-none : (ws : List ℕ) (n e : ℕ) → Wrote ws n e [] e ws
 unfolding past withEdges
 wrote-none ws n e = record { returned = refl; written = refl }
 
-wrote-append : {ws ws′ ws″ : List ℕ} {n e e′ e″ : ℕ} (xs ys : List Edge) → Wrote ws n e xs e′ ws′ →
+pub wrote-append : {ws ws′ ws″ : List ℕ} {n e e′ e″ : ℕ} (xs ys : List Edge) → Wrote ws n e xs e′ ws′ →
   Wrote ws′ n e′ ys e″ ws″ → Wrote ws n e (xs ++ ys) e″ ws″
 wrote-append {ws} {n = n} {e = e} xs ys a b =
     record {
@@ -54,15 +54,15 @@ module _ (t : List ℕ) (N : Numbers) (s : Site) (ear : Ear) where
   value-none kind arg below r e v ws c h =
       rw (le-leb below (codeAt N r) (omega (arith, c))) (wrote-none ws (s .n) e)
 
-  pub value-some : (kind arg below r e v e′ letter target : ℕ) (o : Out) (ws ws′ : List ℕ) → v ≡ codeAt N r →
-    v < below →
-    o ≡ sheetAt t N (s .root) (ear .state) (record { kind = kind; id = ear .id; arg = arg; value = v }) →
-    letter ≡ letterOf N (record { kind = kind; id = ear .id; arg = arg; value = v }) → target ≡ targetOf s o →
+  pub value-some : (kind arg below r e v e′ letter target : ℕ) (ws ws′ : List ℕ) → v ≡ codeAt N r → v < below →
+    letter ≡ letterOf N (record { kind = kind; id = ear .id; arg = arg; value = v }) →
+    target ≡ targetOf s (sheetAt t N (s .root) (ear .state)
+      (record { kind = kind; id = ear .id; arg = arg; value = v })) →
     ws′ ≡ withEdge ws (s .n) e letter target → e′ ≡ sumOf e 1 →
     Wrote ws (s .n) e (valueEdge t N s ear kind arg below r) e′ ws′
   unfolding valueEdge edgeBy past withEdges
-  value-some kind arg below r e v e′ letter target o ws ws′ c h f l g w x =
-      rw (lt-leb below (codeAt N r) (omega (arith, c)), ← c, ← f, ← l, ← g) (record { returned = x; written = w })
+  value-some kind arg below r e v e′ letter target ws ws′ c h l g w x =
+      rw (lt-leb below (codeAt N r) (omega (arith, c)), ← c, ← l, ← g) (record { returned = x; written = w })
 
   -- a turn of the loop over values, and the loop over kinds and arguments
   pub block-none : (kind arg e l : ℕ) (ws : List ℕ) → l ≡ limitOf t ear kind arg → l ≡ 0 →
@@ -81,6 +81,11 @@ module _ (t : List ℕ) (N : Numbers) (s : Site) (ear : Ear) where
     Wrote ws (s .n) e (valueEdges t N s ear kind arg below (r + 1)) e″ ws″
   unfolding valueEdges
   values-again kind arg below e r e′ e″ ws ws′ ws″ a b = rw (add-one) (wrote-append _ _ a b)
+
+  pub values-last : (kind arg below e e′ r r′ : ℕ) (ws ws′ : List ℕ) → r ≡ r′ →
+    Wrote ws (s .n) e (valueEdges t N s ear kind arg below r) e′ ws′ →
+    Wrote ws (s .n) e (valueEdges t N s ear kind arg below r′) e′ ws′
+  values-last kind arg below e e′ r r′ ws ws′ q a = rw (← q) a
 
   pub block-some : (kind arg e e′ l r : ℕ) (ws ws′ : List ℕ) → l ≡ limitOf t ear kind arg → (l ≡ 0 → ⊥) →
     r ≡ numbers N → Wrote ws (s .n) e (valueEdges t N s ear kind arg l r) e′ ws′ →
@@ -148,18 +153,6 @@ module _ (t : List ℕ) (N : Numbers) (s : Site) where
     Wrote ws₁ (s .n) e (heardEdges t N s (earOf t k at kind value) 35) e′ ws′ → WroteRow ws k e e′ ws′
   unfolding edgesOf
   row-hear k e e′ at kind value o ws ws₁ ws′ c h z w = row-as k e e′ o ws ws₁ ws′ c h (rw z w)
-
-  pub no-go : (k : ℕ) (o : Out) (next level set : ℕ) → o ≡ Go next level set → edgesOf t N s k o ≡ []
-  unfolding edgesOf
-  no-go k o next level set e = rw e
-
-  pub no-exit : (k : ℕ) (o : Out) (kind value level set : ℕ) → o ≡ Exit kind value level set → edgesOf t N s k o ≡ []
-  unfolding edgesOf
-  no-exit k o kind value level set e = rw e
-
-  pub no-stuck : (k : ℕ) (o : Out) → o ≡ Stuck → edgesOf t N s k o ≡ []
-  unfolding edgesOf
-  no-stuck k o e = rw e
 
 -- the states below k are written
 pub record Filled (row : ℕ → Row) (n o e : ℕ) (ws : List ℕ) (k e′ : ℕ) (ws′ : List ℕ) : Type 0 where

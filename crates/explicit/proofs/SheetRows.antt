@@ -35,6 +35,10 @@ module _ {N : Numbers} {t : List ℕ} (s : Site) {T : Ty} {M : Term} (R : Ready 
   pub spots-ready : spotsOf t (s .root) ≡ spots T M
   spots-ready = spots-of N t (R .represents) few-spots
 
+  -- few enough for the path
+  pub spots-fit : spotsOf t (s .root) ≤ 65536
+  spots-fit = omega (arith, spots-ready, few-spots)
+
   -- what the code says of a state shows its action
   acts-ready : (k : ℕ) (h : k < spots T M) (m : Record) → Given m →
       Acts N t m (steps T M (k, h)) (sheetAt t N (s .root) k m)

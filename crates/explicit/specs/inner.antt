@@ -1,5 +1,8 @@
 -- What the code computes, case by case, and what it means: cited by inner contracts and theorems only.
 pub mod States
+pub mod Path
+pub mod Levels
+pub mod Kept
 pub mod Rows
 pub mod Moves
 pub mod Acts

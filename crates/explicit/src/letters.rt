@@ -1,13 +1,16 @@
 // The moves that a waiting state takes: for each kind and argument the values below a limit, in the order of the signed
 // values; and the letter of a move.
 use automaton::Move;
-use automaton::row::{cell, name_count, name_id, part_class, part_values};
+use automaton::moves::{ASK, DONE, OK, OPENING, READ, RUN, VALUE, WRITE};
+use automaton::row::{CLASS, VALUES, cell, name_count, name_id, part_class, part_values};
+use automaton::types::{COMMAND, EXPRESSION};
 use crate::Ear;
 use language::Numbers;
 ghost use mathlib.Core.Path.{_≡_};
 ghost use Prim.Native.Nat.{_%_};
 ghost use Rattle.language.specs.Letter.{rank};
-ghost use Rattle.explicit.specs.inner.Moves.{codeAt, letterOf, questionLimit, answerLimit, limitOf, earOf};
+ghost use Rattle.explicit.specs.inner.Moves.{codeAt, letterOf, questionLimit, answerLimit, answerKind, limitOf};
+ghost use Rattle.explicit.specs.inner.Moves.{earOf};
 
 // The value of number r in the order of the signed values.
 pub fn code_at(n: Numbers, r: usize) -> usize
@@ -40,7 +43,7 @@ pub fn letter_of(n: Numbers, m: Move) -> usize
     ensures { λ r. ⌜ r ≡ letterOf n m ⌝ }
 {
     let place = m.kind % 8 * 16777216 + m.id % 256 * 65536 + m.arg % 256 * 256;
-    if m.kind < 5 {
+    if m.kind < VALUE {
         return place;
     }
     place + rank_of(n, m.value)
@@ -51,22 +54,22 @@ pub fn letter_of(n: Numbers, m: Move) -> usize
 pub fn question_limit(class: usize, values: usize, kind: usize) -> usize
     ensures { λ r. ⌜ r ≡ questionLimit class values kind ⌝ }
 {
-    if class == 0 {
-        if kind == 0 {
+    if class == COMMAND {
+        if kind == RUN {
             return 1;
         }
         return 0;
     }
-    if class == 1 {
-        if kind == 2 {
+    if class == EXPRESSION {
+        if kind == ASK {
             return 1;
         }
         return 0;
     }
-    if kind == 3 {
+    if kind == READ {
         return 1;
     }
-    if kind == 6 {
+    if kind == WRITE {
         return values;
     }
     0
@@ -76,31 +79,31 @@ pub fn question_limit(class: usize, values: usize, kind: usize) -> usize
 pub fn answer_limit(class: usize, values: usize, q: usize, x: usize, kind: usize) -> usize
     ensures { λ r. ⌜ r ≡ answerLimit class values q x kind ⌝ }
 {
-    if class == 0 {
-        if q == 0 {
-            if kind == 1 {
+    if class == COMMAND {
+        if q == RUN {
+            if kind == DONE {
                 return 1;
             }
         }
         return 0;
     }
-    if class == 1 {
-        if q == 2 {
-            if kind == 5 {
+    if class == EXPRESSION {
+        if q == ASK {
+            if kind == VALUE {
                 return values;
             }
         }
         return 0;
     }
-    if q == 3 {
-        if kind == 5 {
+    if q == READ {
+        if kind == VALUE {
             return values;
         }
         return 0;
     }
-    if q == 6 {
+    if q == WRITE {
         if x < values {
-            if kind == 4 {
+            if kind == OK {
                 return 1;
             }
         }
@@ -108,19 +111,32 @@ pub fn answer_limit(class: usize, values: usize, q: usize, x: usize, kind: usize
     0
 }
 
+// The kind of the answers to the question q at a type.
+pub fn answer_kind(class: usize, q: usize) -> usize
+    ensures { λ r. ⌜ r ≡ answerKind class q ⌝ }
+{
+    if class == COMMAND {
+        return DONE;
+    }
+    if q == WRITE {
+        return OK;
+    }
+    VALUE
+}
+
 // The same for the moves of a kind at an argument of the one a state waits for; argument 0 is the name itself.
 pub fn limit(t: &[u16], e: Ear, kind: usize, arg: usize) -> usize
     ensures { λ r. ⌜ r ≡ limitOf (now (t .entry)) e kind arg ⌝ }
 {
     let at = e.at;
-    if e.kind == 7 {
+    if e.kind == OPENING {
         if arg == 0 {
-            return question_limit(cell(t, at, 2), cell(t, at, 3), kind);
+            return question_limit(cell(t, at, CLASS), cell(t, at, VALUES), kind);
         }
         return 0;
     }
     if arg == 0 {
-        return answer_limit(cell(t, at, 2), cell(t, at, 3), e.kind, e.value, kind);
+        return answer_limit(cell(t, at, CLASS), cell(t, at, VALUES), e.kind, e.value, kind);
     }
     if name_count(t, at) < arg {
         return 0;
@@ -132,7 +148,7 @@ pub fn limit(t: &[u16], e: Ear, kind: usize, arg: usize) -> usize
 pub fn ear_of(t: &[u16], state: usize, at: usize, kind: usize, value: usize) -> Ear
     ensures { λ r. ⌜ r ≡ earOf (now (t .entry)) state at kind value ⌝ }
 {
-    if kind == 7 {
+    if kind == OPENING {
         return Ear { state, id: 255, at, kind, value };
     }
     Ear { state, id: name_id(t, at), at, kind, value }

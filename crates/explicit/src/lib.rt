@@ -7,10 +7,22 @@
 
 // What a state of a whole sheet does.
 pub mod whole;
+// The words of a path: the parts in which a state lies, from the whole term down.
+mod levels;
+// From the path to a state to the path to the next, and what is done there.
+mod path;
+// Where a step leads in the whole sheet.
+mod exits;
 // The moves that a waiting state takes, in order, and their letters.
 pub mod letters;
+// Rows of the automaton in words.
+mod rows;
+// The edges of a waiting state.
+mod hear;
 // The automaton in words.
 pub mod fill;
+
+use automaton::{Frame, Out};
 
 // Where the automaton of a sheet stands: the root in its table of parts, how many states the words have, and its
 // first state there.
@@ -28,4 +40,24 @@ pub struct Ear {
     pub at: usize,
     pub kind: usize,
     pub value: usize,
+}
+
+// A level of the path to a state: a part, asked the question of this kind and value, whose first state is base and
+// which is the same up to the state `end`; the blocks outside it, the levels up to the one where its exits lead, and what
+// its steps become in the part above it.
+pub struct Level {
+    pub part: usize,
+    pub kind: usize,
+    pub value: usize,
+    pub base: usize,
+    pub end: usize,
+    pub outer: usize,
+    pub up: usize,
+    pub f: Frame,
+}
+
+// How far a path goes, and what is done there.
+pub struct Stop {
+    pub levels: usize,
+    pub out: Out,
 }

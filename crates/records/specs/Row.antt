@@ -58,6 +58,15 @@ detail If N r = 0
 detail While N r = 0
 detail New N r = values N (r .b)
 
+-- the table with five words from a place of it on
+unfoldable pub fiveFrom : ℕ → ℕ → ℕ → ℕ → ℕ → ℕ → List ℕ → List ℕ
+fiveFrom at kind held class values detail t =
+    set (set (set (set (set t at kind) (at + 1) held) (at + 2) class) (at + 3) values) (at + 4) detail
+
+-- the table with the first five words of the row at a place
+abbrev pub five : ℕ → ℕ → ℕ → ℕ → ℕ → ℕ → List ℕ → List ℕ
+five place kind held class values detail t = fiveFrom (cell place 0) kind held class values detail t
+
 -- the table with the first five words of a record's row written; the record has type ty and weight w
 unfoldable pub written : Numbers → Record → ℕ → ℕ → List ℕ → List ℕ
 written N r ty w t =

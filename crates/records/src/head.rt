@@ -2,9 +2,13 @@
 use crate::kind::{Rule, Shape, shape_of};
 use language::Numbers;
 ghost use mathlib.Core.Path.{_≡_};
-ghost use Prim.Native.Nat.{_+_, _≤_, _<_};
+ghost use mathlib.Core.List.{List};
+ghost use Prim.Native.Nat.{ℕ, _+_, _≤_, _<_};
 ghost use lib.ListN.{getD, length};
-ghost use Rattle.records.specs.Head.{byteOf, withBody, limited, constant, used, useOf, dataByte, newOf, bodyOf, blank, headOf};
+ghost use Rattle.language.specs.declared.Numbers.{Numbers};
+ghost use Rattle.records.specs.Head.{byteOf, withBody, limited, constant, used, useOf, dataByte, newOf, bodyOf};
+ghost use Rattle.records.specs.Head.{blank, onShape, headOf};
+ghost use Rattle.records.specs.Bare.{bare};
 
 // A record of a part: its place and kind, the rule and the number of parts that the kind gives, its body and the place after
 // it. Of a use, `a` is the id, `b` its standing, and the parts are its arguments; of a new, `a` is the id and `b` the data; of
@@ -207,11 +211,45 @@ pub fn blank_record(at: usize, kind: u8, body: u8, parts: u8, rule: Rule) -> Rec
     Record { place: at, kind, rule, parts, a: 0, b: 0, next: at + 1 + body as usize }
 }
 
-// The record of the part at a place, with `left` levels of depth left.
+// A record of which only the place, the rule and the body bytes are known: by these its parts are judged and weighed.
+pub fn bare_record(place: usize, rule: Rule, a: u8, b: u16) -> Record
+    ensures { λ x. ⌜ x ≡ bare place rule a b ⌝ }
+{
+    Record { place, kind: 0, rule, parts: 0, a, b, next: 0 }
+}
+
+// The number of the refusal of a kind where no depth is left: range comes before depth.
+fn deep_number(shape: Shape) -> u8
+    ensures { λ r. ⌜ ((at : ℕ) → Head.Bad r at ≡ onShape shape at (λ body parts rule. Head.Bad 8 at)) ⌝ }
+{
+    match shape {
+        Shape::Unknown => 3,
+        Shape::Declare { body: _ } => 3,
+        Shape::Retire { body: _ } => 3,
+        Shape::Part { body: _, parts: _, rule: _ } => 8,
+    }
+}
+
+// The refusal of the part at a place, where no depth is left.
+fn too_deep(s: &[u8], at: usize) -> Head
+    ensures { λ x. ⌜ ((st : List ℕ) (N : Numbers) → x ≡ headOf (now (s .entry)) st N 0 at) ⌝ }
+{
+    if s.len() <= at {
+        return Head::Bad { number: 2, place: s.len() };
+    }
+    let shape = shape_of(s[at]);
+    Head::Bad { number: deep_number(shape), place: at }
+}
+
+// The record of the part at a place, with `left` levels of depth left. No depth is a case of its own, so that nothing is
+// tested between the decision over the kind byte and the body.
 pub fn head_at(s: &[u8], st: &[u16; 255], n: Numbers, left: u8, at: usize) -> Head
     requires { ⌜ length (now s) ≤ 4096 ⌝ }
     ensures { λ x. ⌜ x ≡ headOf (now (s .entry)) (now (st .entry)) n left at ⌝ }
 {
+    if left == 0 {
+        return too_deep(s, at);
+    }
     if s.len() <= at {
         return Head::Bad { number: 2, place: s.len() };
     }
@@ -221,11 +259,6 @@ pub fn head_at(s: &[u8], st: &[u16; 255], n: Numbers, left: u8, at: usize) -> He
         Shape::Unknown => Head::Bad { number: 3, place: at },
         Shape::Declare { body: _ } => Head::Bad { number: 3, place: at },
         Shape::Retire { body: _ } => Head::Bad { number: 3, place: at },
-        Shape::Part { body, parts, rule } => {
-            if left == 0 {
-                return Head::Bad { number: 8, place: at };
-            }
-            body_at(rule, s, st, n, blank_record(at, kind, body, parts, rule))
-        }
+        Shape::Part { body, parts, rule } => body_at(rule, s, st, n, blank_record(at, kind, body, parts, rule)),
     }
 }

@@ -6,8 +6,8 @@ use crate::weight::values_of;
 use language::Numbers;
 ghost use mathlib.Core.Path.{_≡_};
 ghost use Prim.Native.Nat.{_+_, _≤_, _<_, min};
-ghost use lib.ListN.{set};
-ghost use Rattle.records.specs.Row.{cell, rowKind, classOf, useDetail, detail, written, linked};
+ghost use lib.ListN.{set, length};
+ghost use Rattle.records.specs.Row.{cell, rowKind, classOf, useDetail, detail, fiveFrom, five, written, linked};
 
 // Stores v at i, if the table reaches that far.
 pub fn put(t: &mut [u16], i: usize, v: u16)
@@ -107,6 +107,42 @@ pub fn held(weight: u32) -> u16
     weight as u16
 }
 
+// Stores five words from `at` on.
+fn put_words(t: &mut [u16], at: usize, kind: u16, held: u16, class: u16, values: u16, detail: u16)
+    requires { ⌜ at + 4 < length (now t) ⌝ }
+    ensures { λ x. ⌜ now (t .exit) ≡ fiveFrom at kind held class values detail (now (t .entry)) ⌝ }
+{
+    t[at] = kind;
+    t[at + 1] = held;
+    t[at + 2] = class;
+    t[at + 3] = values;
+    t[at + 4] = detail;
+}
+
+// Stores those of the five words that the table reaches.
+fn put_each(t: &mut [u16], place: usize, kind: u16, held: u16, class: u16, values: u16, detail: u16)
+    requires { ⌜ place < 65536 ⌝ }
+    ensures { λ x. ⌜ now (t .exit) ≡ five place kind held class values detail (now (t .entry)) ⌝ }
+{
+    put_cell(t, place, 0, kind);
+    put_cell(t, place, 1, held);
+    put_cell(t, place, 2, class);
+    put_cell(t, place, 3, values);
+    put_cell(t, place, 4, detail);
+}
+
+// Stores the first five words of the row at a place: with one test where the table has them all.
+fn put_five(t: &mut [u16], place: usize, kind: u16, held: u16, class: u16, values: u16, detail: u16)
+    requires { ⌜ place < 65536 ⌝ }
+    ensures { λ x. ⌜ now (t .exit) ≡ five place kind held class values detail (now (t .entry)) ⌝ }
+{
+    if cell_at(place, 4) < t.len() {
+        put_words(t, cell_at(place, 0), kind, held, class, values, detail);
+        return;
+    }
+    put_each(t, place, kind, held, class, values, detail);
+}
+
 // Writes the row of a record of type ty and the given weight, but for the places of its parts.
 pub fn write_row(t: &mut [u16], n: Numbers, r: Record, ty: u8, weight: u32)
     requires { ⌜ r .place < 65536 ⌝ }
@@ -119,11 +155,7 @@ pub fn write_row(t: &mut [u16], n: Numbers, r: Record, ty: u8, weight: u32)
     let class = class_of(ty);
     let values = values_of(n, ty as u16);
     let detail = detail_of(rule, n, r);
-    put_cell(t, place, 0, kind);
-    put_cell(t, place, 1, held);
-    put_cell(t, place, 2, class);
-    put_cell(t, place, 3, values);
-    put_cell(t, place, 4, detail);
+    put_five(t, place, kind, held, class, values, detail);
 }
 
 // Writes the place of part j into the row at a place.

@@ -1,5 +1,6 @@
 // The scope inside a new.
 use crate::head::Record;
+use crate::row::put;
 use crate::standing::variable_standing;
 ghost use mathlib.Core.Path.{_≡_};
 ghost use Prim.Native.Nat.{_≤_};
@@ -18,11 +19,10 @@ pub fn with_standing(st: [u16; 255], id: u8, standing: u16) -> [u16; 255]
     st
 }
 
-// The standings inside a new that `level` news enclose: its id is its variable's.
-pub fn enter(st: &[u16; 255], r: Record, level: u8) -> [u16; 255]
+// Makes of the standings those inside a new that `level` news enclose: its id is its variable's.
+pub fn enter(st: &mut [u16; 255], r: Record, level: u8)
     requires { ⌜ r .b ≤ 2 ⌝ }
-    ensures { λ x. ⌜ x ≡ entered (now (st .entry)) r level ⌝ }
+    ensures { λ x. ⌜ now (st .exit) ≡ entered (now (st .entry)) r level ⌝ }
 {
-    let all = *st;
-    with_standing(all, r.a, variable_standing(level, r.b))
+    put(st, r.a as usize, variable_standing(level, r.b));
 }

@@ -144,13 +144,13 @@ pub fn own_of(rule: Rule) -> u32
     }
 }
 
-// What part j, of type ty, adds to the weight of a record, with what the parts after it add.
-pub fn part_weight(n: Numbers, r: Record, j: u8, prev: u8, ty: u8, weight: u32, others: u32) -> u32
-    ensures { λ x. ⌜ x ≡ min (factor (r .rule) n r j prev ty * weight + extra (r .rule) n ty + others) 4097 ⌝ }
+// What part j, of type ty, adds to the weight of a record.
+pub fn part_weight(n: Numbers, r: Record, j: u8, prev: u8, ty: u8, weight: u32) -> u32
+    ensures { λ x. ⌜ x ≡ min (factor (r .rule) n r j prev ty * weight + extra (r .rule) n ty) 4097 ⌝ }
 {
     let rule = r.rule;
     let product = sat_mul(factor_of(rule, n, r, j, prev, ty), weight);
-    sat_add(sat_add(product, extra_of(rule, n, ty)), others)
+    sat_add(product, extra_of(rule, n, ty))
 }
 
 // The weight of a record whose parts weigh `parts` in all.

@@ -18,6 +18,8 @@ use Rattle.records.specs.declared.kind.Rule.{Rule}
 use Rattle.records.specs.declared.kind.Rule.the-variants.{Skip, Diverge, Truth, Number, Use, Fetch, Operate, Assign}
 use Rattle.records.specs.declared.kind.Rule.the-variants.{Sequence, If, While, New}
 use Rattle.records.specs.declared.head.Record.{Record}
+use Rattle.records.specs.declared.head.Head.the-variants.{Good}
+use Rattle.records.proofs.RuleLaws.{new-good}
 use Rattle.sheet.specs.Reader.{Tree, node, Trees, leaf, branch, Answer, got, refused, bind, onHead, partsOf}
 use Rattle.sheet.specs.Reader.{recordOf, isNew, scopedOf, readPart}
 use Rattle.sheet.specs.table.Fill.{fill, fills, erase, Leaves, Reads, Beyond, closedAnswer, closedTable}
@@ -27,6 +29,9 @@ use Rattle.sheet.specs.declared.part.Part.the-variants.{Read, Refused}
 -- weights held at 4,097
 pub sat-plus : (a v : ℕ) → min (a + min v 4097) 4097 ≡ min (a + v) 4097
 sat-plus a v = omega arith
+
+sat-first : (v a : ℕ) → min (min v 4097 + a) 4097 ≡ min (v + a) 4097
+sat-first v a = omega arith
 
 pub sat-times : (k v : ℕ) → min (k * min v 4097) 4097 ≡ min (k * v) 4097
 sat-times k v = go k (decLe v 4097)
@@ -40,9 +45,14 @@ sat-times k v = go k (decLe v 4097)
           mul-le-mul {n₁ = 1} {m₁ = 4097} {n₂ = suc k} {m₂ = v} (omega arith) (omega arith),
           mul-le-mul {n₁ = 1} {m₁ = 4097} {n₂ = suc k} {m₂ = 4097} (omega arith) (omega arith)))
 
-pub sat-part : (f e v u : ℕ) {w o x : ℕ} → w ≡ min v 4097 → o ≡ min u 4097 → x ≡ min (f * w + e + o) 4097 →
+sat-sum : (f e v u : ℕ) → min (f * min v 4097 + e + min u 4097) 4097 ≡ min (f * v + e + u) 4097
+sat-sum f e v u = omega (arith, sat-times f v)
+
+pub sat-part :
+    (f e v u : ℕ) {w o x y : ℕ} → w ≡ min v 4097 → o ≡ min u 4097 → y ≡ min (f * w + e) 4097 → x ≡ min (y + o) 4097 →
     x ≡ min (f * v + e + u) 4097
-sat-part f e v u p q r = r ∙ rw (p, q) (omega (arith, sat-times f v))
+sat-part f e v u {w = w} {o} p q g r =
+    r ∙ rw g (sat-first (f * w + e) o ∙ rw (p, q) (sat-sum f e v u))
 
 -- a refusal is handed on
 pub reads-hand :
@@ -117,7 +127,7 @@ closes N s r (got ts last w end) R e d =
 closes N s r (refused n p) R e d = record { answer = e ∙ rw (R .answer); table = tt }
 
 -- only a new opens a scope
-pub is-new : (R : Rule) → isNew R ≡ true → R ≡ New
+is-new : (R : Rule) → isNew R ≡ true → R ≡ New
 unfolding isNew
 is-new New e = refl
 is-new Skip e = let z : _≡_ {A = ℕ} 0 1 = cc in absurd (omega arith)
@@ -131,3 +141,9 @@ is-new Assign e = let z : _≡_ {A = ℕ} 0 1 = cc in absurd (omega arith)
 is-new Sequence e = let z : _≡_ {A = ℕ} 0 1 = cc in absurd (omega arith)
 is-new If e = let z : _≡_ {A = ℕ} 0 1 = cc in absurd (omega arith)
 is-new While e = let z : _≡_ {A = ℕ} 0 1 = cc in absurd (omega arith)
+
+-- the data of a new is a truth or a number
+pub new-small :
+    (s st : List ℕ) (N : Numbers) (left at : ℕ) (r : Record) → headOf s st N left at ≡ Good r → isNew (r .rule) ≡ true →
+    r .b ≤ 2
+new-small s st N left at r e n = new-good s st N left at r e (is-new (r .rule) n) .small

@@ -1,6 +1,6 @@
 // The name records before the term, and the term.
 use crate::heading::{Judged, judge_declare, judge_fresh, registered};
-use crate::part::{Part, read_part};
+use crate::part::{Part, read_root};
 use language::Numbers;
 use records::kind::{Shape, shape_of};
 use records::standing::declared_standing;
@@ -22,7 +22,7 @@ fn read_term(s: &[u8], st: &[u16; 255], t: &mut [u16], n: Numbers, at: usize) ->
     requires { ⌜ length (now s) ≤ 4096 ⌝ }
     ensures { λ x. ⌜ ReadsSheet n (termAt n (now (s .entry)) (now (st .entry)) at) x (now (t .entry)) (now (t .exit)) ⌝ }
 {
-    let p = read_part(s, st, t, n, 0, 32, at);
+    let p = read_root(s, st, t, n, at);
     match p {
         Part::Refused { number, place } => Reading::Refusal { number, place },
         Part::Read { ty, weight, next } => Reading::Sheet { root: at, ty, weight, next },

@@ -1,18 +1,27 @@
-// The parts of a term: a cycle of four functions, the remaining depth and bytes falling.
+// The parts of a term: a cycle of five functions, the remaining depth and bytes falling. For speed a record is handed on by
+// its place, its rule and its body bytes, and `read_part`, `read_record`, `read_scope` and `close_record` are called at one
+// place each, so that the cycle is compiled into one function, `read_next`.
 use language::Numbers;
-use records::head::{Head, Record, head_at};
+use records::head::{Head, Record, bare_record, head_at};
 use records::kind::Rule;
 use records::row::{link, write_row};
 use records::scope::enter;
 use records::typing::{accepts_part, type_of};
-use records::weight::{part_weight, record_weight};
+use records::weight::{part_weight, record_weight, sat_add};
 ghost use mathlib.Core.Path.{_≡_};
-ghost use mathlib.Core.Bool.{false};
+ghost use mathlib.Core.Bool.{true};
 ghost use Prim.Native.Nat.{_+_, _≤_, _<_};
 ghost use lib.ListN.{length};
-ghost use Rattle.records.specs.Scope.{entered};
-ghost use Rattle.sheet.specs.Reader.{isNew, partsOf, recordOf, readPart};
-ghost use Rattle.sheet.specs.table.Fill.{fill, fills, Reads, Beyond, closedAnswer, closedTable};
+ghost use Rattle.records.specs.Bare.{bare};
+ghost use Rattle.sheet.specs.Reader.{isNew, partsOf, scopedOf, readPart};
+ghost use Rattle.sheet.specs.table.Fill.{fill, fills, fillsNext, Reads, Beyond, closedAnswer, closedTable};
+ghost use Rattle.sheet.specs.table.Fill.{scopeParts};
+
+// How many levels a term may have.
+const DEPTH: u8 = 32;
+
+// The number of the second part of a record.
+const SECOND: u8 = 1;
 
 // What reading gives: the type, the weight held at 4,097, and the place after; or the refusal.
 pub enum Part {
@@ -57,7 +66,7 @@ fn close_record(s: &[u8], t: &mut [u16], n: Numbers, r: Record, parts: Part) -> 
 }
 
 // Reads the part at a place, with `left` levels of depth left, inside `level` news.
-pub fn read_part(s: &[u8], st: &[u16; 255], t: &mut [u16], n: Numbers, level: u8, left: u8, at: usize) -> Part
+fn read_part(s: &[u8], st: &[u16; 255], t: &mut [u16], n: Numbers, level: u8, left: u8, at: usize) -> Part
     requires { ⌜ (length (now s) ≤ 4096) × (level + left ≤ 32) ⌝ }
     ensures reads { λ x. ⌜ Reads (fill n) (readPart left n (now (s .entry)) (now (st .entry)) level at) x
         (now (t .entry)) (now (t .exit)) ⌝ }
@@ -70,38 +79,42 @@ pub fn read_part(s: &[u8], st: &[u16; 255], t: &mut [u16], n: Numbers, level: u8
             if left == 0 {
                 return Part::Refused { number: 8, place: at };
             }
-            let rule = record.rule;
-            if is_new(rule) {
-                return read_new(s, st, t, n, level, left - 1, record);
-            }
             read_record(s, st, t, n, level, left - 1, record)
         }
     }
 }
 
-// Reads a new: its block lies in a scope of its own.
-fn read_new(s: &[u8], st: &[u16; 255], t: &mut [u16], n: Numbers, level: u8, left: u8, r: Record) -> Part
-    requires { ⌜ (length (now s) ≤ 4096) × (level + left < 32) × (r .place < 4096) × (r .next ≤ length (now s)) × (r .b ≤ 2) ⌝ }
-    ensures { λ x. ⌜ Reads (fill n)
-        (recordOf (readPart left n (now (s .entry)) (entered (now (st .entry)) r level) (level + 1)) n (now (s .entry)) r) x
-        (now (t .entry)) (now (t .exit)) ⌝ }
-{
-    let inner = enter(st, r, level);
-    read_record(s, &inner, t, n, level + 1, left, r)
-}
-
-// Reads a record whose head is judged, in the given scope: a use with its arguments, or another with its parts.
+// Reads a record whose head is judged: a use with its arguments, or another with its parts.
 fn read_record(s: &[u8], st: &[u16; 255], t: &mut [u16], n: Numbers, level: u8, left: u8, r: Record) -> Part
-    requires { ⌜ (length (now s) ≤ 4096) × (level + left ≤ 32) × (r .place < 4096) × (r .next ≤ length (now s)) ⌝ }
+    requires { ⌜ (length (now s) ≤ 4096) × (level + left < 32) × (r .place < 4096) × (r .next ≤ length (now s))
+        × (isNew (r .rule) ≡ true → r .b ≤ 2) ⌝ }
     ensures { λ x. ⌜ Reads (fill n)
-        (recordOf (readPart left n (now (s .entry)) (now (st .entry)) level) n (now (s .entry)) r) x
+        (scopedOf (readPart left n (now (s .entry))) n (now (s .entry)) (now (st .entry)) level r) x
         (now (t .entry)) (now (t .exit)) ⌝ }
 {
-    let parts = read_parts(s, st, t, n, level, left, r, r.parts, 0, 0, r.next);
+    let parts = read_scope(s, st, t, n, level, left, r);
     close_record(s, t, n, r, parts)
 }
 
-// Reads `count` parts of a record from part j on; the part before them has type prev.
+// Reads the parts of a record; the block of a new lies in a scope of its own.
+fn read_scope(s: &[u8], st: &[u16; 255], t: &mut [u16], n: Numbers, level: u8, left: u8, r: Record) -> Part
+    requires { ⌜ (length (now s) ≤ 4096) × (level + left < 32) × (r .place < 4096) × (r .next ≤ length (now s))
+        × (isNew (r .rule) ≡ true → r .b ≤ 2) ⌝ }
+    ensures { λ x. ⌜ Reads (λ ts. fills n ts (r .place) 0)
+        (scopeParts (readPart left n (now (s .entry))) n (now (s .entry)) (now (st .entry)) level r) x
+        (now (t .entry)) (now (t .exit)) ⌝ }
+{
+    let rule = r.rule;
+    if is_new(rule) {
+        let mut inner = *st;
+        enter(&mut inner, r, level);
+        return read_parts(s, &inner, t, n, level + 1, left, r.place, rule, r.a, r.b, r.parts, 0, 0, r.next);
+    }
+    read_parts(s, st, t, n, level, left, r.place, rule, r.a, r.b, r.parts, 0, 0, r.next)
+}
+
+// Reads `count` parts, from part j on, of the record at a place whose rule and body bytes are given; the part before them
+// has type prev.
 fn read_parts(
     s: &[u8],
     st: &[u16; 255],
@@ -109,33 +122,74 @@ fn read_parts(
     n: Numbers,
     level: u8,
     left: u8,
-    r: Record,
+    place: usize,
+    rule: Rule,
+    a: u8,
+    b: u16,
     count: u8,
     j: u8,
     prev: u8,
     at: usize,
 ) -> Part
-    requires { ⌜ (length (now s) ≤ 4096) × (level + left ≤ 32) × (r .place < 4096) × (at ≤ length (now s)) × (j + count ≤ 255) ⌝ }
-    ensures { λ x. ⌜ Reads (λ ts. fills n ts (r .place) j)
-        (partsOf (readPart left n (now (s .entry)) (now (st .entry)) level) n (now (s .entry)) r count j prev at) x
+    requires { ⌜ (length (now s) ≤ 4096) × (level + left ≤ 32) × (place < 4096) × (at ≤ length (now s))
+        × (j + count ≤ 255) ⌝ }
+    ensures { λ x. ⌜ Reads (λ ts. fills n ts place j)
+        (partsOf (readPart left n (now (s .entry)) (now (st .entry)) level) n (now (s .entry)) (bare place rule a b)
+          count j prev at) x
         (now (t .entry)) (now (t .exit)) ⌝ }
 {
     if count == 0 {
         return Part::Read { ty: prev, weight: 0, next: at };
     }
-    let place = r.place;
     link(t, place, j, at);
+    read_next(s, st, t, n, level, left, place, rule, a, b, count, j, prev, at)
+}
+
+// Reads the first of these parts, whose place is in the row already, and the others.
+fn read_next(
+    s: &[u8],
+    st: &[u16; 255],
+    t: &mut [u16],
+    n: Numbers,
+    level: u8,
+    left: u8,
+    place: usize,
+    rule: Rule,
+    a: u8,
+    b: u16,
+    count: u8,
+    j: u8,
+    prev: u8,
+    at: usize,
+) -> Part
+    requires { ⌜ (length (now s) ≤ 4096) × (level + left ≤ 32) × (place < 4096) × (j + count ≤ 255) × (0 < count) ⌝ }
+    ensures { λ x. ⌜ Reads (λ ts. fillsNext n ts place j)
+        (partsOf (readPart left n (now (s .entry)) (now (st .entry)) level) n (now (s .entry)) (bare place rule a b)
+          count j prev at) x
+        (now (t .entry)) (now (t .exit)) ⌝ }
+{
+    let r = bare_record(place, rule, a, b);
     let p = read_part(s, st, t, n, level, left, at);
     let Part::Read { ty, weight, next } = p else {
         return p;
     };
-    let rule = r.rule;
     if !accepts_part(rule, s, r, j, prev, ty) {
         return Part::Refused { number: 7, place: at };
     }
-    let q = read_parts(s, st, t, n, level, left, r, count - 1, j + 1, ty, next);
+    let own = part_weight(n, r, j, prev, ty, weight);
+    let q = read_parts(s, st, t, n, level, left, place, rule, a, b, count - 1, j + 1, ty, next);
     let Part::Read { ty: last, weight: others, next: end } = q else {
         return q;
     };
-    Part::Read { ty: last, weight: part_weight(n, r, j, prev, ty, weight, others), next: end }
+    Part::Read { ty: last, weight: sat_add(own, others), next: end }
+}
+
+// Reads the term at a place, which is no record's part: as the second part of a sequence, which may have any type and
+// adds its weight and nothing else.
+pub(crate) fn read_root(s: &[u8], st: &[u16; 255], t: &mut [u16], n: Numbers, at: usize) -> Part
+    requires { ⌜ length (now s) ≤ 4096 ⌝ }
+    ensures { λ x. ⌜ Reads (fill n) (readPart 32 n (now (s .entry)) (now (st .entry)) 0 at) x
+        (now (t .entry)) (now (t .exit)) ⌝ }
+{
+    read_next(s, st, t, n, 0, DEPTH, 0, Rule::Sequence, 0, 0, 1, SECOND, 0, at)
 }

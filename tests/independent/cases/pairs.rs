@@ -33,9 +33,16 @@ pub fn pair(random: &mut Random) -> Pair {
         }
         _ => generator.whole(wanted, size),
     };
-    let swapped = random.one_in(2);
-    let (old, new) = if swapped { (new, old) } else { (old, new) };
-    (written(&heading, &old), written(&heading, &new), style <= 5)
+    swapped_at_random(random, (written(&heading, &old), written(&heading, &new), style <= 5))
+}
+
+/// The pair, or the same with the sheets in each other's place.
+pub fn swapped_at_random(random: &mut Random, (old, new, alike): Pair) -> Pair {
+    if random.one_in(2) {
+        (new, old, alike)
+    } else {
+        (old, new, alike)
+    }
 }
 
 /// Two short sheets of operators that differ a little.
@@ -80,7 +87,7 @@ pub fn long_pair(random: &mut Random) -> Pair {
 }
 
 /// A changed copy that is accepted, if one is found in a few trials.
-fn fitting(generator: &mut Generator, term: &Term, change: impl Fn(&mut Generator, &Term) -> Term) -> Term {
+pub fn fitting(generator: &mut Generator, term: &Term, change: impl Fn(&mut Generator, &Term) -> Term) -> Term {
     for _ in 0..5 {
         let changed = change(generator, term);
         if read(&written(generator.heading, &changed)).is_ok() {

@@ -15,6 +15,10 @@ use Rattle.automaton.specs.walk.Row.{partWeight, partClass, partValues, 
 use Rattle.automaton.specs.walk.Types.{questionsOf, answersOf, questionKind, questionValue, questionNumber}
 use Rattle.automaton.specs.walk.Types.{answerNumber}
 
+-- no move: what a state does before one is given
+abbrev pub noMove : Move
+noMove = record { kind = 255; id = 0; arg = 0; value = 0 }
+
 -- a move is said, and the name waits
 abbrev pub saidOf : ℕ → ℕ → ℕ → ℕ → Out
 saidOf kind id arg value = Say (record { kind = kind; id = id; arg = arg; value = value }) 1

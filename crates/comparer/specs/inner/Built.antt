@@ -22,7 +22,7 @@ pub record OneReady (N : Numbers) (t : List ℕ) (root all : ℕ) (ws : List ℕ
   pub sized : size type term ≡ all
   pub room : 32 * (all + 1) ≤ length ws
 
--- the words hold its automaton of n states, settled
+-- the words hold its automaton of n states, settled; on average a state has at most 8 edges
 pub record OneBuilt (N : Numbers) (T : Ty) (M : Term) (n : ℕ) (ws : List ℕ) : Type 0 where
   pub silent-words : List ℕ
   pub unsettled : List ℕ
@@ -31,6 +31,7 @@ pub record OneBuilt (N : Numbers) (T : Ty) (M : Term) (n : ℕ) (ws : List ℕ) 
   pub quiet : Silent n silent-words
   pub settled : Settling n silent-words unsettled (rest (5 * n) ws)
   pub barren : getD unsettled (n - 1) 0 ≡ getD unsettled n 0
+  pub few : getD unsettled n 0 ≤ 8 * n
 
 -- the same for two tables, whose terms have one type
 pub record TwoReady (N : Numbers) (t u : List ℕ) (root other all more : ℕ) (ws : List ℕ) : Type 0 where

@@ -2,12 +2,13 @@
 use mathlib.Core.Path.{_≡_}
 use mathlib.Core.Logic.{_⊎_}
 use mathlib.Core.List.{List, map}
-use Prim.Native.Nat.{ℕ, _<_, _≤_}
+use Prim.Native.Nat.{ℕ, _*_, _<_, _≤_}
 use lib.ListN.{length, take}
-use Rattle.dfa.specs.Graph.{δ, Graph}
-use Rattle.dfa.specs.Live.{Single, Live}
+use Rattle.dfa.specs.Graph.{δ, rest, Graph}
+use Rattle.dfa.specs.Live.{Live, Marks, SameEdges}
 use Rattle.dfa.specs.Reading.{walk}
 use Rattle.comparer.specs.Records.{moves, parse}
+use Rattle.comparer.specs.declared.follow.Reach.{Reach}
 use Rattle.comparer.specs.inner.Bytes.{firstLetter}
 
 -- the play has at least k records
@@ -25,3 +26,15 @@ pub record Longest (G : List ℕ) (n f : ℕ) (rs : List (List ℕ)) (r : ℕ) :
   pub within : r ≤ length rs
   pub alive : (r ≡ 0) ⊎ Live G n f (stateAfter G n rs r)
   pub beyond : (k : ℕ) → r < k → k ≤ length rs → Live G n f (stateAfter G n rs k) → ⊥
+
+-- the words hold the edges of an automaton, and tell its live states
+pub record Told (n f : ℕ) (ws : List ℕ) : Type 0 where
+  pub automaton : List ℕ
+  pub graph : Graph automaton n
+  pub same : SameEdges n automaton (rest (5 * n) ws)
+  pub marks : Marks automaton n f ws
+
+-- how far the records can be followed, and the state after all of them
+pub record Reached (G : List ℕ) (n f : ℕ) (rs : List (List ℕ)) (r : Reach) : Type 0 where
+  pub longest : Longest G n f rs (r .count)
+  pub last : r .last ≡ stateAfter G n rs (length rs)

@@ -1,13 +1,12 @@
 -- What is answered where the requirements hold. Assumes nothing.
 use mathlib.Core.List.{List}
-use mathlib.Core.Logic.{_≢_}
 use mathlib.Core.Path.{_∙_, _≡_, ap, subst, sym}
 use Prim.Native.Nat.{_*_, _+_, _-_, _<_, _≤_, ℕ}
 use native.Mathlib.Omega.{arith}
 use lib.ListN.{getD, length, set, take}
 use Rattle.dfa.specs.Answer.{Answered}
 use Rattle.dfa.specs.Graph.{Graph, rest, δ}
-use Rattle.dfa.specs.Live.{Single}
+use Rattle.dfa.specs.Live.{Markable}
 use Rattle.dfa.specs.Outcome.{Outcome, Setting, Told}
 use Rattle.dfa.specs.Reading.{FirstWord, walk}
 use Rattle.dfa.specs.Spelled.{Spelling}
@@ -56,10 +55,16 @@ pub setting-of : (t : Task) (ws : List ℕ) → Graph (rest (5 * t .n) ws) (t .n
 setting-of t ws g p-lt q-lt = (record { graph = g; p-lt = p-lt;
   q-lt = q-lt }, omega (arith, g .room, rest-length (5 * t .n) ws))
 
-pub single-of : (n f a b : ℕ) (ws : List ℕ) → Graph (rest (5 * n) ws) n → f ≢ n - 1 → a ≡ getD ws (5 * n + (n - 1)) 0
-  → b ≡ getD ws (5 * n + n) 0 → a ≡ b → Single (rest (5 * n) ws) n f
-single-of n f a b ws g ne ea eb e = record
-  { graph = g; empty = rest-at (5 * n) ws (n - 1) ∙ sym ea ∙ e ∙ eb ∙ sym (rest-at (5 * n) ws n); other = ne }
-
 pub words-long : (n : ℕ) (ws : List ℕ) → Graph (rest (5 * n) ws) n → 5 * n + n < length ws
 words-long n ws g = omega (arith, g .room, rest-length (5 * n) ws)
+
+-- what live_ok tests
+pub markable-of : (n f a b : ℕ) (ws : List ℕ) → Graph (rest (5 * n) ws) n → f < n - 1
+  → a ≡ getD ws (5 * n + (n - 1)) 0 → b ≡ getD ws (5 * n + n) 0 → a ≡ b → b ≤ 131072 → 6 * n + 1 + 3 * b ≤ length ws
+  → Markable n f ws
+markable-of n f a b ws g h ea eb e few room =
+  let end : getD (rest (5 * n) ws) n 0 ≡ b = rest-at (5 * n) ws n ∙ sym eb in
+  record
+    { single = record
+      { graph = g; empty = rest-at (5 * n) ws (n - 1) ∙ sym ea ∙ e ∙ sym end; other = λ q. omega arith }
+    ; end = omega arith; few = omega arith; room = omega arith }

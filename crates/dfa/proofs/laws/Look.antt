@@ -13,7 +13,8 @@ use Rattle.dfa.specs.Graph.{Edges, Graph, letter, look, target, δ}
 use Rattle.dfa.specs.Word.{after}
 use Rattle.dfa.specs.inner.Step.{Past}
 
-rise : (G : List ℕ) (n i end : ℕ) → Edges G n i end → (d : ℕ) → i + d < end → letter G n i ≤ letter G n (i + d)
+-- the letters rise
+pub rise : (G : List ℕ) (n i end : ℕ) → Edges G n i end → (d : ℕ) → i + d < end → letter G n i ≤ letter G n (i + d)
 rise G n i end e zero h = subst (λ j. letter G n i ≤ letter G n j) {x = i} {y = i + zero} (omega arith) (omega arith)
 rise G n i end e (suc d) h =
   let a = rise G n i end e d (omega arith) in

@@ -6,12 +6,14 @@ use mathlib.Core.List.{List}
 use mathlib.Core.Logic.{_≢_}
 use mathlib.Core.Path.{_∙_, _≡_, ap, refl, sym}
 use Prim.Native.Nat.{_+_, _-_, _<_, _≤_, suc, zero, ℕ}
-use native.Mathlib.Decide.{ℕ-discrete}
+use native.Mathlib.Decide.{decLt, ℕ-discrete}
 use native.Mathlib.Omega.{arith}
 use lib.Dec.{eqb}
 use lib.ListN.{getD}
 use borrow.Author.Tests.{eq-eqb, ne-eqb}
 use Rattle.dfa.specs.Silent.{Settled, Silent, moved, stepped}
+use Rattle.dfa.specs.inner.Frame.{SameBelow}
+use Rattle.dfa.specs.inner.Settle.{Among}
 
 pub moved-add : (S : List ℕ) (a b x : ℕ) → moved S (a + b) x ≡ moved S a (moved S b x)
 unfolding moved
@@ -64,6 +66,57 @@ pub moved-lt : (n : ℕ) (S : List ℕ) (m x : ℕ) → Silent n S → x < n →
 unfolding moved
 moved-lt n S zero x s h = h
 moved-lt n S (suc m) x s h = stepped-lt n S (moved S m x) s (moved-lt n S m x s h)
+
+-- silent words that agree below n lead to the same states
+pub moved-same : (n : ℕ) (S S′ : List ℕ) (m x : ℕ) → Silent n S → SameBelow n S S′ → x < n
+  → moved S′ m x ≡ moved S m x
+unfolding moved
+moved-same n S S′ zero x s e h = refl
+moved-same n S S′ (suc m) x s e h = ap (stepped S′) (moved-same n S S′ m x s e h)
+  ∙ ap (λ z. cond (eqb z 0) (moved S m x) (z - 1)) (e (moved S m x) (moved-lt n S m x s h))
+
+pub settled-same : (n : ℕ) (S S′ : List ℕ) (x y : ℕ) → Silent n S → SameBelow n S S′ → x < n → Settled S n x y
+  → Settled S′ n x y
+settled-same n S S′ x y s e h t = record
+  { steps = t .steps; enough = t .enough
+  ; ends = t .ends ∙ sym (ap (λ z. cond (eqb (getD S′ z 0) 0) z (n - 1)) (moved-same n S S′ (t .steps) x s e h)
+      ∙ ap (λ z. cond (eqb z 0) (moved S (t .steps) x) (n - 1))
+        (e (moved S (t .steps) x) (moved-lt n S (t .steps) x s h))) }
+
+-- a state settles where one on its way does
+pub settled-back : (S : List ℕ) (n d x y : ℕ) → Settled S n (moved S d x) y → Settled S n x y
+settled-back S n d x y t = record
+  { steps = t .steps + d; enough = omega (arith, t .enough)
+  ; ends = t .ends ∙ ap (λ z. cond (eqb (getD S z 0) 0) z (n - 1)) (sym (moved-add S (t .steps) d x)) }
+
+-- a walk of m states that comes back to itself never leaves them
+module _ (S : List ℕ) (p m a : ℕ) (a-lt : a < m) (back : moved S m p ≡ moved S a p) where
+  pub round : (e : ℕ) → Among S p m (moved S e p)
+  unfolding moved
+  round zero = record { after = 0; before = omega arith; is = refl }
+  round (suc e) = go (round e)
+    where
+      go : Among S p m (moved S e p) → Among S p m (moved S (suc e) p)
+      go r = pick (decLt (suc (r .after)) m)
+        where
+          on : moved S (suc e) p ≡ moved S (suc (r .after)) p
+          on = ap (stepped S) (r .is)
+
+          pick : Dec (suc (r .after) < m) → Among S p m (moved S (suc e) p)
+          pick (yes l) = record { after = suc (r .after); before = l; is = on }
+          pick (no l) = record
+            { after = a; before = a-lt
+            ; is = on ∙ ap (λ k. moved S k p) {x = suc (r .after)} {y = m} (omega (arith, r .before)) ∙ back }
+
+  -- where they are silent, they settle at the dead state
+  pub settled-round : (n i : ℕ) → ((j : ℕ) → j < m → getD S (moved S j p) 0 ≢ 0) → Settled S n (moved S i p) (n - 1)
+  settled-round n i silent = record
+    { steps = n; enough = omega arith; ends = sym (rw (ne-eqb (getD S (moved S n (moved S i p)) 0) 0 still)) }
+    where
+      still : getD S (moved S n (moved S i p)) 0 ≢ 0
+      still e =
+        let r = round (n + i) in
+        silent (r .after) (r .before) (ap (λ z. getD S z 0) (sym (r .is) ∙ moved-add S n i p) ∙ e)
 
 -- a state that is not silent stays
 pub stays : (S : List ℕ) (x m : ℕ) → getD S x 0 ≡ 0 → moved S m x ≡ x

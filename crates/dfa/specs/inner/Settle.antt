@@ -1,11 +1,13 @@
--- The loops of settle. Word n + p is the way of the state p: a state some silent steps from it. Assumes nothing.
+-- Settling in one pass. Word n + p is the way of the state p: 0 while none is found, else one more than the state at
+-- which p settles. Assumes nothing.
 use mathlib.Core.Bool.{cond}
 use mathlib.Core.List.{List}
+use mathlib.Core.Logic.{_≢_, _⊎_}
 use mathlib.Core.Path.{_≡_}
-use Prim.Native.Nat.{_*_, _+_, _-_, _<_, _^_, _≤_, ℕ}
+use Prim.Native.Nat.{_*_, _+_, _-_, _<_, _≤_, suc, zero, ℕ}
 use lib.Dec.{eqb}
 use lib.ListN.{getD, length}
-use Rattle.dfa.specs.Silent.{Silent, moved, stepped}
+use Rattle.dfa.specs.Silent.{Settled, Silent, moved}
 use Rattle.dfa.specs.inner.Frame.{SameBelow, SameFrom}
 
 -- room for n silent words, and n words of the ways behind them
@@ -14,50 +16,88 @@ pub record Steps (n : ℕ) (ws : List ℕ) : Type 0 where
   pub room : n + n ≤ length ws
   pub small : Silent n ws
 
-pub record Ways (n : ℕ) (ws : List ℕ) : Type 0 where
-  pub few : n ≤ 8193
-  pub room : n + n ≤ length ws
-  pub below : (p : ℕ) → p < n → getD ws (n + p) 0 < n
-
 -- only the ways have changed
 pub record Only (n : ℕ) (ws₀ ws : List ℕ) : Type 0 where
   pub len : length ws ≡ length ws₀
   pub low : SameBelow n ws₀ ws
   pub high : SameFrom (n + n) ws₀ ws
 
--- the ways of the states below i are one step
-pub record Copied (n : ℕ) (ws₀ ws : List ℕ) (i : ℕ) : Type 0 where
+-- the way of p before any is found: a state that is not silent settles where it is
+abbrev pub own : List ℕ → ℕ → ℕ
+own S p = cond (eqb (getD S p 0) 0) (p + 1) 0
+
+-- the states below i have their first ways
+pub record Begun (n : ℕ) (ws₀ ws : List ℕ) (i : ℕ) : Type 0 where
   pub le : i ≤ n
   pub only : Only n ws₀ ws
-  pub done : (p : ℕ) → p < i → getD ws (n + p) 0 ≡ stepped ws₀ p
+  pub done : (p : ℕ) → p < i → getD ws (n + p) 0 ≡ own ws₀ p
 
--- y is at least b steps from x
-pub record Ahead (S : List ℕ) (b x y : ℕ) : Type 0 where
+-- v is a way of x: only a silent state has none, and one that is found is right
+pub record Way (S : List ℕ) (n x v : ℕ) : Type 0 where
+  pub silent : v ≡ 0 → getD S x 0 ≢ 0
+  pub small : v ≤ n
+  pub right : v ≢ 0 → Settled S n x (v - 1)
+
+-- every state has a way, found or not
+pub record Ways (n : ℕ) (ws : List ℕ) : Type 0 where
+  pub steps : Steps n ws
+  pub each : (x : ℕ) → x < n → Way ws n x (getD ws (n + x) 0)
+
+-- q is one of the first m states from p on
+pub record Among (S : List ℕ) (p m q : ℕ) : Type 0 where
+  pub after : ℕ
+  pub before : after < m
+  pub is : q ≡ moved S after p
+
+-- some steps from p lead to x; the states before it had the way old and have the way new, no two of them are the same,
+-- and the other ways stay
+pub record Replaced (S : List ℕ) (n p old new x : ℕ) (ws₀ ws : List ℕ) : Type 0 where
   pub steps : ℕ
-  pub enough : b ≤ steps
-  pub is : y ≡ moved S steps x
+  pub here : x ≡ moved S steps p
+  pub was : (i : ℕ) → i < steps → getD ws₀ (n + moved S i p) 0 ≡ old
+  pub got : (i : ℕ) → i < steps → getD ws (n + moved S i p) 0 ≡ new
+  pub apart : (i j : ℕ) → i < j → j < steps → moved S i p ≢ moved S j p
+  pub each : (q : ℕ) → (getD ws (n + q) 0 ≡ getD ws₀ (n + q) 0) ⊎ Among S p steps q
 
-abbrev pub Far : List ℕ → ℕ → ℕ → List ℕ → Type 0
-Far S n b ws = (p : ℕ) → p < n → Ahead S b p (getD ws (n + p) 0)
+-- the loop of replace is at x; S may be any words that have the same silent words
+pub record Replacing (n p old new x : ℕ) (ws₀ ws : List ℕ) : Type 0 where
+  pub only : Only n ws₀ ws
+  pub below : x < n
+  pub from : (S : List ℕ) → SameBelow n S ws₀ → Replaced S n p old new x ws₀ ws
 
--- every way is as long as before, and those of the states below i are twice as long
-pub record Halved (n : ℕ) (ws₀ ws : List ℕ) (i : ℕ) : Type 0 where
+-- 1 where a is not v
+abbrev pub differs : ℕ → ℕ → ℕ
+differs a v = cond (eqb a v) 0 1
+
+-- how many of the first k states have another way than v
+unfoldable pub unlike : List ℕ → ℕ → ℕ → ℕ → ℕ
+unlike ws n v zero = 0
+unlike ws n v (suc k) = differs (getD ws (n + k) 0) v + unlike ws n v k
+
+-- p has a way that is found, and so has each state that had one
+pub record WayFound (n p : ℕ) (ws₀ ws : List ℕ) : Type 0 where
+  pub only : Only n ws₀ ws
+  pub ways : Ways n ws
+  pub kept : (q : ℕ) → q < n → getD ws₀ (n + q) 0 ≢ 0 → getD ws (n + q) 0 ≢ 0
+  pub itself : getD ws (n + p) 0 ≢ 0
+
+-- the states below i have ways that are found
+pub record Through (n : ℕ) (ws₀ ws : List ℕ) (i : ℕ) : Type 0 where
   pub le : i ≤ n
   pub only : Only n ws₀ ws
   pub ways : Ways n ws
-  pub far : (S : List ℕ) (b : ℕ) → Far S n b ws₀ → Far S n b ws
-  pub farther : (S : List ℕ) (b : ℕ) → Far S n b ws₀ → (p : ℕ) → p < i → Ahead S (b + b) p (getD ws (n + p) 0)
+  pub done : (p : ℕ) → p < i → getD ws (n + p) 0 ≢ 0
 
--- k rounds are done
-pub record Rounded (n : ℕ) (ws₀ ws : List ℕ) (k : ℕ) : Type 0 where
-  pub le : k ≤ 14
-  pub only : Only n ws₀ ws
-  pub ways : Ways n ws
-  pub far : (S : List ℕ) → Far S n 1 ws₀ → Far S n (2 ^ k) ws
+-- every state has a way that is found
+pub record Whole (n : ℕ) (ws : List ℕ) : Type 0 where
+  pub few : n ≤ 8193
+  pub room : n + n ≤ length ws
+  pub some : (p : ℕ) → p < n → 0 < getD ws (n + p) 0
+  pub below : (p : ℕ) → p < n → getD ws (n + p) 0 ≤ n
 
 -- where x settles, by its way
 abbrev pub ended : List ℕ → ℕ → ℕ → ℕ
-ended ws n x = cond (eqb (getD ws (getD ws (n + x) 0) 0) 0) (getD ws (n + x) 0) (n - 1)
+ended ws n x = getD ws (n + x) 0 - 1
 
 -- the edges below i lead to where their targets settle
 pub record Redirected (n : ℕ) (ws₀ ws : List ℕ) (i : ℕ) : Type 0 where

@@ -43,6 +43,10 @@ answerLimit class m q x kind =
     (pick (eqb q 3) (pick (eqb kind 5) m 0)
     (pick (eqb q 6) (pick (ltb x m) (pick (eqb kind 4) 1 0) 0) 0)))
 
+-- the kind of the answers to the question q at a type
+unfoldable pub answerKind : ℕ → ℕ → ℕ
+answerKind class q = pick (eqb class 0) 1 (pick (eqb q 6) 4 5)
+
 -- the same for the moves of a kind at an argument of the one a state waits for
 unfoldable pub limitOf : List ℕ → Ear → ℕ → ℕ → ℕ
 limitOf t e kind arg =
@@ -51,6 +55,10 @@ limitOf t e kind arg =
     (pick (eqb arg 0) (answerLimit (word t (e .at) 2) (word t (e .at) 3) (e .kind) (e .value) kind)
     (pick (ltb (nameCount t (e .at)) arg) 0
     (questionLimit (partClass t (e .at) (arg - 1)) (partValues t (e .at) (arg - 1)) kind)))
+
+-- how many arguments of a name have moves: at most four
+unfoldable pub askingOf : List ℕ → ℕ → ℕ
+askingOf t at = pick (ltb 4 (nameCount t at)) 4 (nameCount t at)
 
 -- whom the state k waits for
 unfoldable pub earOf : List ℕ → ℕ → ℕ → ℕ → ℕ → Ear
@@ -103,6 +111,16 @@ module _ (t : List ℕ) (N : Numbers) (s : Site) where
   unfoldable pub heardEdges : Ear → ℕ → List Edge
   heardEdges ear zero = []
   heardEdges ear (suc b) = heardEdges ear b ++ blockEdges ear (b / 5) (b % 5)
+
+  -- the edges by the questions of a kind at the first arguments
+  unfoldable pub questionEdges : Ear → ℕ → ℕ → List Edge
+  questionEdges ear kind zero = []
+  questionEdges ear kind (suc j) = questionEdges ear kind j ++ blockEdges ear kind (suc j)
+
+  -- the edges by the questions of m kinds, from a first one, at the first `count` arguments
+  unfoldable pub askedEdges : Ear → ℕ → ℕ → ℕ → List Edge
+  askedEdges ear count first zero = []
+  askedEdges ear count first (suc m) = askedEdges ear count first m ++ questionEdges ear (first + m) count
 
   -- the edges of a state that does so
   unfoldable pub edgesOf : ℕ → Out → List Edge

@@ -8,11 +8,12 @@ use lib.Dec.{ltb}
 use Rattle.language.specs.Choice.{pick}
 use Rattle.language.specs.declared.Numbers.{Numbers}
 use Rattle.records.specs.Rule.{typeOf, own}
+use Rattle.records.specs.Scope.{entered}
 use Rattle.records.specs.Row as row
 use Rattle.records.specs.Row.{linked}
 use Rattle.records.specs.declared.head.Record.{Record}
 use Rattle.sheet.specs.Reader.{Tree, node, Trees, leaf, branch, Answer, got, refused, bind, readPart, Whole}
-use Rattle.sheet.specs.Reader.{whole, sizeOf}
+use Rattle.sheet.specs.Reader.{whole, sizeOf, isNew, partsOf}
 use Rattle.sheet.specs.declared.part.Part.{Part}
 use Rattle.sheet.specs.declared.part.Part.the-variants.{Read, Refused}
 use Rattle.sheet.specs.declared.names.Reading.{Reading}
@@ -26,6 +27,11 @@ unfoldable mutual
   pub fills : Numbers → Trees → ℕ → ℕ → List ℕ → List ℕ
   fills N leaf p j t = t
   fills N (branch at x xs) p j t = fills N xs p (j + 1) (fill N x (linked p j at t))
+
+-- the same of parts j, j + 1, .. where the place of part j is in the row at p already
+unfoldable pub fillsNext : Numbers → Trees → ℕ → ℕ → List ℕ → List ℕ
+fillsNext N leaf p j t = t
+fillsNext N (branch at x xs) p j t = fills N xs p (j + 1) (fill N x t)
 
 -- the answer as the code gives it: the weight held at 4,097
 unfoldable pub erase : {X : Type 0} → Answer X → Part
@@ -54,6 +60,13 @@ closedAnswer s r (Refused n p) = Refused n p
 unfoldable pub closedTable : Numbers → List ℕ → Record → Part → List ℕ → List ℕ
 closedTable N s r (Read last w next) t = row.written N r (typeOf (r .rule) s r last) (own (r .rule) + w) t
 closedTable N s r (Refused n p) t = t
+
+-- the parts of a record, rec reading in given standings and at a given level: those of a new in the scope that it opens
+unfoldable pub scopeParts : (List ℕ → ℕ → ℕ → Answer Tree) → Numbers → List ℕ → List ℕ → ℕ → Record → Answer Trees
+scopeParts rec N s st level r =
+    pick (isNew (r .rule))
+    (partsOf (rec (entered st r level) (level + 1)) N s r (r .parts) 0 0 (r .next))
+    (partsOf (rec st level) N s r (r .parts) 0 0 (r .next))
 
 -- the term of a sheet, without name records
 abbrev pub termAt : Numbers → List ℕ → List ℕ → ℕ → Answer Whole

@@ -1,6 +1,6 @@
 use borrow.Author.Needs.{needs}
 use borrow.Author.Tests.{lt-ltb, le-ltb, eq-eqb, ne-eqb}
-use Rattle.automaton.specs.walk.Name.{inName}
+use Rattle.automaton.specs.walk.Name.{inName, atWait}
 use Rattle.automaton.proofs.name.in_name.Statement.{statement}
 use Rattle.automaton.proofs.name.in_name.Tie as tie
 
@@ -14,13 +14,9 @@ returns : tie.Need-returns
 unfolding inName
 returns c = simp (← c .before .before .name-id .ensures, ← c .said .ensures, eq-eqb _ _ (c .before .if1 .taken))
 
-waiting-requires : tie.Need-waiting-requires
-waiting-requires c κs = search needs
-
 returns-2 : tie.Need-returns-2
-unfolding inName
-returns-2 c =
-    simp (← c .waiting .ensures, ne-eqb _ _ (c .before .before .if1 .left), eq-eqb _ _ (c .before .if2 .taken))
+unfolding inName atWait
+returns-2 c = simp (ne-eqb _ _ (c .before .if1 .left), eq-eqb _ _ (c .if2 .taken))
 
 name-count-requires : tie.Need-name-count-requires
 name-count-requires c κs = search needs
@@ -67,6 +63,6 @@ returns-4 c =
 
 pub in-name-spec : {M : Type 1} → statement M
 in-name-spec =
-    tie.close (tie.spec name-id-requires said-requires returns waiting-requires returns-2 name-count-requires
+    tie.close (tie.spec name-id-requires said-requires returns returns-2 name-count-requires
     spots-requires sub-if3 sub-in-args sum-requires in-args-requires returns-3 sub-reply sub-reply-2 reply-requires
     returns-4)

@@ -9,16 +9,14 @@ place-requires c κs = search needs
 
 returns : tie.Need-returns
 unfolding goesOf
-returns c =
-    simp (← c .place .ensures, eq-eqb _ _ (c .before .before .before .if1 .taken), eq-eqb _ _ (c .before .if2 .taken))
+returns c = simp (← c .place .ensures, eq-eqb _ _ (c .before .before .before .before .if1 .taken), eq-eqb _ _ (c .before .if2 .taken))
 
 sum-requires : tie.Need-sum-requires
 sum-requires c κs = search needs
 
 returns-2 : tie.Need-returns-2
 unfolding goesOf
-returns-2 c =
-    simp (← c .sum .ensures, eq-eqb _ _ (c .before .before .before .if1 .taken), ne-eqb _ _ (c .before .if2 .left))
+returns-2 c = simp (← c .sum .ensures, eq-eqb _ _ (c .before .before .before .before .if1 .taken), ne-eqb _ _ (c .before .if2 .left))
 
 sum-requires-2 : tie.Need-sum-requires-2
 sum-requires-2 c κs = search needs

@@ -1,6 +1,6 @@
 use borrow.Author.Needs.{needs}
 use native.Mathlib.Omega.{arith}
-use Rattle.comparer.proofs.Building.{one-settles, one-built}
+use Rattle.comparer.proofs.Building.{one-fits, one-settles, one-built}
 use Rattle.comparer.proofs.build.build_one.Statement.{statement}
 use Rattle.comparer.proofs.build.build_one.Tie as tie
 
@@ -8,7 +8,8 @@ add-states : tie.Need-add-states
 add-states c = search needs
 
 fill-requires : tie.Need-fill-requires
-fill-requires c κs = search needs
+fill-requires c κs = one-fits (c .before .before .before .pre) (λ i. omega (arith, c .before .before
+    .shared-slice-known .given i))
 
 close-requires : tie.Need-close-requires
 close-requires c κs = search needs

@@ -1,6 +1,6 @@
 use borrow.Author.Needs.{needs}
 use native.Mathlib.Omega.{arith}
-use Rattle.comparer.proofs.Building.{two-settles, two-built}
+use Rattle.comparer.proofs.Building.{old-fits, new-fits, two-settles, two-built}
 use Rattle.comparer.proofs.build.build_two.Statement.{statement}
 use Rattle.comparer.proofs.build.build_two.Tie as tie
 
@@ -11,10 +11,12 @@ add-states-2 : tie.Need-add-states-2
 add-states-2 c = search needs
 
 fill-requires : tie.Need-fill-requires
-fill-requires c κs = search needs
+fill-requires c κs = old-fits (c .before .before .before .before .pre) (λ i. omega (arith, c .before .before .before
+    .shared-slice-known .given i))
 
 fill-requires-2 : tie.Need-fill-requires-2
-fill-requires-2 c κs = search needs
+fill-requires-2 c κs = new-fits (c .before .before .before .before .before .before .before .before .pre) (λ i. omega
+    (arith, c .before .before .before .before .before .before .shared-slice-known2 .given i))
 
 close-requires : tie.Need-close-requires
 close-requires c κs = search needs

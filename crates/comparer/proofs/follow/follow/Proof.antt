@@ -5,7 +5,7 @@ use mathlib.Core.Path.{refl, ap, _∙_}
 use lib.ListN.{replicate, length-replicate}
 use Rattle.comparer.proofs.FollowAnswers.{handed, handed-play, refuses-sheet, opened, opened-some,
     refuses-words}
-use Rattle.comparer.proofs.FollowAnswers.{refuses-play, counted-enough, one-ready, opened-single, opened-graph}
+use Rattle.comparer.proofs.FollowAnswers.{refuses-play, counted-enough, one-ready, opened-markable, opened-graph}
 use Rattle.comparer.proofs.FollowAnswers.{followed}
 use Rattle.comparer.proofs.follow.follow.Statement.{statement}
 use Rattle.comparer.proofs.follow.follow.Tie as tie
@@ -103,59 +103,80 @@ build-one-requires c κs =
         .given .1) (d .before .numbers-of .ensures) (d .size-of .ensures) in
     one-ready O (a .words .now) (c .before .before .before .before .before .before .if1 .left)
 
+add-mark-live : tie.Need-add-mark-live
+add-mark-live c = search needs
+
+sub-mark-live : tie.Need-sub-mark-live
+sub-mark-live c =
+    let x = c .before .before .before .before .before .before .before .before .before .before .before .before .before
+        .before .before .before .before .read-sheet .ensures in
+    let O = opened (c .before .before .before .before .before .before .before .before .before .before .before .before
+        .before .before .before .before .before .before .before .before .before .before .args .sheet .now) _ _ (x .0)
+        (x .1) (length-replicate {A = ℕ} 36864 0) (c .before .before .before .before .before .before .before .before
+        .before .before .before .before .before .before .x .given .1) (c .before .before .before .before .before
+        .before .before .before .before .before .before .before .numbers-of .ensures)
+        (c .before .before .before .before .before .before .before .before .before .before .before .size-of .ensures) in
+    omega (arith, opened-some O)
+
+mark-live-requires : tie.Need-mark-live-requires
+mark-live-requires c κs =
+    let x = c .before .before .before .before .before .before .before .before .before .before .before .before .before
+        .before .before .before .before .read-sheet .ensures in
+    let O = opened (c .before .before .before .before .before .before .before .before .before .before .before .before
+        .before .before .before .before .before .before .before .before .before .before .args .sheet .now) _ _ (x .0)
+        (x .1) (length-replicate {A = ℕ} 36864 0) (c .before .before .before .before .before .before .before .before
+        .before .before .before .before .before .before .x .given .1) (c .before .before .before .before .before
+        .before .before .before .before .before .before .before .numbers-of .ensures)
+        (c .before .before .before .before .before .before .before .before .before .before .before .size-of .ensures) in
+    opened-markable O (c .before .before .before .before .before .before .before .before .before .before .before
+        .before .before .before .before .before .before .before .before .before .before .before .args .words .now) _
+        (c .before .before .before .before .before .before .before .before .before .before .if1 .left)
+        (c .before .before .before .build-one .ensures) (c .before .before .before .build-one .kept .1 .1 .1 .1 .0)
+
 add-longest : tie.Need-add-longest
 add-longest c = search needs
 
-sub-longest : tie.Need-sub-longest
-sub-longest c =
-    let d = c .before .before .before .before .before .before .before .before .before .before .before in
-    let a = d .before .before .before .before .before .before .before .before .before .before .before .args in
-    let x = d .before .before .before .before .before .before .read-sheet .ensures in
-    let O = opened (a .sheet .now) _ _ (x .0) (x .1) (length-replicate {A = ℕ} 36864 0) (d .before .before .before .x
-        .given .1) (d .before .numbers-of .ensures) (d .size-of .ensures) in
-    omega (arith, opened-some O)
-
 longest-requires : tie.Need-longest-requires
 longest-requires c κs =
-    let d = c .before .before .before .before .before .before .before .before .before .before .before in
-    let a = d .before .before .before .before .before .before .before .before .before .before .before .args in
-    let x = d .before .before .before .before .before .before .read-sheet .ensures in
-    let O = opened (a .sheet .now) _ _ (x .0) (x .1) (length-replicate {A = ℕ} 36864 0) (d .before .before .before .x
-        .given .1) (d .before .numbers-of .ensures) (d .size-of .ensures) in
-    (opened-single O (a .words .now) _ (c .before .before .before .before .before .before .before .before .before
-    .before .if1 .left) (c .before .before .before .build-one .ensures), counted-enough (a .play .now) (c .before
-    .before .before .before .before .before .before .before .before .count-moves .ensures) (c .before .before .before
-    .before .before .before .before .parsed .given .1))
-
-add-state-after : tie.Need-add-state-after
-add-state-after c = search needs
-
-state-after-requires : tie.Need-state-after-requires
-state-after-requires c κs =
-    let d = c .before .before .before .before .before .before .before .before .before .before .before .before .before
-        .before .before in
-    let a = d .before .before .before .before .before .before .before .before .before .before .before .args in
-    let x = d .before .before .before .before .before .before .read-sheet .ensures in
-    let O = opened (a .sheet .now) _ _ (x .0) (x .1) (length-replicate {A = ℕ} 36864 0) (d .before .before .before .x
-        .given .1) (d .before .numbers-of .ensures) (d .size-of .ensures) in
-    (opened-graph O (a .words .now) _ (c .before .before .before .before .before .before .before .before .before
-    .before .before .before .before .before .if1 .left) (c .before .before .before .before .before .before .before
-    .build-one .ensures) _ (c .before .before .before .longest .ensures .1 .1),
-     counted-enough (a .play .now) (c .before .before .before .before .before .before .before .before .before .before
-     .before .before .before .count-moves .ensures) (c .before .before .before .before .before .before .before .before
-     .before .before .before .parsed .given .1))
+    let x = c .before .before .before .before .before .before .before .before .before .before .before .before .before
+        .before .before .before .before .before .before .before .before .read-sheet .ensures in
+    let O = opened (c .before .before .before .before .before .before .before .before .before .before .before .before
+        .before .before .before .before .before .before .before .before .before .before .before .before .before
+        .before .args .sheet .now) _ _ (x .0) (x .1) (length-replicate {A = ℕ} 36864 0)
+        (c .before .before .before .before .before .before .before .before .before .before .before .before .before
+        .before .before .before .before .before .x .given .1) (c .before .before .before .before .before .before
+        .before .before .before .before .before .before .before .before .before .before .numbers-of .ensures)
+        (c .before .before .before .before .before .before .before .before .before .before .before .before .before
+        .before .before .size-of .ensures) in
+    (opened-graph O (c .before .before .before .before .before .before .before .before .before .before .before .before
+        .before .before .before .before .before .before .before .before .before .before .before .before .before
+        .before .args .words .now) _ (c .before .before .before .before .before .before .before .before .before
+        .before .before .before .before .before .if1 .left) (c .before .before .before .before .before .before .before
+        .build-one .ensures) (c .before .before .before .mark-live .last .0)
+        (c .before .before .before .mark-live .ensures), counted-enough
+        (c .before .before .before .before .before .before .before .before .before .before .before .before .before
+        .before .before .before .before .before .before .before .before .before .before .before .before .before .args
+        .play .now) (c .before .before .before .before .before .before .before .before .before .before .before .before
+        .before .count-moves .ensures) (c .before .before .before .before .before .before .before .before .before
+        .before .before .parsed .given .1))
 
 clear-requires : tie.Need-clear-requires
 clear-requires c κs = search needs
 
 sub-t21 : tie.Need-sub-t21
 sub-t21 c =
-    let d = c .before .before .before .before .before .before .before .before .before .before .before .before .before
-        .before .before .before .before .before .before .before in
-    let a = d .before .before .before .before .before .before .before .before .before .before .before .args in
-    let x = d .before .before .before .before .before .before .read-sheet .ensures in
-    let O = opened (a .sheet .now) _ _ (x .0) (x .1) (length-replicate {A = ℕ} 36864 0) (d .before .before .before .x
-        .given .1) (d .before .numbers-of .ensures) (d .size-of .ensures) in
+    let x = c .before .before .before .before .before .before .before .before .before .before .before .before .before
+        .before .before .before .before .before .before .before .before .before .before .before .before .before
+        .read-sheet .ensures in
+    let O = opened (c .before .before .before .before .before .before .before .before .before .before .before .before
+        .before .before .before .before .before .before .before .before .before .before .before .before .before
+        .before .before .before .before .before .before .args .sheet .now) _ _ (x .0) (x .1)
+        (length-replicate {A = ℕ} 36864 0) (c .before .before .before .before .before .before .before .before .before
+        .before .before .before .before .before .before .before .before .before .before .before .before .before
+        .before .x .given .1) (c .before .before .before .before .before .before .before .before .before .before
+        .before .before .before .before .before .before .before .before .before .before .before .numbers-of .ensures)
+        (c .before .before .before .before .before .before .before .before .before .before .before .before .before
+        .before .before .before .before .before .before .before .size-of .ensures) in
     omega (arith, opened-some O)
 
 same-length : tie.Need-same-length
@@ -163,27 +184,38 @@ same-length c = search needs
 
 returns-4 : tie.Need-returns-4
 returns-4 c =
-    let d = c .before .before .before .before .before .before .before .before .before .before .before .before .before
-        .before .before .before .before .before .before .before in
-    let a = d .before .before .before .before .before .before .before .before .before .before .before .args in
-    let x = d .before .before .before .before .before .before .read-sheet .ensures in
-    let O = opened (a .sheet .now) _ _ (x .0) (x .1) (length-replicate {A = ℕ} 36864 0) (d .before .before .before .x
-        .given .1) (d .before .numbers-of .ensures) (d .size-of .ensures) in
-    followed O (a .words .now) _ (c .before .before .before .before .before .before .before .before .before .before
-    .before .before .before .before .before .before .before .before .before .if1 .left) (c .before .before .before
-    .before .before .before .before .before .before .before .before .before .build-one .ensures) (a .play .now) _ _ (λ
-    i. omega (arith, c .before .before .before .before .before .before .before .before .before .before .before .before
-    .before .before .before .before .before .before .before .before .before .before .before .before .before .before
-    .before .before .before .shared-slice-known2 .given i))
-    (c .before .before .before .before .before .before .before .before .before .before .before .before .before .before
-    .before .before .before .before .count-moves .ensures) (c .before .before .before .before .before .before .before
-    .before .before .before .before .before .before .before .before .before .parsed .given .1) (c .before .before
-    .before .before .before .before .before .before .longest .ensures .1 .0) (c .before .before .before .before
-    .before .before .before .before .longest .ensures .1 .1)
-    (c .before .before .before .before .state-after .ensures .1)
-    (c .before .before .clear .ensures ∙ ap (λ k. replicate k 0) (c .before .before .before .before .before .before
-    .before .before .longest .kept .0 ∙ c .before .before .before .before .before .before .before .before .before
-    .before .before .before .build-one .kept .1 .1 .1 .1 .0))
+    let x = c .before .before .before .before .before .before .before .before .before .before .before .before .before
+        .before .before .before .before .before .before .before .before .before .before .before .before .before
+        .read-sheet .ensures in
+    let O = opened (c .before .before .before .before .before .before .before .before .before .before .before .before
+        .before .before .before .before .before .before .before .before .before .before .before .before .before
+        .before .before .before .before .before .before .args .sheet .now) _ _ (x .0) (x .1)
+        (length-replicate {A = ℕ} 36864 0) (c .before .before .before .before .before .before .before .before .before
+        .before .before .before .before .before .before .before .before .before .before .before .before .before
+        .before .x .given .1) (c .before .before .before .before .before .before .before .before .before .before
+        .before .before .before .before .before .before .before .before .before .before .before .numbers-of .ensures)
+        (c .before .before .before .before .before .before .before .before .before .before .before .before .before
+        .before .before .before .before .before .before .before .size-of .ensures) in
+    followed O (c .before .before .before .before .before .before .before .before .before .before .before .before
+        .before .before .before .before .before .before .before .before .before .before .before .before .before
+        .before .before .before .before .before .before .args .words .now) _
+        (c .before .before .before .before .before .before .before .before .before .before .before .before .before
+        .before .before .before .before .before .before .if1 .left) (c .before .before .before .before .before .before
+        .before .before .before .before .before .before .build-one .ensures) _
+        (c .before .before .before .before .before .before .before .before .mark-live .ensures)
+        (c .before .before .before .before .before .before .before .before .before .before .before .before .before
+        .before .before .before .before .before .before .before .before .before .before .before .before .before
+        .before .before .before .before .before .args .play .now) _ (λ i. omega
+        (arith, c .before .before .before .before .before .before .before .before .before .before .before .before
+        .before .before .before .before .before .before .before .before .before .before .before .before .before
+        .before .before .before .before .shared-slice-known2 .given i))
+        (c .before .before .before .before .before .before .before .before .before .before .before .before .before
+        .before .before .before .before .before .count-moves .ensures)
+        (c .before .before .before .before .before .before .before .before .before .before .before .before .before
+        .before .before .before .parsed .given .1) (c .before .before .before .before .longest .ensures)
+        (c .before .before .clear .ensures ∙ ap (λ k. replicate k 0) (c .before .before .before .before .before
+        .before .before .before .mark-live .kept .0 ∙ c .before .before .before .before .before .before .before
+        .before .before .before .before .before .build-one .kept .1 .1 .1 .1 .0))
 
 pub follow-spec : {M : Type 1} → statement M
 follow-spec =
@@ -211,11 +243,11 @@ follow-spec =
     returns-3
     slice-aggregate-build-one
     build-one-requires
+    add-mark-live
+    sub-mark-live
+    mark-live-requires
     add-longest
-    sub-longest
     longest-requires
-    add-state-after
-    state-after-requires
     clear-requires
     sub-t21
     same-length

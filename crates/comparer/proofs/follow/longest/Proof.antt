@@ -1,53 +1,97 @@
+use borrow.Author.Needs.{needs}
 use native.Mathlib.Omega.{arith}
-use Prim.Native.Nat.{_-_}
-use Rattle.comparer.proofs.SearchingPlays.{Searched, at-least, search-first, search-up, search-down}
-use Rattle.comparer.proofs.SearchingPlays.{search-last}
+use Prim.Native.Nat.{_*_, _-_}
+use Rattle.dfa.proofs.laws.Rest.{rest-length}
+use Rattle.comparer.proofs.WalkingPlays.{walked-again}
+use Rattle.comparer.proofs.SearchingPlays.{Searched, search-first, search-marked, search-unmarked, search-last}
+use Rattle.comparer.proofs.SearchingPlays.{not-marked}
 use Rattle.comparer.proofs.follow.longest.Statement.{statement}
 use Rattle.comparer.proofs.follow.longest.Tie as tie
 
 abbrev Inv-loop : tie.InvT-loop
-Inv-loop words₀ n play total f low₀ high₀ words low high = Searched n f play total words₀ words low high
+Inv-loop words n play total p₀ at₀ i₀ count₀ p at i count = Searched n words play total p at i count
 
 abbrev μ-loop : tie.MeasureT-loop
-μ-loop words₀ n play total f low₀ high₀ words low high = high - low
+μ-loop words n play total p₀ at₀ i₀ count₀ p at i count = total - i
 
 loop-holds : tie.Need-loop-holds Inv-loop μ-loop
-loop-holds c = search-first _ _ _ _ _
+loop-holds c = search-first _ _ _ _ (c .before .before .pre .0) (c .before .before .pre .1)
 
-sub-middle : tie.Need-sub-middle Inv-loop μ-loop
-sub-middle c = omega (arith, c .before .loop .inv .ordered)
+sub-first-letter : tie.Need-sub-first-letter Inv-loop μ-loop
+sub-first-letter c = let h = c .before .loop .inv .walked .within in search needs
 
-sub-middle-2 : tie.Need-sub-middle-2 Inv-loop μ-loop
-sub-middle-2 c = omega (arith, c .before .loop .inv .ordered)
+part-first-letter-start : tie.Need-part-first-letter-start Inv-loop μ-loop
+part-first-letter-start c = let h = c .before .loop .inv .walked .within in search needs
 
-live-after-requires : tie.Need-live-after-requires Inv-loop μ-loop
-live-after-requires c κs =
-    (rw (c .before .before .loop .inv .kept) (c .before .before .before .before .before .pre .0), at-least _ _ _
-    (omega (arith, c .before .before .loop .inv .within)) (c .before .before .before .before .before .pre .1))
+part-first-letter-end : tie.Need-part-first-letter-end Inv-loop μ-loop
+part-first-letter-end c = let h = c .before .loop .inv .walked .within in search needs
+
+first-letter-requires : tie.Need-first-letter-requires Inv-loop μ-loop
+first-letter-requires c κs = search needs
+
+next-state-requires : tie.Need-next-state-requires Inv-loop μ-loop
+next-state-requires c κs = (c .before .before .before .before .before .before .pre .0, c .before .before .before .loop
+    .inv .walked .below)
+
+byte-at-requires : tie.Need-byte-at-requires Inv-loop μ-loop
+byte-at-requires c κs = search needs
+
+cast-width-of : tie.Need-cast-width-of Inv-loop μ-loop
+cast-width-of c = search needs
+
+width-of-requires : tie.Need-width-of-requires Inv-loop μ-loop
+width-of-requires c κs = search needs
+
+add-at : tie.Need-add-at Inv-loop μ-loop
+add-at c =
+    let h = walked-again _ _ _ _ _ _ _ _ _ _ _ (c .before .before .before .before .before .before .before .before
+        .before .pre .0) (c .before .before .before .before .before .before .loop .inv .walked)
+        (c .before .before .before .before .before .loop-test .taken) (c .before .before .before .first-letter
+        .ensures) (c .before .before .next-state .ensures) (c .before .byte-at .ensures)
+        (c .width-of .ensures) .within in
+    omega (arith, h, c .before .before .before .before .before .before .before .before .before .good)
+
+add-i : tie.Need-add-i Inv-loop μ-loop
+add-i c = search needs
+
+is-marked-requires : tie.Need-is-marked-requires Inv-loop μ-loop
+is-marked-requires c κs =
+    let W = walked-again _ _ _ _ _ _ _ _ _ _ _ (c .before .before .before .before .before .before .before .before
+        .before .pre .0) (c .before .before .before .before .before .before .loop .inv .walked)
+        (c .before .before .before .before .before .loop-test .taken) (c .before .before .before .first-letter
+        .ensures) (c .before .before .next-state .ensures) (c .before .byte-at .ensures) (c .width-of .ensures) in
+    let r = rest-length (5 * c .before .before .before .before .before .before .before .before .before .args .n)
+        (c .before .before .before .before .before .before .before .before .before .args .words .now) in
+    (c .before .before .before .before .before .before .before .before .before .pre .0 .few, (W .below, omega
+        (arith, c .before .before .before .before .before .before .before .before .before .pre .0 .room)))
 
 loop-less : tie.Need-loop-less Inv-loop μ-loop
-loop-less c = omega (arith, c .before .before .before .before .before .loop-test .taken)
+loop-less c = omega (arith, c .before .before .before .before .before .before .before .loop-test .taken)
 
 loop-again : tie.Need-loop-again Inv-loop μ-loop
 loop-again c =
-    search-up _ _ _ _ _ _ _ _ _ _ _ (c .before .before .before .before .before .before .loop .inv) (omega (arith, c
-    .before .before .before .before .before .loop-test .taken)) (omega arith)
-    (c .before .before .before .live-after .kept .0) (c .before .before .before .live-after .ensures) (c .if1 .taken)
-
-sub-high : tie.Need-sub-high Inv-loop μ-loop
-sub-high c = omega (arith, c .before .before .before .before .before .loop-test .taken)
+    search-marked _ _ _ _ _ _ _ _ _ _ (c .before .before .before .before .before .before .before .before .loop .inv)
+        (walked-again _ _ _ _ _ _ _ _ _ _ _ (c .before .before .before .before .before .before .before .before .before
+        .before .before .pre .0) (c .before .before .before .before .before .before .before .before .loop .inv
+        .walked) (c .before .before .before .before .before .before .before .loop-test .taken)
+        (c .before .before .before .before .before .first-letter .ensures)
+        (c .before .before .before .before .next-state .ensures) (c .before .before .before .byte-at .ensures)
+        (c .before .before .width-of .ensures)) (c .before .before .before .before .before .before .before .loop-test
+        .taken) (c .before .is-marked .ensures .0 (c .if1 .taken))
 
 loop-less-2 : tie.Need-loop-less-2 Inv-loop μ-loop
-loop-less-2 c = omega (arith, c .before .before .before .before .before .loop-test .taken)
+loop-less-2 c = omega (arith, c .before .before .before .before .before .before .before .loop-test .taken)
 
 loop-again-2 : tie.Need-loop-again-2 Inv-loop μ-loop
 loop-again-2 c =
-    search-down _ _ _ _ _ _ _ _ _ _ _ (c .before .before .before .before .before .before .loop .inv) (omega (arith, c
-    .before .before .before .before .before .loop-test .taken)) (omega arith)
-    (c .before .before .before .live-after .kept .0) (c .before .before .before .live-after .ensures) (c .if1 .left)
-
-same-length : tie.Need-same-length Inv-loop μ-loop
-same-length c = c .before .loop .inv .len
+    search-unmarked _ _ _ _ _ _ _ _ _ _ (c .before .before .before .before .before .before .before .before .loop .inv)
+        (walked-again _ _ _ _ _ _ _ _ _ _ _ (c .before .before .before .before .before .before .before .before .before
+        .before .before .pre .0) (c .before .before .before .before .before .before .before .before .loop .inv
+        .walked) (c .before .before .before .before .before .before .before .loop-test .taken)
+        (c .before .before .before .before .before .first-letter .ensures)
+        (c .before .before .before .before .next-state .ensures) (c .before .before .before .byte-at .ensures)
+        (c .before .before .width-of .ensures)) (c .before .before .before .before .before .before .before .loop-test
+        .taken) (not-marked _ _ (c .if1 .left) (c .before .is-marked .ensures))
 
 returns : tie.Need-returns Inv-loop μ-loop
 returns c = search-last _ _ _ _ _ _ _ _ (c .before .loop .inv) (c .loop-test .left)
@@ -59,13 +103,19 @@ longest-spec =
     Inv-loop
     μ-loop
     loop-holds
-    sub-middle
-    sub-middle-2
-    live-after-requires
+    sub-first-letter
+    part-first-letter-start
+    part-first-letter-end
+    first-letter-requires
+    next-state-requires
+    byte-at-requires
+    cast-width-of
+    width-of-requires
+    add-at
+    add-i
+    is-marked-requires
     loop-less
     loop-again
-    sub-high
     loop-less-2
     loop-again-2
-    same-length
     returns)

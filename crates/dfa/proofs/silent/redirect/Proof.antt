@@ -1,6 +1,6 @@
 use native.Mathlib.Omega.{arith}
 use Prim.Native.Nat.{_-_}
-use Rattle.dfa.proofs.laws.Settle.{scan, redirect-first, redirect-ways, redirect-target, ended-lt}
+use Rattle.dfa.proofs.laws.Settle.{scan, redirect-first, redirect-whole, redirect-target, ended-lt}
 use Rattle.dfa.proofs.laws.Settle.{redirect-again, redirect-last}
 use Rattle.dfa.specs.inner.Settle.{Redirected}
 use Rattle.dfa.proofs.silent.redirect.Statement.{statement}
@@ -61,7 +61,7 @@ at-requires-3 c κs = let s = scan (c .before .before .before .before .before .b
     omega (arith, c .before .before .before .at2 .ensures, c .before .before .loop .inv .len)
 
 settled-at-requires : tie.Need-settled-at-requires Inv-loop μ-loop
-settled-at-requires c κs = (redirect-ways _ _ _ _
+settled-at-requires c κs = (redirect-whole _ _ _ _
     (c .before .before .before .before .before .before .before .before .before .before .pre .1)
     (c .before .before .before .before .loop .inv), redirect-target _ _ _ _ _
     (c .before .before .before .before .before .before .before .before .before .before .pre .0)
@@ -98,7 +98,7 @@ put-requires c κs = let s = scan
     .now) (c .before .before .before .before .before .before .before .before .before .before .before .before .pre .0)
     in (omega (arith, c .before .before .before .before .before .before .before .at2 .ensures,
     c .before .before .before .before .before .before .loop .inv .len),
-    omega (arith, s .few, c .before .settled-at .ensures, ended-lt _ _ _ (s .some) (redirect-ways _ _ _ _
+    omega (arith, s .few, c .before .settled-at .ensures, ended-lt _ _ _ (redirect-whole _ _ _ _
     (c .before .before .before .before .before .before .before .before .before .before .before .before .pre .1)
     (c .before .before .before .before .before .before .loop .inv)) (redirect-target _ _ _ _ _
     (c .before .before .before .before .before .before .before .before .before .before .before .before .pre .0)
@@ -122,9 +122,7 @@ loop-less c = omega arith
 loop-again : tie.Need-loop-again Inv-loop μ-loop
 loop-again c = redirect-again _ _ _ _ _ _ _
     (c .before .before .before .before .before .before .before .before .before .before .before .before .before .before
-    .before .pre .0) (c .before .before .before .before .before .before .before .before .before .before .before
-    .before .before .before .before .pre .1)
-    (c .before .before .before .before .before .before .before .before .before .loop .inv)
+    .before .pre .0) (c .before .before .before .before .before .before .before .before .before .loop .inv)
     (omega (arith, c .before .before .before .before .before .before .before .before .before .before .at2 .ensures))
     (c .before .before .before .before .before .before .at3 .ensures)
     (c .before .before .before .before .settled-at .ensures) (c .before .before .put .ensures)

@@ -1,4 +1,6 @@
 use borrow.Author.Needs.{needs}
+use Rattle.explicit.specs.inner.Kept.{Kept}
+use Rattle.explicit.proofs.PathDeeper.{kept-none, kept-fewer}
 use native.Mathlib.Omega.{arith}
 use Prim.Native.Nat.{_-_, _≤_}
 use mathlib.Core.Path.{_≡_, refl}
@@ -9,20 +11,24 @@ use Rattle.explicit.proofs.fill.fill.Statement.{statement}
 use Rattle.explicit.proofs.fill.fill.Tie as tie
 
 abbrev Inv-loop : tie.InvT-loop
-Inv-loop t n s words₀ e all k₀ next₀ words k next =
-    (k ≤ all) × ((length words ≡ length words₀) × Filled (rowOf t n s) (s .n) (s .o) e words₀ k next words)
+Inv-loop t n s words₀ e root all p₀ c₀ k₀ next₀ words p c k next = (k ≤ all) × ((length words ≡ length words₀) ×
+    (Kept t root p c k × Filled (rowOf t n s) (s .n) (s .o) e words₀ k next words))
 
 abbrev μ-loop : tie.MeasureT-loop
-μ-loop t n s words₀ e all k₀ next₀ words k next = all - k
+μ-loop t n s words₀ e root all p₀ c₀ k₀ next₀ words p c k next = all - k
 
 spots-of-requires : tie.Need-spots-of-requires Inv-loop μ-loop
 spots-of-requires c κs = search needs
 
 loop-holds : tie.Need-loop-holds Inv-loop μ-loop
-loop-holds c = (omega arith, (refl, filled-first _ _ _ _ _))
+loop-holds c = (omega arith, (refl, (kept-none _ _ _ refl, filled-first _ _ _ _ _)))
+
+go-to-requires : tie.Need-go-to-requires Inv-loop μ-loop
+go-to-requires c κs = (c .before .before .loop .inv .1 .1 .0, omega (arith, c .before .loop-test .taken, c .before
+    .before .before .spots-of .ensures, c .before .before .before .before .before .before .pre))
 
 write-row-requires : tie.Need-write-row-requires Inv-loop μ-loop
-write-row-requires c κs = search needs
+write-row-requires c κs = c .before .before .go-to .ensures
 
 add-k : tie.Need-add-k Inv-loop μ-loop
 add-k c = search needs
@@ -31,9 +37,9 @@ loop-less : tie.Need-loop-less Inv-loop μ-loop
 loop-less c = search needs
 
 loop-again : tie.Need-loop-again Inv-loop μ-loop
-loop-again c =
-    (search needs, (search needs, filled-again (c .before .before .before .before .before .loop .inv .1 .1) (c .before
-    .before .write-row .ensures .0) (c .before .before .write-row .ensures .1)))
+loop-again c = (search needs, (search needs, (kept-fewer _ _ (c .before .before .before .before .before .go-to .ensures
+    .kept) (omega arith) (omega arith), filled-again (c .before .before .before .before .before .before .before .before
+    .loop .inv .1 .1 .1) (c .before .before .write-row .ensures .0) (c .before .before .write-row .ensures .1))))
 
 sum-requires : tie.Need-sum-requires Inv-loop μ-loop
 sum-requires c κs = search needs
@@ -45,13 +51,12 @@ same-length : tie.Need-same-length Inv-loop μ-loop
 same-length c = search needs
 
 returns : tie.Need-returns Inv-loop μ-loop
-returns c =
-    filled-last _ _ _ _ _ _ _ _ _ _ _ (c .before .before .before .before .before .before .loop .inv .1 .1) (omega
-    (arith, c .before .before .before .before .before .before .loop .inv .0, c .before .before .before .before .before
-    .loop-test .left)) (c .before .before .before .before .before .before .before .spots-of .ensures) (c .before
-    .before .before .sum .ensures) (c .before .before .write-head .ensures)
+returns c = filled-last _ _ _ _ _ _ _ _ _ _ _ (c .before .before .before .before .before .before .loop .inv .1 .1
+    .1) (omega (arith, c .before .before .before .before .before .before .loop .inv .0, c .before .before .before
+        .before .before .loop-test .left)) (c .before .before .before .before .before .before .before .spots-of
+    .ensures) (c .before .before .before .sum .ensures) (c .before .before .write-head .ensures)
 
 pub fill-spec : {M : Type 1} → statement M
-fill-spec = tie.close
-    (tie.spec Inv-loop μ-loop spots-of-requires loop-holds write-row-requires add-k loop-less loop-again sum-requires
-    write-head-requires same-length returns)
+fill-spec = tie.close (tie.spec Inv-loop μ-loop spots-of-requires loop-holds go-to-requires
+    write-row-requires add-k loop-less loop-again sum-requires write-head-requires
+    same-length returns)

@@ -1,15 +1,21 @@
 -- The kind is judged before the depth, and both before the body.
 use borrow.Author.Needs.{needs}
-use borrow.Author.Tests.{eq-eqb, le-leb, lt-leb, ne-eqb}
+use borrow.Author.Tests.{le-leb, lt-leb, ne-eqb}
 use native.Mathlib.Omega.{arith}
 use mathlib.Core.Path.{_∙_, sym}
 use Rattle.records.specs.Head.{blank, headOf, onShape}
 use Rattle.records.proofs.head.head_at.Statement.{statement}
 use Rattle.records.proofs.head.head_at.Tie as tie
 
+too-deep-requires : tie.Need-too-deep-requires
+too-deep-requires c κs = search needs
+
 returns : tie.Need-returns
+returns c = rw (c .before .if1 .taken) (c .too-deep .ensures _ _)
+
+returns-2 : tie.Need-returns-2
 unfolding headOf onShape
-returns c = simp (le-leb _ _ (c .if1 .taken))
+returns-2 c = simp (le-leb _ _ (c .if2 .taken))
 
 shared-slice-read-kind : tie.Need-shared-slice-read-kind
 shared-slice-read-kind c = search needs
@@ -29,16 +35,6 @@ enum-told-3 c = search needs
 enum-known-shape : tie.Need-enum-known-shape
 enum-known-shape c = search needs
 
-returns-2 : tie.Need-returns-2
-unfolding headOf onShape
-returns-2 c =
-    let m = c .before .before in
-    simp (
-      lt-leb _ _ (c .before .before .before .before .before .before .if1 .left),
-      sym (m .before .before .shape-of .ensures) ∙ m .shape .given .1,
-      eq-eqb _ _ (c .if2 .taken),
-    )
-
 blank-record-requires : tie.Need-blank-record-requires
 blank-record-requires c κs = search needs
 
@@ -50,7 +46,7 @@ returns-3 : tie.Need-returns-3
 unfolding headOf onShape
 returns-3 c =
     simp (
-      lt-leb _ _ (c .before .before .before .before .if1 .left),
+      lt-leb _ _ (c .before .before .before .before .if2 .left),
       sym (c .before .before .shape-of .ensures) ∙ c .enum-told .given .1,
     )
 
@@ -58,7 +54,7 @@ returns-4 : tie.Need-returns-4
 unfolding headOf onShape
 returns-4 c =
     simp (
-      lt-leb _ _ (c .before .before .before .before .if1 .left),
+      lt-leb _ _ (c .before .before .before .before .if2 .left),
       sym (c .before .before .shape-of .ensures) ∙ c .enum-told2 .given .1,
     )
 
@@ -66,18 +62,17 @@ returns-5 : tie.Need-returns-5
 unfolding headOf onShape
 returns-5 c =
     simp (
-      lt-leb _ _ (c .before .before .before .before .if1 .left),
+      lt-leb _ _ (c .before .before .before .before .if2 .left),
       sym (c .before .before .shape-of .ensures) ∙ c .enum-told3 .given .1,
     )
 
 returns-6 : tie.Need-returns-6
 unfolding headOf onShape
 returns-6 c =
-    let m = c .before .before .before .before in
     simp (
-      lt-leb _ _ (c .before .before .before .before .before .before .before .before .if1 .left),
-      sym (m .before .before .shape-of .ensures) ∙ m .shape .given .1,
-      ne-eqb _ _ (c .before .before .if2 .left),
+      lt-leb _ _ (c .before .before .before .before .before .before .before .if2 .left),
+      sym (c .before .before .before .before .before .shape-of .ensures) ∙ c .before .before .before .shape .given .1,
+      ne-eqb _ _ (c .before .before .before .before .before .before .before .before .if1 .left),
       ← c .before .blank-record .ensures,
       ← c .body-at .ensures,
     )
@@ -85,5 +80,5 @@ returns-6 c =
 pub head-at-spec : {M : Type 1} → statement M
 head-at-spec =
     tie.close (tie.spec
-    returns shared-slice-read-kind shape-of-requires enum-told enum-told-2 enum-told-3 enum-known-shape
-    returns-2 blank-record-requires body-at-requires returns-3 returns-4 returns-5 returns-6)
+    too-deep-requires returns returns-2 shared-slice-read-kind shape-of-requires enum-told enum-told-2 enum-told-3
+    enum-known-shape blank-record-requires body-at-requires returns-3 returns-4 returns-5 returns-6)

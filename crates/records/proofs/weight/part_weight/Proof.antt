@@ -16,15 +16,11 @@ extra-of-requires c κs = search needs
 sat-add-requires : tie.Need-sat-add-requires
 sat-add-requires c κs = search needs
 
-sat-add-requires-2 : tie.Need-sat-add-requires-2
-sat-add-requires-2 c κs = search needs
-
 returns : tie.Need-returns
 returns c =
-    rw (← c .before .before .before .before .factor-of .ensures, ← c .before .before .extra-of .ensures)
-    (omega (arith, c .sat-add2 .ensures, c .before .sat-add .ensures, c .before .before .before .sat-mul .ensures))
+    rw (← c .before .before .before .factor-of .ensures, ← c .before .extra-of .ensures)
+    (omega (arith, c .sat-add .ensures, c .before .before .sat-mul .ensures))
 
 pub part-weight-spec : {M : Type 1} → statement M
 part-weight-spec =
-    tie.close (tie.spec
-    factor-of-requires sat-mul-requires extra-of-requires sat-add-requires sat-add-requires-2 returns)
+    tie.close (tie.spec factor-of-requires sat-mul-requires extra-of-requires sat-add-requires returns)

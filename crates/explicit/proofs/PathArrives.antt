@@ -1,0 +1,102 @@
+-- Where a state is at hand, the path says what it does, and what follows each move where it waits.
+use mathlib.Core.Path.{_≡_, sym, _∙_, ap, subst}
+use mathlib.Core.List.{List, _∷_}
+use Prim.Native.Nat.{ℕ, zero, suc, _-_, _≤_, _<_}
+use native.Mathlib.Omega.{arith}
+use native.Mathlib.Decide.{decLt, ℕ-discrete}
+use lib.ListN.{length}
+use borrow.Author.Tests.{lt-ltb, le-ltb, eq-eqb, ne-eqb}
+use Rattle.language.specs.declared.Numbers.{Numbers}
+use Rattle.automaton.specs.declared.Move.{Move}
+use Rattle.automaton.specs.declared.Frame.{Frame}
+use Rattle.automaton.specs.declared.Out.{Out}
+use Rattle.automaton.specs.declared.Out.the-variants.{Hear, Stuck}
+use Rattle.automaton.specs.declared.Spot.{Spot}
+use Rattle.automaton.specs.declared.Spot.the-variants.{Here}
+use Rattle.automaton.specs.walk.Name.{atWait}
+use Rattle.automaton.specs.walk.Step.{onSpot, stepAt}
+use Rattle.explicit.specs.inner.States.{afterOf, sheetAt}
+use Rattle.explicit.specs.inner.Path.{riseAll, heightOf, storeOf}
+use Rattle.explicit.specs.inner.Levels.{framesOf, levelOf}
+use Rattle.automaton.specs.walk.Name.{noMove}
+use Rattle.explicit.specs.inner.Kept.{sheetSpot, spotIn}
+use Rattle.explicit.specs.inner.Kept.{Stands, Kept, Covers, waitAt, Arrived}
+use Rattle.explicit.proofs.PathWords.{frames-next, frames-length}
+use Rattle.explicit.proofs.PathHearing.{listens, never-waits, still-argument}
+use Rattle.explicit.proofs.PathSays.{after-spot, Holds, path-says, spot-next}
+
+wait-later : (t : List ℕ) (root k at q x : ℕ) (m : Move) → 0 < k → waitAt t root k at q x m ≡ atWait t at q x m
+unfolding waitAt
+wait-later t root k at q x m h = rw (ne-eqb k 0 (λ z. omega arith))
+
+module _ (t : List ℕ) (root : ℕ) where
+  -- what is done at a state that is at hand
+  after-here : (N : Numbers) (fs : List Frame) (left : ℕ) (m : Move) (S : Spot) (o : Out) → S ≡ Here o →
+    riseAll N fs (after-spot t N fs left m S) ≡ riseAll N fs o
+  unfolding after-spot onSpot
+  after-here N fs left m S o e = rw e
+
+  holds : (p : List ℕ) (c k : ℕ) → Kept t root p c k → Covers p c k → Holds p c k
+  holds p c k K C z = (K .begun (c - 1) (omega arith), C z)
+
+  -- a wait at the start of the sheet
+  first-waits : (k at q x : ℕ) → sheetSpot t root k noMove ≡ Here (Hear at q x) → (m : Move) →
+    sheetSpot t root k m ≡ Here (waitAt t root k at q x m)
+  unfolding sheetSpot waitAt
+  first-waits k at q x e m = go (ℕ-discrete k 0) (decLt k (afterOf t root)) e
+    where
+      go : Dec (k ≡ 0) → Dec (k < afterOf t root) → sheetSpot t root k noMove ≡ Here (Hear at q x) →
+        sheetSpot t root k m ≡ Here (waitAt t root k at q x m)
+      go (yes a) b e = rw (eq-eqb k 0 a)
+      go (no a) (yes b) e =
+          let h = rw (ne-eqb k 0 a, lt-ltb k (afterOf t root) b) at e in
+          absurd (never-waits _ at q x (still-argument _ _ _ _ _ _ _) h)
+      go (no a) (no b) e =
+          let h = rw (ne-eqb k 0 a, le-ltb k (afterOf t root) (omega arith)) at e in
+          let z : _≡_ {A = ℕ} 0 1 = cc in absurd (omega arith)
+
+  spot-waits : (p : List ℕ) (c k at q x : ℕ) → Kept t root p c k → spotIn t root p c k noMove ≡ Here (Hear at q x) →
+    (m : Move) → spotIn t root p c k m ≡ Here (waitAt t root k at q x m)
+  unfolding spotIn
+  spot-waits p zero k at q x K e m = first-waits k at q x e m
+  spot-waits p (suc i) k at q x K e m =
+      spot-next t root p i k m
+      ∙ listens t (levelOf p i .part) (levelOf p i .kind) (levelOf p i .value) (k - levelOf p i .base) _ _ at q x
+          (sym (spot-next t root p i k noMove) ∙ e) m
+      ∙ ap Here (sym (wait-later t root k at q x m
+          (omega (arith, K .sound .plain i (omega arith) .some, K .begun i (omega arith)))))
+
+  -- THEOREM: where the state is at hand, the path says what it does
+  pub arrives : (p : List ℕ) (c k : ℕ) (o : Out) → c < 33 → Kept t root p c k → Covers p c k →
+    Here o ≡ spotIn t root p c k noMove → Arrived t root p c k o
+  arrives p c k o h K C e = record
+    { kept = K
+    ; at = record
+        { does = λ N. path-says t N root p c k noMove h (K .stands) (holds p c k K C)
+            ∙ after-here N (framesOf p c) (32 - c) noMove _ o (sym e)
+        ; hears = λ N m at q x g. path-says t N root p c k m h (K .stands) (holds p c k K C)
+            ∙ after-here N (framesOf p c) (32 - c) m _ _ (spot-waits p c k at q x K (sym e ∙ ap Here g) m) } }
+
+  -- past the last level nothing is done
+  deep-says : (N : Numbers) (p : List ℕ) (k : ℕ) (m : Move) → Stands t root (framesOf p 32) (levelOf p 32) →
+    levelOf p 32 .base ≤ k → k < levelOf p 32 .end → sheetAt t N root k m ≡ riseAll N (framesOf p 33) Stuck
+  unfolding stepAt
+  deep-says N p k m S a b =
+      let e : 32 - length (framesOf p 32) ≡ 0 = omega (arith, frames-length p 32) in
+      rw (frames-next p 32) (subst (λ (y : ℕ). sheetAt t N root k m ≡
+        riseAll N (levelOf p 32 .f ∷ framesOf p 32) (stepAt t N y (levelOf p 32 .part) (levelOf p 32 .kind)
+          (levelOf p 32 .value) (k - levelOf p 32 .base) (storeOf (levelOf p 32 .f ∷ framesOf p 32))
+          (heightOf (levelOf p 32 .f ∷ framesOf p 32)) m)) e (S .says N k m a b))
+
+  deep-arrives : (p : List ℕ) (k : ℕ) → Kept t root p 33 k → Covers p 33 k → Arrived t root p 33 k Stuck
+  deep-arrives p k K C = record
+    { kept = K
+    ; at = record
+        { does = λ N. deep-says N p k noMove (K .stands 32 (omega arith)) (K .begun 32 (omega arith)) (C (omega arith))
+        ; hears = λ N m at q x g. let z : _≡_ {A = ℕ} 0 1 = cc in absurd (omega arith) } }
+
+  pub arrives-deep : (p : List ℕ) (c k : ℕ) → 33 ≤ c → Kept t root p c k → Covers p c k → Arrived t root p c k Stuck
+  arrives-deep p c k h K C =
+      let e : c ≡ 33 = omega (arith, K .sound .few) in
+      subst (λ (y : ℕ). Arrived t root p y k Stuck) (sym e)
+        (deep-arrives p k (subst (λ (y : ℕ). Kept t root p y k) e K) (subst (λ (y : ℕ). Covers p y k) e C))

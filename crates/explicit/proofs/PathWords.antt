@@ -1,0 +1,191 @@
+-- The words of a path after a level is written.
+use mathlib.Core.Path.{_≡_, refl, sym, _∙_, ap}
+use mathlib.Core.List.{List, [], _∷_}
+use Prim.Native.Nat.{ℕ, zero, suc, _+_, _*_, _≤_, _<_}
+use native.Mathlib.Omega.{arith}
+use native.Mathlib.Numerals.{add-one}
+use native.Mathlib.Decide.{ℕ-discrete}
+use borrow.Author.Tests.{eq-eqb, ne-eqb}
+use lib.ListN.{getD, set, length, length-set}
+use lib.Seq.{getD-set-same, getD-set-other}
+use Rattle.automaton.specs.declared.Frame.{Frame}
+use Rattle.explicit.specs.declared.Level.{Level}
+use Rattle.explicit.specs.inner.Levels.{fieldOf, frameOf, levelOf, framesOf, setAll, levelWords, withLevel}
+use Rattle.explicit.specs.inner.Levels.{holderOf, enteredOf}
+
+set-length : (p : List ℕ) (x : ℕ) (vs : List ℕ) → length (setAll p x vs) ≡ length p
+unfolding setAll
+set-length p x [] = refl
+set-length p x (v ∷ vs) = set-length (set p x v) (suc x) vs ∙ length-set p x v
+
+set-below : (p : List ℕ) (x : ℕ) (vs : List ℕ) (y : ℕ) → y < x → getD (setAll p x vs) y 0 ≡ getD p y 0
+unfolding setAll
+set-below p x [] y h = refl
+set-below p x (v ∷ vs) y h =
+    set-below (set p x v) (suc x) vs y (omega arith) ∙ getD-set-other p x y v 0 (λ e. omega arith)
+
+set-in : (p : List ℕ) (x : ℕ) (vs : List ℕ) (j : ℕ) → x + length vs ≤ length p → j < length vs →
+  getD (setAll p x vs) (x + j) 0 ≡ getD vs j 0
+unfolding setAll
+set-in p x [] j r h = absurd (omega arith)
+set-in p x (v ∷ vs) zero r h =
+    let e : x + 0 ≡ x = omega arith in
+    rw e (set-below (set p x v) (suc x) vs x (omega arith) ∙ getD-set-same p x v 0 (omega arith))
+set-in p x (v ∷ vs) (suc j) r h =
+    let e : x + suc j ≡ suc x + j = omega arith in
+    rw e (set-in (set p x v) (suc x) vs j (omega (arith, length-set p x v)) (omega arith))
+
+-- the level that is written, and those before it
+module _ (p : List ℕ) (c : ℕ) (l : Level) where
+  level-new : 13 * c + 13 ≤ length p → levelOf (withLevel p c l) c ≡ l
+  unfolding levelOf frameOf fieldOf levelWords
+  level-new r =
+      simp (at 0 (omega arith), at 1 (omega arith), at 2 (omega arith), at 3 (omega arith), at 4 (omega arith),
+        at 5 (omega arith), at 6 (omega arith), at 7 (omega arith), at 8 (omega arith), at 9 (omega arith),
+        at 10 (omega arith), at 11 (omega arith), at 12 (omega arith))
+    where
+      at : (j : ℕ) → j < 13 → getD (withLevel p c l) (13 * c + j) 0 ≡ getD (levelWords l) j 0
+      at j h = set-in p (13 * c) (levelWords l) j r h
+
+  field-old : (i j : ℕ) → i < c → j < 13 → fieldOf (withLevel p c l) i j ≡ fieldOf p i j
+  unfolding fieldOf
+  field-old i j h b = set-below p (13 * c) (levelWords l) (13 * i + j) (omega arith)
+
+  frame-old : (i : ℕ) → i < c → frameOf (withLevel p c l) i ≡ frameOf p i
+  unfolding frameOf
+  frame-old i h =
+      simp (field-old i 6 h (omega arith), field-old i 7 h (omega arith), field-old i 8 h (omega arith),
+        field-old i 9 h (omega arith), field-old i 10 h (omega arith), field-old i 11 h (omega arith))
+
+  level-old : (i : ℕ) → i < c → levelOf (withLevel p c l) i ≡ levelOf p i
+  unfolding levelOf
+  level-old i h =
+      simp (frame-old i h, field-old i 0 h (omega arith), field-old i 1 h (omega arith), field-old i 2 h (omega arith),
+        field-old i 3 h (omega arith), field-old i 4 h (omega arith), field-old i 5 h (omega arith),
+        field-old i 12 h (omega arith))
+
+  frames-old : (i : ℕ) → i ≤ c → framesOf (withLevel p c l) i ≡ framesOf p i
+  unfolding framesOf
+  frames-old zero h = refl
+  frames-old (suc i) h = rw (frame-old i (omega arith), frames-old i (omega arith))
+
+-- the frames are the levels'
+pub frames-next : (p : List ℕ) (i : ℕ) → framesOf p (suc i) ≡ levelOf p i .f ∷ framesOf p i
+unfolding framesOf levelOf
+frames-next p i = refl
+
+pub frames-length : (p : List ℕ) (i : ℕ) → length (framesOf p i) ≡ i
+unfolding framesOf
+frames-length p zero = refl
+frames-length p (suc i) = ap suc (frames-length p i)
+
+-- words past the levels
+set-above : (p : List ℕ) (x : ℕ) (vs : List ℕ) (y : ℕ) → x + length vs ≤ y → getD (setAll p x vs) y 0 ≡ getD p y 0
+unfolding setAll
+set-above p x [] y h = refl
+set-above p x (v ∷ vs) y h =
+    set-above (set p x v) (suc x) vs y (omega arith) ∙ getD-set-other p x y v 0 (λ e. omega arith)
+
+module _ (p : List ℕ) (o v : ℕ) where
+  field-far : (i j : ℕ) → i < 33 → j < 13 → fieldOf (set p (429 + o) v) i j ≡ fieldOf p i j
+  unfolding fieldOf
+  field-far i j h b = getD-set-other p (429 + o) (13 * i + j) v 0 (λ e. omega arith)
+
+  frame-far : (i : ℕ) → i < 33 → frameOf (set p (429 + o) v) i ≡ frameOf p i
+  unfolding frameOf
+  frame-far i h =
+      simp (field-far i 6 h (omega arith), field-far i 7 h (omega arith), field-far i 8 h (omega arith),
+        field-far i 9 h (omega arith), field-far i 10 h (omega arith), field-far i 11 h (omega arith))
+
+  level-far : (i : ℕ) → i < 33 → levelOf (set p (429 + o) v) i ≡ levelOf p i
+  unfolding levelOf
+  level-far i h =
+      simp (frame-far i h, field-far i 0 h (omega arith), field-far i 1 h (omega arith), field-far i 2 h (omega arith),
+        field-far i 3 h (omega arith), field-far i 4 h (omega arith), field-far i 5 h (omega arith),
+        field-far i 12 h (omega arith))
+
+  frames-far : (i : ℕ) → i ≤ 33 → framesOf (set p (429 + o) v) i ≡ framesOf p i
+  unfolding framesOf
+  frames-far zero h = refl
+  frames-far (suc i) h = rw (frame-far i (omega arith), frames-far i (omega arith))
+
+-- the level that is entered, those before it, and the blocks that are noted
+module _ (p : List ℕ) (c : ℕ) (l : Level) (h : c < 33) (r : length p ≡ 462) where
+  pub entered-length : length (enteredOf p c l) ≡ 462
+  unfolding enteredOf
+  entered-length = go (ℕ-discrete (l .f .role) 7)
+    where
+      w : length (withLevel p c l) ≡ 462
+      w = set-length p (13 * c) (levelWords l) ∙ r
+      go : Dec (l .f .role ≡ 7) → length (enteredOf p c l) ≡ 462
+      go (yes e) = rw (eq-eqb (l .f .role) 7 e) (length-set (withLevel p c l) (429 + l .outer) c ∙ w)
+      go (no e) = rw (ne-eqb (l .f .role) 7 e) w
+
+  pub entered-new : levelOf (enteredOf p c l) c ≡ l
+  unfolding enteredOf
+  entered-new = go (ℕ-discrete (l .f .role) 7)
+    where
+      go : Dec (l .f .role ≡ 7) → levelOf (enteredOf p c l) c ≡ l
+      go (yes e) =
+          rw (eq-eqb (l .f .role) 7 e)
+          (level-far (withLevel p c l) (l .outer) c c h ∙ level-new p c l (omega (arith, r)))
+      go (no e) = rw (ne-eqb (l .f .role) 7 e) (level-new p c l (omega (arith, r)))
+
+  pub entered-old : (i : ℕ) → i < c → levelOf (enteredOf p c l) i ≡ levelOf p i
+  unfolding enteredOf
+  entered-old i b = go (ℕ-discrete (l .f .role) 7)
+    where
+      go : Dec (l .f .role ≡ 7) → levelOf (enteredOf p c l) i ≡ levelOf p i
+      go (yes e) =
+          rw (eq-eqb (l .f .role) 7 e) (level-far (withLevel p c l) (l .outer) c i (omega arith) ∙ level-old p c l i b)
+      go (no e) = rw (ne-eqb (l .f .role) 7 e) (level-old p c l i b)
+
+  pub entered-frames : (i : ℕ) → i ≤ c → framesOf (enteredOf p c l) i ≡ framesOf p i
+  unfolding enteredOf
+  entered-frames i b = go (ℕ-discrete (l .f .role) 7)
+    where
+      go : Dec (l .f .role ≡ 7) → framesOf (enteredOf p c l) i ≡ framesOf p i
+      go (yes e) =
+          rw (eq-eqb (l .f .role) 7 e) (frames-far (withLevel p c l) (l .outer) c i (omega arith) ∙ frames-old p c l i
+              b)
+      go (no e) = rw (ne-eqb (l .f .role) 7 e) (frames-old p c l i b)
+
+  pub holder-new : l .f .role ≡ 7 → l .outer < 33 → holderOf (enteredOf p c l) (l .outer) ≡ c
+  unfolding enteredOf holderOf
+  holder-new e b =
+      rw (eq-eqb (l .f .role) 7 e)
+      (getD-set-same (withLevel p c l) (429 + l .outer) c 0 (omega (arith, set-length p (13 * c) (levelWords l))))
+
+  pub holder-old : (o : ℕ) → (l .f .role ≡ 7 → o ≡ l .outer → ⊥) → holderOf (enteredOf p c l) o ≡ holderOf p o
+  unfolding enteredOf holderOf levelWords
+  holder-old o n = go (ℕ-discrete (l .f .role) 7)
+    where
+      go : Dec (l .f .role ≡ 7) → holderOf (enteredOf p c l) o ≡ holderOf p o
+      go (yes e) =
+          rw (eq-eqb (l .f .role) 7 e)
+          (getD-set-other (withLevel p c l) (429 + l .outer) (429 + o) c 0 (λ q. n e (omega arith))
+          ∙ set-above p (13 * c) (levelWords l) (429 + o) (omega arith))
+      go (no e) = rw (ne-eqb (l .f .role) 7 e) (set-above p (13 * c) (levelWords l) (429 + o) (omega arith))
+
+-- four words, and a level of thirteen
+pub four : (p p₁ p₂ p₃ p₄ : List ℕ) (i a b c d : ℕ) → p₁ ≡ set p i a → p₂ ≡ set p₁ (i + 1) b → p₃ ≡ set p₂ (i + 2) c →
+  p₄ ≡ set p₃ (i + 3) d → p₄ ≡ setAll p i (a ∷ b ∷ c ∷ d ∷ [])
+unfolding setAll
+four p p₁ p₂ p₃ p₄ i a b c d e f g h =
+    let x : i + 1 ≡ suc i = omega arith in
+    let y : i + 2 ≡ suc (suc i) = omega arith in
+    let z : i + 3 ≡ suc (suc (suc i)) = omega arith in
+    rw (h, g, f, e, x, y, z)
+
+pub thirteen : (p p₁ p₂ p₃ p₄ : List ℕ) (i : ℕ) (l : Level) →
+  p₁ ≡ setAll p (13 * i) (l .part ∷ l .kind ∷ l .value ∷ l .base ∷ []) →
+  p₂ ≡ setAll p₁ (13 * i + 4) (l .end ∷ l .outer ∷ l .f .role ∷ l .f .base ∷ []) →
+  p₃ ≡ setAll p₂ (13 * i + 8) (l .f .a ∷ l .f .b ∷ l .f .c ∷ l .f .d ∷ []) → p₄ ≡ set p₃ (13 * i + 12) (l .up) →
+  p₄ ≡ withLevel p i l
+unfolding setAll levelWords
+thirteen p p₁ p₂ p₃ p₄ i l e f g h =
+    let x : 13 * i + 4 ≡ suc (suc (suc (suc (13 * i)))) = omega arith in
+    let y : 13 * i + 8 ≡ suc (suc (suc (suc (suc (suc (suc (suc (13 * i)))))))) = omega arith in
+    let z : 13 * i + 12 ≡ suc (suc (suc (suc (suc (suc (suc (suc (suc (suc (suc (suc (13 * i)))))))))))) = omega arith
+        in
+    rw (h, g, f, e, x, y, z)

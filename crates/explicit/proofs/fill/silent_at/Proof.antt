@@ -1,0 +1,61 @@
+use borrow.Author.Needs.{needs}
+use native.Mathlib.Omega.{arith}
+use Rattle.explicit.proofs.PathRows.{is-go, is-exit, silent-quiet, silent-stuck, silent-say, silent-hear}
+use Rattle.explicit.proofs.PathSays.{frames-owned}
+use Rattle.explicit.proofs.fill.silent_at.Statement.{statement}
+use Rattle.explicit.proofs.fill.silent_at.Tie as tie
+
+enum-told : tie.Need-enum-told
+enum-told c = search needs
+
+reach-requires : tie.Need-reach-requires
+reach-requires c κs = search needs
+
+sum-requires : tie.Need-sum-requires
+sum-requires c κs = search needs
+
+enum-told-2 : tie.Need-enum-told-2
+enum-told-2 c = search needs
+
+reach-requires-2 : tie.Need-reach-requires-2
+reach-requires-2 c κs = search needs
+
+sum-requires-2 : tie.Need-sum-requires-2
+sum-requires-2 c κs = search needs
+
+enum-told-3 : tie.Need-enum-told-3
+enum-told-3 c = search needs
+
+enum-told-4 : tie.Need-enum-told-4
+enum-told-4 c = search needs
+
+enum-told-5 : tie.Need-enum-told-5
+enum-told-5 c = search needs
+
+dead-requires : tie.Need-dead-requires
+dead-requires c κs = search needs
+
+sum-requires-3 : tie.Need-sum-requires-3
+sum-requires-3 c κs = search needs
+
+returns : tie.Need-returns
+returns c = silent-quiet _ _ _ _ _ _ (is-go (c .before .before .enum-told .given .1)) (c .before .reach .ensures) (c
+    .sum .ensures)
+
+returns-2 : tie.Need-returns-2
+returns-2 c = silent-quiet _ _ _ _ _ _ (is-exit (c .before .before .enum-told2 .given .1)) (c .before .reach2 .ensures)
+    (c .sum2 .ensures)
+
+returns-3 : tie.Need-returns-3
+returns-3 c = silent-say _ _ _ _ (frames-owned _ _ (c .before .before .pre)) (c .enum-told3 .given .1)
+
+returns-4 : tie.Need-returns-4
+returns-4 c = silent-hear _ _ _ _ (c .enum-told4 .given .1)
+
+returns-5 : tie.Need-returns-5
+returns-5 c = silent-stuck _ _ _ _ _ _ (c .before .before .enum-told5 .given .1) (c .before .dead .ensures) (c .sum3
+    .ensures)
+
+pub silent-at-spec : {M : Type 1} → statement M
+silent-at-spec = tie.close (tie.spec enum-told reach-requires sum-requires enum-told-2 reach-requires-2 sum-requires-2
+    enum-told-3 enum-told-4 enum-told-5 dead-requires sum-requires-3 returns returns-2 returns-3 returns-4 returns-5)

@@ -1,0 +1,41 @@
+use borrow.Author.Needs.{needs}
+use native.Mathlib.Omega.{arith}
+use mathlib.Core.Path.{refl}
+use Rattle.explicit.proofs.Loops.{told, wrote, block-none, block-some}
+use Rattle.explicit.proofs.HeardQuestions.{limit-question}
+use Rattle.explicit.proofs.hear.hear_argument.Statement.{statement}
+use Rattle.explicit.proofs.hear.hear_argument.Tie as tie
+
+sub-j : tie.Need-sub-j
+sub-j c = omega (arith, c .before .before .pre .1 .some)
+
+part-class-requires : tie.Need-part-class-requires
+part-class-requires c κs = search needs
+
+part-values-requires : tie.Need-part-values-requires
+part-values-requires c κs = search needs
+
+question-limit-requires : tie.Need-question-limit-requires
+question-limit-requires c κs = search needs
+
+returns : tie.Need-returns
+returns c = told (block-none _ _ _ _ _ _ _ _ _ (limit-question _ _ _ _ _ _ _ (c .before .before .before .before .before
+    .before .pre .1) (c .before .before .before .part-class .ensures) (c .before .before .part-values .ensures) (c
+    .before .question-limit .ensures)) (c .if1 .taken))
+
+hear-values-requires : tie.Need-hear-values-requires
+hear-values-requires c κs = c .before .before .before .before .before .before .before .pre .0
+
+same-length : tie.Need-same-length
+same-length c = search needs
+
+returns-2 : tie.Need-returns-2
+returns-2 c = told (block-some _ _ _ _ _ _ _ _ _ _ _ _ (limit-question _ _ _ _ _ _ _ (c .before .before .before .before
+    .before .before .before .before .before .before .pre .1) (c .before .before .before .before .before .before .before
+    .part-class .ensures) (c .before .before .before .before .before .before .part-values .ensures) (c .before .before
+    .before .before .before .question-limit .ensures)) (c .before .before .before .before .if1 .left) refl (wrote (c
+    .before .before .hear-values .ensures .0) (c .before .before .hear-values .ensures .1)))
+
+pub hear-argument-spec : {M : Type 1} → statement M
+hear-argument-spec = tie.close (tie.spec sub-j part-class-requires part-values-requires question-limit-requires returns
+    hear-values-requires same-length returns-2)

@@ -1,0 +1,53 @@
+use borrow.Author.Needs.{needs}
+use native.Mathlib.Omega.{arith}
+use Prim.Native.Nat.{_-_, _≤_}
+use mathlib.Core.Path.{_≡_, refl}
+use lib.ListN.{length}
+use Rattle.explicit.specs.inner.Moves.{valueEdges}
+use Rattle.explicit.proofs.Loops.{Wrote, told, wrote, values-first, values-again, values-last, numbers-all}
+use Rattle.explicit.proofs.hear.hear_values.Statement.{statement}
+use Rattle.explicit.proofs.hear.hear_values.Tie as tie
+
+abbrev Inv-loop : tie.InvT-loop
+Inv-loop t n s words₀ p c ear kind arg below e all r₀ next₀ words r next = (r ≤ all) ×
+    ((length words ≡ length words₀) × Wrote words₀ (s .n) e (valueEdges t n s ear kind arg below r) next words)
+
+abbrev μ-loop : tie.MeasureT-loop
+μ-loop t n s words₀ p c ear kind arg below e all r₀ next₀ words r next = all - r
+
+cast-all : tie.Need-cast-all Inv-loop μ-loop
+cast-all c = search needs
+
+mul-all : tie.Need-mul-all Inv-loop μ-loop
+mul-all c = search needs
+
+add-all : tie.Need-add-all Inv-loop μ-loop
+add-all c = search needs
+
+loop-holds : tie.Need-loop-holds Inv-loop μ-loop
+loop-holds c = (omega arith, (refl, values-first _ _ _ _ _ _ _ _ _))
+
+hear-value-requires : tie.Need-hear-value-requires Inv-loop μ-loop
+hear-value-requires c κs = c .before .before .before .before .before .before .pre
+
+add-r : tie.Need-add-r Inv-loop μ-loop
+add-r c = search needs
+
+loop-less : tie.Need-loop-less Inv-loop μ-loop
+loop-less c = search needs
+
+loop-again : tie.Need-loop-again Inv-loop μ-loop
+loop-again c = (search needs, (search needs, values-again _ _ _ _ _ _ _ _ _ _ _ _ _ _ (c .before .before .before .before
+    .before .loop .inv .1 .1) (wrote (c .before .before .hear-value .ensures .0) (c .before .before .hear-value .ensures
+    .1))))
+
+same-length : tie.Need-same-length Inv-loop μ-loop
+same-length c = c .before .loop .inv .1 .0
+
+returns : tie.Need-returns Inv-loop μ-loop
+returns c = told (values-last _ _ _ _ _ _ _ _ _ _ _ _ _ (numbers-all _ _ (c .before .loop .inv .0) (c .loop-test .left))
+    (c .before .loop .inv .1 .1))
+
+pub hear-values-spec : {M : Type 1} → statement M
+hear-values-spec = tie.close (tie.spec Inv-loop μ-loop cast-all mul-all add-all loop-holds hear-value-requires add-r
+    loop-less loop-again same-length returns)

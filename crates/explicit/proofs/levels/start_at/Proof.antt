@@ -1,0 +1,24 @@
+use borrow.Author.Needs.{needs}
+use native.Mathlib.Omega.{arith}
+use Rattle.explicit.specs.inner.Levels.{levelOf}
+use Rattle.explicit.specs.inner.Kept.{startOf}
+use borrow.Author.Tests.{le-leb, lt-leb, lt-ltb, le-ltb, eq-eqb, ne-eqb}
+use Rattle.explicit.proofs.levels.start_at.Statement.{statement}
+use Rattle.explicit.proofs.levels.start_at.Tie as tie
+
+returns : tie.Need-returns
+unfolding startOf
+returns c = simp (eq-eqb _ _ (c .if1 .taken))
+
+sub-field : tie.Need-sub-field
+sub-field c = search needs
+
+field-requires : tie.Need-field-requires
+field-requires c κs = (omega (arith, c .before .pre .few), omega arith)
+
+returns-2 : tie.Need-returns-2
+unfolding startOf levelOf
+returns-2 c = simp (← c .field .ensures, ne-eqb _ _ (c .before .if1 .left))
+
+pub start-at-spec : {M : Type 1} → statement M
+start-at-spec = tie.close (tie.spec returns sub-field field-requires returns-2)

@@ -1,0 +1,26 @@
+use borrow.Author.Needs.{needs}
+use borrow.Author.Tests.{le-leb, lt-leb, lt-ltb, le-ltb, eq-eqb, ne-eqb}
+use Rattle.explicit.specs.inner.Rows.{withHead}
+use Rattle.explicit.proofs.rows.write_head.Statement.{statement}
+use Rattle.explicit.proofs.rows.write_head.Tie as tie
+
+put-requires : tie.Need-put-requires
+put-requires c κs = search needs
+
+place-requires : tie.Need-place-requires
+place-requires c κs = search needs
+
+put-requires-2 : tie.Need-put-requires-2
+put-requires-2 c κs = search needs
+
+same-length : tie.Need-same-length
+same-length c = search needs
+
+returns : tie.Need-returns
+unfolding withHead
+returns c =
+    simp (← c .before .before .before .before .before .before .before .put .ensures, ← c .before .before .before
+    .place .ensures, ← c .before .before .put2 .ensures)
+
+pub write-head-spec : {M : Type 1} → statement M
+write-head-spec = tie.close (tie.spec put-requires place-requires put-requires-2 same-length returns)

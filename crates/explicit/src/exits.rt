@@ -1,0 +1,127 @@
+// Where a step of the innermost part of a path leads in the whole sheet.
+use automaton::row::{place, sum};
+use automaton::up::{exits, goes};
+use automaton::{Out, Silent};
+use crate::Site;
+use crate::levels::{B, WORDS};
+use crate::levels::{block_at, field, frame_at, start_at, up_at};
+use language::Numbers;
+ghost use mathlib.Core.Path.{_≡_};
+ghost use Prim.Native.Nat.{_-_, _<_};
+ghost use Rattle.automaton.specs.declared.Out.the-variants.{Go, Exit};
+ghost use Rattle.language.specs.declared.Numbers.{Numbers};
+ghost use Rattle.explicit.specs.inner.Path.{riseAll, blockIn};
+ghost use Rattle.explicit.specs.inner.Levels.{framesOf, Sound};
+ghost use Rattle.explicit.specs.inner.Moves.{targetOf};
+
+// A number below this is added to the first state of a part without becoming too large.
+const FAR: usize = 4294901760;
+
+// The dead state of n.
+pub(crate) fn dead(n: usize) -> usize
+    ensures { λ r. ⌜ r ≡ n - 1 ⌝ }
+{
+    if n == 0 {
+        return 0;
+    }
+    n - 1
+}
+
+// A silent step inside c levels, seen in the whole sheet, level by level.
+fn climb(p: &[usize; WORDS], c: usize, g: Silent) -> Silent
+    requires { ⌜ Sound (now p) c ⌝ }
+    ensures { λ r. ⌜ ((N : Numbers) → Go (r .next) (r .level) (r .set)
+        ≡ riseAll N (framesOf (now (p .entry)) c) (Go (g .next) (g .level) (g .set))) ⌝ }
+{
+    let mut left = c;
+    let mut out = g;
+    while 0 < left {
+        left -= 1;
+        out = goes(frame_at(p, left), out);
+    }
+    out
+}
+
+// Where a silent step inside c levels leads, level by level.
+fn far(s: Site, p: &[usize; WORDS], c: usize, next: usize, level: usize, set: usize) -> usize
+    requires { ⌜ Sound (now p) c ⌝ }
+    ensures { λ r. ⌜ ((N : Numbers) → r
+        ≡ targetOf s (riseAll N (framesOf (now (p .entry)) c) (Go next level set))) ⌝ }
+{
+    let o = climb(p, c, Silent { next, level, set });
+    sum(s.o, o.next)
+}
+
+// Where it leads that writes the variable of the block at the level m - 1: its state is counted from the first state of
+// the block's copy of the value written; level by level where the number may be too large.
+fn moved(s: Site, p: &[usize; WORDS], c: usize, next: usize, level: usize, set: usize, m: usize) -> usize
+    requires { ⌜ Sound (now p) c × ((next < 4294901760) × ((m ≡ blockIn (framesOf (now p) c) level) × (0 < m))) ⌝ }
+    ensures { λ r. ⌜ ((N : Numbers) → r
+        ≡ targetOf s (riseAll N (framesOf (now (p .entry)) c) (Go next level set))) ⌝ }
+{
+    let copy = place(set, field(p, m - 1, B), start_at(p, c) + next - start_at(p, m));
+    if FAR <= copy {
+        return far(s, p, c, next, level, set);
+    }
+    sum(s.o, start_at(p, m - 1) + copy)
+}
+
+// Where a silent step inside c levels leads: its state is counted from the first state of the innermost, or of the copy
+// of a block whose variable it writes.
+pub(crate) fn lead(s: Site, p: &[usize; WORDS], c: usize, next: usize, level: usize, set: usize) -> usize
+    requires { ⌜ Sound (now p) c ⌝ }
+    ensures { λ r. ⌜ ((N : Numbers) → r
+        ≡ targetOf s (riseAll N (framesOf (now (p .entry)) c) (Go next level set))) ⌝ }
+{
+    if FAR <= next {
+        return far(s, p, c, next, level, set);
+    }
+    let m = block_at(p, c, level);
+    if m == 0 {
+        return sum(s.o, start_at(p, c) + next);
+    }
+    moved(s, p, c, next, level, set, m)
+}
+
+// Where an exit of what is inside c levels leads: a frame that does not pass it on hands on what is written as it is.
+pub(crate) fn exit(
+    n: Numbers,
+    s: Site,
+    p: &[usize; WORDS],
+    c: usize,
+    kind: usize,
+    value: usize,
+    level: usize,
+    set: usize,
+) -> usize
+    requires { ⌜ Sound (now p) c ⌝ }
+    ensures { λ r. ⌜ r ≡ targetOf s (riseAll n (framesOf (now (p .entry)) c) (Exit kind value level set)) ⌝ }
+{
+    let mut up = up_at(p, c);
+    let mut answer = kind;
+    let mut result = value;
+    while 0 < up {
+        let i = up - 1;
+        let o = exits(n, frame_at(p, i), answer, result, 0, 0);
+        match o {
+            Out::Go { next, level: _, set: _ } => {
+                return lead(s, p, i, next, level, set);
+            }
+            Out::Exit { kind: k, value: x, level: _, set: _ } => {
+                answer = k;
+                result = x;
+                up = up_at(p, i);
+            }
+            Out::Say { said: _, next: _ } => {
+                return dead(s.n);
+            }
+            Out::Hear { at: _, kind: _, value: _ } => {
+                return dead(s.n);
+            }
+            Out::Stuck => {
+                return dead(s.n);
+            }
+        }
+    }
+    dead(s.n)
+}

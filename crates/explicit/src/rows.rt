@@ -1,0 +1,32 @@
+// Rows of the automaton in words: the silent word and the first edge of a state, and its edges.
+use automaton::row::{place, sum};
+ghost use mathlib.Core.Path.{_≡_};
+ghost use Prim.Native.Nat.{_%_};
+ghost use lib.ListN.{set};
+ghost use Rattle.explicit.specs.inner.Rows.{withEdge, withHead};
+
+// Word i becomes v, where there is such a word.
+pub(crate) fn put(words: &mut [u32], i: usize, v: usize)
+    ensures { λ r. ⌜ now (words .exit) ≡ set (now (words .entry)) i (v % 4294967296) ⌝ }
+{
+    if i < words.len() {
+        words[i] = (v % 4294967296) as u32;
+    }
+}
+
+// Edge e.
+pub(crate) fn write_edge(words: &mut [u32], n: usize, e: usize, letter: usize, target: usize)
+    ensures { λ r. ⌜ now (words .exit) ≡ withEdge (now (words .entry)) n e letter target ⌝ }
+{
+    let i = sum(place(6, n, 1), sum(e, e));
+    put(words, i, letter);
+    put(words, sum(i, 1), target);
+}
+
+// The silent word and the first edge of the state p.
+pub(crate) fn write_head(words: &mut [u32], n: usize, p: usize, e: usize, silent: usize)
+    ensures { λ r. ⌜ now (words .exit) ≡ withHead (now (words .entry)) n p e silent ⌝ }
+{
+    put(words, p, silent);
+    put(words, place(5, n, p), e);
+}

@@ -1,0 +1,30 @@
+-- A byte must be there before its kind is judged.
+use borrow.Author.Needs.{needs}
+use borrow.Author.Tests.{le-leb, lt-leb}
+use Rattle.records.specs.Head.{headOf}
+use Rattle.records.proofs.head.too_deep.Statement.{statement}
+use Rattle.records.proofs.head.too_deep.Tie as tie
+
+returns : tie.Need-returns
+unfolding headOf
+returns c = λ st N. rw (le-leb _ _ (c .if1 .taken))
+
+shared-slice-read-shape-of : tie.Need-shared-slice-read-shape-of
+shared-slice-read-shape-of c = search needs
+
+shape-of-requires : tie.Need-shape-of-requires
+shape-of-requires c κs = search needs
+
+deep-number-requires : tie.Need-deep-number-requires
+deep-number-requires c κs = search needs
+
+returns-2 : tie.Need-returns-2
+unfolding headOf
+returns-2 c = λ st N.
+    rw (lt-leb _ _ (c .before .before .before .if1 .left), ← c .before .shape-of .ensures)
+    (c .deep-number .ensures _)
+
+pub too-deep-spec : {M : Type 1} → statement M
+too-deep-spec =
+    tie.close (tie.spec
+    returns shared-slice-read-shape-of shape-of-requires deep-number-requires returns-2)
