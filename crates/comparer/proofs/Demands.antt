@@ -1,4 +1,4 @@
--- Demand 3, the length rules of document 02, proved for all sheets in order.
+-- Demand 3, the length rules, proved for all sheets in order.
 use Prim.Native.Nat.{_+_, _-_, _≤_}
 use native.Mathlib.Omega.{arith}
 use mathlib.Core.Path.{_≡_, sym, ap₂, subst}
@@ -16,7 +16,9 @@ use Rattle.sheet.specs.Meaning.{tyOf, termOf, typeOf}
 use Rattle.sheet.proofs.WellTyped.{accepted-typed}
 use Rattle.explicit.proofs.Ranges.{type-in, sheet-range}
 use Rattle.comparer.specs.Demands.{Comparable, DifferShort, PlayShort}
+use Rattle.comparer.specs.Plays.{Only}
 use Rattle.comparer.proofs.Lengths.{differ-short, play-short}
+use Rattle.comparer.proofs.Exactly.{not-alike}
 
 -- the type of the term of a sheet
 abbrev whole-type : Sheet → Ty
@@ -26,16 +28,21 @@ whole-type S = tyOf (S .numbers) (typeOf S)
 one-type : (S T : Sheet) → Comparable S T → whole-type S ≡ whole-type T
 one-type S T c = ap₂ tyOf (c .numbers) (c .types)
 
--- THEOREM: plays differ exactly when they differ within S + T - 1 moves
+-- THEOREM: the plays are the same exactly when no play of at most S + T - 1 moves belongs to exactly one
 pub differs : DifferShort
+unfolding Only
 differs S T A B c =
-    ((λ h u l. h u),
-     subst (λ X. ((u : Word) → length u ≤ size (whole-type S) (termOf S) + size X (termOf T) - 1 →
-           Complete (whole-type S) (termOf S) u ↔ Complete X (termOf T) u) →
+    ((λ h which u l o. not-alike which S T u o (h u)),
+     (λ none. subst (λ X.
+         ((u : Word) → length u ≤ size (whole-type S) (termOf S) + size X (termOf T) - 1 →
+           Complete (whole-type S) (termOf S) u → (Complete X (termOf T) u → ⊥) → ⊥) →
+         ((u : Word) → length u ≤ size (whole-type S) (termOf S) + size X (termOf T) - 1 →
+           Complete X (termOf T) u → (Complete (whole-type S) (termOf S) u → ⊥) → ⊥) →
          (u : Word) → Complete (whole-type S) (termOf S) u ↔ Complete X (termOf T) u)
        (one-type S T c)
        (differ-short (whole-type S) (termOf S) (termOf T) (S .numbers) (omega (arith, A .z-below))
-         (accepted-typed S A) typed (type-in (S .numbers) (A .z-above) (typeOf S)) (sheet-range S A) in-range))
+         (accepted-typed S A) typed (type-in (S .numbers) (A .z-above) (typeOf S)) (sheet-range S A) in-range)
+       (λ u l p q. none 0 u l (p, q)) (λ u l p q. none 1 u l (p, q))))
   where
     typed : Typed [] (termOf T) (whole-type S)
     typed = subst (λ X. Typed [] (termOf T) X) (sym (one-type S T c)) (accepted-typed T B)

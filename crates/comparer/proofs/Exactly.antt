@@ -3,42 +3,37 @@
 use Prim.Native.Nat.{ℕ, zero, suc}
 use native.Mathlib.Omega.{arith}
 use mathlib.Core.Path.{_≡_, refl, sym, ap, _∙_}
-use mathlib.Core.Logic.{_↔_}
-use mathlib.Core.List.{List}
+use mathlib.Core.Logic.{_↔_, _⊎_, inl, inr}
+use mathlib.Core.List.{List, [], _∷_, _++_}
 use mathlib.Core.Option.{Option, none}
-use lib.ListN.{length}
-use Rattle.language.specs.Move.{Word}
+use lib.ListN.{length, take}
+use Rattle.language.specs.Move.{Word, records}
 use Rattle.sheet.specs.Written.{Sheet}
 use Rattle.comparer.specs.Plays.{Alike, Only, FirstPlay}
 use Rattle.comparer.specs.Refusals.{Refusal, compareRefusal}
 use Rattle.comparer.specs.Promise.{SamePlays, ApartPlays, Decided, same, apart, Compared, ComparedBy}
 use Rattle.comparer.specs.Promise.{ComparePromise}
-use Rattle.comparer.specs.Demands.{Exact, ExactAnswer}
+use Rattle.comparer.specs.Demands.{Shown, Exact, ExactAnswer}
 use Rattle.comparer.specs.declared.Comparison.{Comparison}
 use Rattle.comparer.specs.declared.Comparison.the-variants.{Same, Apart, Refused}
 
 -- a play of exactly one is not alike
-not-alike : (which : ℕ) (S T : Sheet) (u : Word) → Only which S T u → Alike S T u → ⊥
+pub not-alike : (which : ℕ) (S T : Sheet) (u : Word) → Only which S T u → Alike S T u → ⊥
 unfolding Only
 not-alike zero S T u o a = o .1 (a .0 (o .0))
 not-alike (suc zero) S T u o a = o .1 (a .1 (o .0))
 not-alike (suc (suc k)) S T u o a = o
 
--- the numbers of an answer: which kind it is, the sheet and the moves
+-- which kind an answer is
 kind : Comparison → ℕ
 kind Same = 0
 kind (Apart which moves) = 1
 kind (Refused number sheet place) = 2
 
-whose : Comparison → ℕ
-whose Same = 0
-whose (Apart which moves) = which
-whose (Refused number sheet place) = 0
-
-long : Comparison → ℕ
-long Same = 0
-long (Apart which moves) = moves
-long (Refused number sheet place) = 0
+-- what is written before the rest of play space stands first in it
+stands-first : (xs ys : List ℕ) → take (length xs) (xs ++ ys) ≡ xs
+stands-first [] ys = refl
+stands-first (x ∷ xs) ys = ap (λ (y : List ℕ). x ∷ y) (stands-first xs ys)
 
 module _ (S T : Sheet) (space : List ℕ) (r : Comparison) (space′ : List ℕ) where
   same-if : Decided S T space r space′ → r ≡ Same → (u : Word) → Alike S T u
@@ -52,23 +47,22 @@ module _ (S T : Sheet) (space : List ℕ) (r : Comparison) (space′ : List ℕ)
   only-if (same d) h = d .answer
   only-if (apart d) h = absurd (not-alike (d .which) S T (d .play) (d .first .only) (h (d .play)))
 
-  first-if : Decided S T space r space′ → (which moves : ℕ) → r ≡ Apart which moves →
-      (u : Word) × (FirstPlay S T which u × (length u ≡ moves))
-  unfolding kind whose long
-  first-if (same d) which moves e =
-      let z : _≡_ {A = ℕ} 0 1 = ap kind (sym (d .answer) ∙ e) in
-      absurd (omega arith)
-  first-if (apart d) which moves e =
-      let w : d .which ≡ which = ap whose (sym (d .answer) ∙ e) in
-      let m : length (d .play) ≡ moves = ap long (sym (d .answer) ∙ e) in
-      (d .play, (rw w at (d .first), m))
+  one-of : Decided S T space r space′ → ((r ≡ Same) × ((u : Word) → Alike S T u)) ⊎ Shown S T r space′
+  one-of (same d) = inl (d .answer, d .plays)
+  one-of (apart d) = inr (record
+    { which = d .which
+    ; play = d .play
+    ; answer = d .answer
+    ; first = d .first
+    ; records-first = rw (d .written) (stands-first (records (S .numbers) (d .play)) _)
+    ; short = d .short })
 
 -- THEOREM: demand 2
 pub exact-answer : ExactAnswer
 unfolding ComparedBy
 exact-answer old new ws space r ws′ space′ p e = of (rw e at p)
   where
-    of : Compared old new ws space r ws′ space′ → Exact old new r
+    of : Compared old new ws space r ws′ space′ → Exact old new r space′
     of c =
         let S = c .first-sheet in
         let T = c .second-sheet in
@@ -77,6 +71,6 @@ exact-answer old new ws space r ws′ space′ p e = of (rw e at p)
           second-sheet = T;
           first-held = c .first-held;
           second-held = c .second-held;
-          same-exactly = (same-if S T space r space′ (c .decided), only-if S T space r space′ (c .decided));
-          apart-first = first-if S T space r space′ (c .decided)
+          decided = one-of S T space r space′ (c .decided);
+          same-exactly = (same-if S T space r space′ (c .decided), only-if S T space r space′ (c .decided))
         }

@@ -1,4 +1,4 @@
--- The length rules of document 02 for closed terms: two terms that differ in a play differ in a short one, and a term
+-- The length rules (demand 3) for closed terms: two terms that differ in a play differ in a short one, and a term
 -- with a complete play has a short one.
 use Prim.Native.Nat.{ℕ, _+_, _-_, _≤_, _<_}
 use native.Mathlib.Omega.{arith}
@@ -257,11 +257,14 @@ module _ (T : Ty) (M M′ : Term) where
       by (out a) (inl h) = absurd (omega arith)
       by dead (inl h) = absurd (omega arith)
 
-  -- THEOREM: terms whose complete plays of at most size + size - 1 moves are the same have the same complete plays
+  -- THEOREM: terms of which neither has a complete play of at most size + size - 1 moves that the other has not have the
+  -- same complete plays
   pub differ-short : (N : Numbers) → N .z ≤ 127 → Typed [] M T → Typed [] M′ T → TyIn N T → InRange N M →
-      InRange N M′ → ((u : Word) → length u ≤ size T M + size T M′ - 1 → Complete T M u ↔ Complete T M′ u) →
+      InRange N M′ →
+      ((u : Word) → length u ≤ size T M + size T M′ - 1 → Complete T M u → (Complete T M′ u → ⊥) → ⊥) →
+      ((u : Word) → length u ≤ size T M + size T M′ - 1 → Complete T M′ u → (Complete T M u → ⊥) → ⊥) →
       (u : Word) → Complete T M u ↔ Complete T M′ u
-  differ-short N few t t′ b r r′ same u =
+  differ-short N few t t′ b r r′ none-first none-second u =
       by (same-or-short N few total both both-closed ends (packed 0 total (begin T M))
         (packed middle total (begin T M′)) (packed-below 0 total room-first (begin T M))
         (packed-below middle total room-second (begin T M′)) (Complete T M) (Complete T M′)
@@ -274,5 +277,5 @@ module _ (T : Ty) (M M′ : Term) where
       short v l = omega (arith, spots-size T M, spots-size T M′)
       by : SameOrShort total (Complete T M) (Complete T M′) → Complete T M u ↔ Complete T M′ u
       by (inl h) = h u
-      by (inr (v, l, in-first c f)) = absurd (f (same v (short v l) .0 c))
-      by (inr (v, l, in-second c f)) = absurd (f (same v (short v l) .1 c))
+      by (inr (v, l, in-first c f)) = absurd (none-first v (short v l) c f)
+      by (inr (v, l, in-second c f)) = absurd (none-second v (short v l) c f)

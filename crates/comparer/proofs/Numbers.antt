@@ -1,4 +1,4 @@
--- Demand 1, of the numbers: follow and compare refuse by document 01's numbers and no others.
+-- Demand 1, of the numbers: check, follow and compare refuse by document 01's numbers and no others.
 use Prim.Native.Nat.{ℕ, _+_, _-_, _*_, _≤_}
 use native.Mathlib.Omega.{arith}
 use mathlib.Core.Path.{_≡_, refl}
@@ -8,7 +8,7 @@ use mathlib.Core.List.{List}
 use mathlib.Core.Option.{Option, none, some}
 use lib.Dec.{ltb}
 use Rattle.language.specs.Choice.{pick}
-use Rattle.sheet.specs.Reader.{Answer, got, refused, Whole, sheetOf, sizeOf, numbersAt}
+use Rattle.sheet.specs.Reader.{Answer, got, refused, Whole, sheetOf, sizeOf, numbersAt, checks, readSheet, rejected}
 use Rattle.comparer.specs.Records.{Given, moves, bad, parse}
 use Rattle.comparer.specs.Refusals.{Refusal, refusing, comparable, rootOf, onRead, onGiven, followRefusal}
 use Rattle.comparer.specs.Refusals.{compareRefusal}
@@ -69,9 +69,17 @@ compare-among old new words space =
         lent (comparable old new root other ty type-of-other) (ltb words (32 * (n + 1)))
           (ltb space (4 * (n - 1)))))
 
+-- check: the sheet's
+check-among : (s : List ℕ) (A : Answer Whole) → Caused A → (number place : ℕ) →
+    checks (numbersAt s) A ≡ rejected number place → FromCheck number
+unfolding checks Caused
+check-among s (got x ty w end) c number place e = let z : _≡_ {A = ℕ} 0 1 = cc in absurd (omega arith)
+check-among s (refused k p) c number place e = let q : k ≡ number = cc in rw (← q) c
+
 -- THEOREM: demand 1, of the numbers
 pub numbers-only : NumbersOnly
-unfolding Among
-numbers-only =
-    ((λ s play words x e. rw e at (follow-among s play words)),
-     (λ old new words space x e. rw e at (compare-among old new words space)))
+unfolding Among readSheet
+numbers-only = record
+  { of-check = λ s number place e. check-among s (sheetOf s) (sheet-caused s) number place e
+  ; of-follow = λ s play words x e. rw e at (follow-among s play words)
+  ; of-compare = λ old new words space x e. rw e at (compare-among old new words space) }

@@ -1,4 +1,4 @@
--- What compare promises allows one answer only.
+-- What follow and compare promise allows one answer only.
 use mathlib.Core.Path.{_≡_, refl, sym, ap, _∙_, subst}
 use mathlib.Core.Bool.{Bool, true, false}
 use mathlib.Core.Logic.{_⊎_, inl, inr}
@@ -6,6 +6,7 @@ use mathlib.Core.List.{List}
 use mathlib.Core.Option.{Option, none, some}
 use Prim.Native.Nat.{ℕ, zero, suc, _+_, _*_, _-_}
 use native.Mathlib.Omega.{arith}
+use native.Mathlib.Decide.{ℕ-discrete}
 use lib.ListN.{length}
 use lib.Dec.{ltb}
 use Rattle.language.specs.Choice.{pick}
@@ -18,8 +19,10 @@ use Rattle.sheet.specs.Reader.{Answer, got, refused, Whole, whole, sizeOf, numb
 use Rattle.sheet.specs.Reader.{accepted, readSheet, written}
 use Rattle.sheet.proofs.Right.{gives}
 use Rattle.comparer.specs.Plays.{Alike, Only, FirstPlay}
-use Rattle.comparer.specs.Refusals.{Refusal, refusing, comparable, rootOf, onRead, compareRefusal}
-use Rattle.comparer.specs.Promise.{Holds, Decided, same, apart, ComparedBy, ComparePromise}
+use Rattle.comparer.specs.Records.{moves}
+use Rattle.comparer.specs.Refusals.{Refusal, refusing, comparable, rootOf, onRead, followRefusal, compareRefusal}
+use Rattle.comparer.specs.Promise.{Holds, Begins, Counted, FollowedBy, Decided, same, apart, ComparedBy}
+use Rattle.comparer.specs.Demands.{FollowUnique, CompareUnique}
 use Rattle.comparer.specs.declared.Comparison.{Comparison}
 use Rattle.comparer.proofs.ReadSheets.{taken-got}
 use Rattle.comparer.proofs.ComparePlays.{as-one}
@@ -128,11 +131,9 @@ module _ (S T : Sheet) (A : Accepted S) (B : Accepted T) (e : S .numbers ≡ T .
       (h .answer ∙ rw (p, w) (sym (k .answer)), h .written ∙ rw p (sym (k .written)))
 
 -- THEOREM: what compare promises allows one answer only
-pub compare-unique : (old new ws space : List ℕ) {r r₂ : Comparison} {ws₁ ws₂ space₁ space₂ : List ℕ} →
-    ComparePromise old new ws space r ws₁ space₁ → ComparePromise old new ws space r₂ ws₂ space₂ →
-    (r ≡ r₂) × ((ws₁ ≡ ws₂) × (space₁ ≡ space₂))
+pub compare-unique : CompareUnique
 unfolding ComparedBy
-compare-unique old new ws space {r} {r₂} {ws₁} {ws₂} {space₁} {space₂} p q =
+compare-unique old new ws space r r₂ ws₁ ws₂ space₁ space₂ p q =
     go (compareRefusal old new (length ws) (length space)) refl p q
   where
     go : (x : Option Refusal) → compareRefusal old new (length ws) (length space) ≡ x →
@@ -150,3 +151,45 @@ compare-unique old new ws space {r} {r₂} {ws₁} {ws₂} {space₁} {space₂}
         let d : Decided S T space r₂ space₂ = rw (s, t) at (k .decided) in
         let o = one-decision S T (held-accepted (h .first-held)) (held-accepted (h .second-held)) n (h .decided) d in
         (o .0, (h .cleared ∙ sym (k .cleared), o .1))
+
+-- records read off a play are one list
+one-parse : {rs us : List (List ℕ)} → moves rs ≡ moves us → rs ≡ us
+one-parse e = cc
+
+-- counts of one play are one
+module _ {S : Sheet} {rs : List (List ℕ)} {m n : ℕ} {b d : Bool} (h : Counted S rs m b) (k : Counted S rs n d) where
+  one-count : m ≡ n
+  one-count = go (ℕ-discrete m n)
+    where
+      begun : Begins S rs 0 → m ≡ n
+      begun z =
+          let x = h .begins 0 (omega arith) z in
+          let y = k .begins 0 (omega arith) z in
+          omega (arith, k .begins m (h .within) (x .1) .0, h .begins n (k .within) (y .1) .0)
+      go : Dec (m ≡ n) → m ≡ n
+      go (yes e) = e
+      go (no e) = h .none (λ z. e (begun z)) ∙ sym (k .none (λ z. e (begun z)))
+
+  one-whole : b ≡ d
+  one-whole = go b d refl refl
+    where
+      go : (x y : Bool) → b ≡ x → d ≡ y → b ≡ d
+      go true true e f = e ∙ sym f
+      go true false e f = e ∙ sym (k .whole .1 (h .whole .0 e))
+      go false true e f = h .whole .1 (k .whole .0 f) ∙ sym f
+      go false false e f = e ∙ sym f
+
+-- THEOREM: what follow promises allows one answer only
+pub follow-unique : FollowUnique
+unfolding FollowedBy
+follow-unique s play ws r r₂ ws₁ ws₂ p q = go (followRefusal s play (length ws)) p q
+  where
+    go : (x : Option Refusal) → FollowedBy x s play ws r ws₁ → FollowedBy x s play ws r₂ ws₂ → (r ≡ r₂) × (ws₁ ≡ ws₂)
+    go (some x) h k = (h .0 ∙ sym (k .0), h .1 ∙ sym (k .1))
+    go none h k =
+        let e : k .sheet ≡ h .sheet = one-sheet (k .held) (h .held) in
+        let f : k .records ≡ h .records = one-parse (sym (k .parsed) ∙ h .parsed) in
+        let c : Counted (h .sheet) (h .records) (k .count) (k .complete) = rw (e, f) at (k .counted) in
+        let m : h .count ≡ k .count = one-count (h .counted) c in
+        let b : h .complete ≡ k .complete = one-whole (h .counted) c in
+        (h .answer ∙ rw (m, b) (sym (k .answer)), h .cleared ∙ sym (k .cleared))

@@ -1,60 +1,87 @@
--- The demands: of the numbers of refusals (1), of the answer (2), and the length rules (3), for all sheets in order.
+-- The demands (docs/DEMANDS.md), each a type: of the numbers of refusals and of what a promise leaves open (1), of the answer
+-- (2), and the length rules (3), for all bytes and for all sheets in order.
 use mathlib.Core.Path.{_≡_}
 use mathlib.Core.Logic.{_↔_, _⊎_}
 use mathlib.Core.List.{List}
 use mathlib.Core.Option.{none, some}
 use Prim.Native.Nat.{ℕ, _+_, _-_, _≤_}
-use lib.ListN.{length}
-use Rattle.language.specs.Move.{Word}
+use lib.ListN.{length, take}
+use Rattle.language.specs.Move.{Word, records}
 use Rattle.sheet.specs.Written.{Sheet}
 use Rattle.sheet.specs.Meaning.{typeOf}
 use Rattle.sheet.specs.Fine.{Accepted}
-use Rattle.comparer.specs.Plays.{CompletePlay, reckoned, Alike, FirstPlay}
+use Rattle.sheet.specs.Reader.{readSheet, rejected}
+use Rattle.comparer.specs.Plays.{CompletePlay, reckoned, Alike, Only, FirstPlay}
 use Rattle.comparer.specs.Refusals.{Refusal, followRefusal, compareRefusal}
-use Rattle.comparer.specs.Promise.{Holds, ComparePromise}
+use Rattle.comparer.specs.Promise.{Holds, FollowPromise, ComparePromise}
+use Rattle.comparer.specs.declared.Following.{Following}
 use Rattle.comparer.specs.declared.Comparison.{Comparison}
 use Rattle.comparer.specs.declared.Comparison.the-variants.{Same, Apart}
+
+-- Demand 1, of the numbers: check refuses by 1 to 11, follow also by 13 and 15, compare also by 12, 13 and 14
+abbrev pub CheckNumber : ℕ → Type 0
+CheckNumber k = (1 ≤ k) × (k ≤ 11)
+
+unfoldable pub FollowNumber : ℕ → Type 0
+FollowNumber k = CheckNumber k ⊎ ((k ≡ 13) ⊎ (k ≡ 15))
+
+unfoldable pub CompareNumber : ℕ → Type 0
+CompareNumber k = (1 ≤ k) × (k ≤ 14)
+
+pub record NumbersOnly : Type 0 where
+  pub of-check : (s : List ℕ) (number place : ℕ) → readSheet s ≡ rejected number place → CheckNumber number
+  pub of-follow : (s play : List ℕ) (words : ℕ) (x : Refusal) → followRefusal s play words ≡ some x →
+    FollowNumber (x .number)
+  pub of-compare : (old new : List ℕ) (words space : ℕ) (x : Refusal) → compareRefusal old new words space ≡ some x →
+    CompareNumber (x .number)
+
+-- Demand 1, of what is lent: a promise allows one answer and one state of everything lent
+abbrev pub FollowUnique : Type 0
+FollowUnique = (s play ws : List ℕ) (r r₂ : Following) (ws₁ ws₂ : List ℕ) → FollowPromise s play ws r ws₁ →
+  FollowPromise s play ws r₂ ws₂ → (r ≡ r₂) × (ws₁ ≡ ws₂)
+
+abbrev pub CompareUnique : Type 0
+CompareUnique = (old new ws space : List ℕ) (r r₂ : Comparison) (ws₁ ws₂ space₁ space₂ : List ℕ) →
+  ComparePromise old new ws space r ws₁ space₁ → ComparePromise old new ws space r₂ ws₂ space₂ →
+  (r ≡ r₂) × ((ws₁ ≡ ws₂) × (space₁ ≡ space₂))
+
+-- Demand 2. "Apart", with the sheet that has the first play of exactly one and its own number of moves; its records stand at
+-- the start of play space, and it has at most S + T - 1 moves
+pub record Shown (S T : Sheet) (r : Comparison) (space : List ℕ) : Type 0 where
+  pub which : ℕ
+  pub play : Word
+  pub answer : r ≡ Apart which (length play)
+  pub first : FirstPlay S T which play
+  pub records-first : take (length (records (S .numbers) play)) space ≡ records (S .numbers) play
+  pub short : length play ≤ reckoned S + reckoned T - 1
+
+-- either "same", and every play is of both sheets or of neither, or "apart" as above, and nothing else
+pub record Exact (old new : List ℕ) (r : Comparison) (space : List ℕ) : Type 0 where
+  pub first-sheet : Sheet
+  pub second-sheet : Sheet
+  pub first-held : Holds old first-sheet
+  pub second-held : Holds new second-sheet
+  pub decided : ((r ≡ Same) × ((u : Word) → Alike first-sheet second-sheet u)) ⊎ Shown first-sheet second-sheet r space
+  pub same-exactly : (r ≡ Same) ↔ ((u : Word) → Alike first-sheet second-sheet u)
+
+-- of whatever keeps compare's promise, where nothing is refused
+abbrev pub ExactAnswer : Type 0
+ExactAnswer = (old new ws space : List ℕ) (r : Comparison) (ws′ space′ : List ℕ) →
+  ComparePromise old new ws space r ws′ space′ → compareRefusal old new (length ws) (length space) ≡ none →
+  Exact old new r space′
 
 -- Demand 3. The ranges, the rules and the result types are equal, as they are where headings and result types are
 pub record Comparable (S T : Sheet) : Type 0 where
   pub numbers : S .numbers ≡ T .numbers
   pub types : typeOf S ≡ typeOf T
 
--- "plays differ exactly when they differ within S + T - 1 moves"
+-- the complete plays are the same exactly when no complete play of at most S + T - 1 moves belongs to exactly one sheet
 abbrev pub DifferShort : Type 0
 DifferShort = (S T : Sheet) → Accepted S → Accepted T → Comparable S T →
-  ((u : Word) → Alike S T u) ↔ ((u : Word) → length u ≤ reckoned S + reckoned T - 1 → Alike S T u)
+  ((u : Word) → Alike S T u) ↔
+    ((which : ℕ) (u : Word) → length u ≤ reckoned S + reckoned T - 1 → Only which S T u → ⊥)
 
--- "a sheet has a complete play exactly when it has one of at most S - 1 moves"
+-- a sheet has a complete play exactly when it has one of at most S - 1 moves
 abbrev pub PlayShort : Type 0
 PlayShort = (S : Sheet) → Accepted S →
   ((u : Word) × CompletePlay S u) ↔ ((u : Word) × (CompletePlay S u × (length u ≤ reckoned S - 1)))
-
--- Demand 1, of the numbers: check refuses by 1 to 11, follow also by 13 and 15, compare also by 12, 13 and 14.
-unfoldable pub FollowNumber : ℕ → Type 0
-FollowNumber k = ((1 ≤ k) × (k ≤ 11)) ⊎ ((k ≡ 13) ⊎ (k ≡ 15))
-
-unfoldable pub CompareNumber : ℕ → Type 0
-CompareNumber k = (1 ≤ k) × (k ≤ 14)
-
-abbrev pub NumbersOnly : Type 0
-NumbersOnly =
-    ((s play : List ℕ) (words : ℕ) (x : Refusal) → followRefusal s play words ≡ some x → FollowNumber (x .number))
-    × ((old new : List ℕ) (words space : ℕ) (x : Refusal) → compareRefusal old new words space ≡ some x →
-      CompareNumber (x .number))
-
--- Demand 2, of whatever keeps compare's promise: where nothing is refused, "same" exactly if the two sheets have the
--- same complete plays; "apart" exactly if they have not, with the first play of exactly one and its own number of moves
-pub record Exact (old new : List ℕ) (r : Comparison) : Type 0 where
-  pub first-sheet : Sheet
-  pub second-sheet : Sheet
-  pub first-held : Holds old first-sheet
-  pub second-held : Holds new second-sheet
-  pub same-exactly : (r ≡ Same) ↔ ((u : Word) → Alike first-sheet second-sheet u)
-  pub apart-first : (which moves : ℕ) → r ≡ Apart which moves →
-    (u : Word) × (FirstPlay first-sheet second-sheet which u × (length u ≡ moves))
-
-abbrev pub ExactAnswer : Type 0
-ExactAnswer = (old new ws space : List ℕ) (r : Comparison) (ws′ space′ : List ℕ) →
-  ComparePromise old new ws space r ws′ space′ → compareRefusal old new (length ws) (length space) ≡ none →
-  Exact old new r
