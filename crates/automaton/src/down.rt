@@ -15,7 +15,7 @@ ghost use mathlib.Core.List.{List};
 ghost use Prim.Native.Nat.{ℕ};
 
 // The exit with an answer.
-pub fn leaves(kind: usize, value: usize) -> Spot
+pub(crate) fn leaves(kind: usize, value: usize) -> Spot
     ensures { λ r. ⌜ r ≡ leavesOf kind value ⌝ }
 {
     let out = Out::Exit { kind, value, level: 0, set: 0 };
@@ -23,7 +23,7 @@ pub fn leaves(kind: usize, value: usize) -> Spot
 }
 
 // Position k of a fetch: its variable is read.
-pub fn in_fetch(t: &[u16], at: usize, k: usize) -> Spot
+pub(crate) fn in_fetch(t: &[u16], at: usize, k: usize) -> Spot
     ensures { λ r. ⌜ r ≡ inFetch (now (t .entry)) at k ⌝ }
 {
     let part = part_at(t, at, 0);
@@ -32,7 +32,7 @@ pub fn in_fetch(t: &[u16], at: usize, k: usize) -> Spot
 }
 
 // Position k of a sequence.
-pub fn in_seq(t: &[u16], at: usize, q: usize, x: usize, k: usize) -> Spot
+pub(crate) fn in_seq(t: &[u16], at: usize, q: usize, x: usize, k: usize) -> Spot
     ensures { λ r. ⌜ r ≡ inSeq (now (t .entry)) at q x k ⌝ }
 {
     let w = part_weight(t, at, 0);
@@ -47,7 +47,7 @@ pub fn in_seq(t: &[u16], at: usize, q: usize, x: usize, k: usize) -> Spot
 }
 
 // Position k of a loop.
-pub fn in_while(t: &[u16], at: usize, k: usize) -> Spot
+pub(crate) fn in_while(t: &[u16], at: usize, k: usize) -> Spot
     ensures { λ r. ⌜ r ≡ inWhile (now (t .entry)) at k ⌝ }
 {
     let w = part_weight(t, at, 0);
@@ -62,7 +62,7 @@ pub fn in_while(t: &[u16], at: usize, k: usize) -> Spot
 }
 
 // Position k of a choice: the test b weighs w, and the first branch m weighs v.
-pub fn cond_in(b: usize, m: usize, n: usize, w: usize, v: usize, q: usize, x: usize, k: usize) -> Spot
+pub(crate) fn cond_in(b: usize, m: usize, n: usize, w: usize, v: usize, q: usize, x: usize, k: usize) -> Spot
     ensures { λ r. ⌜ r ≡ condIn b m n w v q x k ⌝ }
 {
     if k < w {
@@ -78,7 +78,7 @@ pub fn cond_in(b: usize, m: usize, n: usize, w: usize, v: usize, q: usize, x: us
 }
 
 // Position k of the choice at a place.
-pub fn in_cond(t: &[u16], at: usize, q: usize, x: usize, k: usize) -> Spot
+pub(crate) fn in_cond(t: &[u16], at: usize, q: usize, x: usize, k: usize) -> Spot
     ensures { λ r. ⌜ r ≡ inCond (now (t .entry)) at q x k ⌝ }
 {
     let w = part_weight(t, at, 0);
@@ -87,7 +87,7 @@ pub fn in_cond(t: &[u16], at: usize, q: usize, x: usize, k: usize) -> Spot
 }
 
 // Position k of an operation: the left operand weighs w, and the right one v for each of the m values of the left.
-pub fn operate_in(left: usize, right: usize, w: usize, v: usize, op: usize, m: usize, k: usize) -> Spot
+pub(crate) fn operate_in(left: usize, right: usize, w: usize, v: usize, op: usize, m: usize, k: usize) -> Spot
     ensures { λ r. ⌜ r ≡ operateIn left right w v op m k ⌝ }
 {
     if k < w {
@@ -103,7 +103,7 @@ pub fn operate_in(left: usize, right: usize, w: usize, v: usize, op: usize, m: u
 }
 
 // Position k of the operation at a place.
-pub fn in_operate(t: &[u16], at: usize, k: usize) -> Spot
+pub(crate) fn in_operate(t: &[u16], at: usize, k: usize) -> Spot
     ensures { λ r. ⌜ r ≡ inOperate (now (t .entry)) at k ⌝ }
 {
     let w = part_weight(t, at, 0);
@@ -113,7 +113,7 @@ pub fn in_operate(t: &[u16], at: usize, k: usize) -> Spot
 }
 
 // Position k of an assignment: the expression e weighs w, and the variable v for each of its m values.
-pub fn assign_in(var: usize, e: usize, w: usize, v: usize, m: usize, k: usize) -> Spot
+pub(crate) fn assign_in(var: usize, e: usize, w: usize, v: usize, m: usize, k: usize) -> Spot
     ensures { λ r. ⌜ r ≡ assignIn var e w v m k ⌝ }
 {
     if k < w {
@@ -129,7 +129,7 @@ pub fn assign_in(var: usize, e: usize, w: usize, v: usize, m: usize, k: usize) -
 }
 
 // Position k of the assignment at a place.
-pub fn in_assign(t: &[u16], at: usize, k: usize) -> Spot
+pub(crate) fn in_assign(t: &[u16], at: usize, k: usize) -> Spot
     ensures { λ r. ⌜ r ≡ inAssign (now (t .entry)) at k ⌝ }
 {
     let w = part_weight(t, at, 1);
@@ -139,7 +139,7 @@ pub fn in_assign(t: &[u16], at: usize, k: usize) -> Spot
 }
 
 // Position k of a block that h blocks enclose.
-pub fn in_new(t: &[u16], at: usize, q: usize, x: usize, k: usize, h: usize) -> Spot
+pub(crate) fn in_new(t: &[u16], at: usize, q: usize, x: usize, k: usize, h: usize) -> Spot
     ensures { λ r. ⌜ r ≡ inNew (now (t .entry)) at q x k h ⌝ }
 {
     let w = part_weight(t, at, 0);

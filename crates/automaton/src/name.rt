@@ -24,21 +24,21 @@ pub fn said(kind: usize, id: usize, arg: usize, value: usize) -> Out
 }
 
 // A frame.
-pub fn framed(role: usize, base: usize, a: usize, b: usize, c: usize, d: usize) -> Frame
+pub(crate) fn framed(role: usize, base: usize, a: usize, b: usize, c: usize, d: usize) -> Frame
     ensures { λ r. ⌜ r ≡ framedOf role base a b c d ⌝ }
 {
     Frame { role, base, a, b, c, d }
 }
 
 // How many positions argument j has: its weight for each question.
-pub fn copies(t: &[u16], at: usize, j: usize) -> usize
+pub(crate) fn copies(t: &[u16], at: usize, j: usize) -> usize
     ensures { λ r. ⌜ r ≡ copiesOf (now (t .entry)) at j ⌝ }
 {
     place(questions(part_class(t, at, j), part_values(t, at, j)), part_weight(t, at, j), 0)
 }
 
 // How many positions n arguments from argument j on have.
-pub fn spots(t: &[u16], at: usize, j: usize, n: usize) -> usize
+pub(crate) fn spots(t: &[u16], at: usize, j: usize, n: usize) -> usize
     ensures { λ r. ⌜ r ≡ spotsOf (now (t .entry)) at j n ⌝ }
 {
     if n == 0 {
@@ -49,7 +49,7 @@ pub fn spots(t: &[u16], at: usize, j: usize, n: usize) -> usize
 }
 
 // The answer of number k of an argument.
-pub fn reply_here(id: usize, class: usize, values: usize, arg: usize, k: usize) -> Out
+pub(crate) fn reply_here(id: usize, class: usize, values: usize, arg: usize, k: usize) -> Out
     ensures { λ r. ⌜ r ≡ replyHere id class values arg k ⌝ }
 {
     if class == COMMAND {
@@ -62,7 +62,7 @@ pub fn reply_here(id: usize, class: usize, values: usize, arg: usize, k: usize) 
 }
 
 // Reply k of n arguments from argument j on.
-pub fn reply(t: &[u16], id: usize, at: usize, j: usize, n: usize, k: usize) -> Out
+pub(crate) fn reply(t: &[u16], id: usize, at: usize, j: usize, n: usize, k: usize) -> Out
     ensures { λ r. ⌜ r ≡ replyOf (now (t .entry)) id at j n k ⌝ }
 {
     if n == 0 {
@@ -92,7 +92,7 @@ pub fn arg_in(part: usize, class: usize, values: usize, w: usize, k: usize, base
 }
 
 // Position k of n arguments from argument j on; their positions begin at base, their replies at after.
-pub fn in_args(t: &[u16], at: usize, j: usize, n: usize, k: usize, base: usize, after: usize) -> Spot
+pub(crate) fn in_args(t: &[u16], at: usize, j: usize, n: usize, k: usize, base: usize, after: usize) -> Spot
     ensures { λ r. ⌜ r ≡ inArgs (now (t .entry)) at j n k base after ⌝ }
 {
     if n == 0 {
@@ -121,7 +121,7 @@ pub fn hear_answer(t: &[u16], at: usize, q: usize, x: usize, m: Move) -> Out
 }
 
 // A move at argument j: a question enters its copy of the argument.
-pub fn hear_question(t: &[u16], at: usize, j: usize, m: Move) -> Out
+pub(crate) fn hear_question(t: &[u16], at: usize, j: usize, m: Move) -> Out
     ensures { λ r. ⌜ r ≡ hearQuestion (now (t .entry)) at j m ⌝ }
 {
     if name_count(t, at) <= j {
@@ -137,7 +137,7 @@ pub fn hear_question(t: &[u16], at: usize, j: usize, m: Move) -> Out
 }
 
 // What follows a move at a name that waits.
-pub fn listen(t: &[u16], at: usize, q: usize, x: usize, m: Move) -> Out
+pub(crate) fn listen(t: &[u16], at: usize, q: usize, x: usize, m: Move) -> Out
     ensures { λ r. ⌜ r ≡ listenOf (now (t .entry)) at q x m ⌝ }
 {
     if m.id != name_id(t, at) {
@@ -161,7 +161,7 @@ pub fn waiting(t: &[u16], at: usize, q: usize, x: usize, m: Move) -> Out
 }
 
 // Position k of a name.
-pub fn in_name(t: &[u16], at: usize, q: usize, x: usize, k: usize) -> Spot
+pub(crate) fn in_name(t: &[u16], at: usize, q: usize, x: usize, k: usize) -> Spot
     ensures { λ r. ⌜ r ≡ inName (now (t .entry)) at q x k noMove ⌝ }
 {
     let id = name_id(t, at);

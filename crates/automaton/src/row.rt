@@ -11,7 +11,7 @@ pub const WEIGHT: usize = 1;
 pub const CLASS: usize = 2;
 pub const VALUES: usize = 3;
 pub const DETAIL: usize = 4;
-pub const PARTS: usize = 5;
+pub(crate) const PARTS: usize = 5;
 // How many they are.
 const WORDS: usize = 9;
 
@@ -32,7 +32,7 @@ pub fn cell(t: &[u16], at: usize, i: usize) -> usize
 }
 
 // The place of part j.
-pub fn part_at(t: &[u16], at: usize, j: usize) -> usize
+pub(crate) fn part_at(t: &[u16], at: usize, j: usize) -> usize
     ensures { λ r. ⌜ r ≡ word (now (t .entry)) at (5 + j) ⌝ }
 {
     let n = t.len();

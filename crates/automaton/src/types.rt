@@ -8,7 +8,7 @@ ghost use Rattle.automaton.specs.walk.Types.{valueAnswer, answerNumber};
 // The classes of types.
 pub const COMMAND: usize = 0;
 pub const EXPRESSION: usize = 1;
-pub const VARIABLE: usize = 2;
+pub(crate) const VARIABLE: usize = 2;
 
 // How many questions a type has.
 pub fn questions(class: usize, values: usize) -> usize
@@ -34,7 +34,7 @@ pub fn answers(class: usize, values: usize) -> usize
 }
 
 // The kind of question i.
-pub fn question_kind(class: usize, i: usize) -> usize
+pub(crate) fn question_kind(class: usize, i: usize) -> usize
     ensures { λ r. ⌜ r ≡ questionKind class i ⌝ }
 {
     if class == COMMAND {
@@ -50,7 +50,7 @@ pub fn question_kind(class: usize, i: usize) -> usize
 }
 
 // The value of question i.
-pub fn question_value(class: usize, i: usize) -> usize
+pub(crate) fn question_value(class: usize, i: usize) -> usize
     ensures { λ r. ⌜ r ≡ questionValue class i ⌝ }
 {
     if class == VARIABLE {
@@ -89,7 +89,7 @@ pub fn question_number(class: usize, values: usize, kind: usize, value: usize) -
 }
 
 // 1 more than a value that is answered; 0 where the answer is no such value.
-pub fn value_answer(values: usize, kind: usize, value: usize) -> usize
+pub(crate) fn value_answer(values: usize, kind: usize, value: usize) -> usize
     ensures { λ r. ⌜ r ≡ valueAnswer values kind value ⌝ }
 {
     if kind == VALUE {
@@ -102,7 +102,7 @@ pub fn value_answer(values: usize, kind: usize, value: usize) -> usize
 
 // 1 more than the number of an answer to the question q of value x; 0 where the type has no such question or the
 // question no such answer.
-pub fn answer_number(class: usize, values: usize, q: usize, x: usize, kind: usize, value: usize) -> usize
+pub(crate) fn answer_number(class: usize, values: usize, q: usize, x: usize, kind: usize, value: usize) -> usize
     ensures { λ r. ⌜ r ≡ answerNumber class values q x kind value ⌝ }
 {
     if class == COMMAND {

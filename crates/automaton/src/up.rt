@@ -12,7 +12,7 @@ ghost use Rattle.automaton.specs.walk.Up.{exitNew, exitsOf, goesOf};
 ghost use Rattle.automaton.specs.declared.Out.the-variants.{Go};
 
 // Done leads on.
-pub fn exit_done(kind: usize, next: usize, level: usize, set: usize) -> Out
+pub(crate) fn exit_done(kind: usize, next: usize, level: usize, set: usize) -> Out
     ensures { λ r. ⌜ r ≡ exitDone kind next level set ⌝ }
 {
     if kind == DONE {
@@ -22,7 +22,7 @@ pub fn exit_done(kind: usize, next: usize, level: usize, set: usize) -> Out
 }
 
 // A truth leads to a, and a falsehood to b, or out where b is 0.
-pub fn exit_truth(kind: usize, value: usize, a: usize, b: usize, level: usize, set: usize) -> Out
+pub(crate) fn exit_truth(kind: usize, value: usize, a: usize, b: usize, level: usize, set: usize) -> Out
     ensures { λ r. ⌜ r ≡ exitTruth kind value a b level set ⌝ }
 {
     if kind == VALUE {
@@ -40,7 +40,7 @@ pub fn exit_truth(kind: usize, value: usize, a: usize, b: usize, level: usize, s
 }
 
 // A value leads to its copy of the other part.
-pub fn exit_value(kind: usize, value: usize, f: Frame, level: usize, set: usize) -> Out
+pub(crate) fn exit_value(kind: usize, value: usize, f: Frame, level: usize, set: usize) -> Out
     ensures { λ r. ⌜ r ≡ exitValue kind value f level set ⌝ }
 {
     if kind == VALUE {
@@ -52,7 +52,7 @@ pub fn exit_value(kind: usize, value: usize, f: Frame, level: usize, set: usize)
 }
 
 // The result of an operator, where it has one.
-pub fn exit_operate(n: Numbers, kind: usize, value: usize, f: Frame, level: usize, set: usize) -> Out
+pub(crate) fn exit_operate(n: Numbers, kind: usize, value: usize, f: Frame, level: usize, set: usize) -> Out
     ensures { λ r. ⌜ r ≡ exitOperate n kind value f level set ⌝ }
 {
     if kind == VALUE {
@@ -71,7 +71,7 @@ pub fn exit_operate(n: Numbers, kind: usize, value: usize, f: Frame, level: usiz
 }
 
 // The answer ok of a variable ends its assignment.
-pub fn exit_assign(kind: usize, level: usize, set: usize) -> Out
+pub(crate) fn exit_assign(kind: usize, level: usize, set: usize) -> Out
     ensures { λ r. ⌜ r ≡ exitAssign kind level set ⌝ }
 {
     if kind == OK {
@@ -81,7 +81,7 @@ pub fn exit_assign(kind: usize, level: usize, set: usize) -> Out
 }
 
 // An answer to the question of this copy of an argument leads to the reply.
-pub fn exit_argument(kind: usize, value: usize, f: Frame, level: usize, set: usize) -> Out
+pub(crate) fn exit_argument(kind: usize, value: usize, f: Frame, level: usize, set: usize) -> Out
     ensures { λ r. ⌜ r ≡ exitArgument kind value f level set ⌝ }
 {
     let q = question_kind(f.b, f.d);
@@ -94,7 +94,7 @@ pub fn exit_argument(kind: usize, value: usize, f: Frame, level: usize, set: usi
 }
 
 // A block's own variable ends with it.
-pub fn exit_new(kind: usize, value: usize, f: Frame, level: usize, set: usize) -> Out
+pub(crate) fn exit_new(kind: usize, value: usize, f: Frame, level: usize, set: usize) -> Out
     ensures { λ r. ⌜ r ≡ exitNew kind value f level set ⌝ }
 {
     if level == f.a {

@@ -14,7 +14,7 @@ pub enum Parsed {
 }
 
 // How many bytes a record of a kind has, 0 where there is no such kind.
-pub fn width_of(kind: usize) -> usize
+pub(crate) fn width_of(kind: usize) -> usize
     ensures { λ r. ⌜ r ≡ widthOf kind ⌝ }
 {
     if kind < 5 {
@@ -27,7 +27,7 @@ pub fn width_of(kind: usize) -> usize
 }
 
 // How many records a play has.
-pub fn count_moves(play: &[u8]) -> Parsed
+pub(crate) fn count_moves(play: &[u8]) -> Parsed
     ensures { λ r. ⌜ r ≡ counted 0 (parse 0 (now (play .entry))) ⌝ }
 {
     let mut at = 0;
@@ -47,7 +47,7 @@ pub fn count_moves(play: &[u8]) -> Parsed
 }
 
 // The letter of a record's bytes.
-pub fn letter_from(kind: u8, id: u8, arg: u8, value: u8) -> usize
+pub(crate) fn letter_from(kind: u8, id: u8, arg: u8, value: u8) -> usize
     ensures { λ r. ⌜ r ≡ letterFrom kind id arg value ⌝ }
 {
     let place = kind as usize * 16777216 + id as usize * 65536 + arg as usize * 256;
@@ -58,7 +58,7 @@ pub fn letter_from(kind: u8, id: u8, arg: u8, value: u8) -> usize
 }
 
 // The letter of the record with which the bytes begin.
-pub fn first_letter(s: &[u8]) -> usize
+pub(crate) fn first_letter(s: &[u8]) -> usize
     ensures { λ r. ⌜ r ≡ firstLetter (now (s .entry)) ⌝ }
 {
     letter_from(byte_at(s, 0), byte_at(s, 1), byte_at(s, 2), byte_at(s, 3))

@@ -2,7 +2,7 @@ ghost use mathlib.Core.Path.{_≡_};
 ghost use Prim.Native.Nat.{ℕ, _+_, _*_, _≤_};
 ghost use lib.ListN.{length, take};
 ghost use mathlib.Core.List.{List};
-ghost use Rattle.dfa.specs.Spelled.{Trail, Spelled, Written, Spelling};
+ghost use Rattle.dfa.specs.Spelled.{Trail, Spelled, Spelling};
 use crate::words::{at, put};
 
 // The number of letters of the word of entry k.
@@ -15,27 +15,6 @@ fn depth(work: &[u32], n: usize, k: usize) -> usize
     while 0 < e {
         e = at(work, n + 4 * e + 2);
         d += 1;
-    }
-    d
-}
-
-// The word of entry k, its first letter first, at the front of out: its length. Nothing is written where out is
-// shorter.
-pub fn trace(work: &[u32], n: usize, k: usize, out: &mut [u32]) -> usize
-    requires { ⌜ Trail n (now work) k ⌝ }
-    ensures { λ r. ⌜ ((u : List ℕ) → Spelled n (now (work .entry)) k u
-        → (r ≡ length u) × (length u ≤ length (now (out .entry)) → Written u (now (out .exit)))) ⌝ }
-{
-    let d = depth(work, n, k);
-    if out.len() < d {
-        return d;
-    }
-    let mut i = d;
-    let mut e = k;
-    while 0 < e {
-        i -= 1;
-        put(out, i, at(work, n + 4 * e + 3));
-        e = at(work, n + 4 * e + 2);
     }
     d
 }

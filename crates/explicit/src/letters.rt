@@ -13,7 +13,7 @@ ghost use Rattle.explicit.specs.inner.Moves.{codeAt, letterOf, questionL
 ghost use Rattle.explicit.specs.inner.Moves.{earOf};
 
 // The value of number r in the order of the signed values.
-pub fn code_at(n: Numbers, r: usize) -> usize
+pub(crate) fn code_at(n: Numbers, r: usize) -> usize
     ensures { λ x. ⌜ x ≡ codeAt n r ⌝ }
 {
     let z = n.z as usize;
@@ -24,7 +24,7 @@ pub fn code_at(n: Numbers, r: usize) -> usize
 }
 
 // The rank of a value.
-pub fn rank_of(n: Numbers, value: usize) -> usize
+pub(crate) fn rank_of(n: Numbers, value: usize) -> usize
     ensures { λ r. ⌜ r ≡ rank n (value % 65536) ⌝ }
 {
     let z = n.z as usize;
@@ -39,7 +39,7 @@ pub fn rank_of(n: Numbers, value: usize) -> usize
 }
 
 // The letter of a move.
-pub fn letter_of(n: Numbers, m: Move) -> usize
+pub(crate) fn letter_of(n: Numbers, m: Move) -> usize
     ensures { λ r. ⌜ r ≡ letterOf n m ⌝ }
 {
     let place = m.kind % 8 * 16777216 + m.id % 256 * 65536 + m.arg % 256 * 256;
@@ -51,7 +51,7 @@ pub fn letter_of(n: Numbers, m: Move) -> usize
 
 // How many values a question of a kind has at a type: none where it is no question of the type, and one where it
 // carries no value.
-pub fn question_limit(class: usize, values: usize, kind: usize) -> usize
+pub(crate) fn question_limit(class: usize, values: usize, kind: usize) -> usize
     ensures { λ r. ⌜ r ≡ questionLimit class values kind ⌝ }
 {
     if class == COMMAND {
@@ -76,7 +76,7 @@ pub fn question_limit(class: usize, values: usize, kind: usize) -> usize
 }
 
 // The same for the answers of a kind to the question q of value x.
-pub fn answer_limit(class: usize, values: usize, q: usize, x: usize, kind: usize) -> usize
+pub(crate) fn answer_limit(class: usize, values: usize, q: usize, x: usize, kind: usize) -> usize
     ensures { λ r. ⌜ r ≡ answerLimit class values q x kind ⌝ }
 {
     if class == COMMAND {
@@ -112,7 +112,7 @@ pub fn answer_limit(class: usize, values: usize, q: usize, x: usize, kind: usize
 }
 
 // The kind of the answers to the question q at a type.
-pub fn answer_kind(class: usize, q: usize) -> usize
+pub(crate) fn answer_kind(class: usize, q: usize) -> usize
     ensures { λ r. ⌜ r ≡ answerKind class q ⌝ }
 {
     if class == COMMAND {
@@ -145,7 +145,7 @@ pub fn limit(t: &[u16], e: Ear, kind: usize, arg: usize) -> usize
 }
 
 // Whom the state k waits for.
-pub fn ear_of(t: &[u16], state: usize, at: usize, kind: usize, value: usize) -> Ear
+pub(crate) fn ear_of(t: &[u16], state: usize, at: usize, kind: usize, value: usize) -> Ear
     ensures { λ r. ⌜ r ≡ earOf (now (t .entry)) state at kind value ⌝ }
 {
     if kind == OPENING {

@@ -165,7 +165,7 @@ fn enter(t: &[u16], root: usize, p: &mut [usize; WORDS], c: usize, k: usize) -> 
 }
 
 // From a path of c levels to one of a state before k to that of the state k.
-pub fn go_to(t: &[u16], root: usize, p: &mut [usize; WORDS], c: usize, k: usize) -> Stop
+pub(crate) fn go_to(t: &[u16], root: usize, p: &mut [usize; WORDS], c: usize, k: usize) -> Stop
     requires { ⌜ Kept (now t) root (now p) c k × (k < 65536) ⌝ }
     ensures { λ r. ⌜ Arrived (now (t .entry)) root (now (p .exit)) (r .levels) k (r .out) ⌝ }
 {

@@ -32,7 +32,7 @@ fn opened(t: &[u16], root: usize, m: Move) -> Out
 }
 
 // The start: it waits for the question, or what follows the move that is given.
-pub fn at_start(t: &[u16], root: usize, m: Move) -> Out
+pub(crate) fn at_start(t: &[u16], root: usize, m: Move) -> Out
     ensures { λ r. ⌜ r ≡ atStart (now (t .entry)) root m ⌝ }
 {
     if m.kind == NO_MOVE {
@@ -55,21 +55,21 @@ fn replied(class: usize, values: usize, k: usize) -> Move
 }
 
 // The first of the states that answer.
-pub fn after_of(t: &[u16], root: usize) -> usize
+pub(crate) fn after_of(t: &[u16], root: usize) -> usize
     ensures { λ r. ⌜ r ≡ afterOf (now (t .entry)) root ⌝ }
 {
     place(questions(cell(t, root, CLASS), cell(t, root, VALUES)), cell(t, root, WEIGHT), 1)
 }
 
 // How many states the sheet has but the end.
-pub fn spots_of(t: &[u16], root: usize) -> usize
+pub(crate) fn spots_of(t: &[u16], root: usize) -> usize
     ensures { λ r. ⌜ r ≡ spotsOf (now (t .entry)) root ⌝ }
 {
     sum(after_of(t, root), answers(cell(t, root, CLASS), cell(t, root, VALUES)))
 }
 
 // Where the state k is: the start, a copy of the term, or an answer.
-pub fn sheet_spot(t: &[u16], root: usize, k: usize) -> Spot
+pub(crate) fn sheet_spot(t: &[u16], root: usize, k: usize) -> Spot
     ensures { λ r. ⌜ r ≡ sheetSpot (now (t .entry)) root k noMove ⌝ }
 {
     if k == 0 {

@@ -4,7 +4,7 @@ ghost use mathlib.Core.Path.{_≡_};
 ghost use Prim.Native.Nat.{_<_};
 ghost use lib.IntN.{pos, natAbs, _-ℤ_};
 ghost use lib.Signed.{mag};
-ghost use Rattle.language.specs.Number.{numbers, modulo, code, signed, fromByte, toByte, inRange};
+ghost use Rattle.language.specs.Number.{numbers, modulo, code, signed, fromByte, inRange};
 
 // How many numbers there are.
 pub fn numbers(n: Numbers) -> u16
@@ -14,14 +14,14 @@ pub fn numbers(n: Numbers) -> u16
 }
 
 // The number that `a` minus `b` is.
-pub fn minus(a: u16, b: u16) -> i64
+pub(crate) fn minus(a: u16, b: u16) -> i64
     ensures { λ r. ⌜ r ≡ pos a -ℤ pos b ⌝ }
 {
     (a as i64) - (b as i64)
 }
 
 // v itself, or, below 0, how far it lies below -1.
-pub fn magnitude(v: i64) -> u64
+pub(crate) fn magnitude(v: i64) -> u64
     ensures { λ r. ⌜ r ≡ mag v ⌝ }
 {
     if v < 0 {
@@ -31,7 +31,7 @@ pub fn magnitude(v: i64) -> u64
 }
 
 // The distance from 0.
-pub fn absolute(v: i64) -> u64
+pub(crate) fn absolute(v: i64) -> u64
     ensures { λ r. ⌜ r ≡ natAbs v ⌝ }
 {
     if v < 0 {
@@ -41,7 +41,7 @@ pub fn absolute(v: i64) -> u64
 }
 
 // The remainder of a division rounded down.
-pub fn modulo(v: i64, n: u16) -> u16
+pub(crate) fn modulo(v: i64, n: u16) -> u16
     requires { ⌜ 0 < n ⌝ }
     ensures { λ r. ⌜ r ≡ modulo v n ⌝ }
 {
@@ -70,20 +70,13 @@ pub fn signed(n: Numbers, c: u16) -> i64
 }
 
 // The number that a byte stands for, in two's complement.
-pub fn from_byte(b: u8) -> i64
+pub(crate) fn from_byte(b: u8) -> i64
     ensures { λ r. ⌜ r ≡ fromByte b ⌝ }
 {
     if b < 128 {
         return b as i64;
     }
     minus(b as u16, 256)
-}
-
-// The byte of a number.
-pub fn to_byte(v: i64) -> u8
-    ensures { λ r. ⌜ r ≡ toByte v ⌝ }
-{
-    modulo(v, 256) as u8
 }
 
 // Whether a byte stands for a number from -Z to Z.
@@ -101,11 +94,4 @@ pub fn code_of_byte(n: Numbers, b: u8) -> u16
     ensures { λ r. ⌜ r ≡ code n (fromByte b) ⌝ }
 {
     code(n, from_byte(b))
-}
-
-// The byte of the number that has a code.
-pub fn byte_of_code(n: Numbers, c: u16) -> u8
-    ensures { λ r. ⌜ r ≡ toByte (signed n c) ⌝ }
-{
-    to_byte(signed(n, c))
 }

@@ -19,7 +19,7 @@ pub enum Outcome {
 }
 
 // The exact sum.
-pub fn add(x: i64, y: i64) -> i64
+pub(crate) fn add(x: i64, y: i64) -> i64
     requires { ⌜ (natAbs x ≤ 65535) × (natAbs y ≤ 65535) ⌝ }
     ensures { λ r. ⌜ r ≡ x +ℤ y ⌝ }
 {
@@ -27,7 +27,7 @@ pub fn add(x: i64, y: i64) -> i64
 }
 
 // The exact difference.
-pub fn sub(x: i64, y: i64) -> i64
+pub(crate) fn sub(x: i64, y: i64) -> i64
     requires { ⌜ (natAbs x ≤ 65535) × (natAbs y ≤ 65535) ⌝ }
     ensures { λ r. ⌜ r ≡ x -ℤ y ⌝ }
 {
@@ -35,7 +35,7 @@ pub fn sub(x: i64, y: i64) -> i64
 }
 
 // The exact product.
-pub fn mul(x: i64, y: i64) -> i64
+pub(crate) fn mul(x: i64, y: i64) -> i64
     requires { ⌜ (natAbs x ≤ 65535) × (natAbs y ≤ 65535) ⌝ }
     ensures { λ r. ⌜ r ≡ x *ℤ y ⌝ }
 {
@@ -43,7 +43,7 @@ pub fn mul(x: i64, y: i64) -> i64
 }
 
 // The exact remainder, with the sign of x.
-pub fn rem(x: i64, y: i64) -> i64
+pub(crate) fn rem(x: i64, y: i64) -> i64
     requires { ⌜ (natAbs x ≤ 65535) × (natAbs y ≤ 65535) ⌝ }
     requires { ⌜ (natAbs y ≡ 0 → ⊥) ⌝ }
     ensures { λ r. ⌜ r ≡ remZ x y ⌝ }
@@ -61,7 +61,7 @@ fn kept(n: Numbers, v: i64) -> Outcome
 }
 
 // A result as the overflow rule takes it.
-pub fn fit(n: Numbers, v: i64) -> Outcome
+pub(crate) fn fit(n: Numbers, v: i64) -> Outcome
     ensures { λ r. ⌜ r ≡ outcome (fit n v) ⌝ }
 {
     if n.rule == 0 {

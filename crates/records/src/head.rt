@@ -42,7 +42,7 @@ pub fn byte_at(s: &[u8], at: usize) -> u8
 }
 
 // The word at a place, 0 past the end.
-pub fn word_at(t: &[u16], at: usize) -> u16
+pub(crate) fn word_at(t: &[u16], at: usize) -> u16
     ensures { λ r. ⌜ r ≡ getD (now (t .entry)) at 0 ⌝ }
 {
     if at < t.len() { t[at] } else { 0 }
@@ -56,7 +56,7 @@ pub fn standing_of(st: &[u16; 255], id: u8) -> u16
 }
 
 // The byte at `at`, which must be below `limit`.
-pub fn byte_below(s: &[u8], at: usize, limit: u16) -> Byte
+pub(crate) fn byte_below(s: &[u8], at: usize, limit: u16) -> Byte
     ensures { λ r. ⌜ r ≡ byteOf (now (s .entry)) at limit ⌝ }
 {
     if s.len() <= at {
@@ -70,7 +70,7 @@ pub fn byte_below(s: &[u8], at: usize, limit: u16) -> Byte
 }
 
 // The same record with other body bytes.
-pub fn with_body(r: Record, a: u8, b: u16) -> Record
+pub(crate) fn with_body(r: Record, a: u8, b: u16) -> Record
     ensures { λ x. ⌜ x ≡ withBody r a b ⌝ }
 {
     let rule = r.rule;
@@ -78,7 +78,7 @@ pub fn with_body(r: Record, a: u8, b: u16) -> Record
 }
 
 // A body of one byte, which must be below `limit`.
-pub fn limited_body(s: &[u8], r: Record, limit: u16) -> Head
+pub(crate) fn limited_body(s: &[u8], r: Record, limit: u16) -> Head
     requires { ⌜ r .place < 65536 ⌝ }
     ensures { λ x. ⌜ x ≡ limited (now (s .entry)) r limit ⌝ }
 {
@@ -91,7 +91,7 @@ pub fn limited_body(s: &[u8], r: Record, limit: u16) -> Head
 }
 
 // A number from -Z to Z.
-pub fn constant_body(s: &[u8], n: Numbers, r: Record) -> Head
+pub(crate) fn constant_body(s: &[u8], n: Numbers, r: Record) -> Head
     requires { ⌜ r .place < 65536 ⌝ }
     ensures { λ x. ⌜ x ≡ constant (now (s .entry)) n r ⌝ }
 {
@@ -109,7 +109,7 @@ pub fn constant_body(s: &[u8], n: Numbers, r: Record) -> Head
 }
 
 // A use of an id whose standing is `c`, neither free nor retired.
-pub fn used_record(s: &[u8], r: Record, id: u8, c: u16) -> Record
+pub(crate) fn used_record(s: &[u8], r: Record, id: u8, c: u16) -> Record
     ensures { λ x. ⌜ x ≡ used (now (s .entry)) r id c ⌝ }
 {
     let rule = r.rule;
@@ -121,7 +121,7 @@ pub fn used_record(s: &[u8], r: Record, id: u8, c: u16) -> Record
 }
 
 // A use: refused where the id is free or retired.
-pub fn use_body(s: &[u8], st: &[u16; 255], r: Record) -> Head
+pub(crate) fn use_body(s: &[u8], st: &[u16; 255], r: Record) -> Head
     requires { ⌜ r .place < 65536 ⌝ }
     ensures { λ x. ⌜ x ≡ useOf (now (s .entry)) (now (st .entry)) r ⌝ }
 {
@@ -143,7 +143,7 @@ pub fn use_body(s: &[u8], st: &[u16; 255], r: Record) -> Head
 }
 
 // The data of a new on an id.
-pub fn data_body(s: &[u8], r: Record, id: u8) -> Head
+pub(crate) fn data_body(s: &[u8], r: Record, id: u8) -> Head
     requires { ⌜ r .place < 65536 ⌝ }
     ensures { λ x. ⌜ x ≡ dataByte (now (s .entry)) r id ⌝ }
 {
@@ -161,7 +161,7 @@ pub fn data_body(s: &[u8], r: Record, id: u8) -> Head
 }
 
 // A new: refused where the id is declared or retired.
-pub fn new_body(s: &[u8], st: &[u16; 255], r: Record) -> Head
+pub(crate) fn new_body(s: &[u8], st: &[u16; 255], r: Record) -> Head
     requires { ⌜ r .place < 65536 ⌝ }
     ensures { λ x. ⌜ x ≡ newOf (now (s .entry)) (now (st .entry)) r ⌝ }
 {
@@ -183,7 +183,7 @@ pub fn new_body(s: &[u8], st: &[u16; 255], r: Record) -> Head
 }
 
 // The body of a record, by its rule.
-pub fn body_at(rule: Rule, s: &[u8], st: &[u16; 255], n: Numbers, r: Record) -> Head
+pub(crate) fn body_at(rule: Rule, s: &[u8], st: &[u16; 255], n: Numbers, r: Record) -> Head
     requires { ⌜ r .place < 65536 ⌝ }
     ensures { λ x. ⌜ x ≡ bodyOf rule (now (s .entry)) (now (st .entry)) n r ⌝ }
 {
@@ -204,7 +204,7 @@ pub fn body_at(rule: Rule, s: &[u8], st: &[u16; 255], n: Numbers, r: Record) -> 
 }
 
 // A record of which only the kind byte has been read.
-pub fn blank_record(at: usize, kind: u8, body: u8, parts: u8, rule: Rule) -> Record
+pub(crate) fn blank_record(at: usize, kind: u8, body: u8, parts: u8, rule: Rule) -> Record
     requires { ⌜ at < 65536 ⌝ }
     ensures { λ x. ⌜ x ≡ blank at kind body parts rule ⌝ }
 {

@@ -19,7 +19,7 @@ pub fn put(t: &mut [u16], i: usize, v: u16)
 }
 
 // Word i of the row at a place.
-pub fn cell_at(place: usize, i: usize) -> usize
+pub(crate) fn cell_at(place: usize, i: usize) -> usize
     requires { ⌜ (place < 65536) × (i < 65536) ⌝ }
     ensures { λ r. ⌜ r ≡ cell place i ⌝ }
 {
@@ -27,7 +27,7 @@ pub fn cell_at(place: usize, i: usize) -> usize
 }
 
 // Stores v in word i of the row at a place, if the table reaches that far.
-pub fn put_cell(t: &mut [u16], place: usize, i: usize, v: u16)
+pub(crate) fn put_cell(t: &mut [u16], place: usize, i: usize, v: u16)
     requires { ⌜ (place < 65536) × (i < 65536) ⌝ }
     ensures { λ r. ⌜ now (t .exit) ≡ set (now (t .entry)) (cell place i) v ⌝ }
 {
@@ -36,7 +36,7 @@ pub fn put_cell(t: &mut [u16], place: usize, i: usize, v: u16)
 }
 
 // The kind in a record's row.
-pub fn row_kind(rule: Rule, r: Record) -> u16
+pub(crate) fn row_kind(rule: Rule, r: Record) -> u16
     ensures { λ x. ⌜ x ≡ rowKind rule r ⌝ }
 {
     let kind = r.kind as u16;
@@ -57,7 +57,7 @@ pub fn row_kind(rule: Rule, r: Record) -> u16
 }
 
 // The class of a type: 0 command, 1 expression, 2 variable.
-pub fn class_of(ty: u8) -> u16
+pub(crate) fn class_of(ty: u8) -> u16
     ensures { λ r. ⌜ r ≡ classOf ty ⌝ }
 {
     if ty == 0 {
@@ -67,7 +67,7 @@ pub fn class_of(ty: u8) -> u16
 }
 
 // The detail of a use: of a private variable its level, of a name its id and 256 times the number of its arguments.
-pub fn use_detail(r: Record) -> u16
+pub(crate) fn use_detail(r: Record) -> u16
     ensures { λ x. ⌜ x ≡ useDetail r ⌝ }
 {
     let b = r.b;
@@ -78,7 +78,7 @@ pub fn use_detail(r: Record) -> u16
 }
 
 // The detail in a record's row.
-pub fn detail_of(rule: Rule, n: Numbers, r: Record) -> u16
+pub(crate) fn detail_of(rule: Rule, n: Numbers, r: Record) -> u16
     ensures { λ x. ⌜ x ≡ detail rule n r ⌝ }
 {
     match rule {
@@ -98,7 +98,7 @@ pub fn detail_of(rule: Rule, n: Numbers, r: Record) -> u16
 }
 
 // A weight, held at 4,097.
-pub fn held(weight: u32) -> u16
+pub(crate) fn held(weight: u32) -> u16
     ensures { λ r. ⌜ r ≡ min weight 4097 ⌝ }
 {
     if 4097 <= weight {

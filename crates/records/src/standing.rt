@@ -4,21 +4,21 @@ ghost use Prim.Native.Nat.{_+_, _≤_, _<_};
 ghost use Rattle.records.specs.Standing.{isVariable, variableStanding, levelOf, dataOf, declaredStanding, recordOf};
 
 // Of an id that is neither free nor retired: whether it is an enclosing variable.
-pub fn is_variable(c: u16) -> bool
+pub(crate) fn is_variable(c: u16) -> bool
     ensures { λ r. ⌜ r ≡ isVariable c ⌝ }
 {
     if c < 256 { true } else { false }
 }
 
 // The variable of a new that `level` news enclose; it holds truths, 1, or numbers, 2.
-pub fn variable_standing(level: u8, holds: u16) -> u16
+pub(crate) fn variable_standing(level: u8, holds: u16) -> u16
     requires { ⌜ holds ≤ 2 ⌝ }
     ensures { λ r. ⌜ r ≡ variableStanding level holds ⌝ }
 {
     1 + 2 * (level as u16) + holds
 }
 
-pub fn level_of(c: u16) -> u16
+pub(crate) fn level_of(c: u16) -> u16
     ensures { λ r. ⌜ r ≡ levelOf c ⌝ }
 {
     if c < 2 {
@@ -27,7 +27,7 @@ pub fn level_of(c: u16) -> u16
     (c - 2) / 2
 }
 
-pub fn data_of(c: u16) -> u16
+pub(crate) fn data_of(c: u16) -> u16
     ensures { λ r. ⌜ r ≡ dataOf c ⌝ }
 {
     1 + c % 2
@@ -42,7 +42,7 @@ pub fn declared_standing(p: usize) -> u16
 }
 
 // The place of the record that declares the id.
-pub fn record_of(c: u16) -> usize
+pub(crate) fn record_of(c: u16) -> usize
     ensures { λ r. ⌜ (r ≡ recordOf c) × (r < 65536) ⌝ }
 {
     if c < 256 {

@@ -8,14 +8,14 @@ ghost use Prim.Native.Nat.{_+_, _≤_, _<_};
 ghost use Rattle.records.specs.Rule.{operandType, resultType, accepts, typeOf};
 
 // The type of an operator's operands.
-pub fn operand_type(op: u8) -> u8
+pub(crate) fn operand_type(op: u8) -> u8
     ensures { λ r. ⌜ r ≡ operandType op ⌝ }
 {
     if op < 6 { 2 } else { 1 }
 }
 
 // The type of its result.
-pub fn result_type(op: u8) -> u8
+pub(crate) fn result_type(op: u8) -> u8
     ensures { λ r. ⌜ r ≡ resultType op ⌝ }
 {
     if op < 4 { 2 } else { 1 }

@@ -41,7 +41,7 @@ pub fn sat_mul(a: u32, b: u32) -> u32
 }
 
 // The number of values of a type's data.
-pub fn values_of(n: Numbers, ty: u16) -> u16
+pub(crate) fn values_of(n: Numbers, ty: u16) -> u16
     ensures { λ r. ⌜ (r ≡ values n ty) × (r ≤ 511) ⌝ }
 {
     match ty {
@@ -75,7 +75,7 @@ pub fn answers_of(n: Numbers, ty: u8) -> u32
 }
 
 // By what the weight of part j is multiplied, where the part has type ty and the one before it prev.
-pub fn factor_of(rule: Rule, n: Numbers, r: Record, j: u8, prev: u8, ty: u8) -> u32
+pub(crate) fn factor_of(rule: Rule, n: Numbers, r: Record, j: u8, prev: u8, ty: u8) -> u32
     ensures { λ x. ⌜ x ≡ factor rule n r j prev ty ⌝ }
 {
     match rule {
@@ -105,7 +105,7 @@ pub fn factor_of(rule: Rule, n: Numbers, r: Record, j: u8, prev: u8, ty: u8) -> 
 }
 
 // What a part of type ty adds besides.
-pub fn extra_of(rule: Rule, n: Numbers, ty: u8) -> u32
+pub(crate) fn extra_of(rule: Rule, n: Numbers, ty: u8) -> u32
     ensures { λ x. ⌜ x ≡ extra rule n ty ⌝ }
 {
     match rule {
@@ -125,7 +125,7 @@ pub fn extra_of(rule: Rule, n: Numbers, ty: u8) -> u32
 }
 
 // The weight of a record without its parts.
-pub fn own_of(rule: Rule) -> u32
+pub(crate) fn own_of(rule: Rule) -> u32
     ensures { λ x. ⌜ x ≡ own rule ⌝ }
 {
     match rule {

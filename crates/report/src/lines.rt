@@ -62,7 +62,7 @@ pub fn sizes(out: &mut [u8], at: usize, old: &[u8], new: &[u8]) -> usize
 }
 
 // The sheet that has the play, and its number of moves.
-pub fn apart(out: &mut [u8], at: usize, sheet: u8, moves: usize) -> usize
+pub(crate) fn apart(out: &mut [u8], at: usize, sheet: u8, moves: usize) -> usize
     ensures { λ r. ⌜ page (now (out .exit)) r ≡ pushes (apartText sheet moves) (page (now (out .entry)) at) ⌝ }
 {
     let a = text(out, at, b"apart in ");

@@ -29,7 +29,7 @@ pub fn text(out: &mut [u8], at: usize, bytes: &[u8]) -> usize
 }
 
 // A number in decimal.
-pub fn decimal(out: &mut [u8], at: usize, v: usize) -> usize
+pub(crate) fn decimal(out: &mut [u8], at: usize, v: usize) -> usize
     ensures { λ r. ⌜ page (now (out .exit)) r ≡ pushes (digits v) (page (now (out .entry)) at) ⌝ }
 {
     if v < 10 {

@@ -39,7 +39,7 @@ fn judge_unused(s: &[u8], at: usize) -> Judged
 }
 
 // An id that is neither declared nor retired.
-pub fn judge_fresh(s: &[u8], st: &[u16; 255], at: usize) -> Judged
+pub(crate) fn judge_fresh(s: &[u8], st: &[u16; 255], at: usize) -> Judged
     ensures { λ r. ⌜ r ≡ fresh (now (s .entry)) (now (st .entry)) at ⌝ }
 {
     let range = judge_below(s, at, 255);
@@ -87,7 +87,7 @@ fn judge_arguments(s: &[u8], at: usize) -> Judged
 }
 
 // The body of the declare record at a place: id, result type, count, argument types.
-pub fn judge_declare(s: &[u8], st: &[u16; 255], at: usize) -> Judged
+pub(crate) fn judge_declare(s: &[u8], st: &[u16; 255], at: usize) -> Judged
     requires { ⌜ at < 65536 ⌝ }
     ensures { λ r. ⌜ r ≡ declareOf (now (s .entry)) (now (st .entry)) at ⌝ }
 {
@@ -96,7 +96,7 @@ pub fn judge_declare(s: &[u8], st: &[u16; 255], at: usize) -> Judged
 }
 
 // The standings after the name record at a place, whose id gets standing c.
-pub fn registered(s: &[u8], st: &[u16; 255], at: usize, c: u16) -> [u16; 255]
+pub(crate) fn registered(s: &[u8], st: &[u16; 255], at: usize, c: u16) -> [u16; 255]
     requires { ⌜ at < 65536 ⌝ }
     ensures { λ r. ⌜ r ≡ set (now (st .entry)) (getD (now (s .entry)) (at + 1) 0) c ⌝ }
 {

@@ -30,7 +30,7 @@ fn read_term(s: &[u8], st: &[u16; 255], t: &mut [u16], n: Numbers, at: usize) ->
 }
 
 // Reads name records, `left` of them still allowed, and the term.
-pub fn read_names(s: &[u8], st: &[u16; 255], t: &mut [u16], n: Numbers, left: u8, at: usize) -> Reading
+pub(crate) fn read_names(s: &[u8], st: &[u16; 255], t: &mut [u16], n: Numbers, left: u8, at: usize) -> Reading
     requires { ⌜ length (now s) ≤ 4096 ⌝ }
     ensures { λ x. ⌜ ReadsSheet n (namesOf left n (now (s .entry)) (now (st .entry)) at) x (now (t .entry)) (now (t .exit)) ⌝ }
 {

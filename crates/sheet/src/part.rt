@@ -30,7 +30,7 @@ pub enum Part {
 }
 
 // Whether a record opens a scope.
-pub fn is_new(rule: Rule) -> bool
+pub(crate) fn is_new(rule: Rule) -> bool
     ensures { λ r. ⌜ r ≡ isNew rule ⌝ }
 {
     match rule {

@@ -12,7 +12,7 @@ pub record Counting (n : ℕ) (ws : List ℕ) (u : List ℕ) (d e : ℕ) : Type 
   pub spelled : Spelled n ws e left
   pub total : length u ≡ d + length left
 
--- trace's loop: what stands from i on makes u of the word that is left
+-- what stands from i on makes u of the word that is left
 pub record Tracing (n : ℕ) (ws u out : List ℕ) (i e : ℕ) : Type 0 where
   pub left : List ℕ
   pub spelled : Spelled n ws e left
