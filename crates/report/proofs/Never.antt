@@ -12,6 +12,7 @@ use Rattle.language.specs.Choice.{pick}
 use Rattle.sheet.specs.Reader.{Answer, got, refused, Whole, sheetOf, sizeOf, numbersAt}
 use Rattle.comparer.specs.Refusals.{Refusal, refusing, comparable, rootOf, onRead, compareRefusal}
 use Rattle.comparer.proofs.FromCheck.{Caused, sheet-caused}
+use Rattle.report.specs.Program.{Never14}
 
 -- no refusal, or one whose number is not 14
 unfoldable Not14 : Option Refusal → Type 0
@@ -43,6 +44,6 @@ not-14 old new =
           (sizeOf (numbersAt old) ty w + sizeOf (numbersAt new) type-of-other v) refl refl))
 
 -- for all old and new sheets
-pub never-14 : (old new : List ℕ) (x : Refusal) → compareRefusal old new 16384 2040 ≡ some x → x .number ≡ 14 → ⊥
+pub never-14 : Never14
 unfolding Not14
 never-14 old new x e = rw e at (not-14 old new)

@@ -17,6 +17,7 @@ use Rattle.sheet.specs.Fine.{FineNames, Accepted}
 use Rattle.sheet.specs.Reader.{Tree, Answer, got, bind, Whole, whole, namesOf, sizeOf, closed, numbersAt}
 use Rattle.sheet.specs.Reader.{nothing}
 use Rattle.sheet.specs.Reader.{sheetOf, written, accepted, sheetIn, checks, readSheet}
+use Rattle.sheet.specs.Agreement.{ReaderGives, ReaderAccepts}
 use Rattle.sheet.proofs.Standings.{matches-nothing}
 use Rattle.sheet.proofs.Answers.{All, one, none′, pick-all, bind-all}
 use Rattle.sheet.proofs.Sound.{Sound, sound}
@@ -129,9 +130,7 @@ read-gives s S ty n e = go (sheetOf s) (sheet-all s) e
     go A none′ h = let z : _≡_ {A = ℕ} 0 1 = cc in absurd (omega arith)
 
 -- THEOREM: what an accepted answer says is so
-pub gives :
-    (s : List ℕ) (S : Sheet) (ty n : ℕ) → readSheet s ≡ accepted S ty n →
-    (s ≡ encodeSheet S) × Accepted S × (ty ≡ typeOf S) × (n ≡ size (tyOf (S .numbers) ty) (termOf S))
+pub gives : ReaderGives
 unfolding Gives
 gives s S ty n e = read-gives s S ty n e
 
@@ -182,7 +181,5 @@ module _ (S : Sheet) (A : Accepted S) (s : List ℕ) (b : s ≡ encodeSheet S) w
         (R .writes) (size-same (S .numbers) (typeOf S) S (weight (termOf S)) refl))
 
 -- THEOREM: every sheet that is in order is accepted, with its type and size
-pub accepts :
-    (S : Sheet) → Accepted S →
-    readSheet (encodeSheet S) ≡ accepted S (typeOf S) (size (tyOf (S .numbers) (typeOf S)) (termOf S))
+pub accepts : ReaderAccepts
 accepts S A = accepts-bytes S A (encodeSheet S) refl

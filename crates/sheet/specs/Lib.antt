@@ -4,5 +4,6 @@ pub mod Meaning
 pub mod Fine
 pub mod Heading
 pub mod Reader
+pub mod Agreement
 pub mod Check
 pub mod table
