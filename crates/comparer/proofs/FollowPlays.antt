@@ -28,12 +28,13 @@ use Rattle.sheet.specs.Meaning.{tyOf, termOf, typeOf}
 use Rattle.sheet.specs.Fine.{Accepted}
 use Rattle.sheet.proofs.WellTyped.{accepted-typed}
 use Rattle.comparer.specs.Plays.{CompletePlay}
-use Rattle.comparer.specs.Promise.{Begins, Counted}
+use Rattle.comparer.specs.Promise.{Begins, Greatest, NoPlay, Counted}
 use Rattle.comparer.specs.inner.Built.{OneBuilt}
 use Rattle.comparer.specs.inner.Bytes.{firstLetter}
 use Rattle.comparer.specs.inner.Spell.{letters}
 use Rattle.comparer.specs.inner.Walk.{stateAfter, Longest}
 use Rattle.comparer.proofs.OnePlay.{plays-small, play-walks, walk-plays}
+use Rattle.comparer.proofs.Lengths.{play-or-none}
 use Rattle.comparer.proofs.LivePlay.{live-begins, single-end}
 use Rattle.comparer.proofs.PlayRecords.{letters-records, records-letters, same-records, same-letters}
 use Rattle.comparer.proofs.WritingPlays.{Good}
@@ -72,10 +73,6 @@ silent-all {S = S} {n = n} {K = K} {step = step} E e p h = by (decLt p K) (decLt
 pub built-single : {N : Numbers} {T : Ty} {M : Term} {n f : ℕ} {ws : List ℕ} → OneBuilt N T M n ws →
     n ≡ spots T M + 2 → f ≡ spots T M → Single (rest (5 * n) ws) n f
 built-single B e h = rw h (single-end (B .shows) (B .graph) (silent-all (B .shows) e) (B .settled) (B .barren))
-
--- no records begin a play where some do
-begins-none : (S : Sheet) (rs : List (List ℕ)) (k : ℕ) → Begins S rs k → Begins S rs 0
-begins-none S rs k (u, (c, (l, e))) = (u, (c, (omega arith, refl)))
 
 module _ (S : Sheet) (A : Accepted S) (n : ℕ) (ws : List ℕ)
     (B : OneBuilt (S .numbers) (tyOf (S .numbers) (typeOf S)) (termOf S) n ws)
@@ -138,21 +135,13 @@ module _ (S : Sheet) (A : Accepted S) (n : ℕ) (ws : List ℕ)
       (complete ≡ true) ↔ (stateAfter G n rs (length rs) ≡ f) → Counted S rs count complete
   counts f count complete ef L w = record
     { within = L .within
-    ; begins = λ k l b. (most k l b, first b (L .alive))
-    ; none = λ h. empty h (L .alive)
+    ; greatest = by (L .alive) (play-or-none T M N (omega (arith, few)) (accepted-typed S A) in-type (sheet-range S A))
     ; whole = ((λ t. end-exactly .0 (w .0 t ∙ ef)), (λ p. w .1 (end-exactly .1 p ∙ sym ef))) }
     where
-      alive : Live G n f (stateAfter G n rs count) → Begins S rs count
-      alive a = live-exactly count (L .within) .0 (rw ef at a)
-      most : (k : ℕ) → k ≤ length rs → Begins S rs k → k ≤ count
-      most k l b = by (decLt count k)
-        where
-          by : Dec (count < k) → k ≤ count
-          by (yes h) = absurd (L .beyond k h l (rw ef (live-exactly k l .1 b)))
-          by (no h) = omega arith
-      first : {k : ℕ} → Begins S rs k → (count ≡ 0) ⊎ Live G n f (stateAfter G n rs count) → Begins S rs count
-      first {k} b (inl e) = rw e (begins-none S rs k b)
-      first b (inr a) = alive a
-      empty : (Begins S rs 0 → ⊥) → (count ≡ 0) ⊎ Live G n f (stateAfter G n rs count) → count ≡ 0
-      empty h (inl e) = e
-      empty h (inr a) = absurd (h (begins-none S rs count (alive a)))
+      no-more : (k : ℕ) → count < k → k ≤ length rs → Begins S rs k → ⊥
+      no-more k h l b = L .beyond k h l (rw ef (live-exactly k l .1 b))
+      by : (count ≡ 0) ⊎ Live G n f (stateAfter G n rs count) →
+          ((u : Word) × CompletePlay S u) ⊎ ((u : Word) → CompletePlay S u → ⊥) → Greatest S rs count ⊎ NoPlay S count
+      by (inr a) d = inl (record { begins = live-exactly count (L .within) .0 (rw ef at a); no-more = no-more })
+      by (inl e) (inl (u, c)) = inl (record { begins = rw e (u, (c, (omega arith, refl))); no-more = no-more })
+      by (inl e) (inr h) = inr (record { none = h; zero = e })

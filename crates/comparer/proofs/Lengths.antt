@@ -154,20 +154,41 @@ module _ (T : Ty) (M : Term) where
     ; below = λ p m h. moved-below (steps T M) 0 n room p m
     ; stays = λ m. moved-moves (steps T M) 0 n room dead m }
 
-  -- THEOREM: a term with a complete play has one of at most size - 1 moves
-  pub play-short : (N : Numbers) → N .z ≤ 127 → Typed [] M T → TyIn N T → InRange N M →
-      (u : Word) → Complete T M u → (v : Word) × (Complete T M v × (length v ≤ size T M - 1))
-  play-short N few t b r u c =
+  -- a term has no complete play, or one of at most size - 1 moves
+  none-or-short : (N : Numbers) → N .z ≤ 127 → Typed [] M T → TyIn N T → InRange N M →
+      ((u : Word) → Complete T M u → ⊥) ⊎ ((v : Word) × (Complete T M v × (length v ≤ size T M - 1)))
+  none-or-short N few t b r =
       by (same-or-short N few n σ closed fin (packed 0 n (begin T M)) (n - 1)
         (packed-below 0 n room (begin T M)) (omega arith) (Complete T M) (λ v. ⊥)
         (plays-recognized N T M t b r 0 n room σ (moved-moves (steps T M) 0 n room) fin
           (accepting-first (0 + spots T M) (0 + spots T M)) (λ x. only-end (packed 0 n x)))
         (none-recognized N closed fin (λ e. omega (arith, only-end (n - 1) e))))
     where
-      by : SameOrShort n (Complete T M) (λ v. ⊥) → (v : Word) × (Complete T M v × (length v ≤ size T M - 1))
-      by (inl h) = absurd (h u .0 c)
-      by (inr (v, l, in-first d f)) = (v, (d, omega (arith, spots-size T M)))
+      by : SameOrShort n (Complete T M) (λ v. ⊥) →
+          ((u : Word) → Complete T M u → ⊥) ⊎ ((v : Word) × (Complete T M v × (length v ≤ size T M - 1)))
+      by (inl h) = inl (λ u c. h u .0 c)
+      by (inr (v, l, in-first d f)) = inr (v, (d, omega (arith, spots-size T M)))
       by (inr (v, l, in-second d f)) = absurd d
+
+  -- THEOREM: a term with a complete play has one of at most size - 1 moves
+  pub play-short : (N : Numbers) → N .z ≤ 127 → Typed [] M T → TyIn N T → InRange N M →
+      (u : Word) → Complete T M u → (v : Word) × (Complete T M v × (length v ≤ size T M - 1))
+  play-short N few t b r u c = by (none-or-short N few t b r)
+    where
+      by : ((u : Word) → Complete T M u → ⊥) ⊎ ((v : Word) × (Complete T M v × (length v ≤ size T M - 1))) →
+          (v : Word) × (Complete T M v × (length v ≤ size T M - 1))
+      by (inl h) = absurd (h u c)
+      by (inr p) = p
+
+  -- a term has a complete play or none
+  pub play-or-none : (N : Numbers) → N .z ≤ 127 → Typed [] M T → TyIn N T → InRange N M →
+      ((u : Word) × Complete T M u) ⊎ ((u : Word) → Complete T M u → ⊥)
+  play-or-none N few t b r = by (none-or-short N few t b r)
+    where
+      by : ((u : Word) → Complete T M u → ⊥) ⊎ ((v : Word) × (Complete T M v × (length v ≤ size T M - 1))) →
+          ((u : Word) × Complete T M u) ⊎ ((u : Word) → Complete T M u → ⊥)
+      by (inl h) = inr h
+      by (inr (v, (d, l))) = inl (v, d)
 
 -- two machines one after the other: the first with its end in the states below `middle`, then the second with its
 -- end, and the dead state

@@ -4,9 +4,9 @@ use mathlib.Core.Bool.{Bool, true, false}
 use mathlib.Core.Logic.{_⊎_, inl, inr}
 use mathlib.Core.List.{List}
 use mathlib.Core.Option.{Option, none, some}
-use Prim.Native.Nat.{ℕ, zero, suc, _+_, _*_, _-_}
+use Prim.Native.Nat.{ℕ, zero, suc, _+_, _*_, _-_, _<_}
 use native.Mathlib.Omega.{arith}
-use native.Mathlib.Decide.{ℕ-discrete}
+use native.Mathlib.Decide.{decLt}
 use lib.ListN.{length}
 use lib.Dec.{ltb}
 use Rattle.language.specs.Choice.{pick}
@@ -21,7 +21,7 @@ use Rattle.sheet.proofs.Right.{gives}
 use Rattle.comparer.specs.Plays.{Alike, Only, FirstPlay}
 use Rattle.comparer.specs.Records.{moves}
 use Rattle.comparer.specs.Refusals.{Refusal, refusing, comparable, rootOf, onRead, followRefusal, compareRefusal}
-use Rattle.comparer.specs.Promise.{Holds, Begins, Counted, FollowedBy, Decided, same, apart, ComparedBy}
+use Rattle.comparer.specs.Promise.{Holds, Begins, Greatest, NoPlay, Counted, FollowedBy, Decided, same, apart, ComparedBy}
 use Rattle.comparer.specs.Demands.{FollowUnique, CompareUnique}
 use Rattle.comparer.specs.declared.Comparison.{Comparison}
 use Rattle.comparer.proofs.ReadSheets.{taken-got}
@@ -159,16 +159,17 @@ one-parse e = cc
 -- counts of one play are one
 module _ {S : Sheet} {rs : List (List ℕ)} {m n : ℕ} {b d : Bool} (h : Counted S rs m b) (k : Counted S rs n d) where
   one-count : m ≡ n
-  one-count = go (ℕ-discrete m n)
+  one-count = go (h .greatest) (k .greatest)
     where
-      begun : Begins S rs 0 → m ≡ n
-      begun z =
-          let x = h .begins 0 (omega arith) z in
-          let y = k .begins 0 (omega arith) z in
-          omega (arith, k .begins m (h .within) (x .1) .0, h .begins n (k .within) (y .1) .0)
-      go : Dec (m ≡ n) → m ≡ n
-      go (yes e) = e
-      go (no e) = h .none (λ z. e (begun z)) ∙ sym (k .none (λ z. e (begun z)))
+      order : Greatest S rs m → Greatest S rs n → Dec (m < n) → Dec (n < m) → m ≡ n
+      order x y (yes l) d = absurd (x .no-more n l (k .within) (y .begins))
+      order x y (no l) (yes r) = absurd (y .no-more m r (h .within) (x .begins))
+      order x y (no l) (no r) = omega arith
+      go : Greatest S rs m ⊎ NoPlay S m → Greatest S rs n ⊎ NoPlay S n → m ≡ n
+      go (inl x) (inl y) = order x y (decLt m n) (decLt n m)
+      go (inl x) (inr y) = absurd (y .none (x .begins .0) (x .begins .1 .0))
+      go (inr x) (inl y) = absurd (x .none (y .begins .0) (y .begins .1 .0))
+      go (inr x) (inr y) = x .zero ∙ sym (y .zero)
 
   one-whole : b ≡ d
   one-whole = go b d refl refl

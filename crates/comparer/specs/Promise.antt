@@ -1,10 +1,10 @@
 -- What follow and compare promise, for all slices lent. Document 01, "Three services".
 use mathlib.Core.Path.{_≡_}
-use mathlib.Core.Logic.{_↔_}
+use mathlib.Core.Logic.{_↔_, _⊎_}
 use mathlib.Core.Bool.{Bool, true}
 use mathlib.Core.List.{List, [], _∷_, _++_, map}
 use mathlib.Core.Option.{Option, none, some}
-use Prim.Native.Nat.{ℕ, _+_, _-_, _≤_}
+use Prim.Native.Nat.{ℕ, _+_, _-_, _≤_, _<_}
 use lib.ListN.{length, take, drop, replicate}
 use Rattle.language.specs.Move.{Word, Before, record-of, records}
 use Rattle.sheet.specs.Written.{Sheet}
@@ -32,12 +32,21 @@ abbrev pub Begins : Sheet → List (List ℕ) → ℕ → Type 0
 Begins S rs k =
     (u : Word) × (CompletePlay S u × ((k ≤ length u) × (take k (map (record-of (S .numbers)) u) ≡ take k rs)))
 
--- "the greatest number of moves at the start of the play that begin some complete play of the term (0 where the term
--- has none), and whether the whole given play is complete"
+-- "the greatest number of moves at the start of the play that begin some complete play of the term (0 where the term has
+-- none)": so many begin one, and no larger number does
+pub record Greatest (S : Sheet) (rs : List (List ℕ)) (count : ℕ) : Type 0 where
+  pub begins : Begins S rs count
+  pub no-more : (k : ℕ) → count < k → k ≤ length rs → Begins S rs k → ⊥
+
+-- or there is no complete play, and the count is 0
+pub record NoPlay (S : Sheet) (count : ℕ) : Type 0 where
+  pub none : (u : Word) → CompletePlay S u → ⊥
+  pub zero : count ≡ 0
+
+-- the count, "and whether the whole given play is complete"
 pub record Counted (S : Sheet) (rs : List (List ℕ)) (count : ℕ) (complete : Bool) : Type 0 where
   pub within : count ≤ length rs
-  pub begins : (k : ℕ) → k ≤ length rs → Begins S rs k → (k ≤ count) × Begins S rs count
-  pub none : (Begins S rs 0 → ⊥) → count ≡ 0
+  pub greatest : Greatest S rs count ⊎ NoPlay S count
   pub whole : (complete ≡ true) ↔ ((u : Word) × (CompletePlay S u × (map (record-of (S .numbers)) u ≡ rs)))
 
 -- the answer of follow to an accepted call
