@@ -27,7 +27,15 @@ static double median(double *times) {
     return times[RUNS / 2];
 }
 
+/* Keeps the processor busy first: on some machines a process is slow in its first tens of milliseconds. */
+static void warm_up(void) {
+    double start = now();
+    while (now() - start < 300) {
+    }
+}
+
 int main(void) {
+    warm_up();
     static const int ranges[] = {1, 7}, sizes[] = {510, 1020, 2040, 4080};
     static const uint8_t play[] = {0, 255, 0, 2, 9, 0, 5, 9, 0, 0, 2, 9, 0, 5, 9, 0, 0, 0, 8, 0, 1, 8, 0};
     for (int r = 0; r < 2; r++) {
