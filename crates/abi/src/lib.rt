@@ -1,8 +1,10 @@
 // The services for callers in C and Rust. An answer is four words: its kind, then its values.
+use comparer::Comparison;
+use comparer::Following;
 use comparer::compare::compare;
 use comparer::follow::follow;
-use comparer::{Comparison, Following};
-use sheet::check::{Checked, check};
+use sheet::check::Checked;
+use sheet::check::check;
 ghost use mathlib.Core.Path.{_≡_};
 ghost use mathlib.Core.List.{[], _∷_};
 ghost use Rattle.sheet.specs.Reader.{readSheet};
@@ -32,7 +34,12 @@ fn refuse(out: &mut [u32], checked: Checked) -> u32
     ensures returned { λ r. ⌜ r ≡ told (now (out .entry)) ⌝ }
     ensures written { λ r. ⌜ now (out .exit) ≡ answered (wordsOf checked) (now (out .entry)) ⌝ }
 {
-    let Checked::Refused { number, sheet, place } = checked else {
+    let Checked::Refused {
+        number,
+        sheet,
+        place,
+    } = checked
+    else {
         return 0;
     };
     answer(out, 0, number as u32, sheet as u32, place as u32)
@@ -63,8 +70,18 @@ fn answer_follow(out: &mut [u32], r: Following) -> u32
             }
             answer(out, 2, (count % 4294967296) as u32, 0, 0)
         }
-        Following::Refused { number, sheet, place } => {
-            answer(out, 0, number as u32, sheet as u32, (place % 4294967296) as u32)
+        Following::Refused {
+            number,
+            sheet,
+            place,
+        } => {
+            answer(
+                out,
+                0,
+                number as u32,
+                sheet as u32,
+                (place % 4294967296) as u32,
+            )
         }
     }
 }
@@ -76,9 +93,25 @@ fn answer_compare(out: &mut [u32], r: Comparison) -> u32
 {
     match r {
         Comparison::Same => answer(out, 3, 0, 0, 0),
-        Comparison::Apart { sheet, moves } => answer(out, 4, sheet as u32, (moves % 4294967296) as u32, 0),
-        Comparison::Refused { number, sheet, place } => {
-            answer(out, 0, number as u32, sheet as u32, (place % 4294967296) as u32)
+        Comparison::Apart { sheet, moves } => answer(
+            out,
+            4,
+            sheet as u32,
+            (moves % 4294967296) as u32,
+            0,
+        ),
+        Comparison::Refused {
+            number,
+            sheet,
+            place,
+        } => {
+            answer(
+                out,
+                0,
+                number as u32,
+                sheet as u32,
+                (place % 4294967296) as u32,
+            )
         }
     }
 }
@@ -86,7 +119,12 @@ fn answer_compare(out: &mut [u32], r: Comparison) -> u32
 // The service follow: the answer in the first four words of out, and 1; or 0, and nothing is changed, where out has
 // fewer.
 #[no_mangle]
-pub extern "C" fn negyvosal_follow(sheet: &[u8], play: &[u8], words: &mut [u32], out: &mut [u32]) -> u32
+pub extern "C" fn negyvosal_follow(
+    sheet: &[u8],
+    play: &[u8],
+    words: &mut [u32],
+    out: &mut [u32],
+) -> u32
     ensures { λ r. ⌜ FollowTold (now (sheet .entry)) (now (play .entry)) (now (words .entry)) (now (out .entry)) r
         (now (words .exit)) (now (out .exit)) ⌝ }
 {
@@ -99,7 +137,13 @@ pub extern "C" fn negyvosal_follow(sheet: &[u8], play: &[u8], words: &mut [u32],
 
 // The service compare: likewise.
 #[no_mangle]
-pub extern "C" fn negyvosal_compare(old: &[u8], new: &[u8], words: &mut [u32], space: &mut [u8], out: &mut [u32]) -> u32
+pub extern "C" fn negyvosal_compare(
+    old: &[u8],
+    new: &[u8],
+    words: &mut [u32],
+    space: &mut [u8],
+    out: &mut [u32],
+) -> u32
     ensures { λ r. ⌜ CompareTold (now (old .entry)) (now (new .entry)) (now (words .entry)) (now (space .entry))
         (now (out .entry)) r (now (words .exit)) (now (space .exit)) (now (out .exit)) ⌝ }
 {

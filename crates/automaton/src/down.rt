@@ -1,11 +1,40 @@
 // From a position of a term to one of its parts: sums count the first part first, and a part that is copied for
 // each value has its positions at the value times its weight.
-use crate::name::{framed, in_name};
-use crate::kinds::{ASSIGN, CONSTANT, FETCH, IF, NAME, NEW, OPERATE, SEQUENCE, SKIP, WHILE};
-use crate::moves::{ASK, DONE, READ, RUN, VALUE, WRITE};
-use crate::roles::{ASSIGNED, BLOCK, RIGHT, SAME, SELECT, TEST, THEN};
-use crate::row::{DETAIL, KIND, cell, part_at, part_values, part_weight, place, sum};
-use crate::{Out, Spot};
+use crate::Out;
+use crate::Spot;
+use crate::kinds::ASSIGN;
+use crate::kinds::CONSTANT;
+use crate::kinds::FETCH;
+use crate::kinds::IF;
+use crate::kinds::NAME;
+use crate::kinds::NEW;
+use crate::kinds::OPERATE;
+use crate::kinds::SEQUENCE;
+use crate::kinds::SKIP;
+use crate::kinds::WHILE;
+use crate::moves::ASK;
+use crate::moves::DONE;
+use crate::moves::READ;
+use crate::moves::RUN;
+use crate::moves::VALUE;
+use crate::moves::WRITE;
+use crate::name::framed;
+use crate::name::in_name;
+use crate::roles::ASSIGNED;
+use crate::roles::BLOCK;
+use crate::roles::RIGHT;
+use crate::roles::SAME;
+use crate::roles::SELECT;
+use crate::roles::TEST;
+use crate::roles::THEN;
+use crate::row::DETAIL;
+use crate::row::KIND;
+use crate::row::cell;
+use crate::row::part_at;
+use crate::row::part_values;
+use crate::row::part_weight;
+use crate::row::place;
+use crate::row::sum;
 ghost use mathlib.Core.Path.{_≡_};
 ghost use Rattle.automaton.specs.walk.Down.{leavesOf, inFetch, inSeq, inWhile, condIn, inCond, operateIn};
 ghost use Rattle.automaton.specs.walk.Down.{inOperate, assignIn, inAssign, inNew, downOf};
@@ -18,7 +47,12 @@ ghost use Prim.Native.Nat.{ℕ};
 pub(crate) fn leaves(kind: usize, value: usize) -> Spot
     ensures { λ r. ⌜ r ≡ leavesOf kind value ⌝ }
 {
-    let out = Out::Exit { kind, value, level: 0, set: 0 };
+    let out = Out::Exit {
+        kind,
+        value,
+        level: 0,
+        set: 0,
+    };
     Spot::Here { out }
 }
 
@@ -28,7 +62,13 @@ pub(crate) fn in_fetch(t: &[u16], at: usize, k: usize) -> Spot
 {
     let part = part_at(t, at, 0);
     let f = framed(SAME, 0, 0, 0, 0, 0);
-    Spot::Inside { part, kind: READ, value: 0, k, f }
+    Spot::Inside {
+        part,
+        kind: READ,
+        value: 0,
+        k,
+        f,
+    }
 }
 
 // Position k of a sequence.
@@ -39,11 +79,23 @@ pub(crate) fn in_seq(t: &[u16], at: usize, q: usize, x: usize, k: usize) -> Spot
     if k < w {
         let part = part_at(t, at, 0);
         let f = framed(THEN, 0, w, 0, 0, 0);
-        return Spot::Inside { part, kind: RUN, value: 0, k, f };
+        return Spot::Inside {
+            part,
+            kind: RUN,
+            value: 0,
+            k,
+            f,
+        };
     }
     let part = part_at(t, at, 1);
     let f = framed(SAME, w, 0, 0, 0, 0);
-    Spot::Inside { part, kind: q, value: x, k: k - w, f }
+    Spot::Inside {
+        part,
+        kind: q,
+        value: x,
+        k: k - w,
+        f,
+    }
 }
 
 // Position k of a loop.
@@ -54,27 +106,66 @@ pub(crate) fn in_while(t: &[u16], at: usize, k: usize) -> Spot
     if k < w {
         let part = part_at(t, at, 0);
         let f = framed(TEST, 0, w, 0, 0, 0);
-        return Spot::Inside { part, kind: ASK, value: 0, k, f };
+        return Spot::Inside {
+            part,
+            kind: ASK,
+            value: 0,
+            k,
+            f,
+        };
     }
     let part = part_at(t, at, 1);
     let f = framed(THEN, w, 0, 0, 0, 0);
-    Spot::Inside { part, kind: RUN, value: 0, k: k - w, f }
+    Spot::Inside {
+        part,
+        kind: RUN,
+        value: 0,
+        k: k - w,
+        f,
+    }
 }
 
 // Position k of a choice: the test b weighs w, and the first branch m weighs v.
-pub(crate) fn cond_in(b: usize, m: usize, n: usize, w: usize, v: usize, q: usize, x: usize, k: usize) -> Spot
+pub(crate) fn cond_in(
+    b: usize,
+    m: usize,
+    n: usize,
+    w: usize,
+    v: usize,
+    q: usize,
+    x: usize,
+    k: usize,
+) -> Spot
     ensures { λ r. ⌜ r ≡ condIn b m n w v q x k ⌝ }
 {
     if k < w {
         let f = framed(TEST, 0, w, sum(w, v), 0, 0);
-        return Spot::Inside { part: b, kind: ASK, value: 0, k, f };
+        return Spot::Inside {
+            part: b,
+            kind: ASK,
+            value: 0,
+            k,
+            f,
+        };
     }
     if k - w < v {
         let f = framed(SAME, w, 0, 0, 0, 0);
-        return Spot::Inside { part: m, kind: q, value: x, k: k - w, f };
+        return Spot::Inside {
+            part: m,
+            kind: q,
+            value: x,
+            k: k - w,
+            f,
+        };
     }
     let f = framed(SAME, sum(w, v), 0, 0, 0, 0);
-    Spot::Inside { part: n, kind: q, value: x, k: k - w - v, f }
+    Spot::Inside {
+        part: n,
+        kind: q,
+        value: x,
+        k: k - w - v,
+        f,
+    }
 }
 
 // Position k of the choice at a place.
@@ -83,23 +174,52 @@ pub(crate) fn in_cond(t: &[u16], at: usize, q: usize, x: usize, k: usize) -> Spo
 {
     let w = part_weight(t, at, 0);
     let v = part_weight(t, at, 1);
-    cond_in(part_at(t, at, 0), part_at(t, at, 1), part_at(t, at, 2), w, v, q, x, k)
+    cond_in(
+        part_at(t, at, 0),
+        part_at(t, at, 1),
+        part_at(t, at, 2),
+        w,
+        v,
+        q,
+        x,
+        k,
+    )
 }
 
 // Position k of an operation: the left operand weighs w, and the right one v for each of the m values of the left.
-pub(crate) fn operate_in(left: usize, right: usize, w: usize, v: usize, op: usize, m: usize, k: usize) -> Spot
+pub(crate) fn operate_in(
+    left: usize,
+    right: usize,
+    w: usize,
+    v: usize,
+    op: usize,
+    m: usize,
+    k: usize,
+) -> Spot
     ensures { λ r. ⌜ r ≡ operateIn left right w v op m k ⌝ }
 {
     if k < w {
         let f = framed(SELECT, 0, w, v, m, 0);
-        return Spot::Inside { part: left, kind: ASK, value: 0, k, f };
+        return Spot::Inside {
+            part: left,
+            kind: ASK,
+            value: 0,
+            k,
+            f,
+        };
     }
     if v == 0 {
         return Spot::Here { out: Out::Stuck };
     }
     let x = (k - w) / v;
     let f = framed(RIGHT, place(x, v, w), x, op, m, 0);
-    Spot::Inside { part: right, kind: ASK, value: 0, k: (k - w) % v, f }
+    Spot::Inside {
+        part: right,
+        kind: ASK,
+        value: 0,
+        k: (k - w) % v,
+        f,
+    }
 }
 
 // Position k of the operation at a place.
@@ -109,7 +229,15 @@ pub(crate) fn in_operate(t: &[u16], at: usize, k: usize) -> Spot
     let w = part_weight(t, at, 0);
     let v = part_weight(t, at, 1);
     let m = part_values(t, at, 0);
-    operate_in(part_at(t, at, 0), part_at(t, at, 1), w, v, cell(t, at, DETAIL), m, k)
+    operate_in(
+        part_at(t, at, 0),
+        part_at(t, at, 1),
+        w,
+        v,
+        cell(t, at, DETAIL),
+        m,
+        k,
+    )
 }
 
 // Position k of an assignment: the expression e weighs w, and the variable v for each of its m values.
@@ -118,14 +246,26 @@ pub(crate) fn assign_in(var: usize, e: usize, w: usize, v: usize, m: usize, k: u
 {
     if k < w {
         let f = framed(SELECT, 0, w, v, m, 0);
-        return Spot::Inside { part: e, kind: ASK, value: 0, k, f };
+        return Spot::Inside {
+            part: e,
+            kind: ASK,
+            value: 0,
+            k,
+            f,
+        };
     }
     if v == 0 {
         return Spot::Here { out: Out::Stuck };
     }
     let x = (k - w) / v;
     let f = framed(ASSIGNED, place(x, v, w), 0, 0, 0, 0);
-    Spot::Inside { part: var, kind: WRITE, value: x, k: (k - w) % v, f }
+    Spot::Inside {
+        part: var,
+        kind: WRITE,
+        value: x,
+        k: (k - w) % v,
+        f,
+    }
 }
 
 // Position k of the assignment at a place.
@@ -149,7 +289,13 @@ pub(crate) fn in_new(t: &[u16], at: usize, q: usize, x: usize, k: usize, h: usiz
     let v = k / w;
     let part = part_at(t, at, 0);
     let f = framed(BLOCK, place(v, w, 0), sum(h, 1), w, v, 0);
-    Spot::Inside { part, kind: q, value: x, k: k % w, f }
+    Spot::Inside {
+        part,
+        kind: q,
+        value: x,
+        k: k % w,
+        f,
+    }
 }
 
 // Position k of the term at a place, asked the question q of value x, in h blocks, where it is no private variable.

@@ -28,10 +28,26 @@ pub struct Move {
 
 // What is done at a position. A level is 0 where no private variable is written, else 1 more than the variable's.
 pub enum Out {
-    Go { next: usize, level: usize, set: usize },
-    Exit { kind: usize, value: usize, level: usize, set: usize },
-    Say { said: Move, next: usize },
-    Hear { at: usize, kind: usize, value: usize },
+    Go {
+        next: usize,
+        level: usize,
+        set: usize,
+    },
+    Exit {
+        kind: usize,
+        value: usize,
+        level: usize,
+        set: usize,
+    },
+    Say {
+        said: Move,
+        next: usize,
+    },
+    Hear {
+        at: usize,
+        kind: usize,
+        value: usize,
+    },
     Stuck,
 }
 
@@ -55,6 +71,14 @@ pub struct Frame {
 
 // Where a position is: here, or at number k of a part, which is asked a question.
 pub enum Spot {
-    Here { out: Out },
-    Inside { part: usize, kind: usize, value: usize, k: usize, f: Frame },
+    Here {
+        out: Out,
+    },
+    Inside {
+        part: usize,
+        kind: usize,
+        value: usize,
+        k: usize,
+        f: Frame,
+    },
 }

@@ -1,10 +1,32 @@
 // Names: their positions are the question to them, the wait for their moves, the positions of their arguments, a
 // copy for each question, and the replies of their arguments.
-use crate::moves::{DONE, NO_MOVE, OK, VALUE};
+use crate::Frame;
+use crate::Move;
+use crate::Out;
+use crate::Spot;
+use crate::moves::DONE;
+use crate::moves::NO_MOVE;
+use crate::moves::OK;
+use crate::moves::VALUE;
 use crate::roles::ARGUMENT;
-use crate::row::{CLASS, VALUES, cell, name_count, name_id, part_at, part_class, part_values, part_weight, place, sum};
-use crate::types::{COMMAND, answer_number, answers, question_kind, question_number, question_value, questions};
-use crate::{Frame, Move, Out, Spot};
+use crate::row::CLASS;
+use crate::row::VALUES;
+use crate::row::cell;
+use crate::row::name_count;
+use crate::row::name_id;
+use crate::row::part_at;
+use crate::row::part_class;
+use crate::row::part_values;
+use crate::row::part_weight;
+use crate::row::place;
+use crate::row::sum;
+use crate::types::COMMAND;
+use crate::types::answer_number;
+use crate::types::answers;
+use crate::types::question_kind;
+use crate::types::question_number;
+use crate::types::question_value;
+use crate::types::questions;
 ghost use mathlib.Core.Path.{_≡_};
 ghost use Rattle.automaton.specs.walk.Name.{saidOf, framedOf, copiesOf, spotsOf, replyHere, replyOf, argHere};
 ghost use Rattle.automaton.specs.walk.Name.{inArgs, hearAnswer, hearQuestion, listenOf, atWait, inName};
@@ -12,14 +34,21 @@ ghost use Rattle.automaton.specs.walk.Name.{noMove};
 
 // The first positions of a name: its question is put, its moves are waited for, its arguments begin.
 const CALL: usize = 0;
+
 const WAIT: usize = 1;
+
 const INNER: usize = 2;
 
 // A move is said, and the name waits.
 pub fn said(kind: usize, id: usize, arg: usize, value: usize) -> Out
     ensures { λ r. ⌜ r ≡ saidOf kind id arg value ⌝ }
 {
-    let said = Move { kind, id, arg, value };
+    let said = Move {
+        kind,
+        id,
+        arg,
+        value,
+    };
     Out::Say { said, next: WAIT }
 }
 
@@ -27,14 +56,25 @@ pub fn said(kind: usize, id: usize, arg: usize, value: usize) -> Out
 pub(crate) fn framed(role: usize, base: usize, a: usize, b: usize, c: usize, d: usize) -> Frame
     ensures { λ r. ⌜ r ≡ framedOf role base a b c d ⌝ }
 {
-    Frame { role, base, a, b, c, d }
+    Frame {
+        role,
+        base,
+        a,
+        b,
+        c,
+        d,
+    }
 }
 
 // How many positions argument j has: its weight for each question.
 pub(crate) fn copies(t: &[u16], at: usize, j: usize) -> usize
     ensures { λ r. ⌜ r ≡ copiesOf (now (t .entry)) at j ⌝ }
 {
-    place(questions(part_class(t, at, j), part_values(t, at, j)), part_weight(t, at, j), 0)
+    place(
+        questions(part_class(t, at, j), part_values(t, at, j)),
+        part_weight(t, at, j),
+        0,
+    )
 }
 
 // How many positions n arguments from argument j on have.
@@ -78,7 +118,15 @@ pub(crate) fn reply(t: &[u16], id: usize, at: usize, j: usize, n: usize, k: usiz
 }
 
 // Position k of an argument, whose positions begin at base and whose replies at after.
-pub fn arg_in(part: usize, class: usize, values: usize, w: usize, k: usize, base: usize, after: usize) -> Spot
+pub fn arg_in(
+    part: usize,
+    class: usize,
+    values: usize,
+    w: usize,
+    k: usize,
+    base: usize,
+    after: usize,
+) -> Spot
     ensures { λ r. ⌜ r ≡ argHere part class values w k base after ⌝ }
 {
     if w == 0 {
@@ -88,11 +136,25 @@ pub fn arg_in(part: usize, class: usize, values: usize, w: usize, k: usize, base
     let kind = question_kind(class, i);
     let value = question_value(class, i);
     let f = framed(ARGUMENT, place(i, w, base), after, class, values, i);
-    Spot::Inside { part, kind, value, k: k % w, f }
+    Spot::Inside {
+        part,
+        kind,
+        value,
+        k: k % w,
+        f,
+    }
 }
 
 // Position k of n arguments from argument j on; their positions begin at base, their replies at after.
-pub(crate) fn in_args(t: &[u16], at: usize, j: usize, n: usize, k: usize, base: usize, after: usize) -> Spot
+pub(crate) fn in_args(
+    t: &[u16],
+    at: usize,
+    j: usize,
+    n: usize,
+    k: usize,
+    base: usize,
+    after: usize,
+) -> Spot
     ensures { λ r. ⌜ r ≡ inArgs (now (t .entry)) at j n k base after ⌝ }
 {
     if n == 0 {
@@ -102,9 +164,25 @@ pub(crate) fn in_args(t: &[u16], at: usize, j: usize, n: usize, k: usize, base: 
     let values = part_values(t, at, j);
     let all = copies(t, at, j);
     if all <= k {
-        return in_args(t, at, sum(j, 1), n - 1, k - all, sum(base, all), sum(after, answers(class, values)));
+        return in_args(
+            t,
+            at,
+            sum(j, 1),
+            n - 1,
+            k - all,
+            sum(base, all),
+            sum(after, answers(class, values)),
+        );
     }
-    arg_in(part_at(t, at, j), class, values, part_weight(t, at, j), k, base, after)
+    arg_in(
+        part_at(t, at, j),
+        class,
+        values,
+        part_weight(t, at, j),
+        k,
+        base,
+        after,
+    )
 }
 
 // The name's own move: an answer to its question ends it.
@@ -117,7 +195,12 @@ pub fn hear_answer(t: &[u16], at: usize, q: usize, x: usize, m: Move) -> Out
     if i == 0 {
         return Out::Stuck;
     }
-    Out::Exit { kind, value, level: 0, set: 0 }
+    Out::Exit {
+        kind,
+        value,
+        level: 0,
+        set: 0,
+    }
 }
 
 // A move at argument j: a question enters its copy of the argument.
@@ -133,7 +216,11 @@ pub(crate) fn hear_question(t: &[u16], at: usize, j: usize, m: Move) -> Out
     }
     let base = sum(INNER, spots(t, at, 0, j));
     let next = place(i - 1, part_weight(t, at, j), base);
-    Out::Go { next, level: 0, set: 0 }
+    Out::Go {
+        next,
+        level: 0,
+        set: 0,
+    }
 }
 
 // What follows a move at a name that waits.
@@ -155,7 +242,11 @@ pub fn waiting(t: &[u16], at: usize, q: usize, x: usize, m: Move) -> Out
     ensures { λ r. ⌜ r ≡ atWait (now (t .entry)) at q x m ⌝ }
 {
     if m.kind == NO_MOVE {
-        return Out::Hear { at, kind: q, value: x };
+        return Out::Hear {
+            at,
+            kind: q,
+            value: x,
+        };
     }
     listen(t, at, q, x, m)
 }
@@ -166,15 +257,25 @@ pub(crate) fn in_name(t: &[u16], at: usize, q: usize, x: usize, k: usize) -> Spo
 {
     let id = name_id(t, at);
     if k == CALL {
-        return Spot::Here { out: said(q, id, 0, x) };
+        return Spot::Here {
+            out: said(q, id, 0, x),
+        };
     }
     if k == WAIT {
-        return Spot::Here { out: Out::Hear { at, kind: q, value: x } };
+        return Spot::Here {
+            out: Out::Hear {
+                at,
+                kind: q,
+                value: x,
+            },
+        };
     }
     let n = name_count(t, at);
     let all = spots(t, at, 0, n);
     if k - INNER < all {
         return in_args(t, at, 0, n, k - INNER, INNER, sum(INNER, all));
     }
-    Spot::Here { out: reply(t, id, at, 0, n, k - INNER - all) }
+    Spot::Here {
+        out: reply(t, id, at, 0, n, k - INNER - all),
+    }
 }

@@ -7,10 +7,15 @@ ghost use Rattle.automaton.specs.walk.Row.{partWeight, partClass, partVa
 // The words of a row: the kind of the part, its weight, the class of its type and the number of values of its data, a
 // detail by its kind, and the places of its parts.
 pub const KIND: usize = 0;
+
 pub const WEIGHT: usize = 1;
+
 pub const CLASS: usize = 2;
+
 pub const VALUES: usize = 3;
+
 pub const DETAIL: usize = 4;
+
 pub(crate) const PARTS: usize = 5;
 // How many they are.
 const WORDS: usize = 9;

@@ -1,5 +1,11 @@
 // The questions and answers of a type, by number: a type is its class and the number of values of its data.
-use crate::moves::{ASK, DONE, OK, READ, RUN, VALUE, WRITE};
+use crate::moves::ASK;
+use crate::moves::DONE;
+use crate::moves::OK;
+use crate::moves::READ;
+use crate::moves::RUN;
+use crate::moves::VALUE;
+use crate::moves::WRITE;
 use crate::row::sum;
 ghost use mathlib.Core.Path.{_≡_};
 ghost use Rattle.automaton.specs.walk.Types.{questionsOf, answersOf, questionKind, questionValue, questionNumber};
@@ -7,7 +13,9 @@ ghost use Rattle.automaton.specs.walk.Types.{valueAnswer, answerNumber};
 
 // The classes of types.
 pub const COMMAND: usize = 0;
+
 pub const EXPRESSION: usize = 1;
+
 pub(crate) const VARIABLE: usize = 2;
 
 // How many questions a type has.
@@ -102,7 +110,14 @@ pub(crate) fn value_answer(values: usize, kind: usize, value: usize) -> usize
 
 // 1 more than the number of an answer to the question q of value x; 0 where the type has no such question or the
 // question no such answer.
-pub(crate) fn answer_number(class: usize, values: usize, q: usize, x: usize, kind: usize, value: usize) -> usize
+pub(crate) fn answer_number(
+    class: usize,
+    values: usize,
+    q: usize,
+    x: usize,
+    kind: usize,
+    value: usize,
+) -> usize
     ensures { λ r. ⌜ r ≡ answerNumber class values q x kind value ⌝ }
 {
     if class == COMMAND {

@@ -1,11 +1,25 @@
 // From a step of a part to one of the term: what the part's exits and states become.
-use crate::moves::{DONE, OK, VALUE};
-use crate::roles::{ARGUMENT, ASSIGNED, BLOCK, RIGHT, SELECT, TEST, THEN};
-use crate::row::{place, sum};
-use crate::types::{answer_number, question_kind, question_value};
-use crate::{Frame, Out, Silent};
+use crate::Frame;
+use crate::Out;
+use crate::Silent;
+use crate::moves::DONE;
+use crate::moves::OK;
+use crate::moves::VALUE;
+use crate::roles::ARGUMENT;
+use crate::roles::ASSIGNED;
+use crate::roles::BLOCK;
+use crate::roles::RIGHT;
+use crate::roles::SELECT;
+use crate::roles::TEST;
+use crate::roles::THEN;
+use crate::row::place;
+use crate::row::sum;
+use crate::types::answer_number;
+use crate::types::question_kind;
+use crate::types::question_value;
 use language::Numbers;
-use language::operator::{Outcome, operate};
+use language::operator::Outcome;
+use language::operator::operate;
 ghost use mathlib.Core.Path.{_≡_};
 ghost use Rattle.automaton.specs.walk.Up.{exitDone, exitTruth, exitValue, exitOperate, exitAssign, exitArgument};
 ghost use Rattle.automaton.specs.walk.Up.{exitNew, exitsOf, goesOf};
@@ -22,18 +36,38 @@ pub(crate) fn exit_done(kind: usize, next: usize, level: usize, set: usize) -> O
 }
 
 // A truth leads to a, and a falsehood to b, or out where b is 0.
-pub(crate) fn exit_truth(kind: usize, value: usize, a: usize, b: usize, level: usize, set: usize) -> Out
+pub(crate) fn exit_truth(
+    kind: usize,
+    value: usize,
+    a: usize,
+    b: usize,
+    level: usize,
+    set: usize,
+) -> Out
     ensures { λ r. ⌜ r ≡ exitTruth kind value a b level set ⌝ }
 {
     if kind == VALUE {
         if value == 1 {
-            return Out::Go { next: a, level, set };
+            return Out::Go {
+                next: a,
+                level,
+                set,
+            };
         }
         if value == 0 {
             if b == 0 {
-                return Out::Exit { kind: DONE, value: 0, level, set };
+                return Out::Exit {
+                    kind: DONE,
+                    value: 0,
+                    level,
+                    set,
+                };
             }
-            return Out::Go { next: b, level, set };
+            return Out::Go {
+                next: b,
+                level,
+                set,
+            };
         }
     }
     Out::Stuck
@@ -45,14 +79,25 @@ pub(crate) fn exit_value(kind: usize, value: usize, f: Frame, level: usize, set:
 {
     if kind == VALUE {
         if value < f.c {
-            return Out::Go { next: place(value, f.b, f.a), level, set };
+            return Out::Go {
+                next: place(value, f.b, f.a),
+                level,
+                set,
+            };
         }
     }
     Out::Stuck
 }
 
 // The result of an operator, where it has one.
-pub(crate) fn exit_operate(n: Numbers, kind: usize, value: usize, f: Frame, level: usize, set: usize) -> Out
+pub(crate) fn exit_operate(
+    n: Numbers,
+    kind: usize,
+    value: usize,
+    f: Frame,
+    level: usize,
+    set: usize,
+) -> Out
     ensures { λ r. ⌜ r ≡ exitOperate n kind value f level set ⌝ }
 {
     if kind == VALUE {
@@ -62,7 +107,12 @@ pub(crate) fn exit_operate(n: Numbers, kind: usize, value: usize, f: Frame, leve
             let y = (value % 65536) as u16;
             let result = operate(n, op, x, y);
             return match result {
-                Outcome::Is { code } => Out::Exit { kind: VALUE, value: code as usize, level, set },
+                Outcome::Is { code } => Out::Exit {
+                    kind: VALUE,
+                    value: code as usize,
+                    level,
+                    set,
+                },
                 Outcome::Nothing => Out::Stuck,
             };
         }
@@ -75,7 +125,12 @@ pub(crate) fn exit_assign(kind: usize, level: usize, set: usize) -> Out
     ensures { λ r. ⌜ r ≡ exitAssign kind level set ⌝ }
 {
     if kind == OK {
-        return Out::Exit { kind: DONE, value: 0, level, set };
+        return Out::Exit {
+            kind: DONE,
+            value: 0,
+            level,
+            set,
+        };
     }
     Out::Stuck
 }
@@ -88,7 +143,11 @@ pub(crate) fn exit_argument(kind: usize, value: usize, f: Frame, level: usize, s
     let x = question_value(f.b, f.d);
     let r = answer_number(f.b, f.c, q, x, kind, value);
     if 0 < r {
-        return Out::Go { next: sum(f.a, r - 1), level, set };
+        return Out::Go {
+            next: sum(f.a, r - 1),
+            level,
+            set,
+        };
     }
     Out::Stuck
 }
@@ -98,9 +157,19 @@ pub(crate) fn exit_new(kind: usize, value: usize, f: Frame, level: usize, set: u
     ensures { λ r. ⌜ r ≡ exitNew kind value f level set ⌝ }
 {
     if level == f.a {
-        return Out::Exit { kind, value, level: 0, set: 0 };
+        return Out::Exit {
+            kind,
+            value,
+            level: 0,
+            set: 0,
+        };
     }
-    Out::Exit { kind, value, level, set }
+    Out::Exit {
+        kind,
+        value,
+        level,
+        set,
+    }
 }
 
 // A part's exit.
@@ -116,7 +185,12 @@ pub fn exits(n: Numbers, f: Frame, kind: usize, value: usize, level: usize, set:
         ASSIGNED => exit_assign(kind, level, set),
         ARGUMENT => exit_argument(kind, value, f, level, set),
         BLOCK => exit_new(kind, value, f, level, set),
-        _ => Out::Exit { kind, value, level, set },
+        _ => Out::Exit {
+            kind,
+            value,
+            level,
+            set,
+        },
     }
 }
 
@@ -126,9 +200,21 @@ pub fn goes(f: Frame, g: Silent) -> Silent
 {
     if f.role == BLOCK {
         if g.level == f.a {
-            return Silent { next: place(g.set, f.b, g.next), level: 0, set: 0 };
+            return Silent {
+                next: place(g.set, f.b, g.next),
+                level: 0,
+                set: 0,
+            };
         }
-        return Silent { next: sum(f.base, g.next), level: g.level, set: g.set };
+        return Silent {
+            next: sum(f.base, g.next),
+            level: g.level,
+            set: g.set,
+        };
     }
-    Silent { next: sum(f.base, g.next), level: g.level, set: g.set }
+    Silent {
+        next: sum(f.base, g.next),
+        level: g.level,
+        set: g.set,
+    }
 }

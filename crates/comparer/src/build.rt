@@ -1,7 +1,8 @@
 // The automata of sheets in the working words, ready to be walked and compared.
 use dfa::silent::settle;
 use explicit::Site;
-use explicit::fill::{close, fill};
+use explicit::fill::close;
+use explicit::fill::fill;
 use language::Numbers;
 ghost use Prim.Native.Nat.{_+_};
 ghost use Rattle.comparer.specs.inner.Built.{OneReady, OneBuilt, TwoReady, TwoBuilt};
@@ -13,7 +14,11 @@ pub(crate) fn build_one(t: &[u16], n: Numbers, root: usize, all: usize, words: &
         → OneBuilt n (R .type) (R .term) (all + 1) (now (words .exit))) ⌝ }
 {
     let states = all + 1;
-    let s = Site { root, n: states, o: 0 };
+    let s = Site {
+        root,
+        n: states,
+        o: 0,
+    };
     let e = fill(t, n, s, words, 0);
     close(words, states, e);
     settle(words, states);
@@ -35,9 +40,17 @@ pub(crate) fn build_two(
         → TwoBuilt n (R .type) (R .term) (R .other-term) (all + more + 1) (now (words .exit))) ⌝ }
 {
     let states = all + more + 1;
-    let s = Site { root, n: states, o: 0 };
+    let s = Site {
+        root,
+        n: states,
+        o: 0,
+    };
     let e = fill(t, n, s, words, 0);
-    let s2 = Site { root: other, n: states, o: all };
+    let s2 = Site {
+        root: other,
+        n: states,
+        o: all,
+    };
     let e2 = fill(u, n, s2, words, e);
     close(words, states, e2);
     settle(words, states);

@@ -11,9 +11,17 @@ pub(crate) fn cause_of(x: Reading, sheet: u8) -> Cause
     ensures { λ r. ⌜ r ≡ causeOf x sheet ⌝ }
 {
     let Reading::Refusal { number, place } = x else {
-        return Cause { number: 0, sheet, place: 0 };
+        return Cause {
+            number: 0,
+            sheet,
+            place: 0,
+        };
     };
-    Cause { number, sheet, place }
+    Cause {
+        number,
+        sheet,
+        place,
+    }
 }
 
 // The refusal of a play.
@@ -22,7 +30,15 @@ pub(crate) fn play_cause(x: Parsed) -> Cause
     ensures { λ r. ⌜ r ≡ playCause x ⌝ }
 {
     let Parsed::Bad(place) = x else {
-        return Cause { number: 0, sheet: 0, place: 0 };
+        return Cause {
+            number: 0,
+            sheet: 0,
+            place: 0,
+        };
     };
-    Cause { number: 15, sheet: 0, place }
+    Cause {
+        number: 15,
+        sheet: 0,
+        place,
+    }
 }

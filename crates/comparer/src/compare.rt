@@ -1,14 +1,18 @@
 // The service compare.
+use crate::Cause;
+use crate::Comparison;
 use crate::build::build_two;
 use crate::causes::cause_of;
 use crate::heading::alike;
 use crate::play::write_play;
-use crate::{Cause, Comparison};
+use dfa::Task;
+use dfa::Verdict;
 use dfa::search::first_difference;
 use dfa::word::spell;
 use dfa::words::clear;
-use dfa::{Task, Verdict};
-use sheet::check::{numbers_of, read_sheet, size_of};
+use sheet::check::numbers_of;
+use sheet::check::read_sheet;
+use sheet::check::size_of;
 use sheet::names::Reading;
 ghost use mathlib.Core.Path.{_≡_};
 ghost use Prim.Native.Nat.{_+_, _*_, _<_, _≤_};
@@ -40,7 +44,13 @@ fn decide(words: &mut [u32], space: &mut [u8], all: usize, more: usize) -> Compa
         → Verdicts (D .numbers) (D .type) (D .term) (D .other-term) (now (space .entry)) r (now (space .exit))) ⌝ }
 {
     let n = all + more + 1;
-    let t = Task { n, p: 0, q: all, f: all - 1, g: all + more - 1 };
+    let t = Task {
+        n,
+        p: 0,
+        q: all,
+        f: all - 1,
+        g: all + more - 1,
+    };
     let v = first_difference(words, t);
     match v {
         Verdict::Same => Comparison::Same,
@@ -52,7 +62,11 @@ fn decide(words: &mut [u32], space: &mut [u8], all: usize, more: usize) -> Compa
 fn refuse(c: Cause) -> Comparison
     ensures { λ r. ⌜ r ≡ Refused (c .number) (c .sheet) (c .place) ⌝ }
 {
-    Comparison::Refused { number: c.number, sheet: c.sheet, place: c.place }
+    Comparison::Refused {
+        number: c.number,
+        sheet: c.sheet,
+        place: c.place,
+    }
 }
 
 // Whether two sheets have the same complete plays; or the first play that only one of them has, and which.
@@ -62,25 +76,49 @@ pub fn compare(old: &[u8], new: &[u8], words: &mut [u32], space: &mut [u8]) -> C
 {
     let mut t = [0u16; 36864];
     let x = read_sheet(old, &mut t);
-    let Reading::Sheet { root, ty, weight, next: _ } = x else {
+    let Reading::Sheet {
+        root,
+        ty,
+        weight,
+        next: _,
+    } = x
+    else {
         return refuse(cause_of(x, 0));
     };
     let mut u = [0u16; 36864];
     let y = read_sheet(new, &mut u);
-    let Reading::Sheet { root: other, ty: b, weight: w, next: _ } = y else {
+    let Reading::Sheet {
+        root: other,
+        ty: b,
+        weight: w,
+        next: _,
+    } = y
+    else {
         return refuse(cause_of(y, 1));
     };
     if !alike(old, new, root, other, ty, b) {
-        return refuse(Cause { number: 12, sheet: 2, place: 0 });
+        return refuse(Cause {
+            number: 12,
+            sheet: 2,
+            place: 0,
+        });
     }
     let n = numbers_of(old);
     let all = size_of(n, ty, weight) as usize;
     let more = size_of(numbers_of(new), b, w) as usize;
     if words.len() < 32 * (all + more + 1) {
-        return refuse(Cause { number: 13, sheet: 2, place: 0 });
+        return refuse(Cause {
+            number: 13,
+            sheet: 2,
+            place: 0,
+        });
     }
     if space.len() < 4 * (all + more - 1) {
-        return refuse(Cause { number: 14, sheet: 2, place: 0 });
+        return refuse(Cause {
+            number: 14,
+            sheet: 2,
+            place: 0,
+        });
     }
     build_two(&t, &u, n, root, other, all, more, words);
     let r = decide(words, space, all, more);

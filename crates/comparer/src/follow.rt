@@ -1,13 +1,21 @@
 // The service follow.
-use crate::{Cause, Following};
+use crate::Cause;
+use crate::Following;
 use crate::build::build_one;
-use crate::causes::{cause_of, play_cause};
-use crate::play::{Parsed, count_moves, first_letter, width_of};
+use crate::causes::cause_of;
+use crate::causes::play_cause;
+use crate::play::Parsed;
+use crate::play::count_moves;
+use crate::play::first_letter;
+use crate::play::width_of;
 use dfa::graph::next_state;
-use dfa::live::{is_marked, mark_live};
+use dfa::live::is_marked;
+use dfa::live::mark_live;
 use dfa::words::clear;
 use records::head::byte_at;
-use sheet::check::{numbers_of, read_sheet, size_of};
+use sheet::check::numbers_of;
+use sheet::check::read_sheet;
+use sheet::check::size_of;
 use sheet::names::Reading;
 ghost use mathlib.Core.Path.{_≡_};
 ghost use mathlib.Core.List.{List};
@@ -51,7 +59,11 @@ fn longest(words: &[u32], n: usize, play: &[u8], total: usize) -> Reach
 fn refuse(c: Cause) -> Following
     ensures { λ r. ⌜ r ≡ Refused (c .number) (c .sheet) (c .place) ⌝ }
 {
-    Following::Refused { number: c.number, sheet: c.sheet, place: c.place }
+    Following::Refused {
+        number: c.number,
+        sheet: c.sheet,
+        place: c.place,
+    }
 }
 
 // How many moves at the start of the play begin some complete play of the sheet, and whether the whole play is
@@ -62,13 +74,23 @@ pub fn follow(sheet: &[u8], play: &[u8], words: &mut [u32]) -> Following
 {
     let mut t = [0u16; 36864];
     let x = read_sheet(sheet, &mut t);
-    let Reading::Sheet { root, ty, weight, next: _ } = x else {
+    let Reading::Sheet {
+        root,
+        ty,
+        weight,
+        next: _,
+    } = x
+    else {
         return refuse(cause_of(x, 0));
     };
     let n = numbers_of(sheet);
     let size = size_of(n, ty, weight) as usize;
     if words.len() < 32 * (size + 1) {
-        return refuse(Cause { number: 13, sheet: 2, place: 0 });
+        return refuse(Cause {
+            number: 13,
+            sheet: 2,
+            place: 0,
+        });
     }
     let parsed = count_moves(play);
     let Parsed::Moves(total) = parsed else {
@@ -80,5 +102,8 @@ pub fn follow(sheet: &[u8], play: &[u8], words: &mut [u32]) -> Following
     clear(words);
     let count = reach.count;
     let last = reach.last;
-    Following::Follows { count, complete: last == size - 1 }
+    Following::Follows {
+        count,
+        complete: last == size - 1,
+    }
 }

@@ -5,11 +5,15 @@ ghost use Prim.Native.Nat.{_*_};
 ghost use Rattle.dfa.specs.Answer.{Answered, Lives};
 ghost use Rattle.dfa.specs.Graph.{rest};
 ghost use Rattle.dfa.specs.Silent.{Settling};
-use crate::{Task, Verdict};
-use crate::live::{is_marked, mark_live};
+use crate::Task;
+use crate::Verdict;
+use crate::live::is_marked;
+use crate::live::mark_live;
 use crate::search::first_difference;
 use crate::silent::settle;
-use crate::tested::{live_ok, silent_ok, words_ok};
+use crate::tested::live_ok;
+use crate::tested::silent_ok;
+use crate::tested::words_ok;
 use crate::word::spell;
 
 // The requirements do not hold; no word tells the two states apart; the first that does has so many letters.

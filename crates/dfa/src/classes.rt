@@ -2,7 +2,8 @@ ghost use mathlib.Core.Path.{_≡_};
 ghost use Prim.Native.Nat.{ℕ, _≤_, _<_, _^_};
 ghost use lib.ListN.{length, getD};
 ghost use Rattle.dfa.specs.inner.Classes.{Low, Sinks, Found, linked};
-use crate::words::{at, put};
+use crate::words::at;
+use crate::words::put;
 
 // The representative of x. Each state on the way gets its grandparent for its parent.
 pub(crate) fn find(work: &mut [u32], x: usize) -> usize

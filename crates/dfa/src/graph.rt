@@ -69,7 +69,12 @@ pub(crate) fn ends_of(graph: &[u32], p: usize, q: usize) -> Ends
     let ie = at(graph, p + 1);
     let j = at(graph, q);
     let je = at(graph, q + 1);
-    Ends { i: i, ie: ie, j: j, je: je }
+    Ends {
+        i: i,
+        ie: ie,
+        j: j,
+        je: je,
+    }
 }
 
 // A letter, the states a and b to which it leads, and the next edges i and j.
@@ -91,7 +96,13 @@ pub(crate) fn step(graph: &[u32], n: usize, i: usize, ie: usize, j: usize, je: u
     let b = goal(graph, n, j, je, m);
     let x = past(graph, n, i, ie, m);
     let y = past(graph, n, j, je, m);
-    Move { letter: m, a: a, b: b, i: x, j: y }
+    Move {
+        letter: m,
+        a: a,
+        b: b,
+        i: x,
+        j: y,
+    }
 }
 
 // The state to which p goes by the letter m.

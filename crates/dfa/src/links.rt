@@ -5,7 +5,8 @@ ghost use Prim.Native.Nat.{_+_, _*_, _<_, _≤_};
 ghost use lib.ListN.{length, getD};
 ghost use Rattle.dfa.specs.Graph.{rest};
 ghost use Rattle.dfa.specs.inner.Links.{Held, NoLists, linkedTo, Links};
-use crate::words::{at, put};
+use crate::words::at;
+use crate::words::put;
 
 // More than any state, so that a word holds a state and an edge.
 pub(crate) const STATES: usize = 16384;

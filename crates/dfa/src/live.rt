@@ -7,8 +7,10 @@ ghost use lib.ListN.{length, getD};
 ghost use Rattle.dfa.specs.Graph.{rest};
 ghost use Rattle.dfa.specs.Live.{Markable, SameEdges, Marks};
 use crate::links::link_edges;
-use crate::marks::{LIVE, mark};
-use crate::words::{at, clear};
+use crate::marks::LIVE;
+use crate::marks::mark;
+use crate::words::at;
+use crate::words::clear;
 
 // Word 2 n + p becomes 1 exactly where the state p is live, and f alone accepts. The words below 5 n and those behind
 // the graph may change.

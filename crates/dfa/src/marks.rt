@@ -6,8 +6,10 @@ ghost use lib.ListN.{length};
 ghost use Rattle.dfa.specs.Live.{Marks};
 ghost use Rattle.dfa.specs.inner.Frame.{SameFrom};
 ghost use Rattle.dfa.specs.inner.Marks.{noted, tailAfter, Unmarked};
-use crate::links::{STATES, links_at};
-use crate::words::{at, put};
+use crate::links::STATES;
+use crate::links::links_at;
+use crate::words::at;
+use crate::words::put;
 
 // The mark of a live state.
 pub(crate) const LIVE: usize = 1;

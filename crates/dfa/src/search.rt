@@ -9,10 +9,15 @@ ghost use Rattle.dfa.specs.Word.{accepting};
 ghost use Rattle.dfa.specs.inner.Classes.{Low};
 ghost use Rattle.dfa.specs.inner.Queue.{pushed, Visited};
 ghost use Rattle.dfa.specs.inner.State.{State, Half};
-use crate::{Verdict, Task};
-use crate::classes::{find, link, singles};
-use crate::graph::{ends_of, step};
-use crate::words::{at, put};
+use crate::Task;
+use crate::Verdict;
+use crate::classes::find;
+use crate::classes::link;
+use crate::classes::singles;
+use crate::graph::ends_of;
+use crate::graph::step;
+use crate::words::at;
+use crate::words::put;
 
 // Entry k.
 fn push(work: &mut [u32], n: usize, k: usize, p: usize, q: usize, from: usize, letter: usize)
@@ -28,7 +33,15 @@ fn push(work: &mut [u32], n: usize, k: usize, p: usize, q: usize, from: usize, l
 }
 
 // The pair p, q, reached from an entry by a letter: where their classes differ they become one, and the pair an entry.
-fn visit(work: &mut [u32], n: usize, tail: usize, from: usize, letter: usize, p: usize, q: usize) -> usize
+fn visit(
+    work: &mut [u32],
+    n: usize,
+    tail: usize,
+    from: usize,
+    letter: usize,
+    p: usize,
+    q: usize,
+) -> usize
     requires { ⌜ Low n (now work) × ((tail < n) × ((from < tail) × ((letter < 2 ^ 32) × ((p < n) × (q < n))))) ⌝ }
     ensures { λ r. ⌜ Visited n tail from letter p q r (now (work .entry)) (now (work .exit)) ⌝ }
 {

@@ -8,7 +8,8 @@ ghost use Rattle.dfa.specs.Graph.{Graph, rest};
 ghost use Rattle.dfa.specs.Silent.{stepped, Silent, Settling};
 ghost use Rattle.dfa.specs.inner.Settle.{Steps, own, Begun, Replacing, Ways, WayFound, Through, Whole, ended};
 ghost use Rattle.dfa.specs.inner.Settle.{Redirected};
-use crate::words::{at, put};
+use crate::words::at;
+use crate::words::put;
 
 // No way.
 const NONE: usize = 0;

@@ -3,7 +3,8 @@ ghost use Prim.Native.Nat.{ℕ, _+_, _*_, _≤_};
 ghost use lib.ListN.{length, take};
 ghost use mathlib.Core.List.{List};
 ghost use Rattle.dfa.specs.Spelled.{Trail, Spelled, Spelling};
-use crate::words::{at, put};
+use crate::words::at;
+use crate::words::put;
 
 // The number of letters of the word of entry k.
 fn depth(work: &[u32], n: usize, k: usize) -> usize

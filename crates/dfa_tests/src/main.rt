@@ -1,7 +1,11 @@
 // The services of dfa on automata made by hand: what they answer is written to standard output.
-use libc::STDOUT_FILENO;
 use dfa::Task;
-use dfa::checked::{Answer, Life, compare_checked, live_checked, settle_checked};
+use dfa::checked::Answer;
+use dfa::checked::Life;
+use dfa::checked::compare_checked;
+use dfa::checked::live_checked;
+use dfa::checked::settle_checked;
+use libc::STDOUT_FILENO;
 
 fn wide(x: u32) -> u64 {
     x as u64
@@ -78,7 +82,16 @@ fn silent() {
     say(b"settled:");
     list(&w, 37, 4);
     say(b"after a silent loop:");
-    let a = compare_checked(&mut w, Task { n: 6, p: 0, q: 5, f: 4, g: 4 });
+    let a = compare_checked(
+        &mut w,
+        Task {
+            n: 6,
+            p: 0,
+            q: 5,
+            f: 4,
+            g: 4,
+        },
+    );
     show(&w, 30, a);
 }
 
@@ -88,7 +101,16 @@ fn one_side() {
     let g = [0, 1, 3, 3, 3, 5, 2, 3, 2, 5, 2];
     fill(&mut w, 20, &g);
     say(b"a letter on one side:");
-    let a = compare_checked(&mut w, Task { n: 4, p: 0, q: 1, f: 2, g: 2 });
+    let a = compare_checked(
+        &mut w,
+        Task {
+            n: 4,
+            p: 0,
+            q: 1,
+            f: 2,
+            g: 2,
+        },
+    );
     show(&w, 20, a);
 }
 
@@ -98,7 +120,16 @@ fn equal() {
     let g = [0, 1, 2, 3, 4, 4, 1, 1, 2, 0, 1, 3, 2, 2];
     fill(&mut w, 25, &g);
     say(b"equal automata:");
-    let a = compare_checked(&mut w, Task { n: 5, p: 0, q: 2, f: 0, g: 2 });
+    let a = compare_checked(
+        &mut w,
+        Task {
+            n: 5,
+            p: 0,
+            q: 2,
+            f: 0,
+            g: 2,
+        },
+    );
     show(&w, 25, a);
 }
 
@@ -151,7 +182,16 @@ fn long() {
     let mut w = [0u32; 1024];
     chain(&mut w);
     say(b"a long word:");
-    let a = compare_checked(&mut w, Task { n: 122, p: 0, q: 1, f: 120, g: 120 });
+    let a = compare_checked(
+        &mut w,
+        Task {
+            n: 122,
+            p: 0,
+            q: 1,
+            f: 120,
+            g: 120,
+        },
+    );
     show(&w, 610, a);
 }
 
@@ -161,7 +201,16 @@ fn wrong() {
     let g = [0, 1, 1, 1, 4, 3];
     fill(&mut w, 15, &g);
     say(b"an edge to no state:");
-    let a = compare_checked(&mut w, Task { n: 3, p: 0, q: 1, f: 0, g: 0 });
+    let a = compare_checked(
+        &mut w,
+        Task {
+            n: 3,
+            p: 0,
+            q: 1,
+            f: 0,
+            g: 0,
+        },
+    );
     show(&w, 15, a);
 }
 

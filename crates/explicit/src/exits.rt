@@ -1,10 +1,18 @@
 // Where a step of the innermost part of a path leads in the whole sheet.
-use automaton::row::{place, sum};
-use automaton::up::{exits, goes};
-use automaton::{Out, Silent};
 use crate::Site;
-use crate::levels::{B, WORDS};
-use crate::levels::{block_at, field, frame_at, start_at, up_at};
+use crate::levels::B;
+use crate::levels::WORDS;
+use crate::levels::block_at;
+use crate::levels::field;
+use crate::levels::frame_at;
+use crate::levels::start_at;
+use crate::levels::up_at;
+use automaton::Out;
+use automaton::Silent;
+use automaton::row::place;
+use automaton::row::sum;
+use automaton::up::exits;
+use automaton::up::goes;
 use language::Numbers;
 ghost use mathlib.Core.Path.{_≡_};
 ghost use Prim.Native.Nat.{_-_, _<_};
@@ -54,12 +62,24 @@ fn far(s: Site, p: &[usize; WORDS], c: usize, next: usize, level: usize, set: us
 
 // Where it leads that writes the variable of the block at the level m - 1: its state is counted from the first state of
 // the block's copy of the value written; level by level where the number may be too large.
-fn moved(s: Site, p: &[usize; WORDS], c: usize, next: usize, level: usize, set: usize, m: usize) -> usize
+fn moved(
+    s: Site,
+    p: &[usize; WORDS],
+    c: usize,
+    next: usize,
+    level: usize,
+    set: usize,
+    m: usize,
+) -> usize
     requires { ⌜ Sound (now p) c × ((next < 4294901760) × ((m ≡ blockIn (framesOf (now p) c) level) × (0 < m))) ⌝ }
     ensures { λ r. ⌜ ((N : Numbers) → r
         ≡ targetOf s (riseAll N (framesOf (now (p .entry)) c) (Go next level set))) ⌝ }
 {
-    let copy = place(set, field(p, m - 1, B), start_at(p, c) + next - start_at(p, m));
+    let copy = place(
+        set,
+        field(p, m - 1, B),
+        start_at(p, c) + next - start_at(p, m),
+    );
     if FAR <= copy {
         return far(s, p, c, next, level, set);
     }
@@ -68,7 +88,14 @@ fn moved(s: Site, p: &[usize; WORDS], c: usize, next: usize, level: usize, set: 
 
 // Where a silent step inside c levels leads: its state is counted from the first state of the innermost, or of the copy
 // of a block whose variable it writes.
-pub(crate) fn lead(s: Site, p: &[usize; WORDS], c: usize, next: usize, level: usize, set: usize) -> usize
+pub(crate) fn lead(
+    s: Site,
+    p: &[usize; WORDS],
+    c: usize,
+    next: usize,
+    level: usize,
+    set: usize,
+) -> usize
     requires { ⌜ Sound (now p) c ⌝ }
     ensures { λ r. ⌜ ((N : Numbers) → r
         ≡ targetOf s (riseAll N (framesOf (now (p .entry)) c) (Go next level set))) ⌝ }
@@ -104,10 +131,19 @@ pub(crate) fn exit(
         let i = up - 1;
         let o = exits(n, frame_at(p, i), answer, result, 0, 0);
         match o {
-            Out::Go { next, level: _, set: _ } => {
+            Out::Go {
+                next,
+                level: _,
+                set: _,
+            } => {
                 return lead(s, p, i, next, level, set);
             }
-            Out::Exit { kind: k, value: x, level: _, set: _ } => {
+            Out::Exit {
+                kind: k,
+                value: x,
+                level: _,
+                set: _,
+            } => {
                 answer = k;
                 result = x;
                 up = up_at(p, i);
@@ -115,7 +151,11 @@ pub(crate) fn exit(
             Out::Say { said: _, next: _ } => {
                 return dead(s.n);
             }
-            Out::Hear { at: _, kind: _, value: _ } => {
+            Out::Hear {
+                at: _,
+                kind: _,
+                value: _,
+            } => {
                 return dead(s.n);
             }
             Out::Stuck => {

@@ -1,14 +1,21 @@
 // The automaton in words: state by state its silent word, its first edge, and its edges in the order of their letters.
-use automaton::row::{place, sum};
-use automaton::Out;
-use crate::exits::{dead, lead};
-use crate::hear::{hear, reach};
-use crate::letters::{ear_of, letter_of};
+use crate::Site;
+use crate::Stop;
+use crate::exits::dead;
+use crate::exits::lead;
+use crate::hear::hear;
+use crate::hear::reach;
+use crate::letters::ear_of;
+use crate::letters::letter_of;
 use crate::levels::WORDS;
 use crate::path::go_to;
-use crate::rows::{put, write_edge, write_head};
+use crate::rows::put;
+use crate::rows::write_edge;
+use crate::rows::write_head;
 use crate::whole::spots_of;
-use crate::{Site, Stop};
+use automaton::Out;
+use automaton::row::place;
+use automaton::row::sum;
 use language::Numbers;
 ghost use mathlib.Core.Path.{_≡_};
 ghost use Prim.Native.Nat.{_≤_};
@@ -26,10 +33,23 @@ fn silent_at(n: Numbers, s: Site, p: &[usize; WORDS], c: usize, o: Out) -> usize
     ensures { λ r. ⌜ r ≡ silentOf s (riseAll n (framesOf (now (p .entry)) c) o) ⌝ }
 {
     match o {
-        Out::Go { next: _, level: _, set: _ } => sum(reach(n, s, p, c, o), 1),
-        Out::Exit { kind: _, value: _, level: _, set: _ } => sum(reach(n, s, p, c, o), 1),
+        Out::Go {
+            next: _,
+            level: _,
+            set: _,
+        } => sum(reach(n, s, p, c, o), 1),
+        Out::Exit {
+            kind: _,
+            value: _,
+            level: _,
+            set: _,
+        } => sum(reach(n, s, p, c, o), 1),
         Out::Say { said: _, next: _ } => 0,
-        Out::Hear { at: _, kind: _, value: _ } => 0,
+        Out::Hear {
+            at: _,
+            kind: _,
+            value: _,
+        } => 0,
         Out::Stuck => sum(dead(s.n), 1),
     }
 }
@@ -54,13 +74,26 @@ fn write_row(
     let o = at.out;
     write_head(words, s.n, sum(s.o, k), e, silent_at(n, s, p, c, o));
     match o {
-        Out::Go { next: _, level: _, set: _ } => e,
-        Out::Exit { kind: _, value: _, level: _, set: _ } => e,
+        Out::Go {
+            next: _,
+            level: _,
+            set: _,
+        } => e,
+        Out::Exit {
+            kind: _,
+            value: _,
+            level: _,
+            set: _,
+        } => e,
         Out::Say { said, next } => {
             write_edge(words, s.n, e, letter_of(n, said), lead(s, p, c, next, 0, 0));
             sum(e, 1)
         }
-        Out::Hear { at: of, kind, value } => hear(t, n, s, words, p, c, ear_of(t, k, of, kind, value), e),
+        Out::Hear {
+            at: of,
+            kind,
+            value,
+        } => hear(t, n, s, words, p, c, ear_of(t, k, of, kind, value), e),
         Out::Stuck => e,
     }
 }

@@ -1,14 +1,29 @@
 // The edges of a waiting state: the moves that it takes, in the order of their letters, and where they lead.
-use automaton::moves::{OPENING, RUN, WRITE};
-use automaton::name::waiting;
-use automaton::row::{CLASS, cell, name_count, part_class, part_values, sum};
-use automaton::{Move, Out};
-use crate::exits::{dead, exit, lead};
-use crate::letters::{answer_kind, code_at, letter_of, limit, question_limit};
+use crate::Ear;
+use crate::Site;
+use crate::exits::dead;
+use crate::exits::exit;
+use crate::exits::lead;
+use crate::letters::answer_kind;
+use crate::letters::code_at;
+use crate::letters::letter_of;
+use crate::letters::limit;
+use crate::letters::question_limit;
 use crate::levels::WORDS;
 use crate::rows::write_edge;
 use crate::whole::at_start;
-use crate::{Ear, Site};
+use automaton::Move;
+use automaton::Out;
+use automaton::moves::OPENING;
+use automaton::moves::RUN;
+use automaton::moves::WRITE;
+use automaton::name::waiting;
+use automaton::row::CLASS;
+use automaton::row::cell;
+use automaton::row::name_count;
+use automaton::row::part_class;
+use automaton::row::part_values;
+use automaton::row::sum;
 use language::Numbers;
 ghost use mathlib.Core.Path.{_≡_};
 ghost use Prim.Native.Nat.{_-_, _≤_};
@@ -31,9 +46,18 @@ pub(crate) fn reach(n: Numbers, s: Site, p: &[usize; WORDS], c: usize, o: Out) -
 {
     match o {
         Out::Go { next, level, set } => lead(s, p, c, next, level, set),
-        Out::Exit { kind, value, level, set } => exit(n, s, p, c, kind, value, level, set),
+        Out::Exit {
+            kind,
+            value,
+            level,
+            set,
+        } => exit(n, s, p, c, kind, value, level, set),
         Out::Say { said: _, next: _ } => dead(s.n),
-        Out::Hear { at: _, kind: _, value: _ } => dead(s.n),
+        Out::Hear {
+            at: _,
+            kind: _,
+            value: _,
+        } => dead(s.n),
         Out::Stuck => dead(s.n),
     }
 }
@@ -73,7 +97,12 @@ fn hear_value(
     if below <= value {
         return e;
     }
-    let m = Move { kind, id: ear.id, arg, value };
+    let m = Move {
+        kind,
+        id: ear.id,
+        arg,
+        value,
+    };
     write_edge(words, s.n, e, letter_of(n, m), heard(t, n, s, p, c, ear, m));
     sum(e, 1)
 }
@@ -236,8 +265,19 @@ fn hear_answer(
     if below <= value {
         return e;
     }
-    let m = Move { kind, id: ear.id, arg: 0, value };
-    write_edge(words, s.n, e, letter_of(n, m), exit(n, s, p, c, kind, value, 0, 0));
+    let m = Move {
+        kind,
+        id: ear.id,
+        arg: 0,
+        value,
+    };
+    write_edge(
+        words,
+        s.n,
+        e,
+        letter_of(n, m),
+        exit(n, s, p, c, kind, value, 0, 0),
+    );
     sum(e, 1)
 }
 
@@ -329,7 +369,19 @@ fn hear_called(
     let count = asking(t, ear.at);
     let asked = hear_kinds(t, n, s, words, p, c, ear, count, RUN, own, e);
     let answered = hear_block(t, n, s, words, p, c, ear, own, 0, asked);
-    hear_kinds(t, n, s, words, p, c, ear, count, own + 1, WRITE + 1, answered)
+    hear_kinds(
+        t,
+        n,
+        s,
+        words,
+        p,
+        c,
+        ear,
+        count,
+        own + 1,
+        WRITE + 1,
+        answered,
+    )
 }
 
 // The edges of a waiting state: a name without arguments takes only its answers.

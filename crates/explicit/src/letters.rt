@@ -1,10 +1,24 @@
 // The moves that a waiting state takes: for each kind and argument the values below a limit, in the order of the signed
 // values; and the letter of a move.
-use automaton::Move;
-use automaton::moves::{ASK, DONE, OK, OPENING, READ, RUN, VALUE, WRITE};
-use automaton::row::{CLASS, VALUES, cell, name_count, name_id, part_class, part_values};
-use automaton::types::{COMMAND, EXPRESSION};
 use crate::Ear;
+use automaton::Move;
+use automaton::moves::ASK;
+use automaton::moves::DONE;
+use automaton::moves::OK;
+use automaton::moves::OPENING;
+use automaton::moves::READ;
+use automaton::moves::RUN;
+use automaton::moves::VALUE;
+use automaton::moves::WRITE;
+use automaton::row::CLASS;
+use automaton::row::VALUES;
+use automaton::row::cell;
+use automaton::row::name_count;
+use automaton::row::name_id;
+use automaton::row::part_class;
+use automaton::row::part_values;
+use automaton::types::COMMAND;
+use automaton::types::EXPRESSION;
 use language::Numbers;
 ghost use mathlib.Core.Path.{_≡_};
 ghost use Prim.Native.Nat.{_%_};
@@ -136,12 +150,22 @@ pub fn limit(t: &[u16], e: Ear, kind: usize, arg: usize) -> usize
         return 0;
     }
     if arg == 0 {
-        return answer_limit(cell(t, at, CLASS), cell(t, at, VALUES), e.kind, e.value, kind);
+        return answer_limit(
+            cell(t, at, CLASS),
+            cell(t, at, VALUES),
+            e.kind,
+            e.value,
+            kind,
+        );
     }
     if name_count(t, at) < arg {
         return 0;
     }
-    question_limit(part_class(t, at, arg - 1), part_values(t, at, arg - 1), kind)
+    question_limit(
+        part_class(t, at, arg - 1),
+        part_values(t, at, arg - 1),
+        kind,
+    )
 }
 
 // Whom the state k waits for.
@@ -149,7 +173,19 @@ pub(crate) fn ear_of(t: &[u16], state: usize, at: usize, kind: usize, value: usi
     ensures { λ r. ⌜ r ≡ earOf (now (t .entry)) state at kind value ⌝ }
 {
     if kind == OPENING {
-        return Ear { state, id: 255, at, kind, value };
+        return Ear {
+            state,
+            id: 255,
+            at,
+            kind,
+            value,
+        };
     }
-    Ear { state, id: name_id(t, at), at, kind, value }
+    Ear {
+        state,
+        id: name_id(t, at),
+        at,
+        kind,
+        value,
+    }
 }

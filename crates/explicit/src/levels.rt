@@ -1,9 +1,10 @@
 // The words of a path: thirteen for each level; then, for each number of blocks outside, the last level that was
 // entered as a block with so many outside.
-use automaton::Frame;
-use automaton::row::sum;
-use automaton::roles::{BLOCK, SAME};
 use crate::Level;
+use automaton::Frame;
+use automaton::roles::BLOCK;
+use automaton::roles::SAME;
+use automaton::row::sum;
 ghost use mathlib.Core.Path.{_≡_};
 ghost use mathlib.Core.List.{[], _∷_};
 ghost use Prim.Native.Nat.{suc, _+_, _<_, _≤_};
@@ -16,18 +17,31 @@ ghost use Rattle.explicit.specs.inner.Kept.{startOf};
 pub(crate) const LEVELS: usize = 33;
 // The words of a level.
 pub(crate) const FIELDS: usize = 13;
+
 pub(crate) const PART: usize = 0;
+
 pub(crate) const QUESTION: usize = 1;
+
 pub(crate) const QUESTION_VALUE: usize = 2;
+
 pub(crate) const BASE: usize = 3;
+
 pub(crate) const END: usize = 4;
+
 pub(crate) const OUTER: usize = 5;
+
 pub(crate) const ROLE: usize = 6;
+
 pub(crate) const OFFSET: usize = 7;
+
 pub(crate) const A: usize = 8;
+
 pub(crate) const B: usize = 9;
+
 pub(crate) const C: usize = 10;
+
 pub(crate) const D: usize = 11;
+
 pub(crate) const UP: usize = 12;
 // The first of the words that say which level is a block's.
 pub(crate) const HOLDERS: usize = 429;
@@ -54,7 +68,14 @@ pub(crate) fn frame_at(p: &[usize; WORDS], i: usize) -> Frame
     let b = field(p, i, B);
     let c = field(p, i, C);
     let d = field(p, i, D);
-    Frame { role, base, a, b, c, d }
+    Frame {
+        role,
+        base,
+        a,
+        b,
+        c,
+        d,
+    }
 }
 
 // Four words from i on.

@@ -22,7 +22,8 @@ mod hear;
 // The automaton in words.
 pub mod fill;
 
-use automaton::{Frame, Out};
+use automaton::Frame;
+use automaton::Out;
 
 // Where the automaton of a sheet stands: the root in its table of parts, how many states the words have, and its
 // first state there.

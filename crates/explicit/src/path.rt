@@ -1,14 +1,38 @@
 // From the path to a state to the path to the next: levels that end are left, and parts are entered down to the one
 // where the state is at hand.
+use crate::Level;
+use crate::Stop;
+use crate::levels::BASE;
+use crate::levels::C;
+use crate::levels::END;
+use crate::levels::LEVELS;
+use crate::levels::PART;
+use crate::levels::QUESTION;
+use crate::levels::QUESTION_VALUE;
+use crate::levels::WORDS;
+use crate::levels::block_at;
+use crate::levels::field;
+use crate::levels::height_at;
+use crate::levels::push;
+use crate::levels::start_at;
+use crate::levels::up_with;
+use crate::whole::after_of;
+use crate::whole::sheet_spot;
+use automaton::Frame;
+use automaton::Out;
+use automaton::Spot;
 use automaton::down::down;
 use automaton::kinds::PRIVATE;
-use automaton::moves::{OK, READ, VALUE, WRITE};
-use automaton::row::{DETAIL, KIND, VALUES, WEIGHT, cell, sum};
-use automaton::{Frame, Out, Spot};
-use crate::levels::{BASE, C, END, LEVELS, PART, QUESTION, QUESTION_VALUE, WORDS};
-use crate::levels::{block_at, field, height_at, push, start_at, up_with};
-use crate::whole::{after_of, sheet_spot};
-use crate::{Level, Stop};
+use automaton::moves::OK;
+use automaton::moves::READ;
+use automaton::moves::VALUE;
+use automaton::moves::WRITE;
+use automaton::row::DETAIL;
+use automaton::row::KIND;
+use automaton::row::VALUES;
+use automaton::row::WEIGHT;
+use automaton::row::cell;
+use automaton::row::sum;
 ghost use mathlib.Core.Path.{_≡_};
 ghost use Prim.Native.Nat.{_+_, _<_, _≤_};
 ghost use lib.ListN.{getD};
@@ -35,20 +59,42 @@ fn value_at(p: &[usize; WORDS], c: usize, l: usize) -> usize
 }
 
 // Position k of a private variable inside c levels: its own step, then the exit.
-fn private_at(t: &[u16], p: &[usize; WORDS], c: usize, at: usize, q: usize, x: usize, k: usize) -> Out
+fn private_at(
+    t: &[u16],
+    p: &[usize; WORDS],
+    c: usize,
+    at: usize,
+    q: usize,
+    x: usize,
+    k: usize,
+) -> Out
     requires { ⌜ Sound (now p) c ⌝ }
     ensures { λ r. ⌜ r ≡ inPrivate (now (t .entry)) at q x k (storeOf (framesOf (now (p .entry)) c)) ⌝ }
 {
     let l = cell(t, at, DETAIL);
     if k == 0 {
-        return Out::Go { next: 1, level: 0, set: 0 };
+        return Out::Go {
+            next: 1,
+            level: 0,
+            set: 0,
+        };
     }
     if q == READ {
-        return Out::Exit { kind: VALUE, value: value_at(p, c, l), level: 0, set: 0 };
+        return Out::Exit {
+            kind: VALUE,
+            value: value_at(p, c, l),
+            level: 0,
+            set: 0,
+        };
     }
     if q == WRITE {
         if x < cell(t, at, VALUES) {
-            return Out::Exit { kind: OK, value: 0, level: sum(l, 1), set: x };
+            return Out::Exit {
+                kind: OK,
+                value: 0,
+                level: sum(l, 1),
+                set: x,
+            };
         }
     }
     Out::Stuck
@@ -68,7 +114,9 @@ fn spot_at(t: &[u16], root: usize, p: &[usize; WORDS], c: usize, k: usize) -> Sp
     let value = field(p, i, QUESTION_VALUE);
     let inner = k - field(p, i, BASE);
     if cell(t, part, KIND) == PRIVATE {
-        return Spot::Here { out: private_at(t, p, c, part, kind, value, inner) };
+        return Spot::Here {
+            out: private_at(t, p, c, part, kind, value, inner),
+        };
     }
     down(t, part, kind, value, inner, height_at(p, c))
 }
@@ -124,7 +172,16 @@ fn child(
     let end = until(k, base + cell(t, part, WEIGHT), stop_at(t, root, p, c));
     let outer = height_at(p, c);
     let up = up_with(p, c, f.role);
-    Level { part, kind, value, base, end, outer, up, f }
+    Level {
+        part,
+        kind,
+        value,
+        base,
+        end,
+        outer,
+        up,
+        f,
+    }
 }
 
 // Without the levels whose states are before k.
@@ -154,14 +211,23 @@ fn enter(t: &[u16], root: usize, p: &mut [usize; WORDS], c: usize, k: usize) -> 
             Spot::Here { out } => {
                 return Stop { levels: at, out };
             }
-            Spot::Inside { part, kind, value, k: _, f } => {
+            Spot::Inside {
+                part,
+                kind,
+                value,
+                k: _,
+                f,
+            } => {
                 let l = child(t, root, p, at, k, part, kind, value, f);
                 push(p, at, l);
             }
         }
         at += 1;
     }
-    Stop { levels: at, out: Out::Stuck }
+    Stop {
+        levels: at,
+        out: Out::Stuck,
+    }
 }
 
 // From a path of c levels to one of a state before k to that of the state k.

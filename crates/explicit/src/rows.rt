@@ -1,5 +1,6 @@
 // Rows of the automaton in words: the silent word and the first edge of a state, and its edges.
-use automaton::row::{place, sum};
+use automaton::row::place;
+use automaton::row::sum;
 ghost use mathlib.Core.Path.{_≡_};
 ghost use Prim.Native.Nat.{_%_};
 ghost use lib.ListN.{set};

@@ -1,5 +1,7 @@
 // The kind byte and the body of a part of a term: every judgement of its bytes.
-use crate::kind::{Rule, Shape, shape_of};
+use crate::kind::Rule;
+use crate::kind::Shape;
+use crate::kind::shape_of;
 use language::Numbers;
 ghost use mathlib.Core.Path.{_≡_};
 ghost use mathlib.Core.List.{List};
@@ -60,11 +62,17 @@ pub(crate) fn byte_below(s: &[u8], at: usize, limit: u16) -> Byte
     ensures { λ r. ⌜ r ≡ byteOf (now (s .entry)) at limit ⌝ }
 {
     if s.len() <= at {
-        return Byte::Not { number: 2, place: s.len() };
+        return Byte::Not {
+            number: 2,
+            place: s.len(),
+        };
     }
     let b = s[at];
     if limit <= b as u16 {
-        return Byte::Not { number: 3, place: at };
+        return Byte::Not {
+            number: 3,
+            place: at,
+        };
     }
     Byte::Is { byte: b }
 }
@@ -74,7 +82,15 @@ pub(crate) fn with_body(r: Record, a: u8, b: u16) -> Record
     ensures { λ x. ⌜ x ≡ withBody r a b ⌝ }
 {
     let rule = r.rule;
-    Record { place: r.place, kind: r.kind, rule, parts: r.parts, a, b, next: r.next }
+    Record {
+        place: r.place,
+        kind: r.kind,
+        rule,
+        parts: r.parts,
+        a,
+        b,
+        next: r.next,
+    }
 }
 
 // A body of one byte, which must be below `limit`.
@@ -86,7 +102,9 @@ pub(crate) fn limited_body(s: &[u8], r: Record, limit: u16) -> Head
     let found = byte_below(s, at, limit);
     match found {
         Byte::Not { number, place } => Head::Bad { number, place },
-        Byte::Is { byte } => Head::Good { record: with_body(r, byte, 0) },
+        Byte::Is { byte } => Head::Good {
+            record: with_body(r, byte, 0),
+        },
     }
 }
 
@@ -101,9 +119,14 @@ pub(crate) fn constant_body(s: &[u8], n: Numbers, r: Record) -> Head
         Byte::Not { number, place } => Head::Bad { number, place },
         Byte::Is { byte } => {
             if language::number::in_range(n, byte) {
-                return Head::Good { record: with_body(r, byte, 0) };
+                return Head::Good {
+                    record: with_body(r, byte, 0),
+                };
             }
-            Head::Bad { number: 3, place: at }
+            Head::Bad {
+                number: 3,
+                place: at,
+            }
         }
     }
 }
@@ -114,10 +137,26 @@ pub(crate) fn used_record(s: &[u8], r: Record, id: u8, c: u16) -> Record
 {
     let rule = r.rule;
     if crate::standing::is_variable(c) {
-        return Record { place: r.place, kind: r.kind, rule, parts: 0, a: id, b: c, next: r.next };
+        return Record {
+            place: r.place,
+            kind: r.kind,
+            rule,
+            parts: 0,
+            a: id,
+            b: c,
+            next: r.next,
+        };
     }
     let parts = byte_at(s, crate::standing::record_of(c) + 3);
-    Record { place: r.place, kind: r.kind, rule, parts, a: id, b: c, next: r.next }
+    Record {
+        place: r.place,
+        kind: r.kind,
+        rule,
+        parts,
+        a: id,
+        b: c,
+        next: r.next,
+    }
 }
 
 // A use: refused where the id is free or retired.
@@ -132,12 +171,20 @@ pub(crate) fn use_body(s: &[u8], st: &[u16; 255], r: Record) -> Head
         Byte::Is { byte } => {
             let c = standing_of(st, byte);
             if c == 0 {
-                return Head::Bad { number: 5, place: at };
+                return Head::Bad {
+                    number: 5,
+                    place: at,
+                };
             }
             if c == 1 {
-                return Head::Bad { number: 6, place: at };
+                return Head::Bad {
+                    number: 6,
+                    place: at,
+                };
             }
-            Head::Good { record: used_record(s, r, byte, c) }
+            Head::Good {
+                record: used_record(s, r, byte, c),
+            }
         }
     }
 }
@@ -153,9 +200,14 @@ pub(crate) fn data_body(s: &[u8], r: Record, id: u8) -> Head
         Byte::Not { number, place } => Head::Bad { number, place },
         Byte::Is { byte } => {
             if byte == 0 {
-                return Head::Bad { number: 3, place: data_at };
+                return Head::Bad {
+                    number: 3,
+                    place: data_at,
+                };
             }
-            Head::Good { record: with_body(r, id, byte as u16) }
+            Head::Good {
+                record: with_body(r, id, byte as u16),
+            }
         }
     }
 }
@@ -172,12 +224,18 @@ pub(crate) fn new_body(s: &[u8], st: &[u16; 255], r: Record) -> Head
         Byte::Is { byte } => {
             let standing = standing_of(st, byte);
             if standing == 1 {
-                return Head::Bad { number: 4, place: id_at };
+                return Head::Bad {
+                    number: 4,
+                    place: id_at,
+                };
             }
             if crate::standing::is_variable(standing) {
                 return data_body(s, r, byte);
             }
-            Head::Bad { number: 4, place: id_at }
+            Head::Bad {
+                number: 4,
+                place: id_at,
+            }
         }
     }
 }
@@ -208,14 +266,30 @@ pub(crate) fn blank_record(at: usize, kind: u8, body: u8, parts: u8, rule: Rule)
     requires { ⌜ at < 65536 ⌝ }
     ensures { λ x. ⌜ x ≡ blank at kind body parts rule ⌝ }
 {
-    Record { place: at, kind, rule, parts, a: 0, b: 0, next: at + 1 + body as usize }
+    Record {
+        place: at,
+        kind,
+        rule,
+        parts,
+        a: 0,
+        b: 0,
+        next: at + 1 + body as usize,
+    }
 }
 
 // A record of which only the place, the rule and the body bytes are known: by these its parts are judged and weighed.
 pub fn bare_record(place: usize, rule: Rule, a: u8, b: u16) -> Record
     ensures { λ x. ⌜ x ≡ bare place rule a b ⌝ }
 {
-    Record { place, kind: 0, rule, parts: 0, a, b, next: 0 }
+    Record {
+        place,
+        kind: 0,
+        rule,
+        parts: 0,
+        a,
+        b,
+        next: 0,
+    }
 }
 
 // The number of the refusal of a kind where no depth is left: range comes before depth.
@@ -226,7 +300,11 @@ fn deep_number(shape: Shape) -> u8
         Shape::Unknown => 3,
         Shape::Declare { body: _ } => 3,
         Shape::Retire { body: _ } => 3,
-        Shape::Part { body: _, parts: _, rule: _ } => 8,
+        Shape::Part {
+            body: _,
+            parts: _,
+            rule: _,
+        } => 8,
     }
 }
 
@@ -235,10 +313,16 @@ fn too_deep(s: &[u8], at: usize) -> Head
     ensures { λ x. ⌜ ((st : List ℕ) (N : Numbers) → x ≡ headOf (now (s .entry)) st N 0 at) ⌝ }
 {
     if s.len() <= at {
-        return Head::Bad { number: 2, place: s.len() };
+        return Head::Bad {
+            number: 2,
+            place: s.len(),
+        };
     }
     let shape = shape_of(s[at]);
-    Head::Bad { number: deep_number(shape), place: at }
+    Head::Bad {
+        number: deep_number(shape),
+        place: at,
+    }
 }
 
 // The record of the part at a place, with `left` levels of depth left. No depth is a case of its own, so that nothing is
@@ -251,14 +335,32 @@ pub fn head_at(s: &[u8], st: &[u16; 255], n: Numbers, left: u8, at: usize) -> He
         return too_deep(s, at);
     }
     if s.len() <= at {
-        return Head::Bad { number: 2, place: s.len() };
+        return Head::Bad {
+            number: 2,
+            place: s.len(),
+        };
     }
     let kind = s[at];
     let shape = shape_of(kind);
     match shape {
-        Shape::Unknown => Head::Bad { number: 3, place: at },
-        Shape::Declare { body: _ } => Head::Bad { number: 3, place: at },
-        Shape::Retire { body: _ } => Head::Bad { number: 3, place: at },
-        Shape::Part { body, parts, rule } => body_at(rule, s, st, n, blank_record(at, kind, body, parts, rule)),
+        Shape::Unknown => Head::Bad {
+            number: 3,
+            place: at,
+        },
+        Shape::Declare { body: _ } => Head::Bad {
+            number: 3,
+            place: at,
+        },
+        Shape::Retire { body: _ } => Head::Bad {
+            number: 3,
+            place: at,
+        },
+        Shape::Part { body, parts, rule } => body_at(
+            rule,
+            s,
+            st,
+            n,
+            blank_record(at, kind, body, parts, rule),
+        ),
     }
 }

@@ -20,17 +20,9 @@ pub enum Rule {
 
 // The shape of a kind: the length of the body and, of a part of a term, the number of its parts and its rule.
 pub enum Shape {
-    Part {
-        body: u8,
-        parts: u8,
-        rule: Rule,
-    },
-    Declare {
-        body: u8,
-    },
-    Retire {
-        body: u8,
-    },
+    Part { body: u8, parts: u8, rule: Rule },
+    Declare { body: u8 },
+    Retire { body: u8 },
     Unknown,
 }
 
@@ -41,17 +33,65 @@ pub fn shape_of(kind: u8) -> Shape
         0 | 3..=15 | 28..=255 => Shape::Unknown,
         1 => Shape::Declare { body: 7 },
         2 => Shape::Retire { body: 1 },
-        16 => Shape::Part { body: 0, parts: 0, rule: Rule::Skip },
-        17 => Shape::Part { body: 1, parts: 0, rule: Rule::Diverge },
-        18 => Shape::Part { body: 1, parts: 0, rule: Rule::Truth },
-        19 => Shape::Part { body: 1, parts: 0, rule: Rule::Number },
-        20 => Shape::Part { body: 1, parts: 0, rule: Rule::Use },
-        21 => Shape::Part { body: 0, parts: 1, rule: Rule::Fetch },
-        22 => Shape::Part { body: 1, parts: 2, rule: Rule::Operate },
-        23 => Shape::Part { body: 0, parts: 2, rule: Rule::Assign },
-        24 => Shape::Part { body: 0, parts: 2, rule: Rule::Sequence },
-        25 => Shape::Part { body: 0, parts: 3, rule: Rule::If },
-        26 => Shape::Part { body: 0, parts: 2, rule: Rule::While },
-        27 => Shape::Part { body: 2, parts: 1, rule: Rule::New },
+        16 => Shape::Part {
+            body: 0,
+            parts: 0,
+            rule: Rule::Skip,
+        },
+        17 => Shape::Part {
+            body: 1,
+            parts: 0,
+            rule: Rule::Diverge,
+        },
+        18 => Shape::Part {
+            body: 1,
+            parts: 0,
+            rule: Rule::Truth,
+        },
+        19 => Shape::Part {
+            body: 1,
+            parts: 0,
+            rule: Rule::Number,
+        },
+        20 => Shape::Part {
+            body: 1,
+            parts: 0,
+            rule: Rule::Use,
+        },
+        21 => Shape::Part {
+            body: 0,
+            parts: 1,
+            rule: Rule::Fetch,
+        },
+        22 => Shape::Part {
+            body: 1,
+            parts: 2,
+            rule: Rule::Operate,
+        },
+        23 => Shape::Part {
+            body: 0,
+            parts: 2,
+            rule: Rule::Assign,
+        },
+        24 => Shape::Part {
+            body: 0,
+            parts: 2,
+            rule: Rule::Sequence,
+        },
+        25 => Shape::Part {
+            body: 0,
+            parts: 3,
+            rule: Rule::If,
+        },
+        26 => Shape::Part {
+            body: 0,
+            parts: 2,
+            rule: Rule::While,
+        },
+        27 => Shape::Part {
+            body: 2,
+            parts: 1,
+            rule: Rule::New,
+        },
     }
 }

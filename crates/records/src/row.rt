@@ -1,7 +1,8 @@
 // The table of parts: nine words for each place of a sheet.
 use crate::head::Record;
 use crate::kind::Rule;
-use crate::standing::{is_variable, level_of};
+use crate::standing::is_variable;
+use crate::standing::level_of;
 use crate::weight::values_of;
 use language::Numbers;
 ghost use mathlib.Core.Path.{_≡_};

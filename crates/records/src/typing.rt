@@ -1,7 +1,10 @@
 // How the parts of a record are typed.
-use crate::head::{Record, byte_at};
+use crate::head::Record;
+use crate::head::byte_at;
 use crate::kind::Rule;
-use crate::standing::{data_of, is_variable, record_of};
+use crate::standing::data_of;
+use crate::standing::is_variable;
+use crate::standing::record_of;
 ghost use mathlib.Core.Path.{_≡_};
 ghost use mathlib.Core.Bool.{true, false};
 ghost use Prim.Native.Nat.{_+_, _≤_, _<_};
@@ -41,7 +44,11 @@ pub fn accepts_part(rule: Rule, s: &[u8], r: Record, j: u8, prev: u8, ty: u8) ->
         Rule::Use => accepts_argument(s, r, j, ty),
         Rule::Fetch => 3 <= ty,
         Rule::Operate => ty == operand_type(r.a),
-        Rule::Assign => if j == 0 { 3 <= ty } else { (ty as u16) + 2 == prev as u16 },
+        Rule::Assign => if j == 0 {
+            3 <= ty
+        } else {
+            (ty as u16) + 2 == prev as u16
+        },
         Rule::Sequence => if j == 0 { ty == 0 } else { true },
         Rule::If => {
             if j == 0 {

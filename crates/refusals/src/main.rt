@@ -1,6 +1,7 @@
 // Document 01's examples of what check refuses, and sheets at the ends of Z, through the service check.
 use libc::STDOUT_FILENO;
-use sheet::check::{Checked, check};
+use sheet::check::Checked;
+use sheet::check::check;
 
 // Writes the answer to a sheet as one line.
 fn show(s: &[u8]) {
@@ -12,7 +13,11 @@ fn show(s: &[u8]) {
             io::write_all(STDOUT_FILENO, b" size ");
             io::print_decimal(STDOUT_FILENO, size as u64);
         }
-        Checked::Refused { number, sheet: _, place } => {
+        Checked::Refused {
+            number,
+            sheet: _,
+            place,
+        } => {
             io::write_all(STDOUT_FILENO, b"refused ");
             io::print_decimal(STDOUT_FILENO, number as u64);
             io::write_all(STDOUT_FILENO, b" old ");

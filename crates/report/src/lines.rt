@@ -1,7 +1,9 @@
 // The lines, written at a cursor: each function answers the place after what it has written.
-use crate::write::{decimal, text};
+use crate::write::decimal;
+use crate::write::text;
 use records::head::byte_at;
-use sheet::check::{Checked, check};
+use sheet::check::Checked;
+use sheet::check::check;
 ghost use mathlib.Core.Path.{_≡_};
 ghost use Prim.Native.Nat.{_≤_};
 ghost use lib.ListN.{length, drop};
@@ -52,7 +54,7 @@ fn size_in(s: &[u8]) -> usize
 pub fn sizes(out: &mut [u8], at: usize, old: &[u8], new: &[u8]) -> usize
     ensures { λ r. ⌜ page (now (out .exit)) r
         ≡ pushes (sizesText (sizeIn (readSheet (now (old .entry)))) (sizeIn (readSheet (now (new .entry)))))
-            (page (now (out .entry)) at) ⌝ }
+        (page (now (out .entry)) at) ⌝ }
 {
     let a = text(out, at, b"old ");
     let b = decimal(out, a, size_in(old));
@@ -112,7 +114,14 @@ fn move_line(out: &mut [u8], at: usize, kind: u8, id: u8, argument: u8, b: u8) -
 fn first_move(out: &mut [u8], at: usize, s: &[u8]) -> usize
     ensures { λ r. ⌜ page (now (out .exit)) r ≡ pushes (firstMove (now (s .entry))) (page (now (out .entry)) at) ⌝ }
 {
-    move_line(out, at, byte_at(s, 0), byte_at(s, 1), byte_at(s, 2), byte_at(s, 3))
+    move_line(
+        out,
+        at,
+        byte_at(s, 0),
+        byte_at(s, 1),
+        byte_at(s, 2),
+        byte_at(s, 3),
+    )
 }
 
 // The place after the record at a place, at most the end.

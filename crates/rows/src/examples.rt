@@ -1,7 +1,16 @@
 // Document 001, examples 5.1 to 5.6, for every range and rule. f takes its arguments together; -v is 0 - v, v > 0 is
 // 0 < v and not v is v = false.
-use crate::show::{number, say, title, with_room};
-use crate::terms::{C, COUNTING, DIVERGE, EVEN, F, F_TWO, SNAPBACK};
+use crate::show::number;
+use crate::show::say;
+use crate::show::title;
+use crate::show::with_room;
+use crate::terms::C;
+use crate::terms::COUNTING;
+use crate::terms::DIVERGE;
+use crate::terms::EVEN;
+use crate::terms::F;
+use crate::terms::F_TWO;
+use crate::terms::SNAPBACK;
 
 // One range and rule.
 fn range(z: u8, rule: u8, names: &[u8], old: &[u8], new: &[u8]) {
@@ -30,15 +39,117 @@ fn example(what: &[u8], names: &[u8], old: &[u8], new: &[u8]) {
 
 // new v in (v := 0; f(v := off, !v = 0)), with off 1 and -1
 fn representation() {
-    let old = [27, 1, 2, 24, 23, 20, 1, 19, 0, 20, 7, 23, 20, 1, 19, 1, 22, 4, 21, 20, 1, 19, 0];
-    let new = [27, 1, 2, 24, 23, 20, 1, 19, 0, 20, 7, 23, 20, 1, 19, 255, 22, 4, 21, 20, 1, 19, 0];
+    let old = [
+        27,
+        1,
+        2,
+        24,
+        23,
+        20,
+        1,
+        19,
+        0,
+        20,
+        7,
+        23,
+        20,
+        1,
+        19,
+        1,
+        22,
+        4,
+        21,
+        20,
+        1,
+        19,
+        0,
+    ];
+    let new = [
+        27,
+        1,
+        2,
+        24,
+        23,
+        20,
+        1,
+        19,
+        0,
+        20,
+        7,
+        23,
+        20,
+        1,
+        19,
+        255,
+        22,
+        4,
+        21,
+        20,
+        1,
+        19,
+        0,
+    ];
     example(b"5.4 representation", &F_TWO, &old, &new);
 }
 
 // new number v in (v := 1; f(v := 0 - !v, 0 < !v)) and new truth v in (v := true; f(v := (!v = false), !v))
 fn switch() {
-    let old = [27, 1, 2, 24, 23, 20, 1, 19, 1, 20, 7, 23, 20, 1, 22, 1, 19, 0, 21, 20, 1, 22, 5, 19, 0, 21, 20, 1];
-    let new = [27, 1, 1, 24, 23, 20, 1, 18, 1, 20, 7, 23, 20, 1, 22, 8, 21, 20, 1, 18, 0, 21, 20, 1];
+    let old = [
+        27,
+        1,
+        2,
+        24,
+        23,
+        20,
+        1,
+        19,
+        1,
+        20,
+        7,
+        23,
+        20,
+        1,
+        22,
+        1,
+        19,
+        0,
+        21,
+        20,
+        1,
+        22,
+        5,
+        19,
+        0,
+        21,
+        20,
+        1,
+    ];
+    let new = [
+        27,
+        1,
+        1,
+        24,
+        23,
+        20,
+        1,
+        18,
+        1,
+        20,
+        7,
+        23,
+        20,
+        1,
+        22,
+        8,
+        21,
+        20,
+        1,
+        18,
+        0,
+        21,
+        20,
+        1,
+    ];
     example(b"5.6 switch", &F_TWO, &old, &new);
 }
 

@@ -1,11 +1,15 @@
 // Words and bytes lent, and follow.
-use crate::show::{compared as show, number, say, title};
+use crate::show::compared as show;
+use crate::show::number;
+use crate::show::say;
+use crate::show::title;
 use comparer::Following;
 use comparer::follow::follow;
 use report::lines;
 ghost use Rattle.report.specs.Page.{Counts};
 
 const SKIP: [u8; 3] = [1, 0, 16];
+
 const DIVERGE: [u8; 4] = [1, 0, 17, 0];
 
 pub fn compared() {
@@ -33,9 +37,17 @@ fn print(r: Following) {
     match r {
         Following::Follows { count, complete } => {
             number(count as u64);
-            if complete { say(b" yes\n") } else { say(b" no\n") }
+            if complete {
+                say(b" yes\n")
+            } else {
+                say(b" no\n")
+            }
         }
-        Following::Refused { number, sheet, place } => {
+        Following::Refused {
+            number,
+            sheet,
+            place,
+        } => {
             let mut out = [0u8; 64];
             let n = refusal(&mut out, number, sheet, place);
             say(&out[..n]);

@@ -1,7 +1,8 @@
 // Titles, sheets and reports.
 use libc::STDOUT_FILENO;
 use report::report;
-use report::write::{push, text};
+use report::write::push;
+use report::write::text;
 ghost use Rattle.report.specs.Page.{Counts};
 
 pub fn say(s: &[u8]) {

@@ -1,8 +1,12 @@
 // The whole sheet, and the service check.
-use crate::names::{Reading, read_names};
+use crate::names::Reading;
+use crate::names::read_names;
 use language::Numbers;
 use records::head::byte_at;
-use records::weight::{answers_of, questions_of, sat_add, sat_mul};
+use records::weight::answers_of;
+use records::weight::questions_of;
+use records::weight::sat_add;
+use records::weight::sat_mul;
 ghost use mathlib.Core.Path.{_≡_};
 ghost use Prim.Native.Nat.{_+_, _*_, _≤_, _<_, min};
 ghost use lib.ListN.{length, getD};
@@ -21,21 +25,36 @@ pub enum Checked {
 pub fn size_of(n: Numbers, ty: u8, weight: u32) -> u32
     ensures { λ r. ⌜ r ≡ min (sizeOf n ty weight) 4097 ⌝ }
 {
-    sat_add(sat_add(2, sat_mul(questions_of(n, ty), weight)), answers_of(n, ty))
+    sat_add(
+        sat_add(2, sat_mul(questions_of(n, ty), weight)),
+        answers_of(n, ty),
+    )
 }
 
 // Nothing after the term, and the size.
 fn close_sheet(s: &[u8], n: Numbers, x: Reading) -> Reading
     ensures { λ r. ⌜ r ≡ closedReading n (now (s .entry)) x ⌝ }
 {
-    let Reading::Sheet { root: _, ty, weight, next } = x else {
+    let Reading::Sheet {
+        root: _,
+        ty,
+        weight,
+        next,
+    } = x
+    else {
         return x;
     };
     if next < s.len() {
-        return Reading::Refusal { number: 10, place: next };
+        return Reading::Refusal {
+            number: 10,
+            place: next,
+        };
     }
     if 4096 < size_of(n, ty, weight) {
-        return Reading::Refusal { number: 11, place: 0 };
+        return Reading::Refusal {
+            number: 11,
+            place: 0,
+        };
     }
     x
 }
@@ -47,24 +66,42 @@ pub fn read_sheet(s: &[u8], t: &mut [u16]) -> Reading
     ensures tabled { λ x. ⌜ (length (now (t .entry)) ≡ 36864 → TabledBy (now (s .entry)) x (now (t .exit))) ⌝ }
 {
     if 4096 < s.len() {
-        return Reading::Refusal { number: 1, place: 4096 };
+        return Reading::Refusal {
+            number: 1,
+            place: 4096,
+        };
     }
     if s.len() <= 0 {
-        return Reading::Refusal { number: 2, place: s.len() };
+        return Reading::Refusal {
+            number: 2,
+            place: s.len(),
+        };
     }
     let z = s[0];
     if z == 0 {
-        return Reading::Refusal { number: 3, place: 0 };
+        return Reading::Refusal {
+            number: 3,
+            place: 0,
+        };
     }
     if 7 < z {
-        return Reading::Refusal { number: 3, place: 0 };
+        return Reading::Refusal {
+            number: 3,
+            place: 0,
+        };
     }
     if s.len() <= 1 {
-        return Reading::Refusal { number: 2, place: s.len() };
+        return Reading::Refusal {
+            number: 2,
+            place: s.len(),
+        };
     }
     let rule = s[1];
     if 1 < rule {
-        return Reading::Refusal { number: 3, place: 1 };
+        return Reading::Refusal {
+            number: 3,
+            place: 1,
+        };
     }
     let n = Numbers { z, rule };
     let st = [0u16; 255];
@@ -88,9 +125,21 @@ pub fn check(s: &[u8]) -> Checked
     let mut t = [0u16; 36864];
     let x = read_sheet(s, &mut t);
     match x {
-        Reading::Refusal { number, place } => Checked::Refused { number, sheet: 0, place },
-        Reading::Sheet { root: _, ty, weight, next: _ } => {
-            Checked::Accepted { ty, size: size_of(numbers_of(s), ty, weight) }
+        Reading::Refusal { number, place } => Checked::Refused {
+            number,
+            sheet: 0,
+            place,
+        },
+        Reading::Sheet {
+            root: _,
+            ty,
+            weight,
+            next: _,
+        } => {
+            Checked::Accepted {
+                ty,
+                size: size_of(numbers_of(s), ty, weight),
+            }
         }
     }
 }

@@ -1,5 +1,6 @@
 // The judgement of name records.
-use records::head::{byte_at, standing_of};
+use records::head::byte_at;
+use records::head::standing_of;
 use records::scope::with_standing;
 ghost use mathlib.Core.Path.{_≡_};
 ghost use Prim.Native.Nat.{_+_, _≤_, _<_};
@@ -17,10 +18,16 @@ fn judge_below(s: &[u8], at: usize, limit: u8) -> Judged
     ensures { λ r. ⌜ r ≡ below (now (s .entry)) at limit ⌝ }
 {
     if s.len() <= at {
-        return Judged::Bad { number: 2, place: s.len() };
+        return Judged::Bad {
+            number: 2,
+            place: s.len(),
+        };
     }
     if limit <= s[at] {
-        return Judged::Bad { number: 3, place: at };
+        return Judged::Bad {
+            number: 3,
+            place: at,
+        };
     }
     Judged::Good
 }
@@ -30,12 +37,18 @@ fn judge_unused(s: &[u8], at: usize) -> Judged
     ensures { λ r. ⌜ r ≡ unused (now (s .entry)) at ⌝ }
 {
     if s.len() <= at {
-        return Judged::Bad { number: 2, place: s.len() };
+        return Judged::Bad {
+            number: 2,
+            place: s.len(),
+        };
     }
     if s[at] == 255 {
         return Judged::Good;
     }
-    Judged::Bad { number: 3, place: at }
+    Judged::Bad {
+        number: 3,
+        place: at,
+    }
 }
 
 // An id that is neither declared nor retired.
@@ -50,7 +63,10 @@ pub(crate) fn judge_fresh(s: &[u8], st: &[u16; 255], at: usize) -> Judged
             if standing_of(st, id) == 0 {
                 return Judged::Good;
             }
-            Judged::Bad { number: 4, place: at }
+            Judged::Bad {
+                number: 4,
+                place: at,
+            }
         }
     }
 }
@@ -83,7 +99,10 @@ fn judge_arguments(s: &[u8], at: usize) -> Judged
     ensures { λ r. ⌜ r ≡ arguments (now (s .entry)) at ⌝ }
 {
     let last = judge_both(judge_argument(s, at, 2), judge_argument(s, at, 3));
-    judge_both(judge_argument(s, at, 0), judge_both(judge_argument(s, at, 1), last))
+    judge_both(
+        judge_argument(s, at, 0),
+        judge_both(judge_argument(s, at, 1), last),
+    )
 }
 
 // The body of the declare record at a place: id, result type, count, argument types.
@@ -92,7 +111,10 @@ pub(crate) fn judge_declare(s: &[u8], st: &[u16; 255], at: usize) -> Judged
     ensures { λ r. ⌜ r ≡ declareOf (now (s .entry)) (now (st .entry)) at ⌝ }
 {
     let counted = judge_both(judge_below(s, at + 3, 5), judge_arguments(s, at));
-    judge_both(judge_fresh(s, st, at + 1), judge_both(judge_below(s, at + 2, 5), counted))
+    judge_both(
+        judge_fresh(s, st, at + 1),
+        judge_both(judge_below(s, at + 2, 5), counted),
+    )
 }
 
 // The standings after the name record at a place, whose id gets standing c.

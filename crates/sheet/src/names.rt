@@ -1,8 +1,13 @@
 // The name records before the term, and the term.
-use crate::heading::{Judged, judge_declare, judge_fresh, registered};
-use crate::part::{Part, read_root};
+use crate::heading::Judged;
+use crate::heading::judge_declare;
+use crate::heading::judge_fresh;
+use crate::heading::registered;
+use crate::part::Part;
+use crate::part::read_root;
 use language::Numbers;
-use records::kind::{Shape, shape_of};
+use records::kind::Shape;
+use records::kind::shape_of;
 use records::standing::declared_standing;
 ghost use mathlib.Core.Path.{_≡_};
 ghost use Prim.Native.Nat.{_+_, _-_, _≤_, _<_};
@@ -13,8 +18,16 @@ ghost use Rattle.sheet.specs.table.Fill.{ReadsSheet, termAt};
 
 // What reading a sheet gives: the place of the term, its type, its weight held at 4,097, and the place after it; or the refusal.
 pub enum Reading {
-    Sheet { root: usize, ty: u8, weight: u32, next: usize },
-    Refusal { number: u8, place: usize },
+    Sheet {
+        root: usize,
+        ty: u8,
+        weight: u32,
+        next: usize,
+    },
+    Refusal {
+        number: u8,
+        place: usize,
+    },
 }
 
 // Reads the term.
@@ -25,23 +38,45 @@ fn read_term(s: &[u8], st: &[u16; 255], t: &mut [u16], n: Numbers, at: usize) ->
     let p = read_root(s, st, t, n, at);
     match p {
         Part::Refused { number, place } => Reading::Refusal { number, place },
-        Part::Read { ty, weight, next } => Reading::Sheet { root: at, ty, weight, next },
+        Part::Read { ty, weight, next } => Reading::Sheet {
+            root: at,
+            ty,
+            weight,
+            next,
+        },
     }
 }
 
 // Reads name records, `left` of them still allowed, and the term.
-pub(crate) fn read_names(s: &[u8], st: &[u16; 255], t: &mut [u16], n: Numbers, left: u8, at: usize) -> Reading
+pub(crate) fn read_names(
+    s: &[u8],
+    st: &[u16; 255],
+    t: &mut [u16],
+    n: Numbers,
+    left: u8,
+    at: usize,
+) -> Reading
     requires { ⌜ length (now s) ≤ 4096 ⌝ }
     ensures { λ x. ⌜ ReadsSheet n (namesOf left n (now (s .entry)) (now (st .entry)) at) x (now (t .entry)) (now (t .exit)) ⌝ }
 {
     if s.len() <= at {
-        return Reading::Refusal { number: 2, place: s.len() };
+        return Reading::Refusal {
+            number: 2,
+            place: s.len(),
+        };
     }
     let kind = s[at];
     let shape = shape_of(kind);
     match shape {
-        Shape::Unknown => Reading::Refusal { number: 3, place: at },
-        Shape::Part { body: _, parts: _, rule: _ } => read_term(s, st, t, n, at),
+        Shape::Unknown => Reading::Refusal {
+            number: 3,
+            place: at,
+        },
+        Shape::Part {
+            body: _,
+            parts: _,
+            rule: _,
+        } => read_term(s, st, t, n, at),
         Shape::Declare { body } => {
             let judged = judge_declare(s, st, at);
             read_after(s, st, t, n, left, at, body, declared_standing(at), judged)
@@ -71,7 +106,10 @@ fn read_after(
         (now (t .entry)) (now (t .exit))) ⌝ }
 {
     if left == 0 {
-        return Reading::Refusal { number: 9, place: at };
+        return Reading::Refusal {
+            number: 9,
+            place: at,
+        };
     }
     match judged {
         Judged::Bad { number, place } => Reading::Refusal { number, place },

@@ -2,12 +2,19 @@
 // its place, its rule and its body bytes, and `read_part`, `read_record`, `read_scope` and `close_record` are called at one
 // place each, so that the cycle is compiled into one function, `read_next`.
 use language::Numbers;
-use records::head::{Head, Record, bare_record, head_at};
+use records::head::Head;
+use records::head::Record;
+use records::head::bare_record;
+use records::head::head_at;
 use records::kind::Rule;
-use records::row::{link, write_row};
+use records::row::link;
+use records::row::write_row;
 use records::scope::enter;
-use records::typing::{accepts_part, type_of};
-use records::weight::{part_weight, record_weight, sat_add};
+use records::typing::accepts_part;
+use records::typing::type_of;
+use records::weight::part_weight;
+use records::weight::record_weight;
+use records::weight::sat_add;
 ghost use mathlib.Core.Path.{_≡_};
 ghost use mathlib.Core.Bool.{true};
 ghost use Prim.Native.Nat.{_+_, _≤_, _<_};
@@ -55,18 +62,35 @@ fn close_record(s: &[u8], t: &mut [u16], n: Numbers, r: Record, parts: Part) -> 
     ensures answer { λ x. ⌜ x ≡ closedAnswer (now (s .entry)) r parts ⌝ }
     ensures table { λ x. ⌜ now (t .exit) ≡ closedTable n (now (s .entry)) r parts (now (t .entry)) ⌝ }
 {
-    let Part::Read { ty: last, weight, next } = parts else {
+    let Part::Read {
+        ty: last,
+        weight,
+        next,
+    } = parts
+    else {
         return parts;
     };
     let rule = r.rule;
     let ty = type_of(rule, s, r, last);
     let sum = record_weight(r, weight);
     write_row(t, n, r, ty, sum);
-    Part::Read { ty, weight: sum, next }
+    Part::Read {
+        ty,
+        weight: sum,
+        next,
+    }
 }
 
 // Reads the part at a place, with `left` levels of depth left, inside `level` news.
-fn read_part(s: &[u8], st: &[u16; 255], t: &mut [u16], n: Numbers, level: u8, left: u8, at: usize) -> Part
+fn read_part(
+    s: &[u8],
+    st: &[u16; 255],
+    t: &mut [u16],
+    n: Numbers,
+    level: u8,
+    left: u8,
+    at: usize,
+) -> Part
     requires { ⌜ (length (now s) ≤ 4096) × (level + left ≤ 32) ⌝ }
     ensures reads { λ x. ⌜ Reads (fill n) (readPart left n (now (s .entry)) (now (st .entry)) level at) x
         (now (t .entry)) (now (t .exit)) ⌝ }
@@ -77,7 +101,10 @@ fn read_part(s: &[u8], st: &[u16; 255], t: &mut [u16], n: Numbers, level: u8, le
         Head::Bad { number, place } => Part::Refused { number, place },
         Head::Good { record } => {
             if left == 0 {
-                return Part::Refused { number: 8, place: at };
+                return Part::Refused {
+                    number: 8,
+                    place: at,
+                };
             }
             read_record(s, st, t, n, level, left - 1, record)
         }
@@ -85,7 +112,15 @@ fn read_part(s: &[u8], st: &[u16; 255], t: &mut [u16], n: Numbers, level: u8, le
 }
 
 // Reads a record whose head is judged: a use with its arguments, or another with its parts.
-fn read_record(s: &[u8], st: &[u16; 255], t: &mut [u16], n: Numbers, level: u8, left: u8, r: Record) -> Part
+fn read_record(
+    s: &[u8],
+    st: &[u16; 255],
+    t: &mut [u16],
+    n: Numbers,
+    level: u8,
+    left: u8,
+    r: Record,
+) -> Part
     requires { ⌜ (length (now s) ≤ 4096) × (level + left < 32) × (r .place < 4096) × (r .next ≤ length (now s))
         × (isNew (r .rule) ≡ true → r .b ≤ 2) ⌝ }
     ensures { λ x. ⌜ Reads (fill n)
@@ -97,7 +132,15 @@ fn read_record(s: &[u8], st: &[u16; 255], t: &mut [u16], n: Numbers, level: u8, 
 }
 
 // Reads the parts of a record; the block of a new lies in a scope of its own.
-fn read_scope(s: &[u8], st: &[u16; 255], t: &mut [u16], n: Numbers, level: u8, left: u8, r: Record) -> Part
+fn read_scope(
+    s: &[u8],
+    st: &[u16; 255],
+    t: &mut [u16],
+    n: Numbers,
+    level: u8,
+    left: u8,
+    r: Record,
+) -> Part
     requires { ⌜ (length (now s) ≤ 4096) × (level + left < 32) × (r .place < 4096) × (r .next ≤ length (now s))
         × (isNew (r .rule) ≡ true → r .b ≤ 2) ⌝ }
     ensures { λ x. ⌜ Reads (λ ts. fills n ts (r .place) 0)
@@ -108,9 +151,39 @@ fn read_scope(s: &[u8], st: &[u16; 255], t: &mut [u16], n: Numbers, level: u8, l
     if is_new(rule) {
         let mut inner = *st;
         enter(&mut inner, r, level);
-        return read_parts(s, &inner, t, n, level + 1, left, r.place, rule, r.a, r.b, r.parts, 0, 0, r.next);
+        return read_parts(
+            s,
+            &inner,
+            t,
+            n,
+            level + 1,
+            left,
+            r.place,
+            rule,
+            r.a,
+            r.b,
+            r.parts,
+            0,
+            0,
+            r.next,
+        );
     }
-    read_parts(s, st, t, n, level, left, r.place, rule, r.a, r.b, r.parts, 0, 0, r.next)
+    read_parts(
+        s,
+        st,
+        t,
+        n,
+        level,
+        left,
+        r.place,
+        rule,
+        r.a,
+        r.b,
+        r.parts,
+        0,
+        0,
+        r.next,
+    )
 }
 
 // Reads `count` parts, from part j on, of the record at a place whose rule and body bytes are given; the part before them
@@ -135,14 +208,33 @@ fn read_parts(
         × (j + count ≤ 255) ⌝ }
     ensures { λ x. ⌜ Reads (λ ts. fills n ts place j)
         (partsOf (readPart left n (now (s .entry)) (now (st .entry)) level) n (now (s .entry)) (bare place rule a b)
-          count j prev at) x
+        count j prev at) x
         (now (t .entry)) (now (t .exit)) ⌝ }
 {
     if count == 0 {
-        return Part::Read { ty: prev, weight: 0, next: at };
+        return Part::Read {
+            ty: prev,
+            weight: 0,
+            next: at,
+        };
     }
     link(t, place, j, at);
-    read_next(s, st, t, n, level, left, place, rule, a, b, count, j, prev, at)
+    read_next(
+        s,
+        st,
+        t,
+        n,
+        level,
+        left,
+        place,
+        rule,
+        a,
+        b,
+        count,
+        j,
+        prev,
+        at,
+    )
 }
 
 // Reads the first of these parts, whose place is in the row already, and the others.
@@ -165,7 +257,7 @@ fn read_next(
     requires { ⌜ (length (now s) ≤ 4096) × (level + left ≤ 32) × (place < 4096) × (j + count ≤ 255) × (0 < count) ⌝ }
     ensures { λ x. ⌜ Reads (λ ts. fillsNext n ts place j)
         (partsOf (readPart left n (now (s .entry)) (now (st .entry)) level) n (now (s .entry)) (bare place rule a b)
-          count j prev at) x
+        count j prev at) x
         (now (t .entry)) (now (t .exit)) ⌝ }
 {
     let r = bare_record(place, rule, a, b);
@@ -174,14 +266,41 @@ fn read_next(
         return p;
     };
     if !accepts_part(rule, s, r, j, prev, ty) {
-        return Part::Refused { number: 7, place: at };
+        return Part::Refused {
+            number: 7,
+            place: at,
+        };
     }
     let own = part_weight(n, r, j, prev, ty, weight);
-    let q = read_parts(s, st, t, n, level, left, place, rule, a, b, count - 1, j + 1, ty, next);
-    let Part::Read { ty: last, weight: others, next: end } = q else {
+    let q = read_parts(
+        s,
+        st,
+        t,
+        n,
+        level,
+        left,
+        place,
+        rule,
+        a,
+        b,
+        count - 1,
+        j + 1,
+        ty,
+        next,
+    );
+    let Part::Read {
+        ty: last,
+        weight: others,
+        next: end,
+    } = q
+    else {
         return q;
     };
-    Part::Read { ty: last, weight: sat_add(own, others), next: end }
+    Part::Read {
+        ty: last,
+        weight: sat_add(own, others),
+        next: end,
+    }
 }
 
 // Reads the term at a place, which is no record's part: as the second part of a sequence, which may have any type and
@@ -191,5 +310,20 @@ pub(crate) fn read_root(s: &[u8], st: &[u16; 255], t: &mut [u16], n: Numbers, at
     ensures { λ x. ⌜ Reads (fill n) (readPart 32 n (now (s .entry)) (now (st .entry)) 0 at) x
         (now (t .entry)) (now (t .exit)) ⌝ }
 {
-    read_next(s, st, t, n, 0, DEPTH, 0, Rule::Sequence, 0, 0, 1, SECOND, 0, at)
+    read_next(
+        s,
+        st,
+        t,
+        n,
+        0,
+        DEPTH,
+        0,
+        Rule::Sequence,
+        0,
+        0,
+        1,
+        SECOND,
+        0,
+        at,
+    )
 }
