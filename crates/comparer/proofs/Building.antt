@@ -5,7 +5,7 @@ use mathlib.Core.List.{List}
 use Rattle.language.specs.declared.Numbers.{Numbers}
 use Rattle.automaton.specs.walk.Shows.{Words}
 use Rattle.dfa.specs.Graph.{rest, Graph}
-use Rattle.dfa.specs.Silent.{Silent, Settling}
+use Rattle.silent.specs.Silent.{Silent, Settling}
 use Rattle.explicit.specs.declared.Site.{Site}
 use Rattle.explicit.specs.inner.States.{spotsOf}
 use Rattle.explicit.specs.inner.Moves.{edgesAfter, filledOf}

@@ -16,15 +16,15 @@ use Rattle.language.specs.Play.{Complete}
 use Rattle.machine.specs.Sheet.{spots, steps}
 use Rattle.machine.proofs.Accepts.{spots-size}
 use Rattle.dfa.specs.Graph.{rest, δ}
-use Rattle.dfa.specs.Outcome.{Setting, Told, Outcome}
-use Rattle.dfa.specs.Reading.{walk, FirstWord}
-use Rattle.dfa.specs.Spelled.{Spelled, none, more as longer}
+use Rattle.difference.specs.Outcome.{Setting, ToldApart, Outcome}
+use Rattle.dfa.specs.Reading.{walk, FirstWord, reversed}
+use Rattle.difference.specs.Spelled.{Spelled, none, more as longer}
 use Rattle.dfa.specs.Word.{accepting, after}
-use Rattle.dfa.specs.declared.Task.{Task}
-use Rattle.dfa.specs.declared.Verdict.{Verdict}
-use Rattle.dfa.specs.declared.Verdict.the-variants as verdict
-use Rattle.dfa.proofs.laws.Reading.{turned, turned-turned, walk-turned, first-word}
-use Rattle.dfa.proofs.laws.Settled.{settled-graph}
+use Rattle.difference.specs.declared.Task.{Task}
+use Rattle.difference.specs.declared.Verdict.{Verdict}
+use Rattle.difference.specs.declared.Verdict.the-variants as verdict
+use Rattle.dfa.proofs.laws.Reading.{reversed-reversed, walk-reversed, first-word}
+use Rattle.silent.proofs.laws.Settled.{settled-graph}
 use Rattle.explicit.specs.Explicit.{Explicit}
 use Rattle.explicit.proofs.Settling.{AllSmall}
 use Rattle.comparer.specs.inner.Built.{TwoBuilt}
@@ -113,26 +113,26 @@ module _ (ws space : List ℕ) (all more : ℕ) (D : Deciding ws space all more)
       told : Outcome G (task all more) ws₁ verdict.Same
       told = subst (λ v. Outcome G (task all more) ws₁ v) e o
       read : (p : ℕ) (w : List ℕ) → ends T M M′ (walk (δ G n) p w) ≡
-          accepting (all - 1) (all + more - 1) (after (δ G n) p (turned w))
+          accepting (all - 1) (all + more - 1) (after (δ G n) p (reversed w))
       read p w = sym (fin-is (walk (δ G n) p w)) ∙ ap (accepting (all - 1) (all + more - 1))
-          (ap (walk (δ G n) p) (sym (turned-turned w)) ∙ walk-turned (δ G n) p (turned w))
+          (ap (walk (δ G n) p) (sym (reversed-reversed w)) ∙ walk-reversed (δ G n) p (reversed w))
       agree : (w : List ℕ) → ends T M M′ (walk (δ G n) 0 w) ≡ ends T M M′ (walk (δ G n) (spots T M + 1) w)
-      agree w = read 0 w ∙ told (turned w) ∙ sym (read all w) ∙ second-start w
+      agree w = read 0 w ∙ told (reversed w) ∙ sym (read all w) ∙ second-start w
 
   -- what tells the terms apart
-  module _ (ws₁ : List ℕ) (k : ℕ) (told : Told G (task all more) (take (5 * n) ws₁) k) where
+  module _ (ws₁ : List ℕ) (k : ℕ) (told : ToldApart G (task all more) (take (5 * n) ws₁) k) where
     -- the play found
-    found : FoundPlay N T M M′ (after (δ G n) 0 (told .word)) (turned (told .word))
+    found : FoundPlay N T M M′ (after (δ G n) 0 (told .word)) (reversed (told .word))
     found =
-        subst (λ p. FoundPlay N T M M′ p (turned (told .word))) (walk-turned (δ G n) 0 (told .word))
+        subst (λ p. FoundPlay N T M M′ p (reversed (told .word))) (walk-reversed (δ G n) 0 (told .word))
           (first-play (D .z-below) (D .typed) (D .other-typed) (B .shows) shows-second (B .graph) (B .settled)
-            (D .type-in) (D .term-in) (D .other-in) (turned (told .word)) first)
+            (D .type-in) (D .term-in) (D .other-in) (reversed (told .word)) first)
       where
-        given : FirstWord n (δ G n) (accepting (all - 1) (all + more - 1)) 0 all (turned (told .word))
+        given : FirstWord n (δ G n) (accepting (all - 1) (all + more - 1)) 0 all (reversed (told .word))
         given = first-word _ _ _ _ _ (told .word) (told .first)
-        first : FirstWord n (δ G n) (ends T M M′) 0 (spots T M + 1) (turned (told .word))
+        first : FirstWord n (δ G n) (ends T M M′) 0 (spots T M + 1) (reversed (told .word))
         first = record
-          { differ = λ e. given .differ (fin-is _ ∙ e ∙ sym (second-start (turned (told .word))) ∙ sym (fin-is _))
+          { differ = λ e. given .differ (fin-is _ ∙ e ∙ sym (second-start (reversed (told .word))) ∙ sym (fin-is _))
           ; least = λ v b. sym (fin-is _) ∙ given .least v b ∙ fin-is _ ∙ second-start v
           ; short = given .short }
 
@@ -177,7 +177,7 @@ module _ (ws space : List ℕ) (all more : ℕ) (D : Deciding ws space all more)
             (records-written N (D .z-below) (found .word) found-small space
               (omega (arith, found-short, D .space-room))))
       where
-        same-letters : s .letters ≡ turned (told .word)
-        same-letters = sym (turned-turned (s .letters)) ∙ ap turned (spelled-unique (s .spelled) (told .spelled))
+        same-letters : s .letters ≡ reversed (told .word)
+        same-letters = sym (reversed-reversed (s .letters)) ∙ ap reversed (spelled-unique (s .spelled) (told .spelled))
         ends-there : getD ws₁ (n + 4 * k) 0 ≡ after (δ G n) 0 (told .word)
         ends-there = sym (getD-take (5 * n) ws₁ (n + 4 * k) 0 (omega (arith, told .trail .below))) ∙ told .left

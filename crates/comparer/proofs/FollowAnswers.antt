@@ -12,8 +12,9 @@ use Rattle.language.specs.Choice.{pick}
 use Rattle.language.specs.Weight.{size}
 use Rattle.machine.specs.Sheet.{spots}
 use Rattle.machine.proofs.Accepts.{spots-size}
-use Rattle.dfa.specs.Graph.{rest, Graph}
-use Rattle.dfa.specs.Live.{Single, Markable, SameEdges, Marks}
+use Rattle.dfa.specs.Graph.{rest, Graph, SameEdges}
+use Rattle.dfa.specs.Live.{Single}
+use Rattle.live.specs.Marks.{Markable, Marks}
 use Rattle.dfa.proofs.laws.SameEdges.{same-graph}
 use Rattle.explicit.proofs.Ranges.{type-in, sheet-range}
 use Rattle.sheet.specs.Meaning.{tyOf, termOf, typeOf}

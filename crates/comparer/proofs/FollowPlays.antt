@@ -19,7 +19,7 @@ use Rattle.machine.specs.Sheet.{spots}
 use Rattle.dfa.specs.Graph.{δ, rest}
 use Rattle.dfa.specs.Live.{Single, Live}
 use Rattle.dfa.specs.Reading.{walk}
-use Rattle.dfa.specs.Silent.{Silent}
+use Rattle.silent.specs.Silent.{Silent}
 use Rattle.explicit.specs.Explicit.{packed, silentWord, Explicit}
 use Rattle.explicit.proofs.Ranges.{type-in, sheet-range}
 use Rattle.explicit.proofs.Settling.{AllSmall}

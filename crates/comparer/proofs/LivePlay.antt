@@ -18,9 +18,9 @@ use Rattle.machine.specs.Sheet.{spots, steps}
 use Rattle.dfa.specs.Graph.{δ, Graph}
 use Rattle.dfa.specs.Live.{Single, Live}
 use Rattle.dfa.specs.Reading.{walk}
-use Rattle.dfa.specs.Silent.{Silent, Settling}
+use Rattle.silent.specs.Silent.{Silent, Settling}
 use Rattle.dfa.proofs.laws.Edges.{live-walk}
-use Rattle.dfa.proofs.laws.Settled.{settled-graph}
+use Rattle.silent.proofs.laws.Settled.{settled-graph}
 use Rattle.explicit.specs.Explicit.{Explicit}
 use Rattle.comparer.specs.inner.Spell.{letters}
 use Rattle.comparer.proofs.OnePlay.{play-walks, walk-plays}

@@ -19,7 +19,7 @@ use Rattle.machine.specs.Sheet.{spots, steps, begin}
 use Rattle.machine.proofs.Scope.{scoped-of}
 use Rattle.dfa.specs.Graph.{δ, Graph}
 use Rattle.dfa.specs.Reading.{walk}
-use Rattle.dfa.specs.Silent.{Settling}
+use Rattle.silent.specs.Silent.{Settling}
 use Rattle.explicit.specs.Explicit.{packed, Explicit}
 use Rattle.explicit.proofs.Advance.{settle-dead}
 use Rattle.explicit.proofs.Language.{from-start, explicit-language}

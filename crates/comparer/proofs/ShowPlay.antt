@@ -8,11 +8,12 @@ use lib.Dec.{eqb}
 use borrow.Author.Tests.{eq-eqb, ne-eqb}
 use Rattle.language.specs.Choice.{pick}
 use Rattle.dfa.specs.Graph.{rest}
-use Rattle.dfa.specs.Spelled.{Trail, Spelled, Spelling}
-use Rattle.dfa.proofs.laws.Reading.{turned, turned-length, turned-turned, written-take}
+use Rattle.difference.specs.Spelled.{Trail, Spelled, Spelling}
+use Rattle.dfa.specs.Reading.{reversed}
+use Rattle.dfa.proofs.laws.Reading.{reversed-length, reversed-reversed}
+use Rattle.difference.proofs.laws.Spell.{written-take, spelled-length}
 use Rattle.dfa.proofs.laws.Rest.{rest-is, rest-length}
-use Rattle.dfa.proofs.laws.Spell.{spelled-length}
-use Rattle.dfa.proofs.laws.Trace.{trail-spelled}
+use Rattle.difference.proofs.laws.Trace.{trail-spelled}
 use Rattle.comparer.specs.inner.Bytes.{withRecords}
 use Rattle.comparer.specs.inner.Deciding.{Shown}
 use Rattle.comparer.specs.declared.Comparison.the-variants.{Apart}
@@ -30,7 +31,7 @@ module _ (n k r : ℕ) (ws ws′ : List ℕ) (t : Trail n (take (5 * n) ws) k) (
     play-room = (omega (arith, few-moves, t .few), omega (arith, few-moves))
 
     -- the letters stand from word 5 n on
-    letters-stand : (u : List ℕ) → Spelled n (take (5 * n) ws) k u → take r (drop (5 * n) ws′) ≡ turned u
+    letters-stand : (u : List ℕ) → Spelled n (take (5 * n) ws) k u → take r (drop (5 * n) ws′) ≡ reversed u
     letters-stand u h =
         let x = s .word u h in
         let out = rest (5 * n) ws′ in
@@ -45,9 +46,9 @@ module _ (n k r : ℕ) (ws ws′ : List ℕ) (t : Trail n (take (5 * n) ws) k) (
       shown which e =
           let w = trail-spelled n (take (5 * n) ws) k t in
           record
-            { letters = turned (w .0)
-            ; spelled = subst (λ v. Spelled n (take (5 * n) ws) k v) (sym (turned-turned (w .0))) (w .1)
-            ; answer = rw (e, turned-length (w .0), s .word (w .0) (w .1) .0)
+            { letters = reversed (w .0)
+            ; spelled = subst (λ v. Spelled n (take (5 * n) ws) k v) (sym (reversed-reversed (w .0))) (w .1)
+            ; answer = rw (e, reversed-length (w .0), s .word (w .0) (w .1) .0)
             ; written = put ∙ ap (λ v. withRecords space 0 v) (letters-stand (w .0) (w .1)) }
 
       -- as a play of the old sheet, where it ends at f

@@ -12,10 +12,10 @@ use Rattle.language.specs.Move.{Move, Word}
 use Rattle.language.specs.Letter.{letter}
 use Rattle.language.proofs.LetterLaws.{Small, letter-injective}
 use Rattle.dfa.specs.Word.{First, after}
-use Rattle.dfa.specs.Reading.{walk}
+use Rattle.dfa.specs.Reading.{walk, reversed}
 use Rattle.dfa.proofs.laws.Live.{no-true}
-use Rattle.dfa.proofs.laws.Reading.{turned, turned-length, walk-turned, turned-turned}
-use Rattle.dfa.proofs.laws.Short.{compared}
+use Rattle.dfa.proofs.laws.Reading.{reversed-length, walk-reversed, reversed-reversed}
+use Rattle.difference.proofs.laws.Short.{compared}
 use Rattle.explicit.proofs.Settling.{AllSmall}
 use Rattle.comparer.proofs.Unletter.{Unletter, of, none, unletter, letter-below}
 
@@ -62,8 +62,8 @@ letters N [] = []
 letters N (m ∷ u) = letter N m ∷ letters N u
 
 -- a word kept last letter first, and read first letter first
-after-turned : (δ : ℕ → ℕ → ℕ) (p : ℕ) (w : List ℕ) → after δ p (turned w) ≡ walk δ p w
-after-turned δ p w = sym (walk-turned δ p (turned w)) ∙ ap (walk δ p) (turned-turned w)
+after-turned : (δ : ℕ → ℕ → ℕ) (p : ℕ) (w : List ℕ) → after δ p (reversed w) ≡ walk δ p w
+after-turned δ p w = sym (walk-reversed δ p (reversed w)) ∙ ap (walk δ p) (reversed-reversed w)
 
 -- where a letter leads: to n - 1 if it is the letter of no move
 unfoldable leads : (n : ℕ) → (ℕ → Move → ℕ) → {N : Numbers} {x : ℕ} → Unletter N x → ℕ → ℕ
@@ -146,10 +146,10 @@ module _ (N : Numbers) (few : N .z ≤ 127) (n : ℕ) (σ : ℕ → Move → ℕ
           ((λ c. let s = P .small u c in Q .accepts u s .0 (sym (same s) ∙ P .accepts u s .1 c)),
            (λ d. let s = Q .small u d in P .accepts u s .0 (same s ∙ Q .accepts u s .1 d)))
         where
-          read : AllSmall N u → (r : ℕ) → after δ r (turned (letters N u)) ≡ trip σ r u
+          read : AllSmall N u → (r : ℕ) → after δ r (reversed (letters N u)) ≡ trip σ r u
           read s r = after-turned δ r (letters N u) ∙ walk-trip u s r
           same : AllSmall N u → fin (trip σ p u) ≡ fin (trip σ q u)
-          same s = ap fin (sym (read s p)) ∙ h (turned (letters N u)) ∙ ap fin (read s q)
+          same s = ap fin (sym (read s p)) ∙ h (reversed (letters N u)) ∙ ap fin (read s q)
 
       -- a word of moves that one state accepts and the other does not
       apart-word : (u : Word) → AllSmall N u → (fin (trip σ p u) ≡ fin (trip σ q u) → ⊥) → Apart C D u
@@ -163,15 +163,15 @@ module _ (N : Numbers) (few : N .z ≤ 127) (n : ℕ) (σ : ℕ → Move → ℕ
 
       -- the first word that tells the states apart is one of moves
       short-word : (x : List ℕ) → First n δ fin p q x → (u : Word) × (length u + 2 ≤ n) × Apart C D u
-      short-word x f = by (spelled (turned x))
+      short-word x f = by (spelled (reversed x))
         where
-          by : Spelled (turned x) → (u : Word) × (length u + 2 ≤ n) × Apart C D u
+          by : Spelled (reversed x) → (u : Word) × (length u + 2 ≤ n) × Apart C D u
           by (lost h) =
-              absurd (f .differ (ap fin (sym (walk-turned δ p x) ∙ h p p-lt ∙ sym (h q q-lt) ∙ walk-turned δ q x)))
+              absurd (f .differ (ap fin (sym (walk-reversed δ p x) ∙ h p p-lt ∙ sym (h q q-lt) ∙ walk-reversed δ q x)))
           by (spells u s l e) =
               let read : (r : ℕ) → after δ r x ≡ trip σ r u =
-                    λ r. sym (walk-turned δ r x) ∙ ap (walk δ r) (sym e) ∙ walk-trip u s r in
-              (u, omega (arith, turned-length x, f .short),
+                    λ r. sym (walk-reversed δ r x) ∙ ap (walk δ r) (sym e) ∙ walk-trip u s r in
+              (u, omega (arith, reversed-length x, f .short),
                apart-word u s (λ g. f .differ (ap fin (read p) ∙ g ∙ ap fin (sym (read q)))))
 
       -- THEOREM: the sets are equal, or a word of at most n - 2 moves is in exactly one of them

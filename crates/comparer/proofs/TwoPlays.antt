@@ -18,7 +18,7 @@ use Rattle.machine.specs.Range.{TyIn, InRange}
 use Rattle.machine.specs.Sheet.{spots, steps}
 use Rattle.dfa.specs.Graph.{δ, Graph}
 use Rattle.dfa.specs.Reading.{walk, FirstWord}
-use Rattle.dfa.specs.Silent.{Settling}
+use Rattle.silent.specs.Silent.{Settling}
 use Rattle.dfa.specs.Word.{accepting}
 use Rattle.explicit.specs.Explicit.{Explicit}
 use Rattle.explicit.proofs.Settling.{AllSmall}

@@ -1,9 +1,9 @@
 // The automata of sheets in the working words, ready to be walked and compared.
-use dfa::silent::settle;
 use explicit::Site;
 use explicit::fill::close;
 use explicit::fill::fill;
 use language::Numbers;
+use silent::settle;
 ghost use Prim.Native.Nat.{_+_};
 ghost use Rattle.comparer.specs.inner.Built.{OneReady, OneBuilt, TwoReady, TwoBuilt};
 

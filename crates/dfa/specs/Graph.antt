@@ -1,9 +1,9 @@
 -- The automaton of n states in the words: the graph G is the words from 5 n on. Places 0 to n of it are the first edge
 -- of each state, and the end; edge i is the places n + 1 + 2 i, its letter, and n + 2 + 2 i, its target. A letter that
--- no
--- edge of a state has leads to the dead state, n - 1. Assumes nothing.
+-- no edge of a state has leads to the dead state, n - 1. Assumes nothing.
 use mathlib.Core.Bool.{cond}
 use mathlib.Core.List.{List}
+use mathlib.Core.Path.{_≡_}
 use Prim.Native.Nat.{_*_, _+_, _-_, _<_, _^_, _≤_, suc, zero, ℕ}
 use lib.Dec.{eqb}
 use lib.ListN.{drop, getD, length, take}
@@ -41,3 +41,14 @@ pub record Graph (G : List ℕ) (n : ℕ) : Type 0 where
   pub few : n ≤ 8193
   pub room : n < length G
   pub edges : (p : ℕ) → p < n → Edges G n (getD G p 0) (getD G (p + 1) 0)
+
+-- e is an edge of the state p
+pub record EdgeOf (G : List ℕ) (n p e : ℕ) : Type 0 where
+  pub below : p < n
+  pub from : getD G p 0 ≤ e
+  pub to : e < getD G (p + 1) 0
+
+-- G′ has the edges of G: up to the end of the edges the words are the same
+pub record SameEdges (n : ℕ) (G G′ : List ℕ) : Type 0 where
+  pub size : length G′ ≡ length G
+  pub words : (i : ℕ) → i < n + 1 + 2 * getD G n 0 → getD G′ i 0 ≡ getD G i 0

@@ -1,9 +1,7 @@
 pub mod Graph
 pub mod Word
-pub mod Spelled
-pub mod Outcome
 pub mod Reading
 pub mod Live
-pub mod Silent
-pub mod Answer
+pub mod Frame
+pub mod Step
 pub mod inner

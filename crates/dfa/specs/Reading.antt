@@ -1,6 +1,6 @@
 -- Words first letter first, in their order: the shorter first, then the first letter that differs. Assumes nothing.
 use mathlib.Core.Bool.{Bool}
-use mathlib.Core.List.{List, [], _∷_}
+use mathlib.Core.List.{List, [], _++_, _∷_}
 use mathlib.Core.Logic.{_≢_, _⊎_}
 use mathlib.Core.Path.{_≡_}
 use Prim.Native.Nat.{_+_, _<_, _≤_, ℕ}
@@ -25,3 +25,8 @@ pub record FirstWord (n : ℕ) (δ : ℕ → ℕ → ℕ) (fin : ℕ → Bool) (
   pub differ : fin (walk δ p w) ≢ fin (walk δ q w)
   pub least : (v : List ℕ) → Before v w → fin (walk δ p v) ≡ fin (walk δ q v)
   pub short : length w + 2 ≤ n
+
+-- a word that is kept last letter first, first letter first
+abbrev pub reversed : List ℕ → List ℕ
+reversed [] = []
+reversed (m ∷ x) = reversed x ++ (m ∷ [])

@@ -1,6 +1,5 @@
 -- Words of letters, kept last letter first: their order, the state after a word, and the first word that tells two
--- states
--- apart. Assumes nothing.
+-- states apart. Assumes nothing.
 use mathlib.Core.Bool.{Bool, cond, true}
 use mathlib.Core.List.{List, [], _∷_}
 use mathlib.Core.Logic.{_≢_, _⊎_}

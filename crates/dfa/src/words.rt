@@ -1,9 +1,10 @@
+// Lent words: reading one, storing one, clearing all.
 ghost use mathlib.Core.Path.{_≡_};
 ghost use Prim.Native.Nat.{_<_, _^_};
 ghost use lib.ListN.{length, getD, set, replicate};
 
 // Word i.
-pub(crate) fn at(s: &[u32], i: usize) -> usize
+pub fn at(s: &[u32], i: usize) -> usize
     requires { ⌜ i < length (now s) ⌝ }
     ensures { λ r. ⌜ r ≡ getD (now (s .entry)) i 0 ⌝ }
 {
@@ -11,7 +12,7 @@ pub(crate) fn at(s: &[u32], i: usize) -> usize
 }
 
 // Word i becomes v.
-pub(crate) fn put(s: &mut [u32], i: usize, v: usize)
+pub fn put(s: &mut [u32], i: usize, v: usize)
     requires { ⌜ (i < length (now s)) × (v < 2 ^ 32) ⌝ }
     ensures { λ r. ⌜ now (s .exit) ≡ set (now (s .entry)) i v ⌝ }
 {

@@ -1,11 +1,14 @@
-// The services of dfa on automata made by hand: what they answer is written to standard output.
-use dfa::Task;
-use dfa::checked::Answer;
-use dfa::checked::Life;
-use dfa::checked::compare_checked;
-use dfa::checked::live_checked;
-use dfa::checked::settle_checked;
+// The services of silent, difference and live on automata made by hand: what they answer is written to standard output.
+use crate::checked::Answer;
+use crate::checked::Life;
+use crate::checked::compare_checked;
+use crate::checked::live_checked;
+use crate::checked::settle_checked;
+use difference::Task;
 use libc::STDOUT_FILENO;
+
+mod tested; // tested.rt: whether the words are an automaton
+mod checked; // checked.rt: the services with their requirements tested
 
 fn wide(x: u32) -> u64 {
     x as u64
@@ -55,17 +58,17 @@ fn list(words: &[u32], base: usize, count: usize) {
 
 fn show(words: &[u32], base: usize, a: Answer) {
     match a {
-        Answer::Refused => say(b" refused\n"),
-        Answer::Alike => say(b" alike\n"),
-        Answer::Word(len) => list(words, base, len),
+        Answer::Invalid => say(b" refused\n"),
+        Answer::Equivalent => say(b" alike\n"),
+        Answer::Distinguished(len) => list(words, base, len),
     }
 }
 
 fn tell(l: Life) {
     match l {
-        Life::Untold => say(b" refused\n"),
-        Life::Accepting => say(b" accepts\n"),
-        Life::Barren => say(b" accepts nothing\n"),
+        Life::Invalid => say(b" refused\n"),
+        Life::Live => say(b" accepts\n"),
+        Life::Dead => say(b" accepts nothing\n"),
     }
 }
 
@@ -134,7 +137,7 @@ fn equal() {
 }
 
 // 0 accepts; 1 goes by 4 to itself; 2 is dead.
-fn barren() {
+fn dead() {
     let mut w = [0u32; 32];
     let g = [0, 0, 1, 1, 4, 1];
     fill(&mut w, 15, &g);
@@ -218,7 +221,7 @@ fn main() {
     silent();
     one_side();
     equal();
-    barren();
+    dead();
     reached();
     long();
     wrong();

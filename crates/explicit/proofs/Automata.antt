@@ -14,7 +14,7 @@ use Rattle.machine.specs.Action.{Action}
 use Rattle.machine.specs.Settle.{Index}
 use Rattle.dfa.specs.Graph as graph
 use Rattle.dfa.specs.Graph.{rest, look, δ, Graph}
-use Rattle.dfa.specs.Silent.{Silent}
+use Rattle.silent.specs.Silent.{Silent}
 use Rattle.dfa.proofs.laws.Rest.{rest-at, rest-length}
 use Rattle.explicit.specs.Explicit.{Explicit}
 use Rattle.explicit.specs.inner.Rows.{Edge, Row, noEdges}

@@ -19,7 +19,7 @@ use Rattle.machine.proofs.EdgeLaws.{Visible}
 use Rattle.machine.proofs.Silent.{Stops}
 use Rattle.machine.proofs.Accepts.{language}
 use Rattle.dfa.specs.Graph.{δ, Graph}
-use Rattle.dfa.specs.Silent.{Settling}
+use Rattle.silent.specs.Silent.{Settling}
 use Rattle.explicit.specs.Explicit.{packed, Explicit}
 use Rattle.explicit.proofs.Advance.{settle-stop}
 use Rattle.explicit.proofs.Settling.{along, AllSmall, runs, ended}

@@ -19,7 +19,7 @@ use Rattle.machine.proofs.EdgeLaws.{Visible}
 use Rattle.machine.proofs.Silent.{Stops}
 use Rattle.dfa.specs.Graph as graph
 use Rattle.dfa.specs.Graph.{δ, look, target, Graph}
-use Rattle.dfa.specs.Silent.{stepped, moved, Settled, Settling}
+use Rattle.silent.specs.Silent.{stepped, moved, Settled, Settling}
 use Rattle.explicit.specs.Explicit.{packed, silentWord, Explicit}
 use Rattle.explicit.proofs.Advance.{advance, advances, advances-last, View, stops, goes, view, advance-stop}
 use Rattle.explicit.proofs.Advance.{advance-go, go-not-stop, settle-dead, stopped, unstopped}

@@ -16,10 +16,11 @@ use mir.Facts.{toZ-ofZ, toZ-pos}
 pub back : {z : ℤ} → SFits w64 z → toZ w64 (ofZ w64 z) ≡ z
 back h = toZ-ofZ h
 
--- so is the result of a call
+-- the result of a call is read back from its bits
 pub read : {s z : ℤ} → mag s < 9223372036854775808 → s ≡ z → toZ w64 (ofZ w64 s) ≡ z
 read h e = back (record { sfits = h }) ∙ e
 
+-- what is small fits
 pub small : (z : ℤ) → natAbs z ≤ 4294967296 → SFits w64 z
 small (pos n) h = record { sfits = omega arith }
 small (negsuc n) h = record { sfits = omega arith }
@@ -98,7 +99,7 @@ module _ (a b : ℕ) (h : a < 65536) (k : b < 65536) where
   pub minus-back : toZ w64 (ofZ w64 (toZ w64 a -ℤ toZ w64 b)) ≡ pos a -ℤ pos b
   minus-back = back minus-fits ∙ ap₂ _-ℤ_ (nat-back a h) (nat-back b k)
 
--- below 0, and not
+-- by the sign: the distance from 0, and the magnitude
 not-below : (a : ℕ) → ltb a 0 ≡ true → ⊥
 not-below a e = omega (arith, ltb-true a 0 e)
 
@@ -118,11 +119,8 @@ from-minus-one : (v : ℤ) → ltZ v (pos 0) ≡ true → negsuc 0 -ℤ v ≡ po
 from-minus-one (pos a) h = absurd (not-below a h)
 from-minus-one (negsuc a) h = rw (le-ltb (suc a) 1 (omega arith)) (ap pos (omega arith))
 
--- a number that a cast to 64 bits without sign keeps
-abbrev pub Castable : ℤ → Type 0
-Castable z = T (nonNeg z) × Fits w64 (natAbs z)
-
-castable : (z : ℤ) {m : ℕ} → z ≡ pos m → m < 9223372036854775808 → Castable z
+-- a number from 0 on is kept by a cast to 64 bits without sign
+castable : (z : ℤ) {m : ℕ} → z ≡ pos m → m < 9223372036854775808 → T (nonNeg z) × Fits w64 (natAbs z)
 castable z e h = rw e (tt, record { fits = omega arith })
 
 module _ {v : ℤ} (f : SFits w64 v) where
@@ -142,7 +140,9 @@ module _ {v : ℤ} (f : SFits w64 v) where
     below-back : toZ w64 (ofZ w64 (negsuc 0 -ℤ toZ w64 (ofZ w64 v))) ≡ pos (mag v)
     below-back = back below-fits ∙ from-back
 
-    pub below-cast : Castable (toZ w64 (ofZ w64 (negsuc 0 -ℤ toZ w64 (ofZ w64 v))))
+    pub below-cast :
+        T (nonNeg (toZ w64 (ofZ w64 (negsuc 0 -ℤ toZ w64 (ofZ w64 v)))))
+        × Fits w64 (natAbs (toZ w64 (ofZ w64 (negsuc 0 -ℤ toZ w64 (ofZ w64 v)))))
     below-cast = castable _ below-back (f .sfits)
 
     pub below-is : natAbs (toZ w64 (ofZ w64 (negsuc 0 -ℤ toZ w64 (ofZ w64 v)))) ≡ mag v
@@ -152,7 +152,7 @@ module _ {v : ℤ} (f : SFits w64 v) where
     above-back : toZ w64 (ofZ w64 v) ≡ pos (mag v)
     above-back = back f ∙ pos-above v (test-back h)
 
-    pub above-cast : Castable (toZ w64 (ofZ w64 v))
+    pub above-cast : T (nonNeg (toZ w64 (ofZ w64 v))) × Fits w64 (natAbs (toZ w64 (ofZ w64 v)))
     above-cast = castable _ above-back (f .sfits)
 
     pub above-is : natAbs (toZ w64 (ofZ w64 v)) ≡ mag v

@@ -52,6 +52,7 @@ pub numbers-above : (N : Numbers) → 0 < numbers N
 unfolding numbers
 numbers-above N = omega arith
 
+-- a code is below the number of numbers
 pub code-below : (N : Numbers) (v : ℤ) → code N v < numbers N
 unfolding code
 code-below N v = modulo-below v (numbers N) (numbers-above N)
@@ -63,6 +64,7 @@ modulo-back c n h = rw (minus-below c n h) (modulo-neg (n - suc c) n (omega arit
 minus-back : (a n : ℕ) → a < n → pos (n - suc a) -ℤ pos n ≡ negsuc a
 minus-back a n h = minus-below (n - suc a) n (omega arith) ∙ ap negsuc (omega arith)
 
+-- a number is found again by its code, and a code by its number
 module _ (N : Numbers) where
   pub signed-code : (v : ℤ) → natAbs v ≤ N .z → signed N (code N v) ≡ v
   unfolding signed code numbers
@@ -104,7 +106,7 @@ module _ (N : Numbers) where
           ∙ +ℤ-assoc (a -ℤ n) n (q *ℤ n)
           ∙ ap (λ (x : ℤ). (a -ℤ n) +ℤ x) (+ℤ-comm n (q *ℤ n) ∙ sym (sucℤ-*ℤ q n))
 
--- bytes
+-- a number is found again by its byte, and a byte by its number
 pub byte-number : (v : ℤ) → natAbs v ≤ 127 → fromByte (toByte v) ≡ v
 unfolding fromByte toByte
 byte-number (pos a) h = rw (modulo-pos a 256 (omega arith), lt-ltb a 128 (omega arith))
@@ -124,6 +126,7 @@ abs-high : (b : ℕ) → b < 256 → 128 ≤ b → natAbs (fromByte b) ≡ 256 -
 unfolding fromByte
 abs-high b h k = rw (le-ltb b 128 k, minus-below b 256 h) (omega arith)
 
+-- the test of a byte says whether its number is from -Z to Z
 module _ (N : Numbers) (b : ℕ) (h : b < 256) (k : N .z ≤ 127) where
   pub in-range : inRange N b ≡ leb (natAbs (fromByte b)) (N .z)
   unfolding inRange

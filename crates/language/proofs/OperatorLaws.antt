@@ -15,40 +15,38 @@ use Rattle.language.specs.Operator.{fit, fitSome, remainder, truth, oper
 use Rattle.language.proofs.NumberLaws.{code-below, by-test}
 
 -- a result, if there is one, is below n
-data Below (n : ℕ) : Option ℕ → Type 0 where
-  nothing : Below n none
-  this : {c : ℕ} → c < n → Below n (some c)
-
 pick-below :
-    {n : ℕ} {a b : Option ℕ} (t : Bool) → (t ≡ true → Below n a) → (t ≡ false → Below n b) →
-    Below n (pick t a b)
+    {n r : ℕ} {a b : Option ℕ} (t : Bool) → (t ≡ true → a ≡ some r → r < n) → (t ≡ false → b ≡ some r → r < n) →
+    pick t a b ≡ some r → r < n
 pick-below true h k = h refl
 pick-below false h k = k refl
 
-some-below : {n r : ℕ} {o : Option ℕ} → Below n o → o ≡ some r → r < n
-some-below nothing e = let z : _≡_ {A = ℕ} 0 1 = cc in absurd (omega arith)
-some-below {n} {r} (this {c} h) e = let d : c ≡ r = cc in omega arith
+none-below : {n r : ℕ} → _≡_ {A = Option ℕ} none (some r) → r < n
+none-below e = let z : _≡_ {A = ℕ} 0 1 = cc in absurd (omega arith)
 
-truth-below : (b : Bool) → Below 2 (some (truth b))
+some-below : {n r c : ℕ} → c < n → some c ≡ some r → r < n
+some-below {n} {r} {c} h e = let d : c ≡ r = cc in omega arith
+
+truth-below : (b : Bool) {r : ℕ} → some (truth b) ≡ some r → r < 2
 unfolding truth
-truth-below true = this {c = 1} (omega arith)
-truth-below false = this {c = 0} (omega arith)
+truth-below true = some-below {c = 1} (omega arith)
+truth-below false = some-below {c = 0} (omega arith)
 
 module _ (N : Numbers) where
-  fit-below : (v : ℤ) → Below (numbers N) (fit N v)
+  fit-below : (v : ℤ) {r : ℕ} → fit N v ≡ some r → r < numbers N
   unfolding fit
   fit-below v =
-      let h = this (code-below N v) in
-      pick-below (eqb (N .rule) 0) (λ t. pick-below (ltb (N .z) (natAbs v)) (λ u. nothing) (λ u. h)) (λ t. h)
+      let h = some-below (code-below N v) in
+      pick-below (eqb (N .rule) 0) (λ t. pick-below (ltb (N .z) (natAbs v)) (λ u. none-below) (λ u. h)) (λ t. h)
 
-  fit-some-below : (o : Option ℤ) → Below (numbers N) (fitSome N o)
+  fit-some-below : (o : Option ℤ) {r : ℕ} → fitSome N o ≡ some r → r < numbers N
   unfolding fitSome
-  fit-some-below none = nothing
+  fit-some-below none = none-below
   fit-some-below (some v) = fit-below v
 
-  number-below : (op x y : ℕ) → op < 4 → Below (numbers N) (operate N op x y)
+  pub operate-number : (op x y : ℕ) {r : ℕ} → op < 4 → operate N op x y ≡ some r → r < numbers N
   unfolding operate
-  number-below op x y h =
+  operate-number op x y h =
       pick-below (eqb op 0) (λ t. fit-below (signed N x +ℤ signed N y)) (λ t₀.
       pick-below (eqb op 1) (λ t. fit-below (signed N x -ℤ signed N y)) (λ t₁.
       pick-below (eqb op 2) (λ t. fit-below (signed N x *ℤ signed N y)) (λ t₂.
@@ -58,12 +56,9 @@ module _ (N : Numbers) where
       between : (op ≡ 0 → ⊥) → (op ≡ 1 → ⊥) → (op ≡ 2 → ⊥) → (op ≡ 3 → ⊥) → ⊥
       between a b c d = omega arith
 
-  pub operate-number : (op x y : ℕ) {r : ℕ} → op < 4 → operate N op x y ≡ some r → r < numbers N
-  operate-number op x y h e = some-below (number-below op x y h) e
-
-  bit-below : (op x y : ℕ) → 4 ≤ op → Below 2 (operate N op x y)
+  pub operate-truth : (op x y : ℕ) {r : ℕ} → 4 ≤ op → operate N op x y ≡ some r → r < 2
   unfolding operate
-  bit-below op x y h =
+  operate-truth op x y h =
       rw (not-this 0 (omega arith), not-this 1 (omega arith), not-this 2 (omega arith), not-this 3 (omega arith))
       (pick-below (eqb op 5) (λ t. truth-below (ltZ (signed N x) (signed N y))) (λ t.
       pick-below (eqb op 6) (λ t. truth-below (pick (eqb x 1) (eqb y 1) false)) (λ t.
@@ -72,9 +67,6 @@ module _ (N : Numbers) where
     where
       not-this : (k : ℕ) → k < 4 → eqb op k ≡ false
       not-this k l = ne-eqb op k (λ e. omega arith)
-
-  pub operate-truth : (op x y : ℕ) {r : ℕ} → 4 ≤ op → operate N op x y ≡ some r → r < 2
-  operate-truth op x y h e = some-below (bit-below op x y h) e
 
   pub operate-below : (op x y : ℕ) {r : ℕ} → operate N op x y ≡ some r → r < pick (ltb op 4) (numbers N) 2
   operate-below op x y e =

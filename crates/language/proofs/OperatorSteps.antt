@@ -6,13 +6,16 @@ use mathlib.Core.Bool.{Bool}
 use mathlib.Core.Option.{some}
 use lib.Dec.{leb, ltb}
 use lib.IntN.{ℤ, pos, natAbs, _-ℤ_}
-use lib.Signed.{ltZ, remZ}
+use lib.Signed.{mag, ltZ, remZ}
 use borrow.Author.Tests.{ltb-true, ltb-false, lt-ltb, le-ltb, eq-eqb, ne-eqb}
+use mir.Syntax.{w64}
+use mir.Val.{ofZ, toZ}
 use Rattle.language.specs.declared.Numbers.{Numbers}
 use Rattle.language.specs.declared.operator.Outcome.{Outcome}
 use Rattle.language.specs.declared.operator.Outcome.the-variants.{Nothing}
 use Rattle.language.specs.Number.{numbers, code, signed}
 use Rattle.language.specs.Operator.{fit, fitSome, remainder, truth, outcome}
+use Rattle.language.proofs.Bits.{read}
 use Rattle.language.proofs.NumberLaws.{minus-below, by-test}
 
 minus-above : (a b : ℕ) → b ≤ a → pos a -ℤ pos b ≡ pos (a - b)
@@ -29,10 +32,6 @@ signed-small N c h k = by-test (leb c (N .z)) (λ t. rw t (omega arith)) (λ t. 
         by-test (ltb c n)
         (λ u. rw (minus-below c n (ltb-true c n u)) (omega arith))
         (λ u. rw (minus-above c n (ltb-false c n u)) (omega arith))
-
--- an operand that was read from its code
-pub operand : (N : Numbers) (c : ℕ) {a : ℤ} → N .z < 256 → c < 65536 → a ≡ signed N c → natAbs a ≤ 65535
-operand N c h k e = rw e (signed-small N c h k)
 
 -- the overflow rule
 module _ (N : Numbers) (v : ℤ) where
@@ -51,24 +50,41 @@ module _ (N : Numbers) (v : ℤ) where
   unfolding fit
   fit-turned h d = rw (ne-eqb (N .rule) 0 h) d
 
-module _ (N : Numbers) (x y : ℕ) {a b : ℤ} (p : a ≡ signed N x) (q : b ≡ signed N y) where
-  -- an operation on two operands, and the overflow rule
-  pub result-is :
-      (f : ℤ → ℤ → ℤ) {w : ℤ} {r : Outcome} → w ≡ f a b → r ≡ outcome (fit N w) →
-      r ≡ outcome (fit N (f (signed N x) (signed N y)))
-  result-is f e d = d ∙ ap (λ (u : ℤ). outcome (fit N u)) (e ∙ ap₂ f p q)
+-- An operation on two operands: what `signed` returned for the codes x and y is s and t, held in 64 bits.
+module _
+    (N : Numbers) (x y : ℕ) {s t : ℤ} (f : mag s < 9223372036854775808) (p : s ≡ signed N x)
+    (g : mag t < 9223372036854775808) (q : t ≡ signed N y) where
+  left : toZ w64 (ofZ w64 s) ≡ signed N x
+  left = read f p
+
+  right : toZ w64 (ofZ w64 t) ≡ signed N y
+  right = read g q
+
+  -- the operands are small enough for every exact operation
+  pub operands :
+      N .z < 256 → x < 65536 → y < 65536 →
+      (natAbs (toZ w64 (ofZ w64 s)) ≤ 65535) × (natAbs (toZ w64 (ofZ w64 t)) ≤ 65535)
+  operands h k l = (rw left (signed-small N x h k), rw right (signed-small N y h l))
+
+  -- the exact operation o on them, and the overflow rule
+  pub exact-result :
+      (o : ℤ → ℤ → ℤ) {w : ℤ} {r : Outcome} → mag w < 9223372036854775808 →
+      w ≡ o (toZ w64 (ofZ w64 s)) (toZ w64 (ofZ w64 t)) →
+      r ≡ outcome (fit N (toZ w64 (ofZ w64 w))) → r ≡ outcome (fit N (o (signed N x) (signed N y)))
+  exact-result o h e d = d ∙ ap (λ (u : ℤ). outcome (fit N u)) (read h e ∙ ap₂ o left right)
 
   pub less-is :
-      {t : Bool} {r : Outcome} → t ≡ ltZ a b → r ≡ outcome (some (truth t)) →
+      {u : Bool} {r : Outcome} → u ≡ ltZ (toZ w64 (ofZ w64 s)) (toZ w64 (ofZ w64 t)) → r ≡ outcome (some (truth u)) →
       r ≡ outcome (some (truth (ltZ (signed N x) (signed N y))))
-  less-is e d = d ∙ ap (λ (u : Bool). outcome (some (truth u))) (e ∙ ap₂ ltZ p q)
+  less-is e d = d ∙ ap (λ (v : Bool). outcome (some (truth v))) (e ∙ ap₂ ltZ left right)
 
   pub remainder-is :
-      {m : ℕ} {w : ℤ} {r : Outcome} → m ≡ natAbs b → (m ≡ 0 → ⊥) → w ≡ remZ a b → r ≡ outcome (fit N w) →
-      r ≡ outcome (fitSome N (remainder (signed N x) (signed N y)))
+      {m : ℕ} {w : ℤ} {r : Outcome} → m ≡ natAbs (toZ w64 (ofZ w64 t)) → (m ≡ 0 → ⊥) →
+      mag w < 9223372036854775808 → w ≡ remZ (toZ w64 (ofZ w64 s)) (toZ w64 (ofZ w64 t)) →
+      r ≡ outcome (fit N (toZ w64 (ofZ w64 w))) → r ≡ outcome (fitSome N (remainder (signed N x) (signed N y)))
   unfolding fitSome remainder
-  remainder-is e h d g =
-      rw (ne-eqb (natAbs (signed N y)) 0 (λ z. h (e ∙ ap natAbs q ∙ z))) (result-is remZ d g)
+  remainder-is e h k d g =
+      rw (ne-eqb (natAbs (signed N y)) 0 (λ z. h (e ∙ ap natAbs right ∙ z))) (exact-result remZ k d g)
 
 pub remainder-none :
     (N : Numbers) (x y : ℕ) {b : ℤ} {m : ℕ} → b ≡ signed N y → m ≡ natAbs b → m ≡ 0 →

@@ -1,5 +1,6 @@
 pub mod Choice
 pub mod Number
+pub mod Operators
 pub mod Operator
 pub mod Ty
 pub mod Move

@@ -10,22 +10,26 @@ use Rattle.language.specs.declared.Numbers.{Numbers}
 use Rattle.language.specs.Number.{signed, toByte}
 use Rattle.language.specs.Ty.{Question, run, ask, read, write, Answer, done, ok, value}
 
+-- what happens in a move: a question or an answer
 pub data Event : Type 0 where
   question : Question → Event
   answer : Answer → Event
   deriving Discrete as Event-discrete
 
--- `at id j`: argument j, from 1, of a declared name, or with j = 0 the name itself; the whole term is `at 255 0`.
--- `private i`: the private variable of the enclosing block i, counted outwards from 0; no complete play has a move there.
+-- Where a move stands. `at id j`: argument j, from 1, of a declared name, or with j = 0 the name itself; the whole term
+-- is `at 255 0`. `private i`: the private variable of the enclosing block i, counted outwards from 0; no complete play
+-- has a move there.
 pub data Place : Type 0 where
   at : ℕ → ℕ → Place
   private : ℕ → Place
   deriving Discrete as Place-discrete
 
+-- a move: where it stands and what happens in it
 pub data Move : Type 0 where
   move : Place → Event → Move
   deriving Discrete as Move-discrete
 
+-- moves one after the other
 abbrev pub Word : Type 0
 Word = List Move
 
@@ -49,6 +53,7 @@ valueOf (answer done) = []
 valueOf (answer ok) = []
 valueOf (answer (value v)) = v ∷ []
 
+-- the bytes of values
 unfoldable pub bytes : Numbers → List ℕ → List ℕ
 bytes N [] = []
 bytes N (v ∷ vs) = toByte (signed N v) ∷ bytes N vs
@@ -58,16 +63,18 @@ unfoldable pub record-of : Numbers → Move → List ℕ
 record-of N (move (at id j) e) = kind e ∷ id ∷ j ∷ bytes N (valueOf e)
 record-of N (move (private i) e) = []
 
+-- the records of the moves of a word, one after the other
 unfoldable pub records : Numbers → Word → List ℕ
 records N [] = []
 records N (m ∷ u) = record-of N m ++ records N u
 
--- "Moves are ordered by kind, id, argument, signed value"
+-- by signed value, where both moves have one
 abbrev pub ByValue : Numbers → List ℕ → List ℕ → Type 0
 ByValue N (x ∷ xs) (y ∷ ys) = signed N x <ℤ signed N y
 ByValue N [] ys = ⊥
 ByValue N (x ∷ xs) [] = ⊥
 
+-- "Moves are ordered by kind, id, argument, signed value"
 abbrev pub Earlier : Numbers → Move → Move → Type 0
 Earlier N (move (at i j) e) (move (at k l) f) =
     (kind e < kind f) ⊎ ((kind e ≡ kind f) ×

@@ -27,14 +27,22 @@ code N v = modulo v (numbers N)
 unfoldable pub signed : Numbers → ℕ → ℤ
 signed N c = pick (leb c (N .z)) (pos c) (pos c -ℤ pos (numbers N))
 
+-- the first byte that stands for a negative number, in two's complement
+abbrev pub negative : ℕ
+negative = 128
+
+-- how many bytes there are
+abbrev pub byteCount : ℕ
+byteCount = 256
+
 -- the number that a byte stands for, in two's complement
 unfoldable pub fromByte : ℕ → ℤ
-fromByte b = pick (ltb b 128) (pos b) (pos b -ℤ pos 256)
+fromByte b = pick (ltb b negative) (pos b) (pos b -ℤ pos byteCount)
 
--- its byte
+-- the byte of a number
 unfoldable pub toByte : ℤ → ℕ
-toByte v = modulo v 256
+toByte v = modulo v byteCount
 
 -- whether a byte stands for a number from -Z to Z
 unfoldable pub inRange : Numbers → ℕ → Bool
-inRange N b = pick (leb b (N .z)) true (leb (256 - N .z) b)
+inRange N b = pick (leb b (N .z)) true (leb (byteCount - N .z) b)

@@ -1,5 +1,4 @@
--- The nine operators. Document 01, "The sheet, byte by byte" (their numbers and types) and "Plays" (overflow and
--- remainder).
+-- The nine operators on codes. Document 01, "Plays" (overflow and remainder).
 use Prim.Native.Nat.{ℕ}
 use mathlib.Core.Bool.{Bool, true, false}
 use mathlib.Core.Option.{Option, none, some}
@@ -11,34 +10,41 @@ use Rattle.language.specs.declared.operator.Outcome.{Outcome}
 use Rattle.language.specs.declared.operator.Outcome.the-variants.{Is, Nothing}
 use Rattle.language.specs.Choice.{pick}
 use Rattle.language.specs.Number.{code, signed}
+use Rattle.language.specs.Operators as op
+
+-- the overflow rule under which a result outside -Z to Z has no play
+abbrev pub noPlay : ℕ
+noPlay = 0
 
 -- "A result outside -Z to Z has no play under rule 0; under rule 1 a multiple of 2Z + 1 is added or taken away until
 -- it fits"
 unfoldable pub fit : Numbers → ℤ → Option ℕ
-fit N v = pick (eqb (N .rule) 0) (pick (ltb (N .z) (natAbs v)) none (some (code N v))) (some (code N v))
+fit N v = pick (eqb (N .rule) noPlay) (pick (ltb (N .z) (natAbs v)) none (some (code N v))) (some (code N v))
 
 -- "Remainder takes the sign of the left operand, and has no play for a right operand of 0"
 unfoldable pub remainder : ℤ → ℤ → Option ℤ
 remainder x y = pick (eqb (natAbs y) 0) none (some (remZ x y))
 
+-- the same where there may be no result
 unfoldable pub fitSome : Numbers → Option ℤ → Option ℕ
 fitSome N none = none
 fitSome N (some v) = fit N v
 
+-- the code of a truth
 unfoldable pub truth : Bool → ℕ
 truth b = pick b 1 0
 
--- the result's code, from the operands' codes: 0 plus, 1 minus, 2 times, 3 remainder, 4 equal, 5 less (numbers), 6 and,
--- 7 or, 8 equal (truths). Numbers are equal exactly if their codes are.
+-- The result's code, from the operands' codes. Numbers are equal exactly if their codes are, and so are truths: `equal`
+-- and `equal-truths` are what the other cases leave.
 unfoldable pub operate : Numbers → ℕ → ℕ → ℕ → Option ℕ
-operate N op x y =
-    pick (eqb op 0) (fit N (signed N x +ℤ signed N y))
-    (pick (eqb op 1) (fit N (signed N x -ℤ signed N y))
-    (pick (eqb op 2) (fit N (signed N x *ℤ signed N y))
-    (pick (eqb op 3) (fitSome N (remainder (signed N x) (signed N y)))
-    (pick (eqb op 5) (some (truth (ltZ (signed N x) (signed N y))))
-    (pick (eqb op 6) (some (truth (pick (eqb x 1) (eqb y 1) false)))
-    (pick (eqb op 7) (some (truth (pick (eqb x 1) true (eqb y 1))))
+operate N o x y =
+    pick (eqb o op.plus) (fit N (signed N x +ℤ signed N y))
+    (pick (eqb o op.minus) (fit N (signed N x -ℤ signed N y))
+    (pick (eqb o op.times) (fit N (signed N x *ℤ signed N y))
+    (pick (eqb o op.remainder) (fitSome N (remainder (signed N x) (signed N y)))
+    (pick (eqb o op.less) (some (truth (ltZ (signed N x) (signed N y))))
+    (pick (eqb o op.and) (some (truth (pick (eqb x 1) (eqb y 1) false)))
+    (pick (eqb o op.or) (some (truth (pick (eqb x 1) true (eqb y 1))))
     (some (truth (eqb x y)))))))))
 
 -- the answer of the function that operates

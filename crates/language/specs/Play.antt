@@ -1,5 +1,5 @@
--- The plays of a term. Document 001, definitions 12 to 18 and 22; for assign, fetch and new document 01, "Plays", which decides
--- (compare definitions 24 to 26).
+-- The plays of a term. Document 001, definitions 12 to 18 and 22. On assign, fetch and new, document 01 ("Plays")
+-- decides and not definitions 24 to 26.
 use mathlib.Core.Path.{_≡_}
 use mathlib.Core.Logic.{_⊎_}
 use mathlib.Core.List.{List, [], _∷_, _++_}
@@ -31,7 +31,7 @@ kept (move (at i j) e ∷ u) = kept u
 kept (move (private zero) e ∷ u) = e ∷ kept u
 kept (move (private (suc i)) e ∷ u) = kept u
 
--- and the word without it: "its moves are then hidden"
+-- a word without the moves at the innermost private variable: "its moves are then hidden"
 unfoldable pub hide : Word → Word
 hide [] = []
 hide (move (at i j) e ∷ u) = move (at i j) e ∷ hide u

@@ -1,5 +1,5 @@
--- Terms, with every use resolved: a private variable by its block, a name by its id and type. Document 01, "The sheet, byte by
--- byte"; document 001, figure 1.
+-- Terms, with every use resolved: a private variable by its block, a name by its id and type. Document 001, figure 1;
+-- document 01, "The sheet, byte by byte".
 use mathlib.Core.Option.{Option}
 use Prim.Native.Nat.{ℕ, _<_}
 use Rattle.language.specs.declared.Numbers.{Numbers}
@@ -11,10 +11,11 @@ pub record Operation : Type 0 where
   pub over : Numbers
   pub operator : ℕ
 
+-- the code of its result, from the codes of its operands
 unfoldable pub apply : Operation → ℕ → ℕ → Option ℕ
 apply o x y = op.operate (o .over) (o .operator) x y
 
--- The number m of values stands in `operate` (of an operand), `assign` and `new` (of the variable).
+-- A term. The number m of values stands in `operate` (of an operand), in `assign` and in `new` (of the variable).
 mutual
   pub data Term : Type 0 where
     skip diverge : Term

@@ -8,11 +8,13 @@ pub data Ty : Type 0 where
   command : Ty
   expression variable : ℕ → Ty
 
+-- what a command, an expression or a variable is asked
 pub data Question : Type 0 where
   run ask read : Question
   write : ℕ → Question
   deriving Discrete as Question-discrete
 
+-- what a command, an expression or a variable answers
 pub data Answer : Type 0 where
   done ok : Answer
   value : ℕ → Answer
@@ -32,12 +34,13 @@ pub data Answers : Ty → Question → Answer → Type 0 where
   to-read : {m v : ℕ} → v < m → Answers (variable m) read (value v)
   to-write : {m v : ℕ} → v < m → Answers (variable m) (write v) ok
 
--- how many questions a type has, and how many answers they have in all (document 01, "Reckoned size")
+-- how many questions a type has (document 01, "Reckoned size")
 unfoldable pub questions : Ty → ℕ
 questions command = 1
 questions (expression m) = 1
 questions (variable m) = 1 + m
 
+-- how many answers they have in all
 unfoldable pub answers : Ty → ℕ
 answers command = 1
 answers (expression m) = m

@@ -1,20 +1,20 @@
 -- Which terms are well scoped and well typed. Document 001, figure 1; document 01, "The sheet, byte by byte".
 use mathlib.Core.List.{List, [], _∷_}
-use mathlib.Core.Bool.{Bool}
 use Prim.Native.Nat.{ℕ, suc, _<_}
-use lib.Dec.{ltb}
 use Rattle.language.specs.Choice.{pick}
 use Rattle.language.specs.Number.{numbers}
+use Rattle.language.specs.Operators.{takesNumbers, givesNumber}
 use Rattle.language.specs.Ty.{Ty, command, expression, variable}
 use Rattle.language.specs.Term.{Term, skip, diverge, const, private, name, fetch, operate, assign, seq, while}
 use Rattle.language.specs.Term.{cond, new, Args, no-args, arg, Operation}
 
--- how many values the data of an operator's operands and of its result has: operators 0 to 5 take numbers, 0 to 3 give one
+-- how many values the data of an operator's operands has
 unfoldable pub operands : Operation → ℕ
-operands o = pick (ltb (o .operator) 6) (numbers (o .over)) 2
+operands o = pick (takesNumbers (o .operator)) (numbers (o .over)) 2
 
+-- how many values the data of its result has
 unfoldable pub results : Operation → ℕ
-results o = pick (ltb (o .operator) 4) (numbers (o .over)) 2
+results o = pick (givesNumber (o .operator)) (numbers (o .over)) 2
 
 -- the variable of the enclosing block i has m values
 pub data Scope : List ℕ → ℕ → ℕ → Type 0 where

@@ -4,6 +4,7 @@ use Rattle.language.specs.Ty.{Ty, questions, answers}
 use Rattle.language.specs.Term.{Term, skip, diverge, const, private, name, fetch, operate, assign, seq, while}
 use Rattle.language.specs.Term.{cond, new, Args, no-args, arg}
 
+-- the weight of a term, form by form, and of arguments
 unfoldable mutual
   pub weight : Term → ℕ
   weight skip = 1
@@ -23,5 +24,6 @@ unfoldable mutual
   weightArgs no-args = 0
   weightArgs (arg T M args) = questions T * weight M + answers T + weightArgs args
 
+-- "Size = 2 + questions times w + answers, of the whole term"
 unfoldable pub size : Ty → Term → ℕ
 size T M = 2 + questions T * weight M + answers T

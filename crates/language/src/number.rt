@@ -6,6 +6,12 @@ ghost use lib.IntN.{pos, natAbs, _-ℤ_};
 ghost use lib.Signed.{mag};
 ghost use Rattle.language.specs.Number.{numbers, modulo, code, signed, fromByte, inRange};
 
+// The first byte that stands for a negative number, in two's complement.
+const NEGATIVE: u8 = 128;
+
+// How many bytes there are.
+const BYTES: u16 = 256;
+
 // How many numbers there are.
 pub fn numbers(n: Numbers) -> u16
     ensures { λ r. ⌜ r ≡ numbers n ⌝ }
@@ -53,14 +59,14 @@ pub(crate) fn modulo(v: i64, n: u16) -> u16
 }
 
 // The code of a number.
-pub fn code(n: Numbers, v: i64) -> u16
+pub(crate) fn code(n: Numbers, v: i64) -> u16
     ensures { λ r. ⌜ r ≡ code n v ⌝ }
 {
     modulo(v, numbers(n))
 }
 
 // The number that has a code.
-pub fn signed(n: Numbers, c: u16) -> i64
+pub(crate) fn signed(n: Numbers, c: u16) -> i64
     ensures { λ r. ⌜ r ≡ signed n c ⌝ }
 {
     if c <= n.z as u16 {
@@ -73,10 +79,10 @@ pub fn signed(n: Numbers, c: u16) -> i64
 pub(crate) fn from_byte(b: u8) -> i64
     ensures { λ r. ⌜ r ≡ fromByte b ⌝ }
 {
-    if b < 128 {
+    if b < NEGATIVE {
         return b as i64;
     }
-    minus(b as u16, 256)
+    minus(b as u16, BYTES)
 }
 
 // Whether a byte stands for a number from -Z to Z.
@@ -86,7 +92,7 @@ pub fn in_range(n: Numbers, b: u8) -> bool
     if b <= n.z {
         return true;
     }
-    256 - (n.z as u16) <= b as u16
+    BYTES - (n.z as u16) <= b as u16
 }
 
 // The code of the number that a byte stands for.

@@ -1,4 +1,4 @@
-// The nine operators on codes.
+// The nine operators on codes, under both overflow rules.
 use crate::Numbers;
 use crate::number;
 ghost use mathlib.Core.Path.{_≡_};
@@ -11,6 +11,33 @@ ghost use lib.Signed.{ltZ, remZ};
 ghost use Rattle.language.specs.Choice.{pick};
 ghost use Rattle.language.specs.Number.{code, signed};
 ghost use Rattle.language.specs.Operator.{fit, fitSome, remainder, truth, operate, outcome};
+
+// The operators, by their numbers in a sheet: four that give a number, two that compare numbers, three on truths.
+pub const PLUS: u8 = 0;
+
+pub const MINUS: u8 = 1;
+
+pub const TIMES: u8 = 2;
+
+pub const REMAINDER: u8 = 3;
+
+pub const EQUAL: u8 = 4;
+
+pub const LESS: u8 = 5;
+
+pub const AND: u8 = 6;
+
+pub const OR: u8 = 7;
+
+pub const EQUAL_TRUTHS: u8 = 8;
+
+// The overflow rule under which a result outside -Z to Z has no play. The other rule adds or takes away a multiple of 2Z + 1.
+const NO_PLAY: u8 = 0;
+
+// The codes of truths.
+const FALSE: u16 = 0;
+
+const TRUE: u16 = 1;
 
 // The code of a result, or no play.
 pub enum Outcome {
@@ -64,7 +91,7 @@ fn kept(n: Numbers, v: i64) -> Outcome
 pub(crate) fn fit(n: Numbers, v: i64) -> Outcome
     ensures { λ r. ⌜ r ≡ outcome (fit n v) ⌝ }
 {
-    if n.rule == 0 {
+    if n.rule == NO_PLAY {
         if (n.z as u64) < number::absolute(v) {
             return Outcome::Nothing;
         }
@@ -110,9 +137,9 @@ fn truth(b: bool) -> Outcome
     ensures { λ r. ⌜ r ≡ outcome (some (truth b)) ⌝ }
 {
     if b {
-        return Outcome::Is { code: 1 };
+        return Outcome::Is { code: TRUE };
     }
-    Outcome::Is { code: 0 }
+    Outcome::Is { code: FALSE }
 }
 
 // Whether x is less than y.
@@ -133,8 +160,8 @@ fn less(n: Numbers, x: u16, y: u16) -> Outcome
 fn both(x: u16, y: u16) -> Outcome
     ensures { λ r. ⌜ r ≡ outcome (some (truth (pick (eqb x 1) (eqb y 1) false))) ⌝ }
 {
-    if x == 1 {
-        return truth(y == 1);
+    if x == TRUE {
+        return truth(y == TRUE);
     }
     truth(false)
 }
@@ -143,10 +170,10 @@ fn both(x: u16, y: u16) -> Outcome
 fn either(x: u16, y: u16) -> Outcome
     ensures { λ r. ⌜ r ≡ outcome (some (truth (pick (eqb x 1) true (eqb y 1)))) ⌝ }
 {
-    if x == 1 {
+    if x == TRUE {
         return truth(true);
     }
-    truth(y == 1)
+    truth(y == TRUE)
 }
 
 // Equal, on numbers and on truths: two values are equal exactly if their codes are.
@@ -156,19 +183,18 @@ fn equal(x: u16, y: u16) -> Outcome
     truth(x == y)
 }
 
-// The code of an operator's result, or no play: 0 plus, 1 minus, 2 times, 3 remainder, 4 equal, 5 less, 6 and, 7 or,
-// 8 equal on truths.
+// The code of an operator's result, or no play. EQUAL and EQUAL_TRUTHS are what the other arms leave.
 pub fn operate(n: Numbers, op: u8, x: u16, y: u16) -> Outcome
     ensures { λ r. ⌜ r ≡ outcome (operate n op x y) ⌝ }
 {
     match op {
-        0 => sum(n, x, y),
-        1 => difference(n, x, y),
-        2 => product(n, x, y),
-        3 => remainder(n, x, y),
-        5 => less(n, x, y),
-        6 => both(x, y),
-        7 => either(x, y),
+        PLUS => sum(n, x, y),
+        MINUS => difference(n, x, y),
+        TIMES => product(n, x, y),
+        REMAINDER => remainder(n, x, y),
+        LESS => less(n, x, y),
+        AND => both(x, y),
+        OR => either(x, y),
         _ => equal(x, y),
     }
 }

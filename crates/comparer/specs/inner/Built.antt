@@ -10,7 +10,7 @@ use Rattle.language.specs.Weight.{size}
 use Rattle.machine.specs.Sheet.{steps}
 use Rattle.automaton.specs.walk.Shows.{Words}
 use Rattle.dfa.specs.Graph.{rest, Graph}
-use Rattle.dfa.specs.Silent.{Silent, Settling}
+use Rattle.silent.specs.Silent.{Silent, Settling}
 use Rattle.explicit.specs.Explicit.{Explicit}
 use Rattle.explicit.specs.inner.Ready.{Ready}
 

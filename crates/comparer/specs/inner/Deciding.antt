@@ -6,8 +6,8 @@ use Prim.Native.Nat.{ℕ, zero, suc, _+_, _*_, _-_, _≤_}
 use lib.ListN.{length, getD, take, drop}
 use lib.Dec.{eqb}
 use Rattle.language.specs.Choice.{pick}
-use Rattle.dfa.specs.Spelled.{Spelled}
-use Rattle.dfa.proofs.laws.Reading.{turned}
+use Rattle.difference.specs.Spelled.{Spelled}
+use Rattle.dfa.specs.Reading.{reversed}
 use Rattle.comparer.specs.inner.Bytes.{withRecords}
 use Rattle.language.specs.declared.Numbers.{Numbers}
 use Rattle.language.specs.Ty.{Ty}
@@ -59,6 +59,6 @@ pub data Verdicts (N : Numbers) (T : Ty) (M M′ : Term) (space : List ℕ) (r :
 -- the play of entry k is written: its letters' records, its number of moves, and the sheet by where it ends
 pub record Shown (n k f : ℕ) (ws space : List ℕ) (r : Comparison) (space′ : List ℕ) : Type 0 where
   pub letters : List ℕ
-  pub spelled : Spelled n (take (5 * n) ws) k (turned letters)
+  pub spelled : Spelled n (take (5 * n) ws) k (reversed letters)
   pub answer : r ≡ Apart (pick (eqb (getD ws (n + 4 * k) 0) f) 0 1) (length letters)
   pub written : space′ ≡ withRecords space 0 letters

@@ -4,8 +4,9 @@ use mathlib.Core.Logic.{_⊎_}
 use mathlib.Core.List.{List, map}
 use Prim.Native.Nat.{ℕ, _*_, _<_, _≤_}
 use lib.ListN.{length, take}
-use Rattle.dfa.specs.Graph.{δ, rest, Graph}
-use Rattle.dfa.specs.Live.{Live, Marks, SameEdges}
+use Rattle.dfa.specs.Graph.{δ, rest, Graph, SameEdges}
+use Rattle.dfa.specs.Live.{Live}
+use Rattle.live.specs.Marks.{Marks}
 use Rattle.dfa.specs.Reading.{walk}
 use Rattle.comparer.specs.Records.{moves, parse}
 use Rattle.comparer.specs.declared.follow.Reach.{Reach}

@@ -9,13 +9,12 @@ use native.Mathlib.Omega.{arith}
 use lib.Dec.{eqb}
 use lib.ListN.{getD}
 use borrow.Author.Tests.{eq-eqb, eqb-true}
-use Rattle.dfa.specs.Graph.{Edges, Graph, letter, look, target, δ}
+use Rattle.dfa.specs.Graph.{EdgeOf, Edges, Graph, letter, look, target, δ}
 use Rattle.dfa.specs.Live.{Live}
-use Rattle.dfa.specs.Reading.{walk}
+use Rattle.dfa.specs.Reading.{reversed, walk}
 use Rattle.dfa.specs.Word.{accepting}
-use Rattle.dfa.specs.inner.Links.{EdgeOf}
 use Rattle.dfa.proofs.laws.Look.{edges-tail, look-at, look-past, rise}
-use Rattle.dfa.proofs.laws.Reading.{turned, turned-turned, walk-turned}
+use Rattle.dfa.proofs.laws.Reading.{reversed-reversed, walk-reversed}
 
 -- one state accepts
 alone : (f x : ℕ) → (accepting f f x ≡ true) ↔ (x ≡ f)
@@ -28,9 +27,9 @@ alone f x = ((λ e. eqb-true x f (by (eqb x f) e)), (λ e. rw (eq-eqb x f e)))
 -- f is in reach from p exactly if a word of letters, first letter first, leads there
 pub live-walk : (G : List ℕ) (n f p : ℕ) → Live G n f p ↔ ((x : List ℕ) × (walk (δ G n) p x ≡ f))
 live-walk G n f p =
-  ((λ l. (turned (l .0), walk-turned (δ G n) p (l .0) ∙ alone f _ .0 (l .1))),
-   (λ h. (turned (h .0), alone f _ .1
-     (sym (walk-turned (δ G n) p (turned (h .0))) ∙ rw (turned-turned (h .0)) (h .1)))))
+  ((λ l. (reversed (l .0), walk-reversed (δ G n) p (l .0) ∙ alone f _ .0 (l .1))),
+   (λ h. (reversed (h .0), alone f _ .1
+     (sym (walk-reversed (δ G n) p (reversed (h .0))) ∙ rw (reversed-reversed (h .0)) (h .1)))))
 
 -- a letter that leads to a live state leaves a live state
 live-before : (G : List ℕ) (n f p m : ℕ) → Live G n f (δ G n p m) → Live G n f p

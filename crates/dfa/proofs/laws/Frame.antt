@@ -7,7 +7,7 @@ use native.Mathlib.Decide.{ℕ-discrete}
 use native.Mathlib.Omega.{arith}
 use lib.ListN.{getD, length, set}
 use lib.Seq.{getD-set-other, getD-set-same}
-use Rattle.dfa.specs.inner.Frame.{SameBelow, SameFrom}
+use Rattle.dfa.specs.Frame.{SameBelow, SameFrom}
 
 -- a store at place i leaves what is on its other side
 pub set-from : (n i v : ℕ) (ws : List ℕ) → i < n → SameFrom n ws (set ws i v)

@@ -11,7 +11,7 @@ use lib.ListN.{getD}
 use borrow.Author.Tests.{eq-eqb, ne-eqb}
 use Rattle.dfa.specs.Graph.{Edges, Graph, letter, look, target, δ}
 use Rattle.dfa.specs.Word.{after}
-use Rattle.dfa.specs.inner.Step.{Past}
+use Rattle.dfa.specs.Step.{Past}
 
 -- the letters rise
 pub rise : (G : List ℕ) (n i end : ℕ) → Edges G n i end → (d : ℕ) → i + d < end → letter G n i ≤ letter G n (i + d)

@@ -4,8 +4,7 @@ use mathlib.Core.Path.{_∙_, _≡_, ap, refl}
 use Prim.Native.Nat.{_*_, _+_, _-_, _<_, _≤_, suc, zero, ℕ}
 use native.Mathlib.Omega.{arith}
 use lib.ListN.{getD}
-use Rattle.dfa.specs.Graph.{Edges, Graph, letter, look, target, δ}
-use Rattle.dfa.specs.Live.{SameEdges}
+use Rattle.dfa.specs.Graph.{Edges, Graph, SameEdges, letter, look, target, δ}
 use Rattle.dfa.specs.Reading.{walk}
 use Rattle.dfa.proofs.laws.Edges.{first-edge}
 use Rattle.dfa.proofs.laws.Look.{δ-lt}

@@ -6,7 +6,7 @@ use Prim.Native.Nat.{_+_, _-_, _<_, _≤_, ℕ}
 use native.Mathlib.Omega.{arith}
 use lib.ListN.{getD}
 use Rattle.dfa.specs.Graph.{Graph, letter, target, δ}
-use Rattle.dfa.specs.inner.Step.{Scanning}
+use Rattle.dfa.specs.inner.Scan.{Scanning}
 use Rattle.dfa.proofs.laws.Look.{edges-tail, look-at, look-before, look-past}
 
 pub scan-first : (G : List ℕ) (n p m i end : ℕ) → Graph G n → p < n → i ≡ getD G p 0 → end ≡ getD G (p + 1) 0

@@ -9,7 +9,7 @@ use Rattle.language.specs.Term.{Term}
 use Rattle.language.specs.Weight.{size}
 use Rattle.machine.specs.Sheet.{steps}
 use Rattle.dfa.specs.Graph.{rest, Graph}
-use Rattle.dfa.specs.Silent.{Silent}
+use Rattle.silent.specs.Silent.{Silent}
 use Rattle.explicit.specs.Explicit.{Explicit}
 
 -- the words vs, as long as ws, are an automaton of n states and show the machine of M; the dead state has no edges,

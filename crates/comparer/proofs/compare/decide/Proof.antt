@@ -1,6 +1,6 @@
 use native.Mathlib.Omega.{arith}
 use borrow.Author.Needs.{needs}
-use Rattle.dfa.proofs.laws.Answer.{told-of}
+use Rattle.difference.proofs.laws.Outcome.{told-of}
 use Rattle.comparer.proofs.DecidePlays.{task, all-is, setting, decided-same, decided-apart}
 use Rattle.comparer.proofs.compare.decide.Statement.{statement}
 use Rattle.comparer.proofs.compare.decide.Tie as tie

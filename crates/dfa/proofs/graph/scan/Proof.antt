@@ -1,7 +1,7 @@
 use native.Mathlib.Omega.{arith}
 use Prim.Native.Nat.{_-_}
 use Rattle.dfa.proofs.laws.Scan.{scan-first, scan-hit, scan-again, scan-last}
-use Rattle.dfa.specs.inner.Step.{Scanning}
+use Rattle.dfa.specs.inner.Scan.{Scanning}
 use Rattle.dfa.proofs.graph.scan.Statement.{statement}
 use Rattle.dfa.proofs.graph.scan.Tie as tie
 

@@ -1,6 +1,5 @@
 -- The order of the two numbers, as a truth.
 use borrow.Author.Needs.{needs}
-use Rattle.language.proofs.Bits.{read}
 use Rattle.language.proofs.OperatorSteps.{less-is}
 use Rattle.language.proofs.operator.less.Statement.{statement}
 use Rattle.language.proofs.operator.less.Tie as tie
@@ -20,9 +19,10 @@ truth-requires c κs = search needs
 returns : tie.Need-returns
 returns c =
     let a = c .before .before .before .before .args in
-    let p = read (c .before .before .before .signed .ok) (c .before .before .before .signed .ensures) in
-    let q = read (c .before .before .signed2 .ok) (c .before .before .signed2 .ensures) in
-    less-is (a .n) (a .x) (a .y) p q (c .before .below .ensures) (c .truth .ensures)
+    let s = c .before .before .before .signed in
+    let t = c .before .before .signed2 in
+    less-is (a .n) (a .x) (a .y) (s .ok) (s .ensures) (t .ok) (t .ensures)
+    (c .before .below .ensures) (c .truth .ensures)
 
 pub less-spec : {M : Type 1} → statement M
 less-spec =

@@ -3,7 +3,7 @@ use borrow.Author.Needs.{needs}
 use native.Mathlib.Omega.{arith}
 use mathlib.Core.Path.{_∙_}
 use Rattle.language.proofs.Bits.{read}
-use Rattle.language.proofs.OperatorSteps.{operand, remainder-is, remainder-none}
+use Rattle.language.proofs.OperatorSteps.{operands, remainder-is, remainder-none}
 use Rattle.language.proofs.operator.remainder.Statement.{statement}
 use Rattle.language.proofs.operator.remainder.Tie as tie
 
@@ -25,9 +25,9 @@ signed-requires-2 c κs = search needs
 rem-requires : tie.Need-rem-requires
 rem-requires c κs =
     let a = c .before .before .before .before .args in
-    let p = read (c .signed2 .ok) (c .signed2 .ensures) in
-    let q = read (c .before .before .before .signed .ok) (c .before .before .before .signed .ensures) in (
-      (operand (a .n) (a .x) (omega arith) (omega arith) p, operand (a .n) (a .y) (omega arith) (omega arith) q),
+    let s = c .signed2 in
+    let t = c .before .before .before .signed in (
+      operands (a .n) (a .x) (a .y) (s .ok) (s .ensures) (t .ok) (t .ensures) (omega arith) (omega arith) (omega arith),
       λ e. c .before .if1 .left (c .before .before .absolute .ensures ∙ e),
     )
 
@@ -37,12 +37,11 @@ fit-requires c κs = search needs
 returns-2 : tie.Need-returns-2
 returns-2 c =
     let a = c .before .before .before .before .before .before .args in
-    let p = read (c .before .before .signed2 .ok) (c .before .before .signed2 .ensures) in
-    let d = c .before .before .before .before .before .signed in
-    let q = read (d .ok) (d .ensures) in
-    let r = read (c .before .rem .ok) (c .before .rem .ensures) in
-    remainder-is (a .n) (a .x) (a .y) p q (c .before .before .before .before .absolute .ensures)
-    (c .before .before .before .if1 .left) r (c .fit .ensures)
+    let s = c .before .before .signed2 in
+    let t = c .before .before .before .before .before .signed in
+    remainder-is (a .n) (a .x) (a .y) (s .ok) (s .ensures) (t .ok) (t .ensures)
+    (c .before .before .before .before .absolute .ensures) (c .before .before .before .if1 .left)
+    (c .before .rem .ok) (c .before .rem .ensures) (c .fit .ensures)
 
 pub remainder-spec : {M : Type 1} → statement M
 remainder-spec =

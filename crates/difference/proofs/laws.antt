@@ -1,0 +1,11 @@
+pub mod Order
+pub mod Merge
+pub mod Comparison
+pub mod Classes
+pub mod Queue
+pub mod Turn
+pub mod Run
+pub mod Outcome
+pub mod Trace
+pub mod Spell
+pub mod Short

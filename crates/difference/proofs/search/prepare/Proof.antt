@@ -1,0 +1,33 @@
+
+use native.Mathlib.Omega.{arith}
+use borrow.Author.Needs.{needs}
+use Rattle.difference.proofs.laws.Run.{start-state}
+use Rattle.difference.proofs.search.prepare.Statement.{statement}
+use Rattle.difference.proofs.search.prepare.Tie as tie
+
+singles-requires : tie.Need-singles-requires
+singles-requires c κs = search needs
+
+link-requires : tie.Need-link-requires
+link-requires c κs = let n = c .before .before .before .before .before .before .pre .1 .0 in
+    omega (arith, c .before .before .before .singles .kept, c .before .before .before .before .before .before .pre .0,
+    c .before .before .before .before .before .before .pre .1 .1)
+
+push-requires : tie.Need-push-requires
+push-requires c κs = search needs
+
+same-length : tie.Need-same-length
+same-length c = search needs
+
+returns : tie.Need-returns
+returns c = λ G s. start-state G _ s
+    (c .before .before .before .before .before .before .before .before .before .before .before .before .before .pre .1
+    .1 .1 .1) (c .before .before .before .before .before .before .before .before .before .before .singles .last .0)
+    (omega (arith, c .before .before .before .before .before .before .before .before .before .before .singles .kept,
+    c .before .before .before .before .before .before .before .before .before .before .before .before .before .pre
+    .0)) (c .before .before .before .before .before .before .before .before .before .before .singles .ensures) _ _
+    (c .before .before .before .before .before .before .link .ensures) (c .before .before .push .ensures)
+
+pub prepare-spec : {M : Type 1} → statement M
+prepare-spec =
+    tie.close (tie.spec singles-requires link-requires push-requires same-length returns)

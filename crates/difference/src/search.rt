@@ -1,0 +1,164 @@
+// The first difference: pairs of states in a queue, breadth first in the order of the letters.
+ghost use mathlib.Core.Path.{_≡_};
+ghost use Prim.Native.Nat.{ℕ, _+_, _*_, _≤_, _<_, _^_};
+ghost use lib.ListN.{length, take};
+ghost use mathlib.Core.List.{List};
+ghost use mathlib.Core.Bool.{Bool·beq};
+ghost use Rattle.dfa.specs.Graph.{rest};
+ghost use Rattle.difference.specs.Outcome.{Setting, Outcome};
+ghost use Rattle.dfa.specs.Word.{accepting};
+ghost use Rattle.difference.specs.inner.Classes.{Low};
+ghost use Rattle.difference.specs.inner.Queue.{pushed, Visited};
+ghost use Rattle.difference.specs.inner.State.{State, Half};
+use crate::ENTRY;
+use crate::FROM;
+use crate::LETTER;
+use crate::SECOND;
+use crate::Task;
+use crate::Verdict;
+use crate::classes::find;
+use crate::classes::link;
+use crate::classes::singles;
+use dfa::step::ends_of;
+use dfa::step::step;
+use dfa::words::at;
+use dfa::words::put;
+
+// Entry k.
+fn push(work: &mut [u32], n: usize, k: usize, p: usize, q: usize, from: usize, letter: usize)
+    requires { ⌜ (n + 4 * k + 4 ≤ length (now work))
+        × ((p < 2 ^ 32) × ((q < 2 ^ 32) × ((from < 2 ^ 32) × (letter < 2 ^ 32)))) ⌝ }
+    ensures { λ r. ⌜ now (work .exit) ≡ pushed (now (work .entry)) (n + 4 * k) p q from letter ⌝ }
+{
+    let base = n + ENTRY * k;
+    put(work, base, p);
+    put(work, base + SECOND, q);
+    put(work, base + FROM, from);
+    put(work, base + LETTER, letter);
+}
+
+// The pair p, q, reached from an entry by a letter: where their classes differ they become one, and the pair an entry.
+fn visit(
+    work: &mut [u32],
+    n: usize,
+    tail: usize,
+    from: usize,
+    letter: usize,
+    p: usize,
+    q: usize,
+) -> usize
+    requires { ⌜ Low n (now work) × ((tail < n) × ((from < tail) × ((letter < 2 ^ 32) × ((p < n) × (q < n))))) ⌝ }
+    ensures { λ r. ⌜ Visited n tail from letter p q r (now (work .entry)) (now (work .exit)) ⌝ }
+{
+    let a = find(work, p);
+    let b = find(work, q);
+    if a == b {
+        return tail;
+    }
+    link(work, a, b);
+    push(work, n, tail, p, q, from, letter);
+    tail + 1
+}
+
+// Every letter of the two states of entry head, in order.
+fn expand(words: &mut [u32], t: Task, head: usize, tail: usize) -> usize
+    requires { ⌜ Setting (rest (5 * t .n) (now words)) t
+        × Half (rest (5 * t .n) (now words)) t (take (5 * t .n) (now words)) head tail 0 ⌝ }
+    ensures { λ r. ⌜ State (rest (5 * t .n) (now (words .entry))) t (take (5 * t .n) (now (words .exit))) (head + 1) r
+        × (rest (5 * t .n) (now (words .exit)) ≡ rest (5 * t .n) (now (words .entry))) ⌝ }
+{
+    let size = t.n;
+    let cut = 5 * size;
+    let p = at(words, size + ENTRY * head);
+    let q = at(words, size + ENTRY * head + SECOND);
+    let e = ends_of(&words[cut..], p, q);
+    let mut i = e.i;
+    let ie = e.ie;
+    let mut j = e.j;
+    let je = e.je;
+    let mut last = tail;
+    while i + j < ie + je {
+        let n = t.n;
+        let g = 5 * n;
+        let s = step(&words[g..], n, i, ie, j, je);
+        i = s.i;
+        j = s.j;
+        let m = s.letter;
+        let a = s.a;
+        let b = s.b;
+        last = visit(&mut words[..g], n, last, head, m, a, b);
+    }
+    last
+}
+
+// Whether x is an accepting state.
+fn accepts(x: usize, f: usize, g: usize) -> bool
+    ensures { λ r. ⌜ r ≡ accepting f g x ⌝ }
+{
+    if x == f {
+        return true;
+    }
+    x == g
+}
+
+// Whether both states accept, or neither.
+fn alike(x: usize, y: usize, f: usize, g: usize) -> bool
+    ensures { λ r. ⌜ r ≡ Bool·beq (accepting f g x) (accepting f g y) ⌝ }
+{
+    accepts(x, f, g) == accepts(y, f, g)
+}
+
+// The entries in order, until the states of one differ.
+fn run(words: &mut [u32], t: Task) -> Verdict
+    requires { ⌜ Setting (rest (5 * t .n) (now words)) t
+        × State (rest (5 * t .n) (now words)) t (take (5 * t .n) (now words)) 0 1 ⌝ }
+    ensures { λ r. ⌜ Outcome (rest (5 * t .n) (now (words .entry))) t (take (5 * t .n) (now (words .exit))) r
+        × (rest (5 * t .n) (now (words .exit)) ≡ rest (5 * t .n) (now (words .entry))) ⌝ }
+{
+    let n = t.n;
+    let f = t.f;
+    let g = t.g;
+    let mut head = 0;
+    let mut tail = 1;
+    while head < tail {
+        let p = at(words, n + ENTRY * head);
+        let q = at(words, n + ENTRY * head + SECOND);
+        if !alike(p, q, f, g) {
+            return Verdict::Apart(head);
+        }
+        tail = expand(words, t, head, tail);
+        head += 1;
+    }
+    Verdict::Same
+}
+
+// The classes are single but for p and q, and the queue has their entry.
+fn prepare(work: &mut [u32], t: Task)
+    requires { ⌜ (5 * t .n ≤ length (now work))
+        × ((t .n ≤ 8193) × ((t .p < t .n) × ((t .q < t .n) × (t .p ≡ t .q → ⊥)))) ⌝ }
+    ensures { λ r. ⌜ ((G : List ℕ) → Setting G t → State G t (now (work .exit)) 0 1) ⌝ }
+{
+    let n = t.n;
+    let p = t.p;
+    let q = t.q;
+    singles(work, n);
+    link(work, p, q);
+    push(work, n, 0, p, q, 0, 0);
+}
+
+// The first word, by length and then letters, that exactly one of p and q accepts, as an entry.
+pub fn first_difference(words: &mut [u32], t: Task) -> Verdict
+    requires { ⌜ Setting (rest (5 * t .n) (now words)) t × (5 * t .n ≤ length (now words)) ⌝ }
+    ensures { λ r. ⌜ Outcome (rest (5 * t .n) (now (words .entry))) t (take (5 * t .n) (now (words .exit))) r
+        × (rest (5 * t .n) (now (words .exit)) ≡ rest (5 * t .n) (now (words .entry))) ⌝ }
+{
+    let n = t.n;
+    let p = t.p;
+    let q = t.q;
+    if p == q {
+        return Verdict::Same;
+    }
+    let g = 5 * n;
+    prepare(&mut words[..g], t);
+    run(words, t)
+}

@@ -1,0 +1,5 @@
+pub mod Links
+pub mod Sums
+pub mod Marks
+pub mod Marking
+pub mod Marked

@@ -1,0 +1,51 @@
+use borrow.Author.Needs.{needs}
+use Rattle.live.proofs.laws.Links.{link-stores}
+use Rattle.live.proofs.links.link.Statement.{statement}
+use Rattle.live.proofs.links.link.Tie as tie
+
+at-requires : tie.Need-at-requires
+at-requires c κs = search needs
+
+add-put : tie.Need-add-put
+add-put c = search needs
+
+mul-put : tie.Need-mul-put
+mul-put c = search needs
+
+add-put-2 : tie.Need-add-put-2
+add-put-2 c = search needs
+
+put-requires : tie.Need-put-requires
+put-requires c κs = search needs
+
+add-put-3 : tie.Need-add-put-3
+add-put-3 c = search needs
+
+put-requires-2 : tie.Need-put-requires-2
+put-requires-2 c κs = search needs
+
+same-length : tie.Need-same-length
+same-length c = search needs
+
+returns : tie.Need-returns
+returns c = link-stores (c .before .before .before .before .before .before .before .before .before .before .before
+    .args .words .now) _ _ (c .before .before .before .before .before .before .before .before .before .before .before
+    .args .links) (c .before .before .before .before .before .before .before .before .before .before .before .args .t)
+    (c .before .before .before .before .before .before .before .before .before .before .before .args .p)
+    (c .before .before .before .before .before .before .before .before .before .before .before .args .e) _
+    (c .before .before .before .before .before .before .before .before .at .ensures)
+    (c .before .before .before .before .before .before .put .ensures) (c .before .before .put2 .ensures)
+
+pub link-spec : {M : Type 1} → statement M
+link-spec =
+    tie.close
+    (tie.spec
+    at-requires
+    add-put
+    mul-put
+    add-put-2
+    put-requires
+    add-put-3
+    put-requires-2
+    same-length
+    returns)

@@ -1,0 +1,3 @@
+-- What only contracts of inner functions and invariants of loops cite.
+pub mod Links
+pub mod Marking

@@ -1,0 +1,59 @@
+use mathlib.Core.Path.{sym}
+use borrow.Author.Needs.{needs}
+use Rattle.silent.proofs.laws.Only.{steps-same}
+use Rattle.silent.proofs.laws.Paths.{found-dead, found-small, found-other}
+use Rattle.silent.proofs.paths.find_path.Statement.{statement}
+use Rattle.silent.proofs.paths.find_path.Tie as tie
+
+replace-requires : tie.Need-replace-requires
+replace-requires c κs = search needs
+
+add-at : tie.Need-add-at
+add-at c = search needs
+
+at-requires : tie.Need-at-requires
+at-requires c κs = search needs
+
+same-length : tie.Need-same-length
+same-length c = search needs
+
+returns : tie.Need-returns
+returns c = found-dead _ _ _ _ _ _ (c .before .before .before .before .before .before .before .before .pre .0)
+    (c .before .before .before .before .before .before .before .before .pre .1)
+    (c .before .before .before .before .before .replace .ensures .0)
+    (c .before .before .before .before .before .replace .ensures .1) (c .before .at .ensures) (c .if1 .taken)
+
+replace-requires-2 : tie.Need-replace-requires-2
+replace-requires-2 c κs = (steps-same _ _ _
+    (c .before .before .before .before .before .before .replace .ensures .0 .only)
+    (c .before .before .before .before .before .before .before .before .before .pre .0 .steps), (c .before .before
+    .before .before .before .before .before .before .before .pre .1, (λ e. c .before .if1 .left (sym e), found-small _
+    _ _ _ _ _ (c .before .before .before .before .before .before .before .before .before .pre .0)
+    (c .before .before .before .before .before .before .before .before .before .pre .1)
+    (c .before .before .before .before .before .before .replace .ensures .0)
+    (c .before .before .before .before .before .before .replace .ensures .1) (c .before .before .at .ensures))))
+
+same-length-2 : tie.Need-same-length-2
+same-length-2 c = search needs
+
+returns-2 : tie.Need-returns-2
+returns-2 c = found-other _ _ _ _ _ _
+    (c .before .before .before .before .before .before .before .before .before .before .before .before .pre .0)
+    (c .before .before .before .before .before .before .before .before .before .before .before .before .pre .1)
+    (c .before .before .before .before .before .before .before .before .before .replace .ensures .0)
+    (c .before .before .before .before .before .before .before .before .before .replace .ensures .1)
+    (c .before .before .before .before .before .at .ensures) _ _ (c .before .before .before .before .if1 .left)
+    (c .before .before .replace2 .ensures .0) (c .before .before .replace2 .ensures .1)
+
+pub find-path-spec : {M : Type 1} → statement M
+find-path-spec =
+    tie.close
+    (tie.spec
+    replace-requires
+    add-at
+    at-requires
+    same-length
+    returns
+    replace-requires-2
+    same-length-2
+    returns-2)

@@ -1,0 +1,22 @@
+use mathlib.Core.Path.{sym, _∙_}
+use borrow.Author.Needs.{needs}
+use Rattle.silent.proofs.laws.Paths.{own-here, own-none}
+use Rattle.silent.proofs.paths.own_path.Statement.{statement}
+use Rattle.silent.proofs.paths.own_path.Tie as tie
+
+at-requires : tie.Need-at-requires
+at-requires c κs = search needs
+
+add-result : tie.Need-add-result
+add-result c = search needs
+
+returns : tie.Need-returns
+returns c = own-here (c .before .before .before .args .words .now) (c .before .before .before .args .p) (sym
+    (c .before .at .ensures) ∙ c .if1 .taken)
+
+returns-2 : tie.Need-returns-2
+returns-2 c = own-none (c .before .before .before .args .words .now) (c .before .before .before .args .p) (λ e.
+    c .if1 .left (c .before .at .ensures ∙ e))
+
+pub own-path-spec : {M : Type 1} → statement M
+own-path-spec = tie.close (tie.spec at-requires add-result returns returns-2)
