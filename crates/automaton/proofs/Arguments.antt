@@ -31,15 +31,15 @@ use Rattle.automaton.specs.declared.Frame.{Frame}
 use Rattle.automaton.specs.declared.Out.{Out as Did}
 use Rattle.automaton.specs.declared.Out.the-variants.{Go, Say, Stuck}
 use Rattle.automaton.specs.declared.Spot.the-variants.{Inside}
-use Rattle.automaton.specs.walk.Row.{partWeight, partClass, partValues, sumOf, placeOf}
+use Rattle.automaton.specs.walk.Row.{partWeight, partClass, partValues, sumOf, mulAddOf}
 use Rattle.automaton.specs.walk.Types.{answersOf, answerNumber}
-use Rattle.automaton.specs.walk.Name.{framedOf, saidOf, copiesOf, spotsOf, replyHere, replyOf, argHere, inArgs}
+use Rattle.automaton.specs.walk.Name.{framedOf, saidOf, copiesOf, argSpots, replyHere, replyOf, argHere, inArgs}
 use Rattle.automaton.specs.walk.Up.{exitArgument, exitsOf, goesOf, riseOf}
 use Rattle.automaton.specs.walk.Step.{stepAt}
-use Rattle.automaton.specs.walk.Shows.{kindQ, valueQ, kindA, valueA, moveOf, stored, written, ShowsNext}
+use Rattle.automaton.specs.walk.Shows.{kindQ, valueQ, kindA, valueA, moveOf, stored, updated, ShowsNext}
 use Rattle.automaton.specs.walk.Shows.{ShowsSaid, waits, leads, Shows, ArgsNext, ArgsSaid, a-waits, a-leads}
 use Rattle.automaton.specs.walk.Shows.{ArgsShow}
-use Rattle.automaton.proofs.Sums.{map-edge, sum-small, place-small, quotient, remainder, times, factors}
+use Rattle.automaton.proofs.Sums.{map-edge, sum-small, mul-add-small, quotient, remainder, times, factors}
 use Rattle.automaton.proofs.Sums.{when-yes, when-no}
 use Rattle.automaton.proofs.TypeNumbers.{HasType, questions-of, answers-of, question-kind, question-value}
 use Rattle.automaton.proofs.TypeNumbers.{Answered, fitting, unfitting, answer-of}
@@ -81,7 +81,7 @@ module _ (t : List ℕ) (node j : ℕ) (T : Ty) (M : Term) (pw : partWeight t no
   unfolding copiesOf
   copies-of =
       rw (questions-of _ _ T ty few-questions, pw,
-        place-small (questions T) (weight M) 0 few-questions low-weight (omega arith)) (omega arith)
+        mul-add-small (questions T) (weight M) 0 few-questions low-weight (omega arith)) (omega arith)
 
   pub answers-here : answersOf (partClass t node j) (partValues t node j) ≡ answers T
   answers-here = answers-of _ _ T ty (omega arith)
@@ -95,9 +95,9 @@ module _ (t : List ℕ) (node j : ℕ) (T : Ty) (M : Term) (pw : partWeight t no
   unfolding argHere
   found q p base after b =
       let c : numbered-questions T .code q < 65536 = omega (arith, numbered-questions T .bound q, few-questions) in
-      let e : placeOf (numbered-questions T .code q) (weight M) base
+      let e : mulAddOf (numbered-questions T .code q) (weight M) base
         ≡ base + numbered-questions T .code q * weight M =
-        place-small (numbered-questions T .code q) (weight M) base c low-weight (omega arith) ∙ omega arith in
+        mul-add-small (numbered-questions T .code q) (weight M) base c low-weight (omega arith) ∙ omega arith in
       rw (pw, ne-eqb (weight M) 0 (omega (arith, positive M)),
         quotient (numbered-questions T .code q) (weight M) (numbered M .code p) (numbered M .bound p),
         remainder (numbered-questions T .code q) (weight M) (numbered M .code p) (numbered M .bound p), e,
@@ -105,8 +105,8 @@ module _ (t : List ℕ) (node j : ℕ) (T : Ty) (M : Term) (pw : partWeight t no
 
 -- the positions of all arguments
 pub spots-of : {K : Numbers} {t n : List ℕ} {left node j : ℕ} {args : Args} → RepArgs K t left node j n args →
-  weightArgs args < 65536 → j + count args < 65536 → spotsOf t node j (count args) ≡ positions args
-unfolding count spotsOf positions weightArgs
+  weightArgs args < 65536 → j + count args < 65536 → argSpots t node j (count args) ≡ positions args
+unfolding count argSpots positions weightArgs
 spots-of r-none b h = refl
 spots-of {t = t} (r-arg {at = node} {j} {T = T} {M} {args} r rs) b h =
     let e : sumOf j 1 ≡ j + 1 = sum-small j 1 (omega arith) in
@@ -137,7 +137,7 @@ module _ (K : Numbers) (t : List ℕ) (m : Record) (n : Context) (T : Ty) (M : T
         (omega (arith, times (questions T) (weight M) (numbered-questions T .code q) (numbered-questions T .bound q),
           numbered M .bound p)) ∙ omega arith
 
-  first-exit : (e : ExitOf n) (l u : ℕ) → stored n (e .0) ≡ written vs l u →
+  first-exit : (e : ExitOf n) (l u : ℕ) → stored n (e .0) ≡ updated vs l u →
     ArgsNext n (arg T M rest) base after vs (first-out e) (exitsOf K ArgFrame (kindA (e .1)) (valueA (e .1)) l u)
   unfolding exitsOf exitArgument ArgsNext types AnswersAt first-out
   first-exit (τ, a) l u w =

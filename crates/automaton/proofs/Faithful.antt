@@ -22,15 +22,16 @@ use Rattle.sheet.specs.table.Rep.{r-operate, r-assign, r-seq, r-cond, r-while, 
 use Rattle.automaton.specs.declared.Move.{Move as Record}
 use Rattle.automaton.specs.declared.Out.the-variants.{Go, Exit, Stuck}
 use Rattle.automaton.specs.declared.Spot.the-variants.{Inside}
-use Rattle.automaton.specs.walk.Row.{nameId, nameCount, sumOf, placeOf}
-use Rattle.automaton.specs.walk.Store.{pushed}
+use Rattle.automaton.specs.walk.Row.{nameId, nameCount, sumOf, mulAddOf}
+use Rattle.automaton.specs.walk.Store.{withValue}
 use Rattle.automaton.specs.walk.Name.{framedOf}
 use Rattle.automaton.specs.walk.Down.{inFetch, inSeq, inWhile, condIn, inCond, operateIn, inOperate, assignIn}
 use Rattle.automaton.specs.walk.Down.{inAssign, inNew, inPrivate, downAs}
 use Rattle.automaton.specs.walk.Step.{stepAt}
-use Rattle.automaton.specs.walk.Shows.{kindQ, valueQ, kindA, valueA, Given, Words, stored, Held, ShowsNext}
+use Rattle.automaton.specs.walk.Shows.{kindQ, valueQ, kindA, valueA, GivenMove, Words, stored, HeldStore}
+use Rattle.automaton.specs.walk.Shows.{ShowsNext}
 use Rattle.automaton.specs.walk.Shows.{Shows}
-use Rattle.automaton.proofs.Sums.{sum-small, place-small, quotient, remainder, times, under, factors}
+use Rattle.automaton.proofs.Sums.{sum-small, mul-add-small, quotient, remainder, times, under, factors}
 use Rattle.automaton.proofs.TypeNumbers.{has-type}
 use Rattle.automaton.proofs.Parts.{small-weight, part-weight, part-type, expression-values, variable-values}
 use Rattle.automaton.proofs.Parts.{positive}
@@ -59,13 +60,13 @@ few-answers t node command ws h = omega arith
 few-answers t node (expression m) ws h = omega (arith, h .1, ws (cell node 3))
 few-answers t node (variable m) ws h = omega (arith, h .1, ws (cell node 3))
 
-module _ (K : Numbers) (t : List ℕ) (ws : Words t) (m : Record) (gv : Given m) where
+module _ (K : Numbers) (t : List ℕ) (ws : Words t) (m : Record) (gv : GivenMove m) where
   mutual
     unfolding step Shows ShowsNext numbered single sum sum-code product product-code values weight weightArgs
       positions replies types count downAs inFetch inSeq inWhile inCond condIn inAssign assignIn inOperate operateIn
       inNew kindA valueA kindQ valueQ stored
     pub faithful : (M : Term) {left node : ℕ} {n : Context} {T : Ty} → Rep K t left node n M T → (q : Question)
-      (σ : Store n) (s : List ℕ) → Held s (stored n σ) → length s ≡ 32 → length n + left ≤ 32 → (p : Position M) →
+      (σ : Store n) (s : List ℕ) → HeldStore s (stored n σ) → length s ≡ 32 → length n + left ≤ 32 → (p : Position M) →
       Shows K t n M (stored n σ) m (step M n q σ p)
       (stepAt t K left node (kindQ q) (valueQ q) (numbered M .code p) s (length n) m)
     faithful skip (r-skip {left} {at = node} {n} row) q σ s hd ls lv p =
@@ -180,41 +181,41 @@ module _ (K : Numbers) (t : List ℕ) (ws : Words t) (m : Record) (gv : Given m)
         (lift K t m n E (assign m₀ X E) (framedOf 3 0 (weight E) (weight X) m₀ 0) (λ x. inl x) _ (stored n σ) refl
           (λ x. sum-small 0 (numbered E .code x) (omega (arith, row .small, numbered E .bound x)) ∙ omega arith)
           (out-value K n (assign m₀ X E) (stored n σ) 0 (weight E) (weight X) m₀ 0 (λ v. inr (v, entry X))
-            (λ v. place-small (v .0) (weight X) (weight E)
+            (λ v. mul-add-small (v .0) (weight X) (weight E)
               (omega (arith, row .small, under m₀ (weight X) (v .0) (positive X) (v .1)))
               (omega (arith, small-weight rX)) (omega (arith, small-weight rE)) ∙ omega (arith, entry-zero X)))
           _ _ (faithful E rE ask σ s hd ls (omega arith) p))
     faithful (assign m₀ X E) (r-assign {left} {at = node} {n = n} row rX rE) q σ s hd ls lv (inr (v, p)) =
         rw (walk-in K t left node (kindQ q) (valueQ q) (weight E + (v .0 * weight X + numbered X .code p)) s
           (length n) m {part = word t node 5} {kind = 6} {value = v .0} {inner = numbered X .code p}
-          {F = framedOf 5 (placeOf (v .0) (weight X) (weight E)) 0 0 0 0}
+          {F = framedOf 5 (mulAddOf (v .0) (weight X) (weight E)) 0 0 0 0}
           (rw (row .kinded, part-weight node 0 rX, part-weight node 1 rE,
             variable-values _ _ m₀ (part-type node 0 rX))
             (assign-right (word t node 5) (word t node 6) (weight E) (weight X) m₀ (v .0) (numbered X .code p)
               (numbered X .bound p))) refl)
-        (lift K t m n X (assign m₀ X E) (framedOf 5 (placeOf (v .0) (weight X) (weight E)) 0 0 0 0) (λ x. inr (v, x))
+        (lift K t m n X (assign m₀ X E) (framedOf 5 (mulAddOf (v .0) (weight X) (weight E)) 0 0 0 0) (λ x. inr (v, x))
           _ (stored n σ) refl
-          (λ x. rw (place-small (v .0) (weight X) (weight E)
+          (λ x. rw (mul-add-small (v .0) (weight X) (weight E)
               (omega (arith, row .small, under m₀ (weight X) (v .0) (positive X) (v .1)))
               (omega (arith, small-weight rX)) (omega (arith, small-weight rE)))
             (sum-small (v .0 * weight X + weight E) (numbered X .code x)
               (omega (arith, row .small, numbered X .bound x, times m₀ (weight X) (v .0) (v .1))) ∙ omega arith))
-          (out-ok K n (assign m₀ X E) (stored n σ) (placeOf (v .0) (weight X) (weight E)) 0 0 0 0) _ _
+          (out-ok K n (assign m₀ X E) (stored n σ) (mulAddOf (v .0) (weight X) (weight E)) 0 0 0 0) _ _
           (faithful X rX (write (v .0)) σ s hd ls (omega arith) p))
     faithful (new m₀ z C) (r-new {left} {at = node} {n = n} row e₀ rC) q σ s hd ls lv (v, p) =
         let low : length n < 32 = omega arith in
         let e : sumOf (length n) 1 ≡ suc (length n) = sum-small (length n) 1 (omega arith) ∙ omega arith in
         rw (walk-new K t left node (kindQ q) (valueQ q) (v .0 * weight C + numbered C .code p) s (length n) m
           {part = word t node 5} {kind = kindQ q} {value = valueQ q} {inner = numbered C .code p}
-          (placeOf (v .0) (weight C) 0) (sumOf (length n) 1) (weight C) (v .0) 0
+          (mulAddOf (v .0) (weight C) 0) (sumOf (length n) 1) (weight C) (v .0) 0
           (rw (row .kinded, part-weight node 0 rC, ne-eqb (weight C) 0 (omega (arith, numbered C .bound p)),
             quotient (v .0) (weight C) (numbered C .code p) (numbered C .bound p),
             remainder (v .0) (weight C) (numbered C .code p) (numbered C .bound p)) refl))
         (lift-new K t m n m₀ z C v (stored n σ) (stored-length n σ) (omega (arith, row .small)) low _ _
           (subst (λ (j : ℕ). Shows K t (m₀ ∷ n) C (v .0 ∷ stored n σ) m (step C (m₀ ∷ n) q (v, σ) p)
               (stepAt t K left (word t node 5) (kindQ q) (valueQ q) (numbered C .code p)
-                (pushed s (length n) (v .0)) j m)) (sym e)
-            (faithful C rC q (v, σ) (pushed s (length n) (v .0))
+                (withValue s (length n) (v .0)) j m)) (sym e)
+            (faithful C rC q (v, σ) (withValue s (length n) (v .0))
               (held-push s (length n) (v .0) (stored n σ) (stored-length n σ) low ls
                 (omega (arith, row .small, under m₀ (weight C) (v .0) (positive C) (v .1))) hd)
               (push-length s (length n) (v .0) low ∙ ls) (omega arith) p)))
@@ -227,7 +228,7 @@ module _ (K : Numbers) (t : List ℕ) (ws : Words t) (m : Record) (gv : Given m)
         (lift K t m n L (operate m₀ o L R) (framedOf 3 0 (weight L) (weight R) m₀ 0) (λ x. inl x) _ (stored n σ) refl
           (λ x. sum-small 0 (numbered L .code x) (omega (arith, row .small, numbered L .bound x)) ∙ omega arith)
           (out-value K n (operate m₀ o L R) (stored n σ) 0 (weight L) (weight R) m₀ 0 (λ v. inr (v, entry R))
-            (λ v. place-small (v .0) (weight R) (weight L)
+            (λ v. mul-add-small (v .0) (weight R) (weight L)
               (omega (arith, row .small, under m₀ (weight R) (v .0) (positive R) (v .1)))
               (omega (arith, small-weight rR)) (omega (arith, small-weight rL)) ∙ omega (arith, entry-zero R)))
           _ _ (faithful L rL ask σ s hd ls (omega arith) p))
@@ -236,20 +237,20 @@ module _ (K : Numbers) (t : List ℕ) (ws : Words t) (m : Record) (gv : Given m)
         let m₀ = operands o in
         rw (walk-in K t left node (kindQ q) (valueQ q) (weight L + (v .0 * weight R + numbered R .code p)) s
           (length n) m {part = word t node 6} {kind = 2} {value = 0} {inner = numbered R .code p}
-          {F = framedOf 4 (placeOf (v .0) (weight R) (weight L)) (v .0) (o .operator) m₀ 0}
+          {F = framedOf 4 (mulAddOf (v .0) (weight R) (weight L)) (v .0) (o .operator) m₀ 0}
           (rw (row .kinded, part-weight node 0 rL, part-weight node 1 rR,
             expression-values _ _ m₀ (part-type node 0 rL), po)
             (operate-right (word t node 5) (word t node 6) (weight L) (weight R) (o .operator) m₀ (v .0)
               (numbered R .code p) (numbered R .bound p))) refl)
         (lift K t m n R (operate m₀ o L R)
-          (framedOf 4 (placeOf (v .0) (weight R) (weight L)) (v .0) (o .operator) m₀ 0)
+          (framedOf 4 (mulAddOf (v .0) (weight R) (weight L)) (v .0) (o .operator) m₀ 0)
           (λ x. inr (v, x)) _ (stored n σ) refl
-          (λ x. rw (place-small (v .0) (weight R) (weight L)
+          (λ x. rw (mul-add-small (v .0) (weight R) (weight L)
               (omega (arith, row .small, under m₀ (weight R) (v .0) (positive R) (v .1)))
               (omega (arith, small-weight rR)) (omega (arith, small-weight rL)))
             (sum-small (v .0 * weight R + weight L) (numbered R .code x)
               (omega (arith, row .small, numbered R .bound x, times m₀ (weight R) (v .0) (v .1))) ∙ omega arith))
-          (out-operate K n (operate m₀ o L R) (stored n σ) (placeOf (v .0) (weight R) (weight L)) m₀ (v .0) 0 o over
+          (out-operate K n (operate m₀ o L R) (stored n σ) (mulAddOf (v .0) (weight R) (weight L)) m₀ (v .0) 0 o over
             (omega arith) (v .1)
               (omega (arith, row .small, factors m₀ (weight R) (omega (arith, v .1)) (positive R) .0)))
           _ _ (faithful R rR ask σ s hd ls (omega arith) p))
@@ -272,7 +273,7 @@ module _ (K : Numbers) (t : List ℕ) (ws : Words t) (m : Record) (gv : Given m)
         (count-of t node i (count args) h e) few (omega (arith, row .small)) ra q σ s m r
 
     pub faithfulArgs : (args : Args) {left node j : ℕ} {n : Context} → RepArgs K t left node j n args →
-      weightArgs args < 65536 → j + count args < 65536 → (σ : Store n) (s : List ℕ) → Held s (stored n σ) →
+      weightArgs args < 65536 → j + count args < 65536 → (σ : Store n) (s : List ℕ) → HeldStore s (stored n σ) →
       length s ≡ 32 → length n + left ≤ 32 → (base after : ℕ) → base + positions args < 65536 →
       after + replies (types args) < 65536 → (p : PositionArgs args) →
       ArgFound K t left node j base after n args σ s m p
@@ -291,9 +292,9 @@ module _ (K : Numbers) (t : List ℕ) (ws : Words t) (m : Record) (gv : Given m)
 
 -- at a number: the step of the position that the number stands for
 pub at-number : (K : Numbers) (t : List ℕ) {left node : ℕ} {M : Term} {T : Ty} → Words t → Rep K t left node [] M T →
-  left ≤ 32 → (s : List ℕ) → length s ≡ 32 → (q : Question) (m : Record) → Given m → (k : ℕ) (h : k < weight M) →
+  left ≤ 32 → (s : List ℕ) → length s ≡ 32 → (q : Question) (m : Record) → GivenMove m → (k : ℕ) (h : k < weight M) →
   Shows K t [] M [] m (step M [] q tt (numbered M .decode k h)) (stepAt t K left node (kindQ q) (valueQ q) k s 0 m)
-unfolding Held stored
+unfolding HeldStore stored
 at-number K t {left} {node} {M} {T} ws r l s e q m gv k h =
     subst (λ (j : ℕ). Shows K t [] M [] m (step M [] q tt (numbered M .decode k h))
       (stepAt t K left node (kindQ q) (valueQ q) j s 0 m)) (numbered M .code-decode k h)

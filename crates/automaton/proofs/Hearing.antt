@@ -32,12 +32,12 @@ use Rattle.sheet.specs.table.Rep.{word, count, Rep, RepArgs, r-none, r-arg}
 use Rattle.automaton.specs.declared.Move.{Move as Record}
 use Rattle.automaton.specs.declared.Out.{Out as Did}
 use Rattle.automaton.specs.declared.Out.the-variants.{Go, Exit, Hear, Stuck}
-use Rattle.automaton.specs.walk.Row.{partWeight, partClass, partValues, nameId, nameCount, sumOf, placeOf}
+use Rattle.automaton.specs.walk.Row.{partWeight, partClass, partValues, nameId, nameCount, sumOf, mulAddOf}
 use Rattle.automaton.specs.walk.Types.{questionNumber, answerNumber}
-use Rattle.automaton.specs.walk.Name.{spotsOf, hearAnswer, hearQuestion, listenOf, atWait}
-use Rattle.automaton.specs.walk.Shows.{kindQ, valueQ, kindA, valueA, moveOf, stored, written, ShowsNext}
-use Rattle.automaton.specs.walk.Shows.{Awaits, ShowsHeard, waits, leads, Given}
-use Rattle.automaton.proofs.Sums.{sum-small, place-small, when-dead}
+use Rattle.automaton.specs.walk.Name.{argSpots, hearAnswer, hearQuestion, listenOf, atWait}
+use Rattle.automaton.specs.walk.Shows.{kindQ, valueQ, kindA, valueA, moveOf, stored, updated, ShowsNext}
+use Rattle.automaton.specs.walk.Shows.{Awaits, ShowsHeard, waits, leads, GivenMove}
+use Rattle.automaton.proofs.Sums.{sum-small, mul-add-small, when-dead}
 use Rattle.automaton.proofs.TypeNumbers.{HasType, Answered, fitting, unfitting, answer-of, Asked, asking}
 use Rattle.automaton.proofs.TypeNumbers.{not-asking, question-of, no-answer, no-question}
 use Rattle.automaton.proofs.Parts.{part-weight, part-type}
@@ -65,7 +65,7 @@ module _ (t : List ℕ) (n : Context) (σ : Store n) (p : Question) where
     enters : (h : FitsAt (types args) i p) (x : PositionArgs args) (k : ℕ) → enter args n σ i p h ≡ to (σ, x) →
       i < count args → questionNumber (partClass t node a) (partValues t node a) (kindQ p) (valueQ p) ≡ suc k →
       k < 65536 → partWeight t node a < 65536 →
-      k * partWeight t node a + spotsOf t node j i ≡ numberedArgs args .code x → Enters node j i a args
+      k * partWeight t node a + argSpots t node j i ≡ numberedArgs args .code x → Enters node j i a args
     refuses : (FitsAt (types args) i p → ⊥) →
       (count args ≤ i) ⊎ ((i < count args)
         × (questionNumber (partClass t node a) (partValues t node a) (kindQ p) (valueQ p) ≡ 0)) →
@@ -73,7 +73,7 @@ module _ (t : List ℕ) (n : Context) (σ : Store n) (p : Question) where
 
   entering : {K : Numbers} {left node j : ℕ} {args : Args} → RepArgs K t left node j n args →
     weightArgs args < 65536 → j + count args < 65536 → (i a : ℕ) → a ≡ j + i → Enters node j i a args
-  unfolding types FitsAt count weightArgs enter mapNext numberedArgs sum sum-code product product-code spotsOf
+  unfolding types FitsAt count weightArgs enter mapNext numberedArgs sum sum-code product product-code argSpots
   entering r-none b h i a e = refuses (λ f. f) (inl (omega arith))
   entering (r-arg {at = node} {j} {T = T} {M} {args} r rs) b h zero a e =
       cases (question-of (partClass t node j) (partValues t node j) T ty
@@ -100,14 +100,14 @@ module _ (t : List ℕ) (n : Context) (σ : Store n) (p : Question) where
       cases (enters f x k g l d k₁ k₂ w) =
           enters f (inr x) k (rw g refl) (omega arith) d k₁ k₂
           (rw (copies-of t node j T M (part-weight node j r) (part-type node j r) (omega arith), next,
-            sum-small (questions T * weight M) (spotsOf t node (j + 1) i)
+            sum-small (questions T * weight M) (argSpots t node (j + 1) i)
               (omega (arith, w, numberedArgs args .bound x, weight-args args))) (omega (arith, w)))
       cases (refuses f (inl x)) = refuses f (inl (omega arith))
       cases (refuses f (inr (x, y))) = refuses f (inr (omega arith, y))
 
 -- no variable is written
-pub written-none : (vs : List ℕ) (u : ℕ) → written vs 0 u ≡ vs
-unfolding written
+pub written-none : (vs : List ℕ) (u : ℕ) → updated vs 0 u ≡ vs
+unfolding updated
 written-none [] u = refl
 written-none (v ∷ vs) u =
     rw (ne-eqb 0 (suc (length vs)) (omega arith)) (ap (λ (l : List ℕ). v ∷ l) (written-none vs u))
@@ -166,8 +166,8 @@ module _ (K : Numbers) (t : List ℕ) (left node i : ℕ) (n : Context) (T : Ty)
   numbering p j =
       pick (leb (count args) j) Stuck
       (pick (eqb (questionNumber (partClass t node j) (partValues t node j) (kindQ p) (valueQ p)) 0) Stuck
-      (Go (placeOf (questionNumber (partClass t node j) (partValues t node j) (kindQ p) (valueQ p) - 1)
-        (partWeight t node j) (sumOf 2 (spotsOf t node 0 j))) 0 0))
+      (Go (mulAddOf (questionNumber (partClass t node j) (partValues t node j) (kindQ p) (valueQ p) - 1)
+        (partWeight t node j) (sumOf 2 (argSpots t node 0 j))) 0 0))
 
   heard-question : (p : Question) (j : ℕ) (d : Dec (FitsAt (types args) j p)) →
     ShowsNext n Use vs (when d (entered p j)) (numbering p j)
@@ -179,9 +179,9 @@ module _ (K : Numbers) (t : List ℕ) (left node i : ℕ) (n : Context) (T : Ty)
       cases (yes y) (enters h x k g l e k₁ k₂ w) =
           let d : suc k - 1 ≡ k = omega arith in
           let b : numberedArgs args .code x < 65536 = omega (arith, numberedArgs args .bound x, weight-args args) in
-          let f : placeOf k (partWeight t node j) (sumOf 2 (spotsOf t node 0 j)) ≡ numbered Use .code (within x) =
-            rw (sum-small 2 (spotsOf t node 0 j) (omega (arith, w)),
-              place-small k (partWeight t node j) (2 + spotsOf t node 0 j) k₁ k₂ (omega (arith, w)))
+          let f : mulAddOf k (partWeight t node j) (sumOf 2 (argSpots t node 0 j)) ≡ numbered Use .code (within x) =
+            rw (sum-small 2 (argSpots t node 0 j) (omega (arith, w)),
+              mul-add-small k (partWeight t node j) (2 + argSpots t node 0 j) k₁ k₂ (omega (arith, w)))
             (omega (arith, w, within-code i T args x)) in
           rw (FitsAt-prop (types args) j p y h, g, lt-leb (count args) j l, e, ne-eqb (suc k) 0 (omega arith), d)
           (0, 0, ap (λ (z : ℕ). Go z 0 0) f, sym (written-none vs 0))
@@ -227,7 +227,7 @@ module _ (K : Numbers) (t : List ℕ) (left node i : ℕ) (n : Context) (T : Ty)
     valued = refl
   }
 
-  pub hears : (m : Record) → Given m →
+  pub hears : (m : Record) → GivenMove m →
     ShowsHeard K t n Use vs m (calling i (types args) T q) (listen i T args n q σ)
       (atWait t node (kindQ q) (valueQ q) m)
   unfolding atWait

@@ -27,12 +27,12 @@ use Rattle.automaton.specs.declared.Move.{Move as Record}
 use Rattle.automaton.specs.declared.Frame.{Frame}
 use Rattle.automaton.specs.declared.Out.{Out as Did}
 use Rattle.automaton.specs.declared.Out.the-variants.{Go, Say, Stuck}
-use Rattle.automaton.specs.walk.Row.{sumOf, placeOf}
+use Rattle.automaton.specs.walk.Row.{sumOf, mulAddOf}
 use Rattle.automaton.specs.walk.Name.{framedOf}
 use Rattle.automaton.specs.walk.Up.{exitDone, exitTruth, exitValue, exitResult, exitOperate, exitAssign}
 use Rattle.automaton.specs.walk.Up.{exitsOf}
 use Rattle.automaton.specs.walk.Up.{goesOf, riseOf}
-use Rattle.automaton.specs.walk.Shows.{kindA, valueA, moveOf, stored, written, ShowsNext, ShowsSaid, waits}
+use Rattle.automaton.specs.walk.Shows.{kindA, valueA, moveOf, stored, updated, ShowsNext, ShowsSaid, waits}
 use Rattle.automaton.specs.walk.Shows.{leads, Shows}
 use Rattle.automaton.proofs.Sums.{map-edge, sum-small}
 
@@ -44,7 +44,7 @@ module _ (K : Numbers) (t : List ℕ) (m : Record) (n : Context) (L M : Term) (F
   (inj : Position L → Position M)
   (e : ExitOf n → Next (State n M) (ExitOf n)) (vs : List ℕ) (role : eqb (F .role) 7 ≡ false)
   (codes : (p : Position L) → sumOf (F .base) (numbered L .code p) ≡ numbered M .code (inj p))
-  (outs : (x : ExitOf n) (l u : ℕ) → stored n (x .0) ≡ written vs l u →
+  (outs : (x : ExitOf n) (l u : ℕ) → stored n (x .0) ≡ updated vs l u →
     ShowsNext n M vs (e x) (exitsOf K F (kindA (x .1)) (valueA (x .1)) l u)) where
 
   lift-next : (x : Next (State n L) (ExitOf n)) (o : Did) → ShowsNext n L vs x o →
@@ -75,13 +75,13 @@ module _ (K : Numbers) (t : List ℕ) (m : Record) (n : Context) (L M : Term) (F
 
 -- what exits become
 module _ (K : Numbers) (n : Context) (M : Term) (vs : List ℕ) where
-  pub out-pass : (base a b c d : ℕ) (x : ExitOf n) (l u : ℕ) → stored n (x .0) ≡ written vs l u →
+  pub out-pass : (base a b c d : ℕ) (x : ExitOf n) (l u : ℕ) → stored n (x .0) ≡ updated vs l u →
     ShowsNext n M vs (out x) (exitsOf K (framedOf 0 base a b c d) (kindA (x .1)) (valueA (x .1)) l u)
   unfolding ShowsNext exitsOf
   out-pass base a b c d x l u w = (l, u, refl, w)
 
   pub out-done : (base a b c d : ℕ) (p : Position M) → numbered M .code p ≡ a → (x : ExitOf n) (l u : ℕ) →
-    stored n (x .0) ≡ written vs l u →
+    stored n (x .0) ≡ updated vs l u →
     ShowsNext n M vs (onDone (x .1) (to (x .0, p)))
     (exitsOf K (framedOf 1 base a b c d) (kindA (x .1)) (valueA (x .1)) l u)
   unfolding ShowsNext exitsOf exitDone onDone kindA valueA
@@ -89,7 +89,7 @@ module _ (K : Numbers) (n : Context) (M : Term) (vs : List ℕ) where
   out-done base a b c d p e (τ, ok) l u w = refl
   out-done base a b c d p e (τ, value v) l u w = refl
 
-  pub out-ok : (base a b c d : ℕ) (x : ExitOf n) (l u : ℕ) → stored n (x .0) ≡ written vs l u →
+  pub out-ok : (base a b c d : ℕ) (x : ExitOf n) (l u : ℕ) → stored n (x .0) ≡ updated vs l u →
     ShowsNext n M vs (onOk (x .1) (out (x .0, done)))
     (exitsOf K (framedOf 5 base a b c d) (kindA (x .1)) (valueA (x .1)) l u)
   unfolding ShowsNext exitsOf exitAssign onOk kindA valueA
@@ -98,7 +98,7 @@ module _ (K : Numbers) (n : Context) (M : Term) (vs : List ℕ) where
   out-ok base a b c d (τ, value v) l u w = refl
 
   pub out-while : (base a c d : ℕ) (p : Position M) → numbered M .code p ≡ a → (x : ExitOf n) (l u : ℕ) →
-    stored n (x .0) ≡ written vs l u →
+    stored n (x .0) ≡ updated vs l u →
     ShowsNext n M vs (onTruth (x .1) (to (x .0, p)) (out (x .0, done)))
     (exitsOf K (framedOf 2 base a 0 c d) (kindA (x .1)) (valueA (x .1)) l u)
   unfolding ShowsNext exitsOf exitTruth onTruth kindA valueA
@@ -110,7 +110,7 @@ module _ (K : Numbers) (n : Context) (M : Term) (vs : List ℕ) where
       simp (ne-eqb (suc (suc v)) 1 (omega arith), ne-eqb (suc (suc v)) 0 (omega arith))
 
   pub out-cond : (base a b c d : ℕ) (p p′ : Position M) → numbered M .code p ≡ a → numbered M .code p′ ≡ b → 0 < b →
-    (x : ExitOf n) (l u : ℕ) → stored n (x .0) ≡ written vs l u →
+    (x : ExitOf n) (l u : ℕ) → stored n (x .0) ≡ updated vs l u →
     ShowsNext n M vs (onTruth (x .1) (to (x .0, p)) (to (x .0, p′)))
     (exitsOf K (framedOf 2 base a b c d) (kindA (x .1)) (valueA (x .1)) l u)
   unfolding ShowsNext exitsOf exitTruth onTruth kindA valueA
@@ -123,8 +123,8 @@ module _ (K : Numbers) (n : Context) (M : Term) (vs : List ℕ) where
       simp (ne-eqb (suc (suc v)) 1 (omega arith), ne-eqb (suc (suc v)) 0 (omega arith))
 
   pub out-value : (base a b c d : ℕ) (p : Val c → Position M) →
-    ((v : Val c) → placeOf (v .0) b a ≡ numbered M .code (p v)) → (x : ExitOf n) (l u : ℕ) →
-    stored n (x .0) ≡ written vs l u →
+    ((v : Val c) → mulAddOf (v .0) b a ≡ numbered M .code (p v)) → (x : ExitOf n) (l u : ℕ) →
+    stored n (x .0) ≡ updated vs l u →
     ShowsNext n M vs (onValue c (x .1) (λ v. to (x .0, p v)))
     (exitsOf K (framedOf 3 base a b c d) (kindA (x .1)) (valueA (x .1)) l u)
   unfolding ShowsNext exitsOf exitValue onValue when kindA valueA
@@ -133,12 +133,12 @@ module _ (K : Numbers) (n : Context) (M : Term) (vs : List ℕ) where
   out-value base a b c d p e (τ, value v) l u w = cases (decLt v c)
     where
       cases : (x : Dec (v < c)) → ShowsNext n M vs (when x (λ h. to (τ, p (v, h))))
-        (pick (ltb v c) (Go (placeOf v b a) l u) Stuck)
+        (pick (ltb v c) (Go (mulAddOf v b a) l u) Stuck)
       cases (yes h) = rw (lt-ltb v c h) (l, u, ap (λ (k : ℕ). Go k l u) (e (v, h)), w)
       cases (no h) = rw (le-ltb v c (omega arith)) refl
 
   pub out-operate : (base c x d : ℕ) (o : Operation) → o .over ≡ K → o .operator < 256 → x < c → c < 65536 →
-    (e : ExitOf n) (l u : ℕ) → stored n (e .0) ≡ written vs l u →
+    (e : ExitOf n) (l u : ℕ) → stored n (e .0) ≡ updated vs l u →
     ShowsNext n M vs (onValue c (e .1) (λ y. onSome (apply o x (y .0)) (λ z. out (e .0, value z))))
     (exitsOf K (framedOf 4 base x (o .operator) c d) (kindA (e .1)) (valueA (e .1)) l u)
   unfolding ShowsNext exitsOf exitOperate exitResult onValue when kindA valueA onSome apply

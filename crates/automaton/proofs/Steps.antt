@@ -11,14 +11,14 @@ use Rattle.automaton.specs.declared.Move.{Move}
 use Rattle.automaton.specs.walk.Row.{partWeight, partClass, partValues, sumOf}
 use Rattle.automaton.specs.walk.Types.{answersOf}
 use Rattle.automaton.specs.walk.Store.{storeIn, heightIn}
-use Rattle.automaton.specs.walk.Name.{copiesOf, spotsOf, replyHere, replyOf, argHere, inArgs}
+use Rattle.automaton.specs.walk.Name.{copiesOf, argSpots, replyHere, replyOf, argHere, inArgs}
 use Rattle.automaton.specs.walk.Down.{downOf}
 use Rattle.automaton.specs.walk.Up.{riseOf}
 use Rattle.automaton.specs.walk.Step.{onSpot, stepAt}
 
 pub spots-step : (t : List ℕ) (at j n : ℕ) → (n ≡ 0 → ⊥) →
-  spotsOf t at j n ≡ sumOf (copiesOf t at j) (spotsOf t at (sumOf j 1) (n - 1))
-unfolding spotsOf
+  argSpots t at j n ≡ sumOf (copiesOf t at j) (argSpots t at (sumOf j 1) (n - 1))
+unfolding argSpots
 spots-step t at j zero h = absurd (h refl)
 spots-step t at j (suc n) h = simp sub-one
 

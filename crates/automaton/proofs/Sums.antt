@@ -10,15 +10,15 @@ use Rattle.language.specs.Move.{question, answer, at, private, Move, move}
 use Rattle.machine.specs.Action.{Next, dead, Heard, asked, answered, opened, Listen, who, Hears, mapNext}
 use Rattle.machine.specs.Decide.{when, hears?}
 use Rattle.machine.specs.Edge.{received, edge-hear}
-use Rattle.automaton.specs.walk.Row.{sumOf, placeOf}
+use Rattle.automaton.specs.walk.Row.{sumOf, mulAddOf}
 
 pub sum-small : (a b : ℕ) → a + b < 4294967296 → sumOf a b ≡ a + b
 unfolding sumOf
 sum-small a b h = simp (lt-ltb a 4294967296 (omega arith), lt-ltb b 4294967296 (omega arith))
 
-pub place-small : (x w n : ℕ) → x < 65536 → w < 65536 → n < 4294967296 → placeOf x w n ≡ x * w + n
-unfolding placeOf
-place-small x w n a b c = simp (lt-ltb x 65536 a, lt-ltb w 65536 b, lt-ltb n 4294967296 c)
+pub mul-add-small : (x w n : ℕ) → x < 65536 → w < 65536 → n < 4294967296 → mulAddOf x w n ≡ x * w + n
+unfolding mulAddOf
+mul-add-small x w n a b c = simp (lt-ltb x 65536 a, lt-ltb w 65536 b, lt-ltb n 4294967296 c)
 
 -- the number of a pair
 pub quotient : (v w c : ℕ) → c < w → (v * w + c) / w ≡ v

@@ -18,7 +18,7 @@ use Rattle.machine.specs.Numbering.{alone, numbered-questions, numbered-answers
 use Rattle.sheet.specs.table.Rep.{word, TyRow}
 use Rattle.automaton.specs.walk.Row.{sumOf}
 use Rattle.automaton.specs.walk.Types.{questionsOf, answersOf, questionKind, questionValue, questionNumber}
-use Rattle.automaton.specs.walk.Types.{valueAnswer, answerNumber}
+use Rattle.automaton.specs.walk.Types.{questionLimit, valueAnswer, answerNumber}
 use Rattle.automaton.specs.walk.Shows.{kindQ, valueQ, kindA, valueA}
 use Rattle.automaton.proofs.Sums.{sum-small}
 
@@ -140,15 +140,16 @@ pub data Asked (c m : ℕ) (T : Ty) (q : Question) : Type 0 where
   not-asking : (Fits T q → ⊥) → questionNumber c m (kindQ q) (valueQ q) ≡ 0 → Asked c m T q
 
 pub question-of : (c m : ℕ) (T : Ty) → HasType c m T → questions T < 65536 → (q : Question) → Asked c m T q
-unfolding HasType questions questionNumber numbered-questions alone iso single sum sum-code values kindQ valueQ
+unfolding HasType questions questionLimit questionNumber numbered-questions alone iso single sum sum-code values kindQ
+    valueQ
 question-of c m command e b run = asking fits-run (rw e refl)
 question-of c m command e b ask = not-asking (elim [ ]) (rw e refl)
 question-of c m command e b read = not-asking (elim [ ]) (rw e refl)
-question-of c m command e b (write x) = not-asking (elim [ ]) (rw e refl)
+question-of c m command e b (write x) = not-asking (elim [ ]) (rw (e, le-ltb x 0 (omega arith)) refl)
 question-of c m (expression k) e b run = not-asking (elim [ ]) (rw (e .0) refl)
 question-of c m (expression k) e b ask = asking fits-ask (rw (e .0) refl)
 question-of c m (expression k) e b read = not-asking (elim [ ]) (rw (e .0) refl)
-question-of c m (expression k) e b (write x) = not-asking (elim [ ]) (rw (e .0) refl)
+question-of c m (expression k) e b (write x) = not-asking (elim [ ]) (rw (e .0, le-ltb x 0 (omega arith)) refl)
 question-of c m (variable k) e b run = not-asking (elim [ ]) (rw (e .0) refl)
 question-of c m (variable k) e b ask = not-asking (elim [ ]) (rw (e .0) refl)
 question-of c m (variable k) e b read = asking fits-read (rw (e .0) refl)
@@ -175,7 +176,7 @@ no-answer c m q x read = none-of (eqb c 0) (eqb q 0) (eqb c 1) (eqb q 2) (eqb q 
 no-answer c m q x (write v) = none-of (eqb c 0) (eqb q 0) (eqb c 1) (eqb q 2) (eqb q 3) (eqb q 6) (ltb x m)
 
 pub no-question : (c m : ℕ) (a : Answer) → questionNumber c m (kindA a) (valueA a) ≡ 0
-unfolding questionNumber kindA valueA
+unfolding questionLimit questionNumber kindA valueA
 no-question c m done = rw (zeros (eqb c 1)) (zeros (eqb c 0))
 no-question c m ok = rw (zeros (eqb c 1)) (zeros (eqb c 0))
 no-question c m (value v) = rw (zeros (eqb c 1)) (zeros (eqb c 0))

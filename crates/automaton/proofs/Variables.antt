@@ -23,20 +23,21 @@ use Rattle.machine.specs.Edge.{edge-hear}
 use Rattle.machine.specs.Position.{Context, Store, Position, State, Exit as ExitOf}
 use Rattle.machine.specs.Numbered.{values, product, product-code}
 use Rattle.machine.specs.Numbering.{numbered}
-use Rattle.machine.specs.Step.{cell, access}
+use Rattle.machine.specs.Step.{askVariable, access}
 use Rattle.sheet.specs.table.Rep.{word, Level, here, there}
 use Rattle.automaton.specs.declared.Move.{Move as Record}
 use Rattle.automaton.specs.declared.Frame.{Frame}
 use Rattle.automaton.specs.declared.Out.{Out as Did}
 use Rattle.automaton.specs.declared.Out.the-variants.{Go, Exit, Say}
-use Rattle.automaton.specs.walk.Row.{sumOf, placeOf}
-use Rattle.automaton.specs.walk.Store.{pushed}
+use Rattle.automaton.specs.walk.Row.{sumOf, mulAddOf}
+use Rattle.automaton.specs.walk.Store.{withValue}
 use Rattle.automaton.specs.walk.Name.{framedOf}
 use Rattle.automaton.specs.walk.Down.{inPrivate}
 use Rattle.automaton.specs.walk.Up.{exitNew, exitsOf, goesOf, riseOf}
-use Rattle.automaton.specs.walk.Shows.{kindQ, valueQ, kindA, valueA, moveOf, stored, written, Held, ShowsNext}
+use Rattle.automaton.specs.walk.Shows.{kindQ, valueQ, kindA, valueA, moveOf, stored, updated, HeldStore}
+use Rattle.automaton.specs.walk.Shows.{ShowsNext}
 use Rattle.automaton.specs.walk.Shows.{ShowsSaid, waits, leads, Shows}
-use Rattle.automaton.proofs.Sums.{map-edge, sum-small, place-small, times, under}
+use Rattle.automaton.proofs.Sums.{map-edge, sum-small, mul-add-small, times, under}
 use Rattle.automaton.proofs.Parts.{positive}
 use Rattle.automaton.proofs.Hearing.{written-none}
 
@@ -47,8 +48,8 @@ stored-length (m ∷ n) σ = ap suc (stored-length n (σ .1))
 
 -- reading and writing a private variable
 pub read-at : {S A : Type 0} (s : List ℕ) {n : Context} {i m l : ℕ} → Level n i m l → (σ : Store n) →
-  Held s (stored n σ) → (k : Store n → Answer → Next S A) → access n i σ read k ≡ k σ (value (getD s l 0))
-unfolding access cell Held stored
+  HeldStore s (stored n σ) → (k : Store n → Answer → Next S A) → access n i σ read k ≡ k σ (value (getD s l 0))
+unfolding access askVariable HeldStore stored
 read-at s (here {n = n}) σ h k =
     ap (λ (v : ℕ). k σ (value v)) (sym (subst (λ (j : ℕ). getD s j 0 ≡ σ .0 .0) (stored-length n (σ .1)) (h .0)))
 read-at s (there a) σ h k = read-at s a (σ .1) (h .1) (λ τ. k (σ .0, τ))
@@ -70,8 +71,8 @@ when-none m x f h (no n) = refl
 
 pub write-at : {S A : Type 0} {n : Context} {i m l : ℕ} → Level n i m l → (x : ℕ) → x < m → (σ : Store n) →
   (k : Store n → Answer → Next S A) →
-  (τ : Store n) × (access n i σ (write x) k ≡ k τ ok) × (stored n τ ≡ written (stored n σ) (suc l) x)
-unfolding access cell stored written
+  (τ : Store n) × (access n i σ (write x) k ≡ k τ ok) × (stored n τ ≡ updated (stored n σ) (suc l) x)
+unfolding access askVariable stored updated
 write-at (here {m} {n}) x b σ k =
     let y = when-some m x (λ h. k ((x, h), σ .1) ok) b (decLt x m) in
     (((x, y .0), σ .1), y .1,
@@ -84,44 +85,44 @@ write-at (there {k = k₁} {l = l} {n = n} a) x b σ k =
 
 pub write-not : {S A : Type 0} {n : Context} {i m l : ℕ} → Level n i m l → (x : ℕ) → m ≤ x → (σ : Store n) →
   (k : Store n → Answer → Next S A) → access n i σ (write x) k ≡ dead
-unfolding access cell
+unfolding access askVariable
 write-not (here {m} {n}) x b σ k = when-none m x (λ h. k ((x, h), σ .1) ok) b (decLt x m)
 write-not (there a) x b σ k = write-not a x b (σ .1) (λ τ. k (σ .0, τ))
 
 pub no-run : {S A : Type 0} {n : Context} {i m l : ℕ} → Level n i m l → (σ : Store n) →
   (k : Store n → Answer → Next S A) → access n i σ run k ≡ dead
-unfolding access cell
+unfolding access askVariable
 no-run here σ k = refl
 no-run (there a) σ k = no-run a (σ .1) (λ τ. k (σ .0, τ))
 
 pub no-ask : {S A : Type 0} {n : Context} {i m l : ℕ} → Level n i m l → (σ : Store n) →
   (k : Store n → Answer → Next S A) → access n i σ ask k ≡ dead
-unfolding access cell
+unfolding access askVariable
 no-ask here σ k = refl
 no-ask (there a) σ k = no-ask a (σ .1) (λ τ. k (σ .0, τ))
 
 -- the values that are held, one more
-held-other : (s : List ℕ) (h x : ℕ) (vs : List ℕ) → length vs ≤ h → Held s vs → Held (set s h x) vs
-unfolding Held
+held-other : (s : List ℕ) (h x : ℕ) (vs : List ℕ) → length vs ≤ h → HeldStore s vs → HeldStore (set s h x) vs
+unfolding HeldStore
 held-other s h x [] l d = tt
 held-other s h x (v ∷ vs) l d =
     (getD-set-other s h (length vs) x 0 (λ e. absurd (omega arith)) ∙ d .0, held-other s h x vs (omega arith) (d .1))
 
 pub held-push : (s : List ℕ) (h v : ℕ) (vs : List ℕ) → length vs ≡ h → h < 32 → length s ≡ 32 → v < 65536 →
-  Held s vs → Held (pushed s h v) (v ∷ vs)
-unfolding Held pushed
+  HeldStore s vs → HeldStore (withValue s h v) (v ∷ vs)
+unfolding HeldStore withValue
 held-push s h v vs e b c d k =
     rw (lt-ltb h 32 b)
     (rw e (getD-set-same s h (v % 65536) 0 (omega arith) ∙ mod-eq-of-lt d),
       held-other s h (v % 65536) vs (omega arith) k)
 
-pub push-length : (s : List ℕ) (h v : ℕ) → h < 32 → length (pushed s h v) ≡ length s
-unfolding pushed
+pub push-length : (s : List ℕ) (h v : ℕ) → h < 32 → length (withValue s h v) ≡ length s
+unfolding withValue
 push-length s h v b = rw (lt-ltb h 32 b) (simp length-set)
 
 -- the exit of a private variable
 module _ (t : List ℕ) (node : ℕ) (n : Context) (i m₀ l₀ : ℕ) (rl : word t node 4 ≡ l₀) (rm : word t node 3 ≡ m₀)
-  (a : Level n i m₀ l₀) (σ : Store n) (s : List ℕ) (hd : Held s (stored n σ)) (small : length n ≤ 32) where
+  (a : Level n i m₀ l₀) (σ : Store n) (s : List ℕ) (hd : HeldStore s (stored n σ)) (small : length n ≤ 32) where
   abbrev leave : Store n → Answer → Next (State n (private i)) (ExitOf n)
   leave τ b = out (τ, b)
 
@@ -156,21 +157,21 @@ module _ (K : Numbers) (t : List ℕ) (m : Record) (n : Context) (k : ℕ) (z : 
   (vs : List ℕ)
   (depth : length vs ≡ length n) (fits : k * weight C < 65536) (low : length n < 32) where
   abbrev BlockFrame : Frame
-  BlockFrame = framedOf 7 (placeOf (v .0) (weight C) 0) (sumOf (length n) 1) (weight C) (v .0) 0
+  BlockFrame = framedOf 7 (mulAddOf (v .0) (weight C) 0) (sumOf (length n) 1) (weight C) (v .0) 0
 
   -- what a change says of the block's variable and of the others
   data Change (x : ℕ) (xs : List ℕ) (l u : ℕ) : Type 0 where
     mine : eqb l (sumOf (length n) 1) ≡ true → x ≡ u → xs ≡ vs → Change x xs l u
-    other : eqb l (sumOf (length n) 1) ≡ false → x ≡ v .0 → xs ≡ written vs l u → Change x xs l u
+    other : eqb l (sumOf (length n) 1) ≡ false → x ≡ v .0 → xs ≡ updated vs l u → Change x xs l u
 
-  change : (x : ℕ) (xs : List ℕ) (l u : ℕ) → _≡_ {A = List ℕ} (x ∷ xs) (written (v .0 ∷ vs) l u) → Change x xs l u
-  unfolding written
+  change : (x : ℕ) (xs : List ℕ) (l u : ℕ) → _≡_ {A = List ℕ} (x ∷ xs) (updated (v .0 ∷ vs) l u) → Change x xs l u
+  unfolding updated
   change x xs l u w = cases _ refl w
     where
       level : suc (length vs) ≡ sumOf (length n) 1
       level = omega (arith, sum-small (length n) 1 (omega arith))
       cases : (b : Bool) → eqb l (suc (length vs)) ≡ b →
-        _≡_ {A = List ℕ} (x ∷ xs) (pick b (u ∷ vs) (v .0 ∷ written vs l u)) → Change x xs l u
+        _≡_ {A = List ℕ} (x ∷ xs) (pick b (u ∷ vs) (v .0 ∷ updated vs l u)) → Change x xs l u
       cases true e h =
           mine (subst (λ (j : ℕ). eqb l j ≡ true) level e) (cons-head x u xs vs h) (cons-tail x u xs vs h)
       cases false e h =
@@ -186,14 +187,14 @@ module _ (K : Numbers) (t : List ℕ) (m : Record) (n : Context) (k : ℕ) (z : 
   near x p = omega (arith, times k (weight C) (x .0) (x .1), numbered C .bound p)
 
   written-code : (x : Val k) (u : ℕ) → x .0 ≡ u → (p : Position C) →
-    placeOf u (weight C) (numbered C .code p) ≡ x .0 * weight C + numbered C .code p
+    mulAddOf u (weight C) (numbered C .code p) ≡ x .0 * weight C + numbered C .code p
   written-code x u e p =
-      rw (← e) (place-small (x .0) (weight C) (numbered C .code p) (low-value x) size (omega (arith, near x p)))
+      rw (← e) (mul-add-small (x .0) (weight C) (numbered C .code p) (low-value x) size (omega (arith, near x p)))
 
   kept-code : (x : Val k) → x .0 ≡ v .0 → (p : Position C) →
-    sumOf (placeOf (v .0) (weight C) 0) (numbered C .code p) ≡ x .0 * weight C + numbered C .code p
+    sumOf (mulAddOf (v .0) (weight C) 0) (numbered C .code p) ≡ x .0 * weight C + numbered C .code p
   kept-code x e p =
-      rw (← e, place-small (x .0) (weight C) 0 (low-value x) size (omega arith))
+      rw (← e, mul-add-small (x .0) (weight C) 0 (low-value x) size (omega arith))
       (sum-small (x .0 * weight C + 0) (numbered C .code p) (omega (arith, near x p)) ∙ omega arith)
 
   abbrev opened : State (k ∷ n) C → State n (new k z C)

@@ -24,9 +24,9 @@ use Rattle.automaton.specs.declared.Frame.{Frame}
 use Rattle.automaton.specs.declared.Out.{Out as Did}
 use Rattle.automaton.specs.declared.Out.the-variants.{Go, Say}
 use Rattle.automaton.specs.declared.Spot.the-variants.{Here, Inside}
-use Rattle.automaton.specs.walk.Row.{nameId, nameCount, sumOf, placeOf}
-use Rattle.automaton.specs.walk.Store.{pushed, storeIn, heightIn}
-use Rattle.automaton.specs.walk.Name.{framedOf, saidOf, spotsOf, replyOf, inArgs, atWait, inName}
+use Rattle.automaton.specs.walk.Row.{nameId, nameCount, sumOf, mulAddOf}
+use Rattle.automaton.specs.walk.Store.{withValue, storeIn, heightIn}
+use Rattle.automaton.specs.walk.Name.{framedOf, saidOf, argSpots, replyOf, inArgs, atWait, inName}
 use Rattle.automaton.specs.walk.Down.{operateIn, assignIn, inPrivate, downAs, downOf}
 use Rattle.automaton.specs.walk.Up.{riseOf}
 use Rattle.automaton.specs.walk.Step.{onSpot, stepAt}
@@ -55,13 +55,13 @@ pub walk-new : (K : Numbers) (t : List ℕ) (left node q x k : ℕ) (s : List �
   {part kind value inner : ℕ} (base a b c d : ℕ) →
   downOf t node q x k s h m ≡ Inside part kind value inner (framedOf 7 base a b c d) →
   stepAt t K (suc left) node q x k s h m
-  ≡ riseOf K (framedOf 7 base a b c d) (stepAt t K left part kind value inner (pushed s h c) (sumOf h 1) m)
+  ≡ riseOf K (framedOf 7 base a b c d) (stepAt t K left part kind value inner (withValue s h c) (sumOf h 1) m)
 unfolding stepAt onSpot storeIn heightIn
 walk-new K t left node q x k s h m base a b c d e = rw e refl
 
 -- in the copy for x of an assigned variable and of a right operand
 pub assign-right : (var e w v m x c : ℕ) → c < v →
-  assignIn var e w v m (w + (x * v + c)) ≡ Inside var 6 x c (framedOf 5 (placeOf x v w) 0 0 0 0)
+  assignIn var e w v m (w + (x * v + c)) ≡ Inside var 6 x c (framedOf 5 (mulAddOf x v w) 0 0 0 0)
 unfolding assignIn
 assign-right var e w v m x c h =
     let d : w + (x * v + c) - w ≡ x * v + c = omega arith in
@@ -69,7 +69,7 @@ assign-right var e w v m x c h =
       remainder x v c h) refl
 
 pub operate-right : (l r w v o m x c : ℕ) → c < v →
-  operateIn l r w v o m (w + (x * v + c)) ≡ Inside r 2 0 c (framedOf 4 (placeOf x v w) x o m 0)
+  operateIn l r w v o m (w + (x * v + c)) ≡ Inside r 2 0 c (framedOf 4 (mulAddOf x v w) x o m 0)
 unfolding operateIn
 operate-right l r w v o m x c h =
     let d : w + (x * v + c) - w ≡ x * v + c = omega arith in
@@ -87,7 +87,7 @@ module _ (K : Numbers) (t : List ℕ) (left node i : ℕ) (n : Context) (T : Ty)
   (pi : nameId t node ≡ i) (pc : nameCount t node ≡ count args) (few : count args ≤ 4)
   (fits : 2 + weightArgs args < 65536) (ra : RepArgs K t left node 0 n args) (q : Question) (σ : Store n) (s : List ℕ)
   (m : Record) where
-  all : spotsOf t node 0 (count args) ≡ positions args
+  all : argSpots t node 0 (count args) ≡ positions args
   all = spots-of ra (omega arith) (omega arith)
 
   after : sumOf 2 (positions args) ≡ 2 + positions args

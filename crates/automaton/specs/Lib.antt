@@ -1,1 +1,2 @@
+-- The step on numbers.
 pub mod walk

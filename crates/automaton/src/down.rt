@@ -33,7 +33,7 @@ use crate::row::cell;
 use crate::row::part_at;
 use crate::row::part_values;
 use crate::row::part_weight;
-use crate::row::place;
+use crate::row::mul_add;
 use crate::row::sum;
 ghost use mathlib.Core.Path.{_≡_};
 ghost use Rattle.automaton.specs.walk.Down.{leavesOf, inFetch, inSeq, inWhile, condIn, inCond, operateIn};
@@ -212,7 +212,7 @@ pub(crate) fn operate_in(
         return Spot::Here { out: Out::Stuck };
     }
     let x = (k - w) / v;
-    let f = framed(RIGHT, place(x, v, w), x, op, m, 0);
+    let f = framed(RIGHT, mul_add(x, v, w), x, op, m, 0);
     Spot::Inside {
         part: right,
         kind: ASK,
@@ -258,7 +258,7 @@ pub(crate) fn assign_in(var: usize, e: usize, w: usize, v: usize, m: usize, k: u
         return Spot::Here { out: Out::Stuck };
     }
     let x = (k - w) / v;
-    let f = framed(ASSIGNED, place(x, v, w), 0, 0, 0, 0);
+    let f = framed(ASSIGNED, mul_add(x, v, w), 0, 0, 0, 0);
     Spot::Inside {
         part: var,
         kind: WRITE,
@@ -288,7 +288,7 @@ pub(crate) fn in_new(t: &[u16], at: usize, q: usize, x: usize, k: usize, h: usiz
     }
     let v = k / w;
     let part = part_at(t, at, 0);
-    let f = framed(BLOCK, place(v, w, 0), sum(h, 1), w, v, 0);
+    let f = framed(BLOCK, mul_add(v, w, 0), sum(h, 1), w, v, 0);
     Spot::Inside {
         part,
         kind: q,

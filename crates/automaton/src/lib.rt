@@ -26,7 +26,9 @@ pub struct Move {
     pub value: usize,
 }
 
-// What is done at a position. A level is 0 where no private variable is written, else 1 more than the variable's.
+// What is done at a position: a silent step, an exit with an answer, a move that the term says, a wait in which it
+// hears the moves of the name at a place, or nothing. A level is 0 where no private variable is written, else 1 more
+// than the variable's.
 pub enum Out {
     Go {
         next: usize,

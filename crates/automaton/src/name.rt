@@ -18,7 +18,7 @@ use crate::row::part_at;
 use crate::row::part_class;
 use crate::row::part_values;
 use crate::row::part_weight;
-use crate::row::place;
+use crate::row::mul_add;
 use crate::row::sum;
 use crate::types::COMMAND;
 use crate::types::answer_number;
@@ -28,7 +28,7 @@ use crate::types::question_number;
 use crate::types::question_value;
 use crate::types::questions;
 ghost use mathlib.Core.Path.{_≡_};
-ghost use Rattle.automaton.specs.walk.Name.{saidOf, framedOf, copiesOf, spotsOf, replyHere, replyOf, argHere};
+ghost use Rattle.automaton.specs.walk.Name.{saidOf, framedOf, copiesOf, argSpots, replyHere, replyOf, argHere};
 ghost use Rattle.automaton.specs.walk.Name.{inArgs, hearAnswer, hearQuestion, listenOf, atWait, inName};
 ghost use Rattle.automaton.specs.walk.Name.{noMove};
 
@@ -70,7 +70,7 @@ pub(crate) fn framed(role: usize, base: usize, a: usize, b: usize, c: usize, d: 
 pub(crate) fn copies(t: &[u16], at: usize, j: usize) -> usize
     ensures { λ r. ⌜ r ≡ copiesOf (now (t .entry)) at j ⌝ }
 {
-    place(
+    mul_add(
         questions(part_class(t, at, j), part_values(t, at, j)),
         part_weight(t, at, j),
         0,
@@ -79,7 +79,7 @@ pub(crate) fn copies(t: &[u16], at: usize, j: usize) -> usize
 
 // How many positions n arguments from argument j on have.
 pub(crate) fn spots(t: &[u16], at: usize, j: usize, n: usize) -> usize
-    ensures { λ r. ⌜ r ≡ spotsOf (now (t .entry)) at j n ⌝ }
+    ensures { λ r. ⌜ r ≡ argSpots (now (t .entry)) at j n ⌝ }
 {
     if n == 0 {
         return 0;
@@ -135,7 +135,7 @@ pub fn arg_in(
     let i = k / w;
     let kind = question_kind(class, i);
     let value = question_value(class, i);
-    let f = framed(ARGUMENT, place(i, w, base), after, class, values, i);
+    let f = framed(ARGUMENT, mul_add(i, w, base), after, class, values, i);
     Spot::Inside {
         part,
         kind,
@@ -215,7 +215,7 @@ pub(crate) fn hear_question(t: &[u16], at: usize, j: usize, m: Move) -> Out
         return Out::Stuck;
     }
     let base = sum(INNER, spots(t, at, 0, j));
-    let next = place(i - 1, part_weight(t, at, j), base);
+    let next = mul_add(i - 1, part_weight(t, at, j), base);
     Out::Go {
         next,
         level: 0,

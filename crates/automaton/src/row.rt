@@ -2,7 +2,7 @@
 ghost use mathlib.Core.Path.{_≡_};
 ghost use Prim.Native.Nat.{_+_};
 ghost use Rattle.sheet.specs.table.Rep.{word};
-ghost use Rattle.automaton.specs.walk.Row.{partWeight, partClass, partValues, nameId, nameCount, sumOf, placeOf};
+ghost use Rattle.automaton.specs.walk.Row.{partWeight, partClass, partValues, nameId, nameCount, sumOf, mulAddOf};
 
 // The words of a row: the kind of the part, its weight, the class of its type and the number of values of its data, a
 // detail by its kind, and the places of its parts.
@@ -19,6 +19,12 @@ pub const DETAIL: usize = 4;
 pub(crate) const PARTS: usize = 5;
 // How many they are.
 const WORDS: usize = 9;
+// The detail of a name is its id and this many times the number of its arguments.
+const IDS: usize = 256;
+// Numbers below this are added without becoming too large, and those below its root are multiplied.
+const TOO_LARGE: usize = 4294967296;
+
+const TOO_LARGE_FACTOR: usize = 65536;
 
 // Word i of the row at a place, 0 past the end of the table.
 pub fn cell(t: &[u16], at: usize, i: usize) -> usize
@@ -75,22 +81,22 @@ pub fn part_values(t: &[u16], at: usize, j: usize) -> usize
 pub fn name_id(t: &[u16], at: usize) -> usize
     ensures { λ r. ⌜ r ≡ nameId (now (t .entry)) at ⌝ }
 {
-    cell(t, at, DETAIL) % 256
+    cell(t, at, DETAIL) % IDS
 }
 
 // How many arguments a name has.
 pub fn name_count(t: &[u16], at: usize) -> usize
     ensures { λ r. ⌜ r ≡ nameCount (now (t .entry)) at ⌝ }
 {
-    cell(t, at, DETAIL) / 256
+    cell(t, at, DETAIL) / IDS
 }
 
 // a + b, and 0 where one of them is too large.
 pub fn sum(a: usize, b: usize) -> usize
     ensures { λ r. ⌜ r ≡ sumOf a b ⌝ }
 {
-    if a < 4294967296 {
-        if b < 4294967296 {
+    if a < TOO_LARGE {
+        if b < TOO_LARGE {
             return a + b;
         }
     }
@@ -98,12 +104,12 @@ pub fn sum(a: usize, b: usize) -> usize
 }
 
 // x * w + n, and 0 where one of them is too large.
-pub fn place(x: usize, w: usize, n: usize) -> usize
-    ensures { λ r. ⌜ r ≡ placeOf x w n ⌝ }
+pub fn mul_add(x: usize, w: usize, n: usize) -> usize
+    ensures { λ r. ⌜ r ≡ mulAddOf x w n ⌝ }
 {
-    if x < 65536 {
-        if w < 65536 {
-            if n < 4294967296 {
+    if x < TOO_LARGE_FACTOR {
+        if w < TOO_LARGE_FACTOR {
+            if n < TOO_LARGE {
                 return x * w + n;
             }
         }

@@ -9,7 +9,7 @@ use crate::moves::WRITE;
 use crate::row::sum;
 ghost use mathlib.Core.Path.{_≡_};
 ghost use Rattle.automaton.specs.walk.Types.{questionsOf, answersOf, questionKind, questionValue, questionNumber};
-ghost use Rattle.automaton.specs.walk.Types.{valueAnswer, answerNumber};
+ghost use Rattle.automaton.specs.walk.Types.{questionLimit, valueAnswer, answerNumber};
 
 // The classes of types.
 pub const COMMAND: usize = 0;
@@ -69,9 +69,10 @@ pub(crate) fn question_value(class: usize, i: usize) -> usize
     0
 }
 
-// 1 more than the number of a question; 0 where the type has no such question.
-pub fn question_number(class: usize, values: usize, kind: usize, value: usize) -> usize
-    ensures { λ r. ⌜ r ≡ questionNumber class values kind value ⌝ }
+// How many values a question of a kind has at a type: none where it is no question of the type, and one where it
+// carries no value.
+pub fn question_limit(class: usize, values: usize, kind: usize) -> usize
+    ensures { λ r. ⌜ r ≡ questionLimit class values kind ⌝ }
 {
     if class == COMMAND {
         if kind == RUN {
@@ -89,11 +90,23 @@ pub fn question_number(class: usize, values: usize, kind: usize, value: usize) -
         return 1;
     }
     if kind == WRITE {
-        if value < values {
-            return sum(value, 2);
-        }
+        return values;
     }
     0
+}
+
+// 1 more than the number of a question; 0 where the type has no such question.
+pub fn question_number(class: usize, values: usize, kind: usize, value: usize) -> usize
+    ensures { λ r. ⌜ r ≡ questionNumber class values kind value ⌝ }
+{
+    let limit = question_limit(class, values, kind);
+    if kind == WRITE {
+        if value < limit {
+            return sum(value, 2);
+        }
+        return 0;
+    }
+    limit
 }
 
 // 1 more than a value that is answered; 0 where the answer is no such value.

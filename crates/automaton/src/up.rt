@@ -12,7 +12,7 @@ use crate::roles::RIGHT;
 use crate::roles::SELECT;
 use crate::roles::TEST;
 use crate::roles::THEN;
-use crate::row::place;
+use crate::row::mul_add;
 use crate::row::sum;
 use crate::types::answer_number;
 use crate::types::question_kind;
@@ -24,6 +24,15 @@ ghost use mathlib.Core.Path.{_≡_};
 ghost use Rattle.automaton.specs.walk.Up.{exitDone, exitTruth, exitValue, exitOperate, exitAssign, exitArgument};
 ghost use Rattle.automaton.specs.walk.Up.{exitNew, exitsOf, goesOf};
 ghost use Rattle.automaton.specs.declared.Out.the-variants.{Go};
+
+// The truths.
+const FALSE: usize = 0;
+
+const TRUE: usize = 1;
+// How many numbers a byte, and a word of 16 bits, can be.
+const BYTES: usize = 256;
+
+const CODES: usize = 65536;
 
 // Done leads on.
 pub(crate) fn exit_done(kind: usize, next: usize, level: usize, set: usize) -> Out
@@ -47,14 +56,14 @@ pub(crate) fn exit_truth(
     ensures { λ r. ⌜ r ≡ exitTruth kind value a b level set ⌝ }
 {
     if kind == VALUE {
-        if value == 1 {
+        if value == TRUE {
             return Out::Go {
                 next: a,
                 level,
                 set,
             };
         }
-        if value == 0 {
+        if value == FALSE {
             if b == 0 {
                 return Out::Exit {
                     kind: DONE,
@@ -80,7 +89,7 @@ pub(crate) fn exit_value(kind: usize, value: usize, f: Frame, level: usize, set:
     if kind == VALUE {
         if value < f.c {
             return Out::Go {
-                next: place(value, f.b, f.a),
+                next: mul_add(value, f.b, f.a),
                 level,
                 set,
             };
@@ -102,9 +111,9 @@ pub(crate) fn exit_operate(
 {
     if kind == VALUE {
         if value < f.c {
-            let op = (f.b % 256) as u8;
-            let x = (f.a % 65536) as u16;
-            let y = (value % 65536) as u16;
+            let op = (f.b % BYTES) as u8;
+            let x = (f.a % CODES) as u16;
+            let y = (value % CODES) as u16;
             let result = operate(n, op, x, y);
             return match result {
                 Outcome::Is { code } => Out::Exit {
@@ -201,7 +210,7 @@ pub fn goes(f: Frame, g: Silent) -> Silent
     if f.role == BLOCK {
         if g.level == f.a {
             return Silent {
-                next: place(g.set, f.b, g.next),
+                next: mul_add(g.set, f.b, g.next),
                 level: 0,
                 set: 0,
             };

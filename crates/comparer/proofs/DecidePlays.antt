@@ -26,7 +26,7 @@ use Rattle.difference.specs.declared.Verdict.the-variants as verdict
 use Rattle.dfa.proofs.laws.Reading.{reversed-reversed, walk-reversed, first-word}
 use Rattle.silent.proofs.laws.Settled.{settled-graph}
 use Rattle.explicit.specs.Explicit.{Explicit}
-use Rattle.explicit.proofs.Settling.{AllSmall}
+use Rattle.explicit.specs.Letter.{AllSmall}
 use Rattle.comparer.specs.inner.Built.{TwoBuilt}
 use Rattle.comparer.specs.inner.Deciding.{Deciding, OnlyTerm, Verdicts, alike, differ, Shown}
 use Rattle.comparer.specs.declared.Comparison.{Comparison}

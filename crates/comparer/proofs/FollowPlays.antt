@@ -22,7 +22,7 @@ use Rattle.dfa.specs.Reading.{walk}
 use Rattle.silent.specs.Silent.{Silent}
 use Rattle.explicit.specs.Explicit.{packed, silentWord, Explicit}
 use Rattle.explicit.proofs.Ranges.{type-in, sheet-range}
-use Rattle.explicit.proofs.Settling.{AllSmall}
+use Rattle.explicit.specs.Letter.{AllSmall}
 use Rattle.sheet.specs.Written.{Sheet}
 use Rattle.sheet.specs.Meaning.{tyOf, termOf, typeOf}
 use Rattle.sheet.specs.Fine.{Accepted}

@@ -7,11 +7,11 @@ use native.Mathlib.Omega.{arith}
 use lib.ListN.{length}
 use Rattle.language.specs.declared.Numbers.{Numbers}
 use Rattle.language.specs.Move.{Word, First, Before}
-use Rattle.language.specs.Letter.{letter}
-use Rattle.language.proofs.LetterLaws.{letter-order}
+use Rattle.explicit.specs.Letter.{letter}
+use Rattle.explicit.proofs.LetterLaws.{letter-order}
 use Rattle.dfa.specs.Reading as reading
 use Rattle.dfa.specs.Reading.{walk, Lex}
-use Rattle.explicit.proofs.Settling.{along, AllSmall}
+use Rattle.explicit.specs.Letter.{along, AllSmall}
 use Rattle.comparer.specs.inner.Spell.{letters}
 
 -- the state after a word of moves is the state after its letters

@@ -9,9 +9,9 @@ use Rattle.language.specs.Ty.{Ty}
 use Rattle.language.specs.Term.{Term}
 use Rattle.language.specs.Typing.{Typed}
 use Rattle.language.specs.Move.{Move, Word}
-use Rattle.language.specs.Letter.{letter}
+use Rattle.explicit.specs.Letter.{letter}
 use Rattle.language.specs.Play.{Complete}
-use Rattle.language.proofs.LetterLaws.{Small}
+use Rattle.explicit.specs.Letter.{Small}
 use Rattle.machine.specs.Action.{Next, to, out, dead, Action}
 use Rattle.machine.specs.Range.{TyIn, InRange}
 use Rattle.machine.specs.Settle.{Index, next, run}
@@ -23,7 +23,8 @@ use Rattle.silent.specs.Silent.{Settling}
 use Rattle.explicit.specs.Explicit.{packed, Explicit}
 use Rattle.explicit.proofs.Advance.{settle-dead}
 use Rattle.explicit.proofs.Language.{from-start, explicit-language}
-use Rattle.explicit.proofs.Settling.{settles, leads, AllSmall, transition, runs}
+use Rattle.explicit.specs.Letter.{AllSmall}
+use Rattle.explicit.proofs.Settling.{settles, leads, transition, runs}
 use Rattle.explicit.proofs.Spelling.{complete-small}
 use Rattle.comparer.specs.inner.Spell.{letters}
 use Rattle.comparer.proofs.Unletter.{Unletter, of, none, unletter}

@@ -15,10 +15,11 @@ use Rattle.language.specs.Number.{signed}
 use Rattle.language.specs.Ty.{run, ask, read, write, done, ok, value}
 use Rattle.language.specs.Move.{Event, question, answer, at, private, Move, move, Word, kind, valueOf, ByValue}
 use Rattle.language.specs.Move.{Earlier, First, Before}
-use Rattle.language.specs.Letter.{ranked, eventOf}
-use Rattle.language.proofs.LetterLaws.{Values, Small, event-again}
+use Rattle.explicit.specs.Letter.{ranked, eventOf}
+use Rattle.explicit.specs.Letter.{Values, Small}
+use Rattle.explicit.proofs.LetterLaws.{event-again}
 use Rattle.language.proofs.NumberLaws.{signed-injective}
-use Rattle.explicit.proofs.Settling.{AllSmall}
+use Rattle.explicit.specs.Letter.{AllSmall}
 
 -- one of three: the first is less, they are equal, the second is less
 abbrev Either : Type 0 → Type 0 → Type 0 → Type 0

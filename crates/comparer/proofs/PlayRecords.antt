@@ -6,8 +6,8 @@ use native.Mathlib.Omega.{arith}
 use lib.ListN.{length, take, drop}
 use Rattle.language.specs.declared.Numbers.{Numbers}
 use Rattle.language.specs.Move.{Word, record-of}
-use Rattle.language.specs.Letter.{letter}
-use Rattle.explicit.proofs.Settling.{AllSmall}
+use Rattle.explicit.specs.Letter.{letter}
+use Rattle.explicit.specs.Letter.{AllSmall}
 use Rattle.comparer.specs.inner.Bytes.{firstLetter}
 use Rattle.comparer.specs.inner.Spell.{letters}
 use Rattle.comparer.proofs.WritingPlays.{Good, record-letter, record-again}

@@ -25,7 +25,7 @@ use Rattle.sheet.specs.Reader.{namesStep, namesOf, sizeOf, sheetOf, rest, build
 use Rattle.machine.specs.Action.{who, heard, mapNext, mapAction}
 use Rattle.machine.specs.Decide.{when, map-dec, fits?, answers-to, answers?, fits-at?, hears?, same-move?}
 use Rattle.machine.specs.Position.{entry}
-use Rattle.machine.specs.Step.{onDone, onOk, onValue, onTruth, onSome, cell, access, enter, listen, step}
+use Rattle.machine.specs.Step.{onDone, onOk, onValue, onTruth, onSome, askVariable, access, enter, listen, step}
 use Rattle.machine.specs.Numbered as numbers-of
 use Rattle.machine.specs.Numbered.{single, iso, sum-code, sum-decode, sum, product-decode, product}
 use Rattle.machine.specs.Numbering.{alone, numbered-questions, numbered-answers, numbered-replies, numbered-name}
@@ -49,7 +49,7 @@ unfolding readSheet checks sheetOf reader.closed bind namesOf namesStep onShape 
   constant used useOf dataByte newOf bodyOf blank headOf head.onShape numbers inRange reader.first rest build
   written modulo code signed fromByte apply operands fit truth operate kind valueOf outward declared
   meaning.meaning tyOf useType typed byMeaning resolve termOf meaning.typeOf who heard mapNext mapAction when
-  map-dec fits? answers-to answers? fits-at? hears? same-move? entry onDone onOk onValue onTruth onSome cell
+  map-dec fits? answers-to answers? fits-at? hears? same-move? entry onDone onOk onValue onTruth onSome askVariable
   access enter listen step single numbers-of.values iso sum-code sum-decode sum product-decode product alone
   numbered-questions numbered-answers numbered-replies numbered-name numbered-use numbered opens sheet
   numbered-sheet numbered-spots numbered-step steps begin received edge-hear edge skipped settle next run all

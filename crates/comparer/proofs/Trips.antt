@@ -9,14 +9,13 @@ use mathlib.Core.List.{List, [], _∷_}
 use lib.ListN.{length}
 use Rattle.language.specs.declared.Numbers.{Numbers}
 use Rattle.language.specs.Move.{Move, Word}
-use Rattle.language.specs.Letter.{letter}
-use Rattle.language.proofs.LetterLaws.{Small, letter-injective}
+use Rattle.explicit.specs.Letter.{letter, Small, AllSmall}
+use Rattle.explicit.proofs.LetterLaws.{letter-injective}
 use Rattle.dfa.specs.Word.{First, after}
 use Rattle.dfa.specs.Reading.{walk, reversed}
 use Rattle.dfa.proofs.laws.Live.{no-true}
 use Rattle.dfa.proofs.laws.Reading.{reversed-length, walk-reversed, reversed-reversed}
 use Rattle.difference.proofs.laws.Short.{compared}
-use Rattle.explicit.proofs.Settling.{AllSmall}
 use Rattle.comparer.proofs.Unletter.{Unletter, of, none, unletter, letter-below}
 
 -- the state after a word, where σ p m is the one after the move m in the state p

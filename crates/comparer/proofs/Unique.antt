@@ -11,7 +11,7 @@ use lib.ListN.{length}
 use lib.Dec.{ltb}
 use Rattle.language.specs.Choice.{pick}
 use Rattle.language.specs.Move.{Word, Before}
-use Rattle.explicit.proofs.Settling.{AllSmall}
+use Rattle.explicit.specs.Letter.{AllSmall}
 use Rattle.explicit.proofs.Ranges.{sheet-small}
 use Rattle.sheet.specs.Written.{Sheet}
 use Rattle.sheet.specs.Fine.{Accepted}

@@ -8,8 +8,9 @@ use Rattle.language.specs.declared.Numbers.{Numbers}
 use Rattle.language.specs.Number.{numbers}
 use Rattle.language.specs.Ty.{run, ask, read, write, done, ok, value}
 use Rattle.language.specs.Move.{Event, question, answer, at, private, Move, move, kind, valueOf}
-use Rattle.language.specs.Letter.{ranked, letter, eventOf}
-use Rattle.language.proofs.LetterLaws.{Values, Small, ranked-byte, event-again}
+use Rattle.explicit.specs.Letter.{ranked, letter, eventOf}
+use Rattle.explicit.specs.Letter.{Values, Small}
+use Rattle.explicit.proofs.LetterLaws.{ranked-byte, event-again}
 
 -- x is the letter of a move, or of none
 pub data Unletter (N : Numbers) (x : ℕ) : Type 0 where

@@ -14,10 +14,11 @@ use Rattle.language.specs.Number.{numbers, modulo, signed, toByte}
 use Rattle.language.specs.Ty.{run, ask, read, write, done, ok, value}
 use Rattle.language.specs.Move.{question, answer, at, private, Move, move, Word, kind, valueOf, bytes}
 use Rattle.language.specs.Move.{record-of, records}
-use Rattle.language.specs.Letter.{rank, ranked, letter}
+use Rattle.explicit.specs.Letter.{rank, ranked, letter}
 use Rattle.language.proofs.NumberLaws.{minus-below, modulo-below, by-test}
-use Rattle.language.proofs.LetterLaws.{Values, Small, ranked-byte}
-use Rattle.explicit.proofs.Settling.{AllSmall}
+use Rattle.explicit.specs.Letter.{Values, Small}
+use Rattle.explicit.proofs.LetterLaws.{ranked-byte}
+use Rattle.explicit.specs.Letter.{AllSmall}
 use Rattle.comparer.specs.Records.{Given, moves, bad, preceded, parse}
 use Rattle.comparer.specs.inner.Bytes.{letterFrom, firstLetter, withRecord, afterRecord, withRecords}
 use Rattle.comparer.specs.inner.Spell.{letters}

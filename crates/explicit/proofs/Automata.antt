@@ -9,7 +9,7 @@ use native.Mathlib.Numerals.{add-one}
 use lib.Dec.{eqb}
 use lib.ListN.{length, getD}
 use Rattle.language.specs.declared.Numbers.{Numbers}
-use Rattle.language.specs.Letter.{letter}
+use Rattle.explicit.specs.Letter.{letter}
 use Rattle.machine.specs.Action.{Action}
 use Rattle.machine.specs.Settle.{Index}
 use Rattle.dfa.specs.Graph as graph
@@ -17,7 +17,7 @@ use Rattle.dfa.specs.Graph.{rest, look, δ, Graph}
 use Rattle.silent.specs.Silent.{Silent}
 use Rattle.dfa.proofs.laws.Rest.{rest-at, rest-length}
 use Rattle.explicit.specs.Explicit.{Explicit}
-use Rattle.explicit.specs.inner.Rows.{Edge, Row, noEdges}
+use Rattle.explicit.specs.inner.Rows.{Edge, StateRow, noEdges}
 use Rattle.explicit.specs.inner.Shown.{lookup, Rising, Standing, edgesBelow, Automaton, Right}
 use Rattle.explicit.proofs.Writing.{edges-up}
 
@@ -69,7 +69,7 @@ module _ (ws : List ℕ) (n : ℕ) where
       rw (letter-at e, target-at e, S .0, S .1)
         (ap (cond (eqb (y .letter) x) (y .target)) (stand-look (suc e) x xs (S .2)))
 
-module _ {ws : List ℕ} {n : ℕ} {row : ℕ → Row} (A : Automaton ws n row) where
+module _ {ws : List ℕ} {n : ℕ} {row : ℕ → StateRow} (A : Automaton ws n row) where
   -- the first edge of a state, and the end of the edges
   pub first-of : (p : ℕ) → p ≤ n → getD (rest (5 * n) ws) p 0 ≡ edgesBelow row p
   first-of p h = rest-at (5 * n) ws p ∙ by (decLt p n)

@@ -11,8 +11,7 @@ use Rattle.language.specs.Choice.{pick}
 use Rattle.language.specs.Number.{numbers}
 use Rattle.language.specs.Ty.{run, ask, read, write, done, ok, value}
 use Rattle.language.specs.Move.{Event, question, answer, at, private, Move, move, kind, valueOf}
-use Rattle.language.specs.Letter.{rank, ranked, letter}
-use Rattle.language.proofs.LetterLaws.{Values, Small}
+use Rattle.explicit.specs.Letter.{rank, ranked, letter, Values, Small}
 use Rattle.automaton.specs.declared.Move.{Move as Record}
 use Rattle.automaton.specs.walk.Shows.{kindQ, valueQ, kindA, valueA, moveOf}
 use Rattle.explicit.specs.inner.Moves.{codeAt, letterOf}

@@ -33,14 +33,15 @@ use Rattle.automaton.specs.declared.Frame.{Frame}
 use Rattle.automaton.specs.declared.Out.{Out as Did}
 use Rattle.automaton.specs.declared.Out.the-variants.{Go, Say, Hear, Stuck}
 use Rattle.automaton.specs.declared.Spot.the-variants.{Inside}
-use Rattle.automaton.specs.walk.Row.{sumOf, placeOf}
+use Rattle.automaton.specs.walk.Row.{sumOf, mulAddOf}
 use Rattle.automaton.specs.walk.Types.{questionNumber, answerNumber}
 use Rattle.automaton.specs.walk.Name.{framedOf, argHere}
 use Rattle.automaton.specs.walk.Up.{exitArgument, exitsOf, goesOf, riseOf}
 use Rattle.automaton.specs.walk.Step.{onSpot}
-use Rattle.automaton.specs.walk.Shows.{kindQ, valueQ, kindA, valueA, moveOf, Given, Words, Held, stored, ShowsNext}
+use Rattle.automaton.specs.walk.Shows.{kindQ, valueQ, kindA, valueA, moveOf, GivenMove, Words, HeldStore, stored}
+use Rattle.automaton.specs.walk.Shows.{ShowsNext}
 use Rattle.automaton.specs.walk.Shows.{ShowsSaid, waits as awaits, leads as follows, Shows}
-use Rattle.automaton.proofs.Sums.{map-edge, sum-small, place-small, quotient, remainder, times, factors}
+use Rattle.automaton.proofs.Sums.{map-edge, sum-small, mul-add-small, quotient, remainder, times, factors}
 use Rattle.automaton.proofs.Sums.{when-yes, when-no, when-dead}
 use Rattle.automaton.proofs.TypeNumbers.{HasType, has-type, questions-of, answers-of, question-kind, question-value}
 use Rattle.automaton.proofs.TypeNumbers.{Answered, fitting, unfitting, answer-of, Asked, asking, not-asking}
@@ -49,7 +50,7 @@ use Rattle.automaton.proofs.Parts.{row-of, positive, some-question}
 use Rattle.automaton.proofs.Hearing.{entry-zero, stuck, kind-below}
 use Rattle.automaton.proofs.Faithful.{faithful}
 use Rattle.explicit.specs.inner.States.{openedOf, atStart, withinOf, repliedOf, afterOf, spotsOf, sheetAt}
-use Rattle.explicit.specs.inner.Acts.{calls, opens, Leads, Says, Listens, waits, leads, Acts}
+use Rattle.explicit.specs.inner.Acts.{calls, opens, Leads, SaysMove, Listens, waits, leads, Acts}
 
 -- the numbers of the states: the start, then the positions of the copies of the term, then the answers
 module _ (T : Ty) (M : Term) where
@@ -101,7 +102,7 @@ module _ (N : Numbers) (t : List ℕ) {root : ℕ} {M : Term} {T : Ty} (r : Rep 
   unfolding afterOf
   after-of =
       rw (questions-of _ _ T typed (omega (arith, few-questions)), weighed)
-      (place-small (questions T) (weight M) 1 (omega (arith, few-questions)) (omega (arith, low-weight)) (omega arith)
+      (mul-add-small (questions T) (weight M) 1 (omega (arith, few-questions)) (omega (arith, low-weight)) (omega arith)
         ∙ omega arith)
 
   -- THEOREM: the code counts the states of the machine but the end
@@ -115,22 +116,22 @@ module _ (N : Numbers) (t : List ℕ) {root : ℕ} {M : Term} {T : Ty} (r : Rep 
   enters : (q : Question) (d : Dec (Fits T q)) →
     Leads (when d (λ h. to (index T M (within ((q, h), entry M)))))
     (pick (eqb (questionNumber (word t root 2) (word t root 3) (kindQ q) (valueQ q)) 0) Stuck
-      (Go (placeOf (questionNumber (word t root 2) (word t root 3) (kindQ q) (valueQ q) - 1) (word t root 1) 1) 0 0))
+      (Go (mulAddOf (questionNumber (word t root 2) (word t root 3) (kindQ q) (valueQ q) - 1) (word t root 1) 1) 0 0))
   unfolding when Leads
   enters q d = cases d (question-of _ _ T typed (omega (arith, few-questions)) q)
     where
-      place : (f : Fits T q) → placeOf (suc (numbered-questions T .code (q, f)) - 1) (word t root 1) 1
+      place : (f : Fits T q) → mulAddOf (suc (numbered-questions T .code (q, f)) - 1) (word t root 1) 1
         ≡ numbered-spots T M .code (within ((q, f), entry M))
       place f =
           let e : suc (numbered-questions T .code (q, f)) - 1 ≡ numbered-questions T .code (q, f) = omega arith in
           rw (e, weighed, within-code T M (q, f) (entry M), entry-zero M)
-          (place-small (numbered-questions T .code (q, f)) (weight M) 1
+          (mul-add-small (numbered-questions T .code (q, f)) (weight M) 1
             (omega (arith, few-questions, numbered-questions T .bound (q, f))) (omega (arith, low-weight))
             (omega arith) ∙ omega arith)
       cases : (d : Dec (Fits T q)) → Asked (word t root 2) (word t root 3) T q →
         Leads (when d (λ h. to (index T M (within ((q, h), entry M)))))
         (pick (eqb (questionNumber (word t root 2) (word t root 3) (kindQ q) (valueQ q)) 0) Stuck
-          (Go (placeOf (questionNumber (word t root 2) (word t root 3) (kindQ q) (valueQ q) - 1) (word t root 1) 1)
+          (Go (mulAddOf (questionNumber (word t root 2) (word t root 3) (kindQ q) (valueQ q) - 1) (word t root 1) 1)
             0 0))
       cases (yes h) (asking f e) =
           rw (e, ne-eqb (suc (numbered-questions T .code (q, f))) 0 (omega arith))
@@ -162,7 +163,7 @@ module _ (N : Numbers) (t : List ℕ) {root : ℕ} {M : Term} {T : Ty} (r : Rep 
       dead-leads _ _ refl (rw (ne-eqb (suc j) 0 (omega arith)) (stuck (eqb i 255)))
 
   -- the action at each state
-  at-start : (m : Record) → Given m → Listens N t m (opening 255 T) begins (atStart t root m)
+  at-start : (m : Record) → GivenMove m → Listens N t m (opening 255 T) begins (atStart t root m)
   unfolding atStart
   at-start m (inl e) =
       rw (eq-eqb (m .kind) 255 e) (waits {node = root} {q = 7} {x = 0} e (opens (row-of r .1 .typed)) refl)
@@ -229,8 +230,8 @@ module _ (N : Numbers) (t : List ℕ) {root : ℕ} {M : Term} {T : Ty} (r : Rep 
     rise-next dead o h = rw h refl
 
     rise-said : (y : Move) (x : Next (State [] M) (ExitOf [])) (o : Did) → ShowsSaid [] M [] y x o →
-      Says y (indexed (mapNext inside leave x)) (riseOf N copy o)
-    unfolding ShowsSaid Says mapNext riseOf
+      SaysMove y (indexed (mapNext inside leave x)) (riseOf N copy o)
+    unfolding ShowsSaid SaysMove mapNext riseOf
     rise-said y (to s) o (h, w) = rw h (ap (λ (k : ℕ). Say (moveOf y) k) (copy-code (s .1)))
     rise-said y (out e) o h = absurd h
     rise-said y dead o h = absurd h
@@ -255,17 +256,17 @@ module _ (N : Numbers) (t : List ℕ) {root : ℕ} {M : Term} {T : Ty} (r : Rep 
     unfolding argHere
     found p =
         let c = numbered-questions T .code q in
-        let e : placeOf c (weight M) 1 ≡ 1 + c * weight M =
-          place-small c (weight M) 1 (omega (arith, few-questions, numbered-questions T .bound q))
+        let e : mulAddOf c (weight M) 1 ≡ 1 + c * weight M =
+          mul-add-small c (weight M) 1 (omega (arith, few-questions, numbered-questions T .bound q))
             (omega (arith, low-weight)) (omega arith) ∙ omega arith in
         rw (weighed, ne-eqb (weight M) 0 (omega (arith, positive M)),
           quotient c (weight M) (numbered M .code p) (numbered M .bound p),
           remainder c (weight M) (numbered M .code p) (numbered M .bound p), e, question-kind _ _ T typed q,
           question-value _ _ T typed q) refl
 
-    at-within : Words t → (m : Record) → Given m → (p : Position M) →
+    at-within : Words t → (m : Record) → GivenMove m → (p : Position M) →
       Acts N t m (numbered-step T M (within (q, p))) (sheetAt t N root (numbered-spots T M .code (within (q, p))) m)
-    unfolding sheetAt withinOf onSpot numbered-step sheet stored Held
+    unfolding sheetAt withinOf onSpot numbered-step sheet stored HeldStore
     at-within ws m gv p =
         let c = numbered-questions T .code q * weight M + numbered M .code p in
         let d : 1 + numbered-questions T .code q * weight M + numbered M .code p - 1 ≡ c = omega arith in
@@ -279,7 +280,7 @@ module _ (N : Numbers) (t : List ℕ) {root : ℕ} {M : Term} {T : Ty} (r : Rep 
 
   at-reply : (m : Record) (y : AnswerOf T) →
     Acts N t m (numbered-step T M (reply y)) (sheetAt t N root (numbered-spots T M .code (reply y)) m)
-  unfolding sheetAt numbered-step sheet mapAction mapNext Acts Says
+  unfolding sheetAt numbered-step sheet mapAction mapNext Acts SaysMove
   at-reply m y =
       let c = numbered-answers T .code y in
       let d : 1 + questions T * weight M + c - (1 + questions T * weight M) ≡ c = omega arith in
@@ -287,7 +288,7 @@ module _ (N : Numbers) (t : List ℕ) {root : ℕ} {M : Term} {T : Ty} (r : Rep 
         le-ltb (1 + questions T * weight M + c) (1 + questions T * weight M) (omega arith), d, spots-of,
         replied _ _ T typed (y .0) (y .1) (y .2)) refl
 
-  at-spot : Words t → (m : Record) → Given m → (s : Spot T M) →
+  at-spot : Words t → (m : Record) → GivenMove m → (s : Spot T M) →
     Acts N t m (numbered-step T M s) (sheetAt t N root (numbered-spots T M .code s) m)
   at-spot ws m gv start =
       unfold sheetAt numbered-step sheet mapAction Acts numbered-spots numbered-sheet iso sum sum-code single begins
@@ -298,7 +299,7 @@ module _ (N : Numbers) (t : List ℕ) {root : ℕ} {M : Term} {T : Ty} (r : Rep 
 
 -- THEOREM: what the code's definition says of the state k shows the machine's action there
 pub acts : (N : Numbers) (t : List ℕ) {root : ℕ} {M : Term} {T : Ty} → Words t → Rep N t 32 root [] M T →
-  spots T M ≤ 4096 → (m : Record) → Given m → (k : ℕ) (h : k < spots T M) →
+  spots T M ≤ 4096 → (m : Record) → GivenMove m → (k : ℕ) (h : k < spots T M) →
   Acts N t m (steps T M (k, h)) (sheetAt t N root k m)
 unfolding steps
 acts N t {root} {M} {T} ws r fits m gv k h =

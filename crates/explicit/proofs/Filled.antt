@@ -16,9 +16,9 @@ use Rattle.language.specs.Weight.{size}
 use Rattle.machine.specs.Sheet.{spots}
 use Rattle.machine.proofs.Accepts.{spots-size}
 use Rattle.explicit.specs.declared.Site.{Site}
-use Rattle.explicit.specs.inner.Rows.{Row, noEdges, closedOf}
+use Rattle.explicit.specs.inner.Rows.{StateRow, noEdges, closedOf}
 use Rattle.explicit.specs.inner.Moves.{rowOf, edgesAfter, filledOf}
-use Rattle.explicit.specs.inner.Shown.{Fine, edgesBelow, Shown, Room, Automaton}
+use Rattle.explicit.specs.inner.Shown.{Fine, edgesBelow, ShownRows, Room, Automaton}
 use Rattle.explicit.specs.inner.Ready.{Ready}
 use Rattle.explicit.specs.inner.Sheets.{OneSheet, TwoSheets}
 use Rattle.explicit.proofs.Writing.{closed-length, all-edges, closed-automaton}
@@ -27,31 +27,31 @@ use Rattle.explicit.proofs.Placed.{Placed, filled-length, placed-few, p
 use Rattle.explicit.proofs.Placed.{placed-shown, placed-explicit}
 
 -- the rows r below K, then states without edges
-unfoldable ended : ℕ → (ℕ → Row) → ℕ → Row
+unfoldable ended : ℕ → (ℕ → StateRow) → ℕ → StateRow
 ended K r p = cond (ltb p K) (r p) noEdges
 
-ended-below : (K : ℕ) (r : ℕ → Row) (p : ℕ) → p < K → ended K r p ≡ r p
+ended-below : (K : ℕ) (r : ℕ → StateRow) (p : ℕ) → p < K → ended K r p ≡ r p
 unfolding ended
 ended-below K r p h = rw (lt-ltb p K h) refl
 
-ended-past : (K : ℕ) (r : ℕ → Row) (p : ℕ) → K ≤ p → ended K r p ≡ noEdges
+ended-past : (K : ℕ) (r : ℕ → StateRow) (p : ℕ) → K ≤ p → ended K r p ≡ noEdges
 unfolding ended
 ended-past K r p h = rw (le-ltb p K h) refl
 
 -- the rows a below c, then the rows b
-unfoldable joined : ℕ → (ℕ → Row) → (ℕ → Row) → ℕ → Row
+unfoldable joined : ℕ → (ℕ → StateRow) → (ℕ → StateRow) → ℕ → StateRow
 joined c a b p = cond (ltb p c) (a p) (b (p - c))
 
-joined-below : (c : ℕ) (a b : ℕ → Row) (p : ℕ) → p < c → joined c a b p ≡ a p
+joined-below : (c : ℕ) (a b : ℕ → StateRow) (p : ℕ) → p < c → joined c a b p ≡ a p
 unfolding joined
 joined-below c a b p h = rw (lt-ltb p c h) refl
 
-joined-past : (c : ℕ) (a b : ℕ → Row) (p k : ℕ) → p ≡ c + k → joined c a b p ≡ b k
+joined-past : (c : ℕ) (a b : ℕ → StateRow) (p k : ℕ) → p ≡ c + k → joined c a b p ≡ b k
 unfolding joined
 joined-past c a b p k h = rw (le-ltb p c (omega arith)) (ap b (omega arith))
 
 -- no states are shown
-shown-none : (ws : List ℕ) (n : ℕ) (row : ℕ → Row) → Shown ws n 0 row
+shown-none : (ws : List ℕ) (n : ℕ) (row : ℕ → StateRow) → ShownRows ws n 0 row
 shown-none ws n row = record
   { silents = λ p h. absurd (omega arith); firsts = λ p h. absurd (omega arith)
   ; edges = λ p h. absurd (omega arith) }
@@ -61,14 +61,14 @@ room-for : (ws : List ℕ) (n e : ℕ) → 0 < n → n ≤ 8193 → 32 * n ≤ l
 room-for ws n e some few long h = record { few = few; words = omega arith; small = omega arith }
 
 -- the states below c, and the dead state c, closed
-closing : (ws : List ℕ) (n e c : ℕ) (row : ℕ → Row) → n ≡ c + 1 → e ≡ edgesBelow row c → row c ≡ noEdges →
-    Room ws n (edgesBelow row c) → ((p : ℕ) → p < c → Fine n (row p)) → Shown ws n c row →
+closing : (ws : List ℕ) (n e c : ℕ) (row : ℕ → StateRow) → n ≡ c + 1 → e ≡ edgesBelow row c → row c ≡ noEdges →
+    Room ws n (edgesBelow row c) → ((p : ℕ) → p < c → Fine n (row p)) → ShownRows ws n c row →
     Automaton (closedOf ws n e) n row
 closing ws n e c row q f dead R fine S =
     let g : c ≡ n - 1 = omega arith in
     let dead′ : row (n - 1) ≡ noEdges = rw (← g) dead in
     let R′ : Room ws n (edgesBelow row (n - 1)) = rw (← g) R in
-    let S′ : Shown ws n (n - 1) row = rw (← g) S in
+    let S′ : ShownRows ws n (n - 1) row = rw (← g) S in
     rw (f, g) (closed-automaton ws n row (omega arith) dead′ R′ (λ p h. fine p (omega arith)) S′)
 
 -- the site of a sheet whose first state is o, in an automaton of n states
@@ -77,7 +77,7 @@ site root n o = record { root = root; n = n; o = o }
 
 -- the first sheet of an automaton
 module _ {N : Numbers} {t : List ℕ} {root : ℕ} {T : Ty} {M : Term} (R : Ready N t root T M) (n : ℕ)
-    {row : ℕ → Row} (P : Placed N t (site root n 0) (spots T M) row) where
+    {row : ℕ → StateRow} (P : Placed N t (site root n 0) (spots T M) row) where
   -- it has few edges, which end where those of its rows end
   first-few : 2 * edgesBelow row (size T M) ≤ 16 * size T M
   unfolding edgesBelow
@@ -101,7 +101,7 @@ module _ {N : Numbers} {t : List ℕ} {root : ℕ} {T : Ty} {M : Term} (R : Read
     first-fine p h = placed-fine (site root n 0) R P first-room most p (omega arith) (omega arith)
 
     first-shown : (ws : List ℕ) → Room ws n (edgesBelow row (size T M)) →
-        Shown (filledOf t N (site root n 0) ws 0) n (size T M) row
+        ShownRows (filledOf t N (site root n 0) ws 0) n (size T M) row
     unfolding edgesBelow
     first-shown ws Q =
         let Q′ : Room ws n (edgesBelow row (0 + size T M)) = rw (zero-add (size T M)) Q in
@@ -115,7 +115,7 @@ module _ {N : Numbers} {t : List ℕ} {root : ℕ} {T : Ty} {M : Term} (R : Read
   s = site root n 0
 
   -- the rows of all states
-  one-rows : ℕ → Row
+  one-rows : ℕ → StateRow
   one-rows = ended (spots T M) (rowOf t N s)
 
   one-placed : Placed N t s (spots T M) one-rows
@@ -176,7 +176,7 @@ module _ {N : Numbers} {t t′ : List ℕ} {root root′ : ℕ} {T : Ty} {M M′
   few-states = omega (arith, R .small, R′ .small)
 
   -- the rows of all states
-  two-rows : ℕ → Row
+  two-rows : ℕ → StateRow
   two-rows = joined (size T M) (ended (spots T M) (rowOf t N old)) (ended (spots T M′) (rowOf t′ N new))
 
   old-rows : (p : ℕ) → p < size T M → two-rows p ≡ ended (spots T M) (rowOf t N old) p
@@ -235,11 +235,11 @@ module _ {N : Numbers} {t t′ : List ℕ} {root root′ : ℕ} {T : Ty} {M M′
       let p′ : a ≡ e = p ∙ first-after R n old-placed in
       let q′ : b ≡ f =
             q ∙ ap (edgesAfter t′ N new) p′ ∙ placed-after new R′ new-placed (omega (arith, two-few, few-states)) in
-      let S : Shown vs n (size T M) two-rows =
+      let S : ShownRows vs n (size T M) two-rows =
             first-shown R n old-placed few-states (omega arith) ws
               (Q ws e refl (omega (arith, first-few R n old-placed))) in
       let len = filled-length t N old ws 0 in
-      let S′ : Shown (filledOf t′ N new vs e) n c two-rows =
+      let S′ : ShownRows (filledOf t′ N new vs e) n c two-rows =
             placed-shown new R′ new-placed new-room few-states vs (Q vs f len two-few) S in
       rw p′
         (closing (filledOf t′ N new vs e) n b c two-rows ends q′ two-dead

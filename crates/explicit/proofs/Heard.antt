@@ -21,8 +21,9 @@ use Rattle.automaton.specs.walk.Row.{partClass, partValues, nameId, nameCount}
 use Rattle.automaton.specs.walk.Shows.{kindQ, valueQ, kindA, valueA, moveOf}
 use Rattle.automaton.proofs.TypeNumbers.{HasType, has-type}
 use Rattle.automaton.proofs.Parts.{part-type}
-use Rattle.explicit.specs.declared.Ear.{Ear}
-use Rattle.explicit.specs.inner.Moves.{questionLimit, answerLimit, limitOf, earOf}
+use Rattle.explicit.specs.declared.Wait.{Wait}
+use Rattle.automaton.specs.walk.Types.{questionLimit}
+use Rattle.explicit.specs.inner.Moves.{answerLimit, limitOf, waitOf}
 use Rattle.explicit.specs.inner.Acts.{Waits, calls, opens}
 
 -- a kind that carries no value has a limit of at most 1
@@ -50,15 +51,15 @@ one-answer c m q x k h =
               (pick-most (ltb x m) _ 0 1 (pick-most (eqb k 4) 1 0 1 (omega arith) (omega arith)) (omega arith))
               (omega arith)))))
 
-pub limit-one : (t : List ℕ) (ear : Ear) (k j : ℕ) → k < 5 → limitOf t ear k j ≤ 1
+pub limit-one : (t : List ℕ) (wait : Wait) (k j : ℕ) → k < 5 → limitOf t wait k j ≤ 1
 unfolding limitOf
-limit-one t ear k j h =
-    pick-most (eqb (ear .kind) 7) _ _ 1
-      (pick-most (eqb j 0) _ 0 1 (one-question (word t (ear .at) 2) (word t (ear .at) 3) k h) (omega arith))
+limit-one t wait k j h =
+    pick-most (eqb (wait .kind) 7) _ _ 1
+      (pick-most (eqb j 0) _ 0 1 (one-question (word t (wait .at) 2) (word t (wait .at) 3) k h) (omega arith))
       (pick-most (eqb j 0) _ _ 1
-        (one-answer (word t (ear .at) 2) (word t (ear .at) 3) (ear .kind) (ear .value) k h)
-        (pick-most (ltb (nameCount t (ear .at)) j) 0 _ 1 (omega arith)
-          (one-question (partClass t (ear .at) (j - 1)) (partValues t (ear .at) (j - 1)) k h)))
+        (one-answer (word t (wait .at) 2) (word t (wait .at) 3) (wait .kind) (wait .value) k h)
+        (pick-most (ltb (nameCount t (wait .at)) j) 0 _ 1 (omega arith)
+          (one-question (partClass t (wait .at) (j - 1)) (partValues t (wait .at) (j - 1)) k h)))
 
 -- a question of a type, and an answer to one, is below its limit
 question-limit : (c m : ℕ) {T : Ty} → HasType c m T → {q : Question} → Fits T q →
@@ -145,14 +146,14 @@ asked-sum {t = t} (r-arg {at = node} {j} {T = T} r rs) zero a e l =
 asked-sum (r-arg {j = j} r rs) (suc i) a e l = asked-sum rs i a (omega arith) (omega arith)
 
 -- the one a state waits for, by the code
-pub record Heeds (t : List ℕ) (l : Listen) (ear : Ear) : Type 0 where
-  pub same : who l ≡ ear .id
-  pub byte : ear .id < 256
+pub record Heeds (t : List ℕ) (l : Listen) (wait : Wait) : Type 0 where
+  pub same : who l ≡ wait .id
+  pub byte : wait .id < 256
   pub near : (r : Heard) → Hears l r → moveOf (heard (who l) r) .arg < 5
   pub below : (r : Heard) → Hears l r → moveOf (heard (who l) r) .value <
-      limitOf t ear (moveOf (heard (who l) r) .kind) (moveOf (heard (who l) r) .arg)
-  pub few : kinds (λ k. limitOf t ear k 0) + (kinds (λ k. limitOf t ear k 1) + kinds (λ k. limitOf t ear k 2)
-      + kinds (λ k. limitOf t ear k 3) + kinds (λ k. limitOf t ear k 4)) ≤ hearings l
+      limitOf t wait (moveOf (heard (who l) r) .kind) (moveOf (heard (who l) r) .arg)
+  pub few : kinds (λ k. limitOf t wait k 0) + (kinds (λ k. limitOf t wait k 1) + kinds (λ k. limitOf t wait k 2)
+      + kinds (λ k. limitOf t wait k 3) + kinds (λ k. limitOf t wait k 4)) ≤ hearings l
 
 -- a question has no kind 7
 not-seven : (q : Question) → eqb (kindQ q) 7 ≡ false
@@ -163,27 +164,27 @@ not-seven read = refl
 not-seven (write v) = refl
 
 -- a name that waits for an answer to the question q
-abbrev earAt : List ℕ → ℕ → ℕ → Question → Ear
-earAt t s node q = record { state = s; id = nameId t node; at = node; kind = kindQ q; value = valueQ q }
+abbrev nameWait : List ℕ → ℕ → ℕ → Question → Wait
+nameWait t s node q = record { state = s; id = nameId t node; at = node; kind = kindQ q; value = valueQ q }
 
 module _ (t : List ℕ) (s node : ℕ) (q : Question) where
-  pub ear-at : earOf t s node (kindQ q) (valueQ q) ≡ earAt t s node q
-  unfolding earOf
-  ear-at = rw (not-seven q) refl
+  pub wait-at : waitOf t s node (kindQ q) (valueQ q) ≡ nameWait t s node q
+  unfolding waitOf
+  wait-at = rw (not-seven q) refl
 
-  limit-own : (k : ℕ) → limitOf t (earAt t s node q) k 0 ≡
+  limit-own : (k : ℕ) → limitOf t (nameWait t s node q) k 0 ≡
       answerLimit (word t node 2) (word t node 3) (kindQ q) (valueQ q) k
   unfolding limitOf
   limit-own k = rw (not-seven q) refl
 
-  limit-arg : (j : ℕ) → j < nameCount t node → (k : ℕ) → limitOf t (earAt t s node q) k (suc j) ≡
+  limit-arg : (j : ℕ) → j < nameCount t node → (k : ℕ) → limitOf t (nameWait t s node q) k (suc j) ≡
       questionLimit (partClass t node j) (partValues t node j) k
   unfolding limitOf
   limit-arg j h k =
       let less : suc j - 1 ≡ j = omega arith in
       rw (not-seven q, ne-eqb (suc j) 0 (omega arith), le-ltb (nameCount t node) (suc j) h, less) refl
 
-  limit-past : (j : ℕ) → nameCount t node ≤ j → (k : ℕ) → limitOf t (earAt t s node q) k (suc j) ≡ 0
+  limit-past : (j : ℕ) → nameCount t node ≤ j → (k : ℕ) → limitOf t (nameWait t s node q) k (suc j) ≡ 0
   unfolding limitOf
   limit-past j h k =
       rw (not-seven q, ne-eqb (suc j) 0 (omega arith), lt-ltb (nameCount t node) (suc j) (omega arith)) refl
@@ -201,7 +202,7 @@ module _ (t : List ℕ) (s node : ℕ) (q : Question) where
 
     value-below : (r : Heard) → Hears (calling i (types args) T q) r →
         moveOf (heard (who (calling i (types args) T q)) r) .value <
-        limitOf t (earAt t s node q) (moveOf (heard (who (calling i (types args) T q)) r) .kind)
+        limitOf t (nameWait t s node q) (moveOf (heard (who (calling i (types args) T q)) r) .kind)
           (moveOf (heard (who (calling i (types args) T q)) r) .arg)
     unfolding Hears heard moveOf
     value-below (asked j p) h =
@@ -210,18 +211,18 @@ module _ (t : List ℕ) (s node : ℕ) (q : Question) where
     value-below (answered a) h = rw (limit-own (kindA a)) (answer-limit (word t node 2) (word t node 3) ty h)
     value-below (opened p) h = absurd h
 
-    column : (j : ℕ) → kinds (λ k. limitOf t (earAt t s node q) k (suc j)) ≤ share (types args) j
+    column : (j : ℕ) → kinds (λ k. limitOf t (nameWait t s node q) k (suc j)) ≤ share (types args) j
     column j = cases (decLt j (nameCount t node))
       where
         cases : Dec (j < nameCount t node) →
-            kinds (λ k. limitOf t (earAt t s node q) k (suc j)) ≤ share (types args) j
+            kinds (λ k. limitOf t (nameWait t s node q) k (suc j)) ≤ share (types args) j
         cases (yes h) = simp (limit-arg j h) (asked-sum ra j j (omega arith) (omega arith))
         cases (no h) = simp (limit-past j (omega arith)) (omega arith)
 
-    own : kinds (λ k. limitOf t (earAt t s node q) k 0) ≤ answersTo T q
+    own : kinds (λ k. limitOf t (nameWait t s node q) k 0) ≤ answersTo T q
     own = simp limit-own (answer-sum (word t node 2) (word t node 3) T ty q)
 
-    heeds-name : Heeds t (calling i (types args) T q) (earAt t s node q)
+    heeds-name : Heeds t (calling i (types args) T q) (nameWait t s node q)
     unfolding who hearings nameId
     heeds-name = record {
       same = sym pi; byte = omega arith; near = arg-near; below = value-below;
@@ -229,49 +230,49 @@ module _ (t : List ℕ) (s node : ℕ) (q : Question) where
     }
 
   name-heeds : {K : Numbers} {n : List ℕ} {left i : ℕ} {T : Ty} {args : Args} →
-      Rep K t left node n (name i T args) T → Heeds t (calling i (types args) T q) (earAt t s node q)
+      Rep K t left node n (name i T args) T → Heeds t (calling i (types args) T q) (nameWait t s node q)
   unfolding nameId nameCount
   name-heeds {T = T} (r-name row i-byte e few ra) =
       heeds-name T ra (omega arith) (omega arith) few (has-type t node T (row .typed))
 
--- the state of an ear
-pub ear-state : (t : List ℕ) (s node q x : ℕ) → earOf t s node q x .state ≡ s
-unfolding earOf
-ear-state t s node q x = cases (eqb q 7)
+-- the state of an wait
+pub wait-state : (t : List ℕ) (s node q x : ℕ) → waitOf t s node q x .state ≡ s
+unfolding waitOf
+wait-state t s node q x = cases (eqb q 7)
   where
-    cases : (b : Bool) → pick {A = Ear} b (record { state = s; id = 255; at = node; kind = q; value = x })
+    cases : (b : Bool) → pick {A = Wait} b (record { state = s; id = 255; at = node; kind = q; value = x })
         (record { state = s; id = nameId t node; at = node; kind = q; value = x }) .state ≡ s
     cases true = refl
     cases false = refl
 
 -- the asker of the whole term
-asker-heeds : (t : List ℕ) (s root : ℕ) (T : Ty) → TyRow t root T → Heeds t (opening 255 T) (earOf t s root 7 0)
-unfolding earOf who hearings
+asker-heeds : (t : List ℕ) (s root : ℕ) (T : Ty) → TyRow t root T → Heeds t (opening 255 T) (waitOf t s root 7 0)
+unfolding waitOf who hearings
 asker-heeds t s root T h = record {
     same = refl; byte = omega arith; near = arg-near; below = value-below; few = sum
   }
   where
     ty : HasType (word t root 2) (word t root 3) T
     ty = has-type t root T h
-    ear : Ear
-    ear = record { state = s; id = 255; at = root; kind = 7; value = 0 }
+    wait : Wait
+    wait = record { state = s; id = 255; at = root; kind = 7; value = 0 }
     arg-near : (r : Heard) → Hears (opening 255 T) r → moveOf (heard 255 r) .arg < 5
     arg-near (asked j p) f = unfold Hears in absurd f
     arg-near (answered a) f = unfold Hears in absurd f
     arg-near (opened p) f = unfold heard moveOf in omega arith
     value-below : (r : Heard) → Hears (opening 255 T) r → moveOf (heard 255 r) .value <
-        limitOf t ear (moveOf (heard 255 r) .kind) (moveOf (heard 255 r) .arg)
+        limitOf t wait (moveOf (heard 255 r) .kind) (moveOf (heard 255 r) .arg)
     value-below (asked j p) f = unfold Hears in absurd f
     value-below (answered a) f = unfold Hears in absurd f
     value-below (opened p) f =
         unfold Hears heard moveOf limitOf in question-limit (word t root 2) (word t root 3) ty f
-    sum : kinds (λ k. limitOf t ear k 0) + (kinds (λ k. limitOf t ear k 1) + kinds (λ k. limitOf t ear k 2)
-        + kinds (λ k. limitOf t ear k 3) + kinds (λ k. limitOf t ear k 4)) ≤ questions T
+    sum : kinds (λ k. limitOf t wait k 0) + (kinds (λ k. limitOf t wait k 1) + kinds (λ k. limitOf t wait k 2)
+        + kinds (λ k. limitOf t wait k 3) + kinds (λ k. limitOf t wait k 4)) ≤ questions T
     sum = unfold limitOf in omega (arith, question-sum (word t root 2) (word t root 3) T ty)
 
--- THEOREM: a state's ear is that of the one it waits for
+-- THEOREM: a state's wait is that of the one it waits for
 pub heeds : {N : Numbers} (t : List ℕ) (s : ℕ) {l : Listen} {node q x : ℕ} → Waits N t l node q x →
-    Heeds t l (earOf t s node q x)
+    Heeds t l (waitOf t s node q x)
 heeds t s (calls {node = node} a) =
-    rw (a .listens, a .kinded, a .valued, ear-at t s node (a .asked)) (name-heeds t s node (a .asked) (a .part))
+    rw (a .listens, a .kinded, a .valued, wait-at t s node (a .asked)) (name-heeds t s node (a .asked) (a .part))
 heeds t s (opens {T = T} {root = root} h) = asker-heeds t s root T h

@@ -17,7 +17,7 @@ use Rattle.automaton.specs.walk.Types.{valueAnswer, answerNumber}
 use Rattle.automaton.specs.walk.Name.{hearAnswer, listenOf, atWait}
 use Rattle.automaton.specs.walk.Shows.{Words}
 use Rattle.automaton.proofs.Sums.{sum-small}
-use Rattle.explicit.specs.declared.Ear.{Ear}
+use Rattle.explicit.specs.declared.Wait.{Wait}
 use Rattle.explicit.specs.declared.Site.{Site}
 use Rattle.explicit.specs.inner.Path.{riseAll}
 use Rattle.explicit.specs.inner.Levels.{framesOf}
@@ -97,32 +97,34 @@ some-answer class m q x kind v b =
         (both v (eqb q 3) _ _ _ _ (some-value m kind v b)
           (both v (eqb q 6) _ _ _ _ (some-write m x kind v b) (none v))))
 
-module _ (t : List ℕ) (ear : Ear) (calls : Calling ear) where
+module _ (t : List ℕ) (wait : Wait) (calls : Calling wait) where
   pub limit-own : (kind : ℕ) →
-    limitOf t ear kind 0 ≡ answerLimit (word t (ear .at) 2) (word t (ear .at) 3) (ear .kind) (ear .value) kind
+    limitOf t wait kind 0 ≡ answerLimit (word t (wait .at) 2) (word t (wait .at) 3) (wait .kind) (wait .value) kind
   unfolding limitOf
-  limit-own kind = rw (ne-eqb (ear .kind) 7 calls)
+  limit-own kind = rw (ne-eqb (wait .kind) 7 calls)
 
   -- such an answer ends the name
-  answer-exits : (N : Numbers) (root : ℕ) (p : List ℕ) (c kind v : ℕ) → Words t → Listening t N root p c ear →
-    v < limitOf t ear kind 0 →
-    waitAt t root (ear .state) (ear .at) (ear .kind) (ear .value)
-      (record { kind = kind; id = ear .id; arg = 0; value = v }) ≡ Exit kind v 0 0
+  answer-exits : (N : Numbers) (root : ℕ) (p : List ℕ) (c kind v : ℕ) → Words t → Listening t N root p c wait →
+    v < limitOf t wait kind 0 →
+    waitAt t root (wait .state) (wait .at) (wait .kind) (wait .value)
+      (record { kind = kind; id = wait .id; arg = 0; value = v }) ≡ Exit kind v 0 0
   unfolding waitAt atWait listenOf hearAnswer word
   answer-exits N root p c kind v small L h =
-      let l : v < answerLimit (word t (ear .at) 2) (word t (ear .at) 3) (ear .kind) (ear .value) kind =
+      let l : v < answerLimit (word t (wait .at) 2) (word t (wait .at) 3) (wait .kind) (wait .value) kind =
             rw (limit-own kind) at h in
-      rw (ne-eqb (ear .state) 0 (λ z. calls (L .first z)), ne-eqb kind 255 (λ z. no-move l z),
-          eq-eqb (ear .id) (nameId t (ear .at)) (L .named calls),
-          ne-eqb (answerNumber (word t (ear .at) 2) (word t (ear .at) 3) (ear .kind) (ear .value) kind v) 0
-            (some-answer (word t (ear .at) 2) (word t (ear .at) 3) (ear .kind) (ear .value) kind v (small _) l))
+      rw (ne-eqb (wait .state) 0 (λ z. calls (L .first z)), ne-eqb kind 255 (λ z. no-move l z),
+          eq-eqb (wait .id) (nameId t (wait .at)) (L .named calls),
+          ne-eqb (answerNumber (word t (wait .at) 2) (word t (wait .at) 3) (wait .kind) (wait .value) kind v) 0
+            (some-answer (word t (wait .at) 2) (word t (wait .at) 3) (wait .kind) (wait .value) kind v (small _) l))
     where
-      no-move : v < answerLimit (word t (ear .at) 2) (word t (ear .at) 3) (ear .kind) (ear .value) kind → kind ≡ 255 → ⊥
-      no-move l z = omega (arith, l, other-kind (word t (ear .at) 2) (word t (ear .at) 3) (ear .kind) (ear .value) kind
-        (λ e. omega (arith, kind-small (word t (ear .at) 2) (ear .kind))))
+      no-move : v < answerLimit (word t (wait .at) 2) (word t (wait .at) 3) (wait .kind) (wait .value) kind → kind
+          ≡ 255 → ⊥
+      no-move l z = omega (arith, l, other-kind (word t (wait .at) 2) (word t (wait .at) 3) (wait .kind)
+          (wait .value) kind
+        (λ e. omega (arith, kind-small (word t (wait .at) 2) (wait .kind))))
 
   pub answering : (N : Numbers) (s : Site) (p : List ℕ) (c kind below : ℕ) → Words t →
-    Listening t N (s .root) p c ear → below ≡ limitOf t ear kind 0 → Answering t N s p c ear kind below
+    Listening t N (s .root) p c wait → below ≡ limitOf t wait kind 0 → Answering t N s p c wait kind below
   answering N s p c kind below small L e = record
     { sound = L .sound
     ; exits = λ v h. ap (λ (o : Out). targetOf s o) (L .hears _ ∙

@@ -11,7 +11,7 @@ use borrow.Author.Tests.{lt-ltb, le-ltb, leb-false}
 use Rattle.language.specs.declared.Numbers.{Numbers}
 use Rattle.language.specs.Choice.{pick}
 use Rattle.language.specs.Number.{numbers}
-use Rattle.explicit.specs.declared.Ear.{Ear}
+use Rattle.explicit.specs.declared.Wait.{Wait}
 use Rattle.explicit.specs.declared.Site.{Site}
 use Rattle.explicit.specs.inner.Moves.{codeAt, letterOf, limitOf, edgeBy, valueEdge, valueEdges, blockEdges}
 use Rattle.explicit.specs.inner.Moves.{heardEdges}
@@ -21,10 +21,10 @@ use Rattle.explicit.proofs.EdgeLists.{climbs-append}
 use Rattle.explicit.proofs.Heard.{limit-one, kinds}
 use Rattle.explicit.proofs.HeardEdges.{candidate}
 
-module _ (t : List ℕ) (N : Numbers) (s : Site) (ear : Ear) where
+module _ (t : List ℕ) (N : Numbers) (s : Site) (wait : Wait) where
   -- where the letters of a kind at an argument begin, and where those by the values from number r on
   abbrev base : ℕ → ℕ → ℕ
-  base k j = k * 16777216 + ear .id * 65536 + j * 256
+  base k j = k * 16777216 + wait .id * 65536 + j * 256
 
   abbrev place : ℕ → ℕ → ℕ → ℕ
   place k j r = base k j + pick (ltb k 5) (r - N .z) (128 + r - N .z)
@@ -65,44 +65,44 @@ module _ (t : List ℕ) (N : Numbers) (s : Site) (ear : Ear) where
           omega arith
 
   -- the letters of the candidates
-  module _ (few : N .z ≤ 7) (byte : ear .id < 256) where
+  module _ (few : N .z ≤ 7) (byte : wait .id < 256) where
     letter-candidate : (k j r : ℕ) → k < 7 → j < 5 → r < numbers N →
-        letterOf N (candidate N ear k j r) ≡ base k j + pick (ltb k 5) 0 (128 + r - N .z)
+        letterOf N (candidate N wait k j r) ≡ base k j + pick (ltb k 5) 0 (128 + r - N .z)
     unfolding letterOf
     letter-candidate k j r x y h =
         rw (mod-eq-of-lt low, code-rank N r h few) (cases (ltb k 5))
       where
         low : codeAt N r < 65536
         low = unfold numbers in omega (arith, code-below N r h)
-        cases : (b : Bool) → pick b (k % 8 * 16777216 + ear .id % 256 * 65536 + j % 256 * 256)
-            (k % 8 * 16777216 + ear .id % 256 * 65536 + j % 256 * 256 + (128 + r - N .z)) ≡
+        cases : (b : Bool) → pick b (k % 8 * 16777216 + wait .id % 256 * 65536 + j % 256 * 256)
+            (k % 8 * 16777216 + wait .id % 256 * 65536 + j % 256 * 256 + (128 + r - N .z)) ≡
             base k j + pick b 0 (128 + r - N .z)
         cases true = omega arith
         cases false = omega arith
 
-    inside : (k j r : ℕ) → k < 7 → j < 5 → r < numbers N → codeAt N r < limitOf t ear k j →
-        (place k j r ≤ letterOf N (candidate N ear k j r)) × (letterOf N (candidate N ear k j r) < place k j (suc r))
+    inside : (k j r : ℕ) → k < 7 → j < 5 → r < numbers N → codeAt N r < limitOf t wait k j →
+        (place k j r ≤ letterOf N (candidate N wait k j r)) × (letterOf N (candidate N wait k j r) < place k j (suc r))
     inside k j r x y h l = rw (letter-candidate k j r x y h) (cases (decLt k 5))
       where
         cases : Dec (k < 5) → (place k j r ≤ base k j + pick (ltb k 5) 0 (128 + r - N .z)) ×
             (base k j + pick (ltb k 5) 0 (128 + r - N .z) < place k j (suc r))
         cases (yes w) =
-            let e = zero-number r (omega (arith, limit-one t ear k j w)) in
+            let e = zero-number r (omega (arith, limit-one t wait k j w)) in
             rw (lt-ltb k 5 w) (omega arith, omega arith)
         cases (no w) = rw (le-ltb k 5 (omega arith)) (omega arith, omega arith)
 
     value-climbs : (k j r : ℕ) → k < 7 → j < 5 → r < numbers N →
-        Climbs (place k j r) (place k j (suc r)) (valueEdge t N s ear k j (limitOf t ear k j) r)
+        Climbs (place k j r) (place k j (suc r)) (valueEdge t N s wait k j (limitOf t wait k j) r)
     unfolding valueEdge
-    value-climbs k j r x y h = cases (leb (limitOf t ear k j) (codeAt N r)) refl
+    value-climbs k j r x y h = cases (leb (limitOf t wait k j) (codeAt N r)) refl
       where
-        cases : (b : Bool) → leb (limitOf t ear k j) (codeAt N r) ≡ b → Climbs (place k j r) (place k j (suc r))
-            (pick b [] (edgeBy t N s (ear .state) (candidate N ear k j r) ∷ []))
+        cases : (b : Bool) → leb (limitOf t wait k j) (codeAt N r) ≡ b → Climbs (place k j r) (place k j (suc r))
+            (pick b [] (edgeBy t N s (wait .state) (candidate N wait k j r) ∷ []))
         cases true e = unfold Climbs in place-next k j r
-        cases false e = unfold Climbs edgeBy in inside k j r x y h (leb-false (limitOf t ear k j) (codeAt N r) e)
+        cases false e = unfold Climbs edgeBy in inside k j r x y h (leb-false (limitOf t wait k j) (codeAt N r) e)
 
     values-climb : (k j r : ℕ) → k < 7 → j < 5 → r ≤ numbers N →
-        Climbs (place k j 0) (place k j r) (valueEdges t N s ear k j (limitOf t ear k j) r)
+        Climbs (place k j 0) (place k j r) (valueEdges t N s wait k j (limitOf t wait k j) r)
     unfolding valueEdges
     values-climb k j zero x y h = unfold Climbs in omega arith
     values-climb k j (suc r) x y h =
@@ -119,12 +119,12 @@ module _ (t : List ℕ) (N : Numbers) (s : Site) (ear : Ear) where
         cases true = omega arith
         cases false = omega arith
 
-    block-climbs : (k j : ℕ) → k < 7 → j < 5 → Climbs (base k j) (base k j + 256) (blockEdges t N s ear k j)
+    block-climbs : (k j : ℕ) → k < 7 → j < 5 → Climbs (base k j) (base k j + 256) (blockEdges t N s wait k j)
     unfolding blockEdges
-    block-climbs k j x y = cases (eqb (limitOf t ear k j) 0)
+    block-climbs k j x y = cases (eqb (limitOf t wait k j) 0)
       where
         cases : (b : Bool) → Climbs (base k j) (base k j + 256)
-            (pick b [] (valueEdges t N s ear k j (limitOf t ear k j) (numbers N)))
+            (pick b [] (valueEdges t N s wait k j (limitOf t wait k j) (numbers N)))
         cases true = unfold Climbs in omega arith
         cases false =
             climbs-from (base k j) (place k j 0) (base k j + 256) _ (first-place k j)
@@ -132,7 +132,7 @@ module _ (t : List ℕ) (N : Numbers) (s : Site) (ear : Ear) where
                 (values-climb k j (numbers N) x y (omega arith)))
 
     -- the letters of all kinds
-    heard-climb : (b : ℕ) → b ≤ 35 → Climbs 0 (base (b / 5) (b % 5)) (heardEdges t N s ear b)
+    heard-climb : (b : ℕ) → b ≤ 35 → Climbs 0 (base (b / 5) (b % 5)) (heardEdges t N s wait b)
     unfolding heardEdges
     heard-climb zero l = unfold Climbs in omega arith
     heard-climb (suc b) l =
@@ -140,5 +140,5 @@ module _ (t : List ℕ) (N : Numbers) (s : Site) (ear : Ear) where
           (climbs-to (base (b / 5) (b % 5)) (base (b / 5) (b % 5) + 256) (base (suc b / 5) (suc b % 5)) _
             (next-base b) (block-climbs (b / 5) (b % 5) (omega arith) (omega arith)))
 
-    pub heard-climbs : Climbs 0 134217728 (heardEdges t N s ear 35)
+    pub heard-climbs : Climbs 0 134217728 (heardEdges t N s wait 35)
     heard-climbs = climbs-to 0 (base 7 0) 134217728 _ (omega arith) (heard-climb 35 (omega arith))

@@ -12,11 +12,12 @@ use Rattle.language.specs.Choice.{pick}
 use Rattle.language.specs.declared.Numbers.{Numbers}
 use Rattle.sheet.specs.table.Rep.{word}
 use Rattle.automaton.specs.walk.Row.{nameCount, partClass, partValues}
-use Rattle.explicit.specs.declared.Ear.{Ear}
+use Rattle.explicit.specs.declared.Wait.{Wait}
 use Rattle.explicit.specs.declared.Site.{Site}
 use Rattle.explicit.specs.inner.Rows.{withEdges, past}
 use Rattle.explicit.specs.inner.Kept.{Calling, Argument, Arguments}
-use Rattle.explicit.specs.inner.Moves.{questionLimit, answerKind, limitOf, askingOf, blockEdges, heardEdges}
+use Rattle.automaton.specs.walk.Types.{questionLimit}
+use Rattle.explicit.specs.inner.Moves.{answerKind, limitOf, askingOf, blockEdges, heardEdges}
 use Rattle.explicit.specs.inner.Moves.{questionEdges, askedEdges}
 use Rattle.explicit.proofs.HeardAnswers.{no-choice, own-small, other-kind, limit-own}
 use Rattle.explicit.proofs.Loops.{Wrote, told, wrote-none, wrote-append}
@@ -64,54 +65,54 @@ pub asking-few : (t : List ℕ) (at count : ℕ) → count ≡ nameCount t at �
 unfolding askingOf
 asking-few t at count e h = rw (← e, le-ltb 4 count h)
 
-pub arguments : (t : List ℕ) (ear : Ear) (count : ℕ) → Calling ear → count ≡ askingOf t (ear .at) →
-  Arguments t ear count
-arguments t ear count calls e =
-    record { calls = calls; within = omega (arith, e, asking-within t (ear .at)) }
+pub arguments : (t : List ℕ) (wait : Wait) (count : ℕ) → Calling wait → count ≡ askingOf t (wait .at) →
+  Arguments t wait count
+arguments t wait count calls e =
+    record { calls = calls; within = omega (arith, e, asking-within t (wait .at)) }
 
-pub argument : (t : List ℕ) (ear : Ear) (count arg : ℕ) → Arguments t ear count → arg < count →
-  Argument t ear (arg + 1)
-argument t ear count arg a h =
+pub argument : (t : List ℕ) (wait : Wait) (count arg : ℕ) → Arguments t wait count → arg < count →
+  Argument t wait (arg + 1)
+argument t wait count arg a h =
     record { within = record { calls = a .calls; within = omega (arith, a .within) }; some = omega arith }
 
 -- the limit of the questions at an argument
-pub limit-question : (t : List ℕ) (ear : Ear) (kind arg class m l : ℕ) → Argument t ear arg →
-  class ≡ partClass t (ear .at) (arg - 1) → m ≡ partValues t (ear .at) (arg - 1) → l ≡ questionLimit class m kind →
-  l ≡ limitOf t ear kind arg
+pub limit-question : (t : List ℕ) (wait : Wait) (kind arg class m l : ℕ) → Argument t wait arg →
+  class ≡ partClass t (wait .at) (arg - 1) → m ≡ partValues t (wait .at) (arg - 1) → l ≡ questionLimit class m kind →
+  l ≡ limitOf t wait kind arg
 unfolding limitOf
-limit-question t ear kind arg class m l a c v e =
-    rw (ne-eqb (ear .kind) 7 (a .within .calls), ne-eqb arg 0 (λ z. omega (arith, a .some)),
-        le-ltb (nameCount t (ear .at)) arg (a .within .within), ← c, ← v) e
+limit-question t wait kind arg class m l a c v e =
+    rw (ne-eqb (wait .kind) 7 (a .within .calls), ne-eqb arg 0 (λ z. omega (arith, a .some)),
+        le-ltb (nameCount t (wait .at)) arg (a .within .within), ← c, ← v) e
 
-module _ (t : List ℕ) (N : Numbers) (s : Site) (ear : Ear) where
+module _ (t : List ℕ) (N : Numbers) (s : Site) (wait : Wait) where
   -- the loop over arguments
-  pub questions-first : (kind e : ℕ) (ws : List ℕ) → Wrote ws (s .n) e (questionEdges t N s ear kind 0) e ws
+  pub questions-first : (kind e : ℕ) (ws : List ℕ) → Wrote ws (s .n) e (questionEdges t N s wait kind 0) e ws
   unfolding questionEdges
   questions-first kind e ws = wrote-none ws (s .n) e
 
   pub questions-again : (kind e j e′ e″ : ℕ) (ws ws′ ws″ : List ℕ) →
-    Wrote ws (s .n) e (questionEdges t N s ear kind j) e′ ws′ →
-    Wrote ws′ (s .n) e′ (blockEdges t N s ear kind (j + 1)) e″ ws″ →
-    Wrote ws (s .n) e (questionEdges t N s ear kind (j + 1)) e″ ws″
+    Wrote ws (s .n) e (questionEdges t N s wait kind j) e′ ws′ →
+    Wrote ws′ (s .n) e′ (blockEdges t N s wait kind (j + 1)) e″ ws″ →
+    Wrote ws (s .n) e (questionEdges t N s wait kind (j + 1)) e″ ws″
   unfolding questionEdges
   questions-again kind e j e′ e″ ws ws′ ws″ a b = rw (add-one) (wrote-append _ _ a (rw (add-one) at b))
 
   pub questions-last : (kind e e′ j count : ℕ) (ws ws′ : List ℕ) → j ≡ count →
-    Wrote ws (s .n) e (questionEdges t N s ear kind j) e′ ws′ →
-    Wrote ws (s .n) e (questionEdges t N s ear kind count) e′ ws′
+    Wrote ws (s .n) e (questionEdges t N s wait kind j) e′ ws′ →
+    Wrote ws (s .n) e (questionEdges t N s wait kind count) e′ ws′
   questions-last kind e e′ j count ws ws′ q a = rw (← q) a
 
   -- the loop over kinds
   pub asked-first : (count first kind e : ℕ) (ws : List ℕ) → kind ≡ first →
-    Wrote ws (s .n) e (askedEdges t N s ear count first (kind - first)) e ws
+    Wrote ws (s .n) e (askedEdges t N s wait count first (kind - first)) e ws
   unfolding askedEdges
   asked-first count first kind e ws h =
       let z : kind - first ≡ 0 = omega arith in rw z (wrote-none ws (s .n) e)
 
   pub asked-again : (count first kind e e′ e″ : ℕ) (ws ws′ ws″ : List ℕ) → first ≤ kind →
-    Wrote ws (s .n) e (askedEdges t N s ear count first (kind - first)) e′ ws′ →
-    Wrote ws′ (s .n) e′ (questionEdges t N s ear kind count) e″ ws″ →
-    Wrote ws (s .n) e (askedEdges t N s ear count first (kind + 1 - first)) e″ ws″
+    Wrote ws (s .n) e (askedEdges t N s wait count first (kind - first)) e′ ws′ →
+    Wrote ws′ (s .n) e′ (questionEdges t N s wait kind count) e″ ws″ →
+    Wrote ws (s .n) e (askedEdges t N s wait count first (kind + 1 - first)) e″ ws″
   unfolding askedEdges
   asked-again count first kind e e′ e″ ws ws′ ws″ h a b =
       let z : kind + 1 - first ≡ suc (kind - first) = omega arith in
@@ -119,108 +120,109 @@ module _ (t : List ℕ) (N : Numbers) (s : Site) (ear : Ear) where
       rw (z, k) (wrote-append _ _ a b)
 
   pub asked-last : (count first kind end e e′ : ℕ) (ws ws′ : List ℕ) → kind ≡ end →
-    Wrote ws (s .n) e (askedEdges t N s ear count first (kind - first)) e′ ws′ →
-    Wrote ws (s .n) e (askedEdges t N s ear count first (end - first)) e′ ws′
+    Wrote ws (s .n) e (askedEdges t N s wait count first (kind - first)) e′ ws′ →
+    Wrote ws (s .n) e (askedEdges t N s wait count first (end - first)) e′ ws′
   asked-last count first kind end e e′ ws ws′ q a = rw (← q) a
 
-  no-arguments : (first m : ℕ) → askedEdges t N s ear 0 first m ≡ []
+  no-arguments : (first m : ℕ) → askedEdges t N s wait 0 first m ≡ []
   unfolding askedEdges questionEdges
   no-arguments first zero = refl
   no-arguments first (suc m) = rw (no-arguments first m)
 
-  asked-none : (first m e : ℕ) (ws : List ℕ) → Wrote ws (s .n) e (askedEdges t N s ear 0 first m) e ws
+  asked-none : (first m e : ℕ) (ws : List ℕ) → Wrote ws (s .n) e (askedEdges t N s wait 0 first m) e ws
   asked-none first m e ws = rw (no-arguments first m) (wrote-none ws (s .n) e)
 
-  no-block : (kind arg : ℕ) → limitOf t ear kind arg ≡ 0 → blockEdges t N s ear kind arg ≡ []
+  no-block : (kind arg : ℕ) → limitOf t wait kind arg ≡ 0 → blockEdges t N s wait kind arg ≡ []
   unfolding blockEdges
   no-block kind arg h = rw h
 
   block-step : (b k j : ℕ) → b ≡ 5 * k + j → j < 5 →
-    heardEdges t N s ear (suc b) ≡ heardEdges t N s ear b ++ blockEdges t N s ear k j
+    heardEdges t N s wait (suc b) ≡ heardEdges t N s wait b ++ blockEdges t N s wait k j
   unfolding heardEdges
   block-step b k j e h =
       let q : b / 5 ≡ k = omega arith in
       let r : b % 5 ≡ j = omega arith in
       rw (q, r)
 
-  module _ (calls : Calling ear) (own : ℕ) (is : own ≡ answerKind (word t (ear .at) 2) (ear .kind)) where
+  module _ (calls : Calling wait) (own : ℕ) (is : own ≡ answerKind (word t (wait .at) 2) (wait .kind)) where
     -- the blocks without moves: other answers, questions of the kind of the answers, and what is no argument
-    other-answers : (kind : ℕ) → (kind ≡ own → ⊥) → blockEdges t N s ear kind 0 ≡ []
+    other-answers : (kind : ℕ) → (kind ≡ own → ⊥) → blockEdges t N s wait kind 0 ≡ []
     other-answers kind n =
-        no-block kind 0 (limit-own t ear calls kind ∙
-          other-kind (word t (ear .at) 2) (word t (ear .at) 3) (ear .kind) (ear .value) kind (λ k. n (k ∙ sym is)))
+        no-block kind 0 (limit-own t wait calls kind ∙
+          other-kind (word t (wait .at) 2) (word t (wait .at) 3) (wait .kind) (wait .value) kind (λ k. n (k ∙ sym is)))
 
-    own-questions : (arg : ℕ) → (arg ≡ 0 → ⊥) → blockEdges t N s ear own arg ≡ []
+    own-questions : (arg : ℕ) → (arg ≡ 0 → ⊥) → blockEdges t N s wait own arg ≡ []
     unfolding limitOf
     own-questions arg n =
-        no-block own arg (rw (ne-eqb (ear .kind) 7 calls, ne-eqb arg 0 n, is)
-          (no-choice (ltb (nameCount t (ear .at)) arg) 0 _ refl (no-question _ _ (word t (ear .at) 2) (ear .kind))))
+        no-block own arg (rw (ne-eqb (wait .kind) 7 calls, ne-eqb arg 0 n, is)
+          (no-choice (ltb (nameCount t (wait .at)) arg) 0 _ refl (no-question _ _ (word t (wait .at) 2) (wait .kind))))
 
-    no-argument : (kind arg : ℕ) → nameCount t (ear .at) < arg → blockEdges t N s ear kind arg ≡ []
+    no-argument : (kind arg : ℕ) → nameCount t (wait .at) < arg → blockEdges t N s wait kind arg ≡ []
     unfolding limitOf
     no-argument kind arg h =
-        no-block kind arg (rw (ne-eqb (ear .kind) 7 calls, ne-eqb arg 0 (λ z. omega arith),
-          lt-ltb (nameCount t (ear .at)) arg h))
+        no-block kind arg (rw (ne-eqb (wait .kind) 7 calls, ne-eqb arg 0 (λ z. omega arith),
+          lt-ltb (nameCount t (wait .at)) arg h))
 
     -- five blocks of a kind
     kind-asked : (k : ℕ) → (k ≡ own → ⊥) → (j b : ℕ) → b ≡ 5 * k + j → j < 5 →
-      heardEdges t N s ear (suc b) ≡ heardEdges t N s ear (5 * k) ++ questionEdges t N s ear k j
+      heardEdges t N s wait (suc b) ≡ heardEdges t N s wait (5 * k) ++ questionEdges t N s wait k j
     unfolding questionEdges
     kind-asked k n zero b e h =
         let f : b ≡ 5 * k = omega arith in
         block-step b k 0 e h ∙ rw (other-answers k n, f)
     kind-asked k n (suc j) b e h =
         let f : b ≡ suc (5 * k + j) = omega arith in
-        let rec : heardEdges t N s ear (suc (5 * k + j)) ≡ heardEdges t N s ear (5 * k) ++ questionEdges t N s ear k j =
+        let rec : heardEdges t N s wait (suc (5 * k + j)) ≡ heardEdges t N s wait
+            (5 * k) ++ questionEdges t N s wait k j =
               kind-asked k n j (5 * k + j) refl (omega arith) in
-        block-step b k (suc j) e h ∙ rw (f, rec) (append-assoc (heardEdges t N s ear (5 * k)) _ _)
+        block-step b k (suc j) e h ∙ rw (f, rec) (append-assoc (heardEdges t N s wait (5 * k)) _ _)
 
     own-answers : (j b : ℕ) → b ≡ 5 * own + j → j < 5 →
-      heardEdges t N s ear (suc b) ≡ heardEdges t N s ear (5 * own) ++ blockEdges t N s ear own 0
+      heardEdges t N s wait (suc b) ≡ heardEdges t N s wait (5 * own) ++ blockEdges t N s wait own 0
     own-answers zero b e h =
         let f : b ≡ 5 * own = omega arith in
         block-step b own 0 e h ∙ rw f
     own-answers (suc j) b e h =
         let f : b ≡ suc (5 * own + j) = omega arith in
-        let rec : heardEdges t N s ear (suc (5 * own + j)) ≡
-              heardEdges t N s ear (5 * own) ++ blockEdges t N s ear own 0 =
+        let rec : heardEdges t N s wait (suc (5 * own + j)) ≡
+              heardEdges t N s wait (5 * own) ++ blockEdges t N s wait own 0 =
               own-answers j (5 * own + j) refl (omega arith) in
         block-step b own (suc j) e h ∙ rw (own-questions (suc j) (λ z. omega arith), f, rec) (append-nil _)
 
     -- the arguments that have moves are enough
-    enough : (k j : ℕ) → askingOf t (ear .at) ≤ j → j ≤ 4 →
-      questionEdges t N s ear k j ≡ questionEdges t N s ear k (askingOf t (ear .at))
+    enough : (k j : ℕ) → askingOf t (wait .at) ≤ j → j ≤ 4 →
+      questionEdges t N s wait k j ≡ questionEdges t N s wait k (askingOf t (wait .at))
     unfolding questionEdges
-    enough k zero h l = let z : askingOf t (ear .at) ≡ 0 = omega arith in rw z
-    enough k (suc j) h l = go (λ x. enough k j x (omega arith)) (decLt (askingOf t (ear .at)) (suc j))
+    enough k zero h l = let z : askingOf t (wait .at) ≡ 0 = omega arith in rw z
+    enough k (suc j) h l = go (λ x. enough k j x (omega arith)) (decLt (askingOf t (wait .at)) (suc j))
       where
-        go : (askingOf t (ear .at) ≤ j →
-            questionEdges t N s ear k j ≡ questionEdges t N s ear k (askingOf t (ear .at))) →
-          Dec (askingOf t (ear .at) < suc j) →
-          questionEdges t N s ear k (suc j) ≡ questionEdges t N s ear k (askingOf t (ear .at))
+        go : (askingOf t (wait .at) ≤ j →
+            questionEdges t N s wait k j ≡ questionEdges t N s wait k (askingOf t (wait .at))) →
+          Dec (askingOf t (wait .at) < suc j) →
+          questionEdges t N s wait k (suc j) ≡ questionEdges t N s wait k (askingOf t (wait .at))
         go rec (yes x) =
-            rw (no-argument k (suc j) (asking-all t (ear .at) (suc j) x l)) (append-nil _ ∙ rec (omega arith))
-        go rec (no x) = let z : askingOf t (ear .at) ≡ suc j = omega arith in rw z
+            rw (no-argument k (suc j) (asking-all t (wait .at) (suc j) x l)) (append-nil _ ∙ rec (omega arith))
+        go rec (no x) = let z : askingOf t (wait .at) ≡ suc j = omega arith in rw z
 
-    module _ (count : ℕ) (all : count ≡ askingOf t (ear .at)) where
-      kind-step : (k : ℕ) → (k ≡ own → ⊥) → heardEdges t N s ear (5 * (k + 1)) ≡
-        heardEdges t N s ear (5 * k) ++ questionEdges t N s ear k count
+    module _ (count : ℕ) (all : count ≡ askingOf t (wait .at)) where
+      kind-step : (k : ℕ) → (k ≡ own → ⊥) → heardEdges t N s wait (5 * (k + 1)) ≡
+        heardEdges t N s wait (5 * k) ++ questionEdges t N s wait k count
       kind-step k n =
           let f : 5 * (k + 1) ≡ suc (5 * k + 4) = omega arith in
-          rw (f, all, ← enough k 4 (asking-four t (ear .at)) (omega arith))
+          rw (f, all, ← enough k 4 (asking-four t (wait .at)) (omega arith))
             (kind-asked k n 4 (5 * k + 4) refl (omega arith))
 
-      asked-before : (m : ℕ) → m ≤ own → heardEdges t N s ear (5 * m) ≡ askedEdges t N s ear count 0 m
+      asked-before : (m : ℕ) → m ≤ own → heardEdges t N s wait (5 * m) ≡ askedEdges t N s wait count 0 m
       unfolding askedEdges heardEdges
       asked-before zero h = refl
       asked-before (suc m) h =
           let f : 5 * suc m ≡ 5 * (m + 1) = omega arith in
           let z : m ≡ 0 + m = omega arith in
           rw (f, kind-step m (λ x. omega arith), asked-before m (omega arith))
-            (ap (λ (k : ℕ). askedEdges t N s ear count 0 m ++ questionEdges t N s ear k count) z)
+            (ap (λ (k : ℕ). askedEdges t N s wait count 0 m ++ questionEdges t N s wait k count) z)
 
-      asked-after : (m : ℕ) → heardEdges t N s ear (5 * (own + 1 + m)) ≡
-        (askedEdges t N s ear count 0 own ++ blockEdges t N s ear own 0) ++ askedEdges t N s ear count (own + 1) m
+      asked-after : (m : ℕ) → heardEdges t N s wait (5 * (own + 1 + m)) ≡
+        (askedEdges t N s wait count 0 own ++ blockEdges t N s wait own 0) ++ askedEdges t N s wait count (own + 1) m
       unfolding askedEdges
       asked-after zero =
           let f : 5 * (own + 1 + 0) ≡ suc (5 * own + 4) = omega arith in
@@ -228,36 +230,36 @@ module _ (t : List ℕ) (N : Numbers) (s : Site) (ear : Ear) where
       asked-after (suc m) =
           let f : 5 * (own + 1 + suc m) ≡ 5 * (own + 1 + m + 1) = omega arith in
           rw (f, kind-step (own + 1 + m) (λ z. omega arith), asked-after m)
-            (append-assoc (askedEdges t N s ear count 0 own ++ blockEdges t N s ear own 0) _ _)
+            (append-assoc (askedEdges t N s wait count 0 own ++ blockEdges t N s wait own 0) _ _)
 
-      called-edges : heardEdges t N s ear 35 ≡
-        (askedEdges t N s ear count 0 own ++ blockEdges t N s ear own 0) ++
-          askedEdges t N s ear count (own + 1) (7 - (own + 1))
+      called-edges : heardEdges t N s wait 35 ≡
+        (askedEdges t N s wait count 0 own ++ blockEdges t N s wait own 0) ++
+          askedEdges t N s wait count (own + 1) (7 - (own + 1))
       called-edges =
           let f : 5 * (own + 1 + (7 - (own + 1))) ≡ 35 =
-                omega (arith, own-small (word t (ear .at) 2) (ear .kind) own is) in
+                omega (arith, own-small (word t (wait .at) 2) (wait .kind) own is) in
           rw (← f) (asked-after (7 - (own + 1)))
 
   -- what is written for the kinds before that of the answers, for the answers, and for the kinds after it
-  pub called-told : (class own count e₀ e₁ e₂ e₃ : ℕ) (ws₀ ws₁ ws₂ ws₃ : List ℕ) → Calling ear →
-    class ≡ word t (ear .at) 2 → own ≡ answerKind class (ear .kind) → count ≡ askingOf t (ear .at) →
-    Wrote ws₀ (s .n) e₀ (askedEdges t N s ear count 0 (own - 0)) e₁ ws₁ →
-    Wrote ws₁ (s .n) e₁ (blockEdges t N s ear own 0) e₂ ws₂ →
-    Wrote ws₂ (s .n) e₂ (askedEdges t N s ear count (own + 1) (7 - (own + 1))) e₃ ws₃ →
-    (e₃ ≡ past e₀ (heardEdges t N s ear 35)) × (ws₃ ≡ withEdges ws₀ (s .n) e₀ (heardEdges t N s ear 35))
+  pub called-told : (class own count e₀ e₁ e₂ e₃ : ℕ) (ws₀ ws₁ ws₂ ws₃ : List ℕ) → Calling wait →
+    class ≡ word t (wait .at) 2 → own ≡ answerKind class (wait .kind) → count ≡ askingOf t (wait .at) →
+    Wrote ws₀ (s .n) e₀ (askedEdges t N s wait count 0 (own - 0)) e₁ ws₁ →
+    Wrote ws₁ (s .n) e₁ (blockEdges t N s wait own 0) e₂ ws₂ →
+    Wrote ws₂ (s .n) e₂ (askedEdges t N s wait count (own + 1) (7 - (own + 1))) e₃ ws₃ →
+    (e₃ ≡ past e₀ (heardEdges t N s wait 35)) × (ws₃ ≡ withEdges ws₀ (s .n) e₀ (heardEdges t N s wait 35))
   called-told class own count e₀ e₁ e₂ e₃ ws₀ ws₁ ws₂ ws₃ calls c k q a b d =
       let z : own - 0 ≡ own = omega arith in
-      let is : own ≡ answerKind (word t (ear .at) 2) (ear .kind) =
-            k ∙ ap (λ (y : ℕ). answerKind y (ear .kind)) c in
-      let a′ : Wrote ws₀ (s .n) e₀ (askedEdges t N s ear count 0 own) e₁ ws₁ = rw z at a in
+      let is : own ≡ answerKind (word t (wait .at) 2) (wait .kind) =
+            k ∙ ap (λ (y : ℕ). answerKind y (wait .kind)) c in
+      let a′ : Wrote ws₀ (s .n) e₀ (askedEdges t N s wait count 0 own) e₁ ws₁ = rw z at a in
       told (rw (called-edges calls own is count q) (wrote-append _ _ (wrote-append _ _ a′ b) d))
 
   -- a name without arguments takes only its answers
-  pub plain-told : (class own count e e′ : ℕ) (ws ws′ : List ℕ) → Calling ear → count ≡ nameCount t (ear .at) →
-    count ≡ 0 → class ≡ word t (ear .at) 2 → own ≡ answerKind class (ear .kind) →
-    Wrote ws (s .n) e (blockEdges t N s ear own 0) e′ ws′ →
-    (e′ ≡ past e (heardEdges t N s ear 35)) × (ws′ ≡ withEdges ws (s .n) e (heardEdges t N s ear 35))
+  pub plain-told : (class own count e e′ : ℕ) (ws ws′ : List ℕ) → Calling wait → count ≡ nameCount t (wait .at) →
+    count ≡ 0 → class ≡ word t (wait .at) 2 → own ≡ answerKind class (wait .kind) →
+    Wrote ws (s .n) e (blockEdges t N s wait own 0) e′ ws′ →
+    (e′ ≡ past e (heardEdges t N s wait 35)) × (ws′ ≡ withEdges ws (s .n) e (heardEdges t N s wait 35))
   plain-told class own count e e′ ws ws′ calls a z c k b =
       called-told class own 0 e e e′ e′ ws ws ws′ ws′ calls c k
-        (asking-few t (ear .at) 0 (sym z ∙ a) (omega arith)) (asked-none 0 (own - 0) e ws) b
+        (asking-few t (wait .at) 0 (sym z ∙ a) (omega arith)) (asked-none 0 (own - 0) e ws) b
         (asked-none (own + 1) (7 - (own + 1)) e′ ws′)

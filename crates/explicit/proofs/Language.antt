@@ -22,7 +22,8 @@ use Rattle.dfa.specs.Graph.{δ, Graph}
 use Rattle.silent.specs.Silent.{Settling}
 use Rattle.explicit.specs.Explicit.{packed, Explicit}
 use Rattle.explicit.proofs.Advance.{settle-stop}
-use Rattle.explicit.proofs.Settling.{along, AllSmall, runs, ended}
+use Rattle.explicit.specs.Letter.{along, AllSmall}
+use Rattle.explicit.proofs.Settling.{runs, ended}
 
 module _ (T : Ty) (M : Term) where
   -- the start waits for the first question, and has the number 0

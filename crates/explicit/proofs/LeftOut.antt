@@ -6,14 +6,13 @@ use native.Mathlib.Omega.{arith}
 use native.Mathlib.Decide.{ℕ-discrete}
 use Rattle.language.specs.declared.Numbers.{Numbers}
 use Rattle.language.specs.Move.{question, answer, at, private, Move, move}
-use Rattle.language.specs.Letter.{letter}
-use Rattle.language.proofs.LetterLaws.{Small}
+use Rattle.explicit.specs.Letter.{letter, Small}
 use Rattle.machine.specs.Action.{Next, dead, Heard, asked, answered, opened, Listen, who, heard, Hears}
 use Rattle.machine.specs.Decide.{when, hears?}
 use Rattle.machine.specs.Edge.{received, edge-hear, edge}
 use Rattle.automaton.specs.walk.Shows.{moveOf}
 use Rattle.automaton.proofs.Sums.{when-no}
-use Rattle.explicit.specs.declared.Ear.{Ear}
+use Rattle.explicit.specs.declared.Wait.{Wait}
 use Rattle.explicit.specs.declared.Site.{Site}
 use Rattle.explicit.specs.inner.Moves.{codeAt, letterOf, edgeBy, heardEdges}
 use Rattle.explicit.specs.inner.Acts.{waits, leads}
@@ -60,22 +59,22 @@ heard-kind i (opened q) = kind-small i 0 (question q)
 
 module _ (N : Numbers) (few : N .z ≤ 7) (t : List ℕ) (s : Site) (l : Listen) where
   -- the edge of a move that is heard is there
-  present : (ear : Ear) → Heeds t l ear → (r : Heard) → Hears l r → Small N (heard (who l) r) →
-      Absent (letter N (heard (who l) r)) (heardEdges t N s ear 35) → ⊥
+  present : (wait : Wait) → Heeds t l wait → (r : Heard) → Hears l r → Small N (heard (who l) r) →
+      Absent (letter N (heard (who l) r)) (heardEdges t N s wait 35) → ⊥
   unfolding edgeBy
-  present ear h r f small d =
+  present wait h r f small d =
       let m = heard (who l) r in
       let (c, x, e) = code-of N (moveOf m .value) (value-small N m small) in
-      let same : ear .id ≡ moveOf m .id = sym (h .same) ∙ sym (heard-id (who l) r) in
+      let same : wait .id ≡ moveOf m .id = sym (h .same) ∙ sym (heard-id (who l) r) in
       let a = heard-kind (who l) r in
       let b = h .near r f in
       let of : ℕ → ℕ → ℕ =
             λ i v. letterOf N (record { kind = moveOf m .kind; id = i; arg = moveOf m .arg; value = v }) in
-      let found : of (ear .id) (codeAt N c) ≡ letter N m = ap₂ of same e ∙ letter-of N few m small in
-      of-heard t N s ear (λ y. y .letter ≡ letter N m → ⊥) (moveOf m .kind) (moveOf m .arg) c b x
+      let found : of (wait .id) (codeAt N c) ≡ letter N m = ap₂ of same e ∙ letter-of N few m small in
+      of-heard t N s wait (λ y. y .letter ≡ letter N m → ⊥) (moveOf m .kind) (moveOf m .arg) c b x
         (rw e (h .below r f)) 35 (omega arith) d found
 
   -- THEOREM: a move without an edge leads nowhere
-  pub left-out : {S A : Type 0} (k : (r : Heard) → Hears l r → Next S A) (ear : Ear) → Heeds t l ear → (m : Move) →
-      Small N m → Absent (letter N m) (heardEdges t N s ear 35) → edge-hear l k m ≡ dead
-  left-out k ear h m small d = dead-unless l k m (λ r e f. present ear h r f (rw e small) (rw e d))
+  pub left-out : {S A : Type 0} (k : (r : Heard) → Hears l r → Next S A) (wait : Wait) → Heeds t l wait → (m : Move) →
+      Small N m → Absent (letter N m) (heardEdges t N s wait 35) → edge-hear l k m ≡ dead
+  left-out k wait h m small d = dead-unless l k m (λ r e f. present wait h r f (rw e small) (rw e d))

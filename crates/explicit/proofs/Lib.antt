@@ -1,3 +1,5 @@
+-- That the words written are the automaton of the sheet, and that this accepts exactly the complete plays.
+pub mod LetterLaws
 pub mod Advance
 pub mod Settling
 pub mod Spelling

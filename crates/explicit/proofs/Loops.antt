@@ -11,11 +11,12 @@ use Rattle.automaton.specs.declared.Move.{Move}
 use Rattle.automaton.specs.declared.Out.{Out}
 use Rattle.automaton.specs.declared.Out.the-variants.{Go, Exit, Say, Hear, Stuck}
 use Rattle.automaton.specs.walk.Row.{sumOf}
-use Rattle.explicit.specs.declared.Ear.{Ear}
+use Rattle.explicit.specs.declared.Wait.{Wait}
 use Rattle.explicit.specs.declared.Site.{Site}
 use Rattle.explicit.specs.inner.States.{spotsOf, sheetAt}
-use Rattle.explicit.specs.inner.Rows.{Edge, Row, withEdge, withEdges, past, withHead, withRow, before, withRows}
-use Rattle.explicit.specs.inner.Moves.{codeAt, letterOf, limitOf, earOf, targetOf, silentOf, edgeBy, valueEdge}
+use Rattle.explicit.specs.inner.Rows.{Edge, StateRow, withEdge, withEdges, past, withHead, withRow, before}
+use Rattle.explicit.specs.inner.Rows.{withRows}
+use Rattle.explicit.specs.inner.Moves.{codeAt, letterOf, limitOf, waitOf, targetOf, silentOf, edgeBy, valueEdge}
 use Rattle.explicit.specs.inner.Moves.{valueEdges, blockEdges, heardEdges, edgesOf, rowFor, rowOf}
 use Rattle.explicit.specs.inner.Moves.{edgesAfter, filledOf}
 use Rattle.explicit.proofs.Writing.{with-append, past-append}
@@ -46,66 +47,66 @@ wrote-append {ws} {n = n} {e = e} xs ys a b =
       written = rw (with-append ws n e xs ys, ← a .returned, ← a .written) (b .written)
     }
 
-module _ (t : List ℕ) (N : Numbers) (s : Site) (ear : Ear) where
+module _ (t : List ℕ) (N : Numbers) (s : Site) (wait : Wait) where
   -- one value
   pub value-none : (kind arg below r e v : ℕ) (ws : List ℕ) → v ≡ codeAt N r → below ≤ v →
-    Wrote ws (s .n) e (valueEdge t N s ear kind arg below r) e ws
+    Wrote ws (s .n) e (valueEdge t N s wait kind arg below r) e ws
   unfolding valueEdge
   value-none kind arg below r e v ws c h =
       rw (le-leb below (codeAt N r) (omega (arith, c))) (wrote-none ws (s .n) e)
 
   pub value-some : (kind arg below r e v e′ letter target : ℕ) (ws ws′ : List ℕ) → v ≡ codeAt N r → v < below →
-    letter ≡ letterOf N (record { kind = kind; id = ear .id; arg = arg; value = v }) →
-    target ≡ targetOf s (sheetAt t N (s .root) (ear .state)
-      (record { kind = kind; id = ear .id; arg = arg; value = v })) →
+    letter ≡ letterOf N (record { kind = kind; id = wait .id; arg = arg; value = v }) →
+    target ≡ targetOf s (sheetAt t N (s .root) (wait .state)
+      (record { kind = kind; id = wait .id; arg = arg; value = v })) →
     ws′ ≡ withEdge ws (s .n) e letter target → e′ ≡ sumOf e 1 →
-    Wrote ws (s .n) e (valueEdge t N s ear kind arg below r) e′ ws′
+    Wrote ws (s .n) e (valueEdge t N s wait kind arg below r) e′ ws′
   unfolding valueEdge edgeBy past withEdges
   value-some kind arg below r e v e′ letter target ws ws′ c h l g w x =
       rw (lt-leb below (codeAt N r) (omega (arith, c)), ← c, ← l, ← g) (record { returned = x; written = w })
 
   -- a turn of the loop over values, and the loop over kinds and arguments
-  pub block-none : (kind arg e l : ℕ) (ws : List ℕ) → l ≡ limitOf t ear kind arg → l ≡ 0 →
-    Wrote ws (s .n) e (blockEdges t N s ear kind arg) e ws
+  pub block-none : (kind arg e l : ℕ) (ws : List ℕ) → l ≡ limitOf t wait kind arg → l ≡ 0 →
+    Wrote ws (s .n) e (blockEdges t N s wait kind arg) e ws
   unfolding blockEdges
-  block-none kind arg e l ws c z = rw (eq-eqb (limitOf t ear kind arg) 0 (sym c ∙ z)) (wrote-none ws (s .n) e)
+  block-none kind arg e l ws c z = rw (eq-eqb (limitOf t wait kind arg) 0 (sym c ∙ z)) (wrote-none ws (s .n) e)
 
-  pub values-first : (kind arg below e : ℕ) (ws : List ℕ) → Wrote ws (s .n) e (valueEdges t N s ear kind arg below 0)
+  pub values-first : (kind arg below e : ℕ) (ws : List ℕ) → Wrote ws (s .n) e (valueEdges t N s wait kind arg below 0)
       e ws
   unfolding valueEdges
   values-first kind arg below e ws = wrote-none ws (s .n) e
 
   pub values-again : (kind arg below e r e′ e″ : ℕ) (ws ws′ ws″ : List ℕ) →
-    Wrote ws (s .n) e (valueEdges t N s ear kind arg below r) e′ ws′ →
-    Wrote ws′ (s .n) e′ (valueEdge t N s ear kind arg below r) e″ ws″ →
-    Wrote ws (s .n) e (valueEdges t N s ear kind arg below (r + 1)) e″ ws″
+    Wrote ws (s .n) e (valueEdges t N s wait kind arg below r) e′ ws′ →
+    Wrote ws′ (s .n) e′ (valueEdge t N s wait kind arg below r) e″ ws″ →
+    Wrote ws (s .n) e (valueEdges t N s wait kind arg below (r + 1)) e″ ws″
   unfolding valueEdges
   values-again kind arg below e r e′ e″ ws ws′ ws″ a b = rw (add-one) (wrote-append _ _ a b)
 
   pub values-last : (kind arg below e e′ r r′ : ℕ) (ws ws′ : List ℕ) → r ≡ r′ →
-    Wrote ws (s .n) e (valueEdges t N s ear kind arg below r) e′ ws′ →
-    Wrote ws (s .n) e (valueEdges t N s ear kind arg below r′) e′ ws′
+    Wrote ws (s .n) e (valueEdges t N s wait kind arg below r) e′ ws′ →
+    Wrote ws (s .n) e (valueEdges t N s wait kind arg below r′) e′ ws′
   values-last kind arg below e e′ r r′ ws ws′ q a = rw (← q) a
 
-  pub block-some : (kind arg e e′ l r : ℕ) (ws ws′ : List ℕ) → l ≡ limitOf t ear kind arg → (l ≡ 0 → ⊥) →
-    r ≡ numbers N → Wrote ws (s .n) e (valueEdges t N s ear kind arg l r) e′ ws′ →
-    Wrote ws (s .n) e (blockEdges t N s ear kind arg) e′ ws′
+  pub block-some : (kind arg e e′ l r : ℕ) (ws ws′ : List ℕ) → l ≡ limitOf t wait kind arg → (l ≡ 0 → ⊥) →
+    r ≡ numbers N → Wrote ws (s .n) e (valueEdges t N s wait kind arg l r) e′ ws′ →
+    Wrote ws (s .n) e (blockEdges t N s wait kind arg) e′ ws′
   unfolding blockEdges
   block-some kind arg e e′ l r ws ws′ c z q a =
-      rw (ne-eqb (limitOf t ear kind arg) 0 (λ h. z (c ∙ h)), ← c, ← q) a
+      rw (ne-eqb (limitOf t wait kind arg) 0 (λ h. z (c ∙ h)), ← c, ← q) a
 
-  pub heard-first : (e : ℕ) (ws : List ℕ) → Wrote ws (s .n) e (heardEdges t N s ear 0) e ws
+  pub heard-first : (e : ℕ) (ws : List ℕ) → Wrote ws (s .n) e (heardEdges t N s wait 0) e ws
   unfolding heardEdges
   heard-first e ws = wrote-none ws (s .n) e
 
-  pub heard-again : (e b e′ e″ : ℕ) (ws ws′ ws″ : List ℕ) → Wrote ws (s .n) e (heardEdges t N s ear b) e′ ws′ →
-    Wrote ws′ (s .n) e′ (blockEdges t N s ear (b / 5) (b % 5)) e″ ws″ →
-    Wrote ws (s .n) e (heardEdges t N s ear (b + 1)) e″ ws″
+  pub heard-again : (e b e′ e″ : ℕ) (ws ws′ ws″ : List ℕ) → Wrote ws (s .n) e (heardEdges t N s wait b) e′ ws′ →
+    Wrote ws′ (s .n) e′ (blockEdges t N s wait (b / 5) (b % 5)) e″ ws″ →
+    Wrote ws (s .n) e (heardEdges t N s wait (b + 1)) e″ ws″
   unfolding heardEdges
   heard-again e b e′ e″ ws ws′ ws″ a c = rw (add-one) (wrote-append _ _ a c)
 
-  pub heard-last : (e b e′ : ℕ) (ws ws′ : List ℕ) → b ≡ 35 → Wrote ws (s .n) e (heardEdges t N s ear b) e′ ws′ →
-    Wrote ws (s .n) e (heardEdges t N s ear 35) e′ ws′
+  pub heard-last : (e b e′ : ℕ) (ws ws′ : List ℕ) → b ≡ 35 → Wrote ws (s .n) e (heardEdges t N s wait b) e′ ws′ →
+    Wrote ws (s .n) e (heardEdges t N s wait 35) e′ ws′
   heard-last e b e′ ws ws′ h a = rw (← h) a
 
 -- a head, an edge and edges, by what the calls before them give
@@ -117,11 +118,11 @@ pub edge-of : (ws ws′ : List ℕ) (N : Numbers) (n e o next letter target : �
   target ≡ sumOf o next → ws′ ≡ withEdge ws n e letter target → ws′ ≡ withEdge ws n e (letterOf N m) (sumOf o next)
 edge-of ws ws′ N n e o next letter target m l g w = rw (← l, ← g) w
 
-pub wrote-by : (t : List ℕ) (N : Numbers) (s : Site) (ear : Ear) (k at kind value e e′ : ℕ) (ws ws′ : List ℕ) →
-  ear ≡ earOf t k at kind value → e′ ≡ past e (heardEdges t N s ear 35) →
-  ws′ ≡ withEdges ws (s .n) e (heardEdges t N s ear 35) →
-  Wrote ws (s .n) e (heardEdges t N s (earOf t k at kind value) 35) e′ ws′
-wrote-by t N s ear k at kind value e e′ ws ws′ h f w = rw (← h) (record { returned = f; written = w })
+pub wrote-by : (t : List ℕ) (N : Numbers) (s : Site) (wait : Wait) (k at kind value e e′ : ℕ) (ws ws′ : List ℕ) →
+  wait ≡ waitOf t k at kind value → e′ ≡ past e (heardEdges t N s wait 35) →
+  ws′ ≡ withEdges ws (s .n) e (heardEdges t N s wait 35) →
+  Wrote ws (s .n) e (heardEdges t N s (waitOf t k at kind value) 35) e′ ws′
+wrote-by t N s wait k at kind value e e′ ws ws′ h f w = rw (← h) (record { returned = f; written = w })
 
 module _ (t : List ℕ) (N : Numbers) (s : Site) where
   -- one state: silent, saying a move, waiting
@@ -150,20 +151,20 @@ module _ (t : List ℕ) (N : Numbers) (s : Site) where
 
   pub row-hear : (k e e′ at kind value : ℕ) (o : Out) (ws ws₁ ws′ : List ℕ) → o ≡ sheetAt t N (s .root) k none →
     ws₁ ≡ withHead ws (s .n) (sumOf (s .o) k) e (silentOf s o) → o ≡ Hear at kind value →
-    Wrote ws₁ (s .n) e (heardEdges t N s (earOf t k at kind value) 35) e′ ws′ → WroteRow ws k e e′ ws′
+    Wrote ws₁ (s .n) e (heardEdges t N s (waitOf t k at kind value) 35) e′ ws′ → WroteRow ws k e e′ ws′
   unfolding edgesOf
   row-hear k e e′ at kind value o ws ws₁ ws′ c h z w = row-as k e e′ o ws ws₁ ws′ c h (rw z w)
 
 -- the states below k are written
-pub record Filled (row : ℕ → Row) (n o e : ℕ) (ws : List ℕ) (k e′ : ℕ) (ws′ : List ℕ) : Type 0 where
+pub record Filled (row : ℕ → StateRow) (n o e : ℕ) (ws : List ℕ) (k e′ : ℕ) (ws′ : List ℕ) : Type 0 where
   pub returned : e′ ≡ before e row k
   pub written : ws′ ≡ withRows ws n o e row k
 
-pub filled-first : (row : ℕ → Row) (n o e : ℕ) (ws : List ℕ) → Filled row n o e ws 0 e ws
+pub filled-first : (row : ℕ → StateRow) (n o e : ℕ) (ws : List ℕ) → Filled row n o e ws 0 e ws
 unfolding before withRows
 filled-first row n o e ws = record { returned = refl; written = refl }
 
-pub filled-again : {row : ℕ → Row} {n o e k e′ e″ : ℕ} {ws ws′ ws″ : List ℕ} → Filled row n o e ws k e′ ws′ →
+pub filled-again : {row : ℕ → StateRow} {n o e k e′ e″ : ℕ} {ws ws′ ws″ : List ℕ} → Filled row n o e ws k e′ ws′ →
   e″ ≡ past e′ (row k .edges) → ws″ ≡ withRow ws′ n o k e′ (row k) → Filled row n o e ws (k + 1) e″ ws″
 unfolding before withRows
 filled-again {k = k} F f w =

@@ -17,10 +17,10 @@ use Rattle.automaton.specs.walk.Name.{atWait}
 use Rattle.automaton.specs.walk.Step.{onSpot, stepAt}
 use Rattle.explicit.specs.inner.States.{afterOf, sheetAt}
 use Rattle.explicit.specs.inner.Path.{riseAll, heightOf, storeOf}
-use Rattle.explicit.specs.inner.Levels.{framesOf, levelOf}
+use Rattle.explicit.specs.inner.Levels.{framesOf, levelAt}
 use Rattle.automaton.specs.walk.Name.{noMove}
 use Rattle.explicit.specs.inner.Kept.{sheetSpot, spotIn}
-use Rattle.explicit.specs.inner.Kept.{Stands, Kept, Covers, waitAt, Arrived}
+use Rattle.explicit.specs.inner.Kept.{Stands, KeptPath, Covers, waitAt, Arrived}
 use Rattle.explicit.proofs.PathWords.{frames-next, frames-length}
 use Rattle.explicit.proofs.PathHearing.{listens, never-waits, still-argument}
 use Rattle.explicit.proofs.PathSays.{after-spot, Holds, path-says, spot-next}
@@ -36,7 +36,7 @@ module _ (t : List ℕ) (root : ℕ) where
   unfolding after-spot onSpot
   after-here N fs left m S o e = rw e
 
-  holds : (p : List ℕ) (c k : ℕ) → Kept t root p c k → Covers p c k → Holds p c k
+  holds : (p : List ℕ) (c k : ℕ) → KeptPath t root p c k → Covers p c k → Holds p c k
   holds p c k K C z = (K .begun (c - 1) (omega arith), C z)
 
   -- a wait at the start of the sheet
@@ -55,19 +55,19 @@ module _ (t : List ℕ) (root : ℕ) where
           let h = rw (ne-eqb k 0 a, le-ltb k (afterOf t root) (omega arith)) at e in
           let z : _≡_ {A = ℕ} 0 1 = cc in absurd (omega arith)
 
-  spot-waits : (p : List ℕ) (c k at q x : ℕ) → Kept t root p c k → spotIn t root p c k noMove ≡ Here (Hear at q x) →
+  spot-waits : (p : List ℕ) (c k at q x : ℕ) → KeptPath t root p c k → spotIn t root p c k noMove ≡ Here (Hear at q x) →
     (m : Move) → spotIn t root p c k m ≡ Here (waitAt t root k at q x m)
   unfolding spotIn
   spot-waits p zero k at q x K e m = first-waits k at q x e m
   spot-waits p (suc i) k at q x K e m =
       spot-next t root p i k m
-      ∙ listens t (levelOf p i .part) (levelOf p i .kind) (levelOf p i .value) (k - levelOf p i .base) _ _ at q x
+      ∙ listens t (levelAt p i .part) (levelAt p i .kind) (levelAt p i .value) (k - levelAt p i .base) _ _ at q x
           (sym (spot-next t root p i k noMove) ∙ e) m
       ∙ ap Here (sym (wait-later t root k at q x m
           (omega (arith, K .sound .plain i (omega arith) .some, K .begun i (omega arith)))))
 
   -- THEOREM: where the state is at hand, the path says what it does
-  pub arrives : (p : List ℕ) (c k : ℕ) (o : Out) → c < 33 → Kept t root p c k → Covers p c k →
+  pub arrives : (p : List ℕ) (c k : ℕ) (o : Out) → c < 33 → KeptPath t root p c k → Covers p c k →
     Here o ≡ spotIn t root p c k noMove → Arrived t root p c k o
   arrives p c k o h K C e = record
     { kept = K
@@ -78,25 +78,25 @@ module _ (t : List ℕ) (root : ℕ) where
             ∙ after-here N (framesOf p c) (32 - c) m _ _ (spot-waits p c k at q x K (sym e ∙ ap Here g) m) } }
 
   -- past the last level nothing is done
-  deep-says : (N : Numbers) (p : List ℕ) (k : ℕ) (m : Move) → Stands t root (framesOf p 32) (levelOf p 32) →
-    levelOf p 32 .base ≤ k → k < levelOf p 32 .end → sheetAt t N root k m ≡ riseAll N (framesOf p 33) Stuck
+  deep-says : (N : Numbers) (p : List ℕ) (k : ℕ) (m : Move) → Stands t root (framesOf p 32) (levelAt p 32) →
+    levelAt p 32 .base ≤ k → k < levelAt p 32 .end → sheetAt t N root k m ≡ riseAll N (framesOf p 33) Stuck
   unfolding stepAt
   deep-says N p k m S a b =
       let e : 32 - length (framesOf p 32) ≡ 0 = omega (arith, frames-length p 32) in
       rw (frames-next p 32) (subst (λ (y : ℕ). sheetAt t N root k m ≡
-        riseAll N (levelOf p 32 .f ∷ framesOf p 32) (stepAt t N y (levelOf p 32 .part) (levelOf p 32 .kind)
-          (levelOf p 32 .value) (k - levelOf p 32 .base) (storeOf (levelOf p 32 .f ∷ framesOf p 32))
-          (heightOf (levelOf p 32 .f ∷ framesOf p 32)) m)) e (S .says N k m a b))
+        riseAll N (levelAt p 32 .f ∷ framesOf p 32) (stepAt t N y (levelAt p 32 .part) (levelAt p 32 .kind)
+          (levelAt p 32 .value) (k - levelAt p 32 .base) (storeOf (levelAt p 32 .f ∷ framesOf p 32))
+          (heightOf (levelAt p 32 .f ∷ framesOf p 32)) m)) e (S .says N k m a b))
 
-  deep-arrives : (p : List ℕ) (k : ℕ) → Kept t root p 33 k → Covers p 33 k → Arrived t root p 33 k Stuck
+  deep-arrives : (p : List ℕ) (k : ℕ) → KeptPath t root p 33 k → Covers p 33 k → Arrived t root p 33 k Stuck
   deep-arrives p k K C = record
     { kept = K
     ; at = record
         { does = λ N. deep-says N p k noMove (K .stands 32 (omega arith)) (K .begun 32 (omega arith)) (C (omega arith))
         ; hears = λ N m at q x g. let z : _≡_ {A = ℕ} 0 1 = cc in absurd (omega arith) } }
 
-  pub arrives-deep : (p : List ℕ) (c k : ℕ) → 33 ≤ c → Kept t root p c k → Covers p c k → Arrived t root p c k Stuck
+  pub arrives-deep : (p : List ℕ) (c k : ℕ) → 33 ≤ c → KeptPath t root p c k → Covers p c k → Arrived t root p c k Stuck
   arrives-deep p c k h K C =
       let e : c ≡ 33 = omega (arith, K .sound .few) in
       subst (λ (y : ℕ). Arrived t root p y k Stuck) (sym e)
-        (deep-arrives p k (subst (λ (y : ℕ). Kept t root p y k) e K) (subst (λ (y : ℕ). Covers p y k) e C))
+        (deep-arrives p k (subst (λ (y : ℕ). KeptPath t root p y k) e K) (subst (λ (y : ℕ). Covers p y k) e C))

@@ -10,10 +10,10 @@ use Rattle.language.specs.declared.Numbers.{Numbers}
 use Rattle.automaton.specs.declared.Frame.{Frame}
 use Rattle.automaton.specs.declared.Out.{Out}
 use Rattle.automaton.specs.declared.Out.the-variants.{Go}
-use Rattle.automaton.specs.walk.Row.{placeOf}
+use Rattle.automaton.specs.walk.Row.{mulAddOf}
 use Rattle.automaton.specs.walk.Up.{goesOf, riseOf}
 use Rattle.explicit.specs.inner.Path.{riseAll, baseOf, heightOf, storeOf, Owned, blockIn}
-use Rattle.explicit.specs.inner.Levels.{frameOf, levelOf, framesOf, holderOf, Sound}
+use Rattle.explicit.specs.inner.Levels.{frameOf, levelAt, framesOf, holderOf, Sound}
 use Rattle.explicit.proofs.PathWords.{frames-length}
 use Rattle.explicit.proofs.PathValues.{height-low, value-none, value-passed, value-other, value-own}
 use Rattle.explicit.proofs.PathLead.{goes}
@@ -56,9 +56,9 @@ block-found p (suc c) l i e = go (topmost (frameOf p c) (framesOf p c) l) (block
 abbrev Moves : Numbers → List ℕ → ℕ → ℕ → ℕ → ℕ → List Frame → Type 0
 Moves N p l u next i fs =
     (baseOf (framesOf p (suc i)) ≤ baseOf fs + next) × (riseAll N fs (Go next l u) ≡ riseAll N (framesOf p i)
-      (Go (placeOf u (frameOf p i .b) (baseOf fs + next - baseOf (framesOf p (suc i)))) 0 0))
+      (Go (mulAddOf u (frameOf p i .b) (baseOf fs + next - baseOf (framesOf p (suc i)))) 0 0))
 
-goes-own : (f : Frame) (next l u : ℕ) → f .role ≡ 7 → l ≡ f .a → goesOf f next l u ≡ Go (placeOf u (f .b) next) 0 0
+goes-own : (f : Frame) (next l u : ℕ) → f .role ≡ 7 → l ≡ f .a → goesOf f next l u ≡ Go (mulAddOf u (f .b) next) 0 0
 unfolding goesOf
 goes-own f next l u a d = simp (eq-eqb (f .role) 7 a, eq-eqb l (f .a) d)
 
@@ -69,7 +69,7 @@ module _ (N : Numbers) (p : List ℕ) where
   moves-own c l u next a d =
       let z : baseOf (frameOf p c ∷ framesOf p c) + next - baseOf (frameOf p c ∷ framesOf p c) ≡ next = omega arith in
       (omega arith, ap (λ (o : Out). riseAll N (framesOf p c) o) (goes-own (frameOf p c) next l u a d) ∙ ap (λ (y : ℕ).
-        riseAll N (framesOf p c) (Go (placeOf u (frameOf p c .b) y) 0 0)) (sym z))
+        riseAll N (framesOf p c) (Go (mulAddOf u (frameOf p c .b) y) 0 0)) (sym z))
 
   moves-other : (c l u next i : ℕ) → (frameOf p c .role ≡ 7 → frameOf p c .a ≡ l → ⊥) →
     baseOf (framesOf p c) + (frameOf p c .base + next) < 4294967296 →
@@ -80,7 +80,7 @@ module _ (N : Numbers) (p : List ℕ) where
             omega arith in
       (omega (arith, r .0), ap (λ (o : Out). riseAll N (framesOf p c) o) (goes (frameOf p c) next l u n (omega arith))
         ∙ r .1 ∙ ap (λ (y : ℕ). riseAll N (framesOf p i)
-          (Go (placeOf u (frameOf p i .b) (y - baseOf (framesOf p (suc i)))) 0 0)) z)
+          (Go (mulAddOf u (frameOf p i .b) (y - baseOf (framesOf p (suc i)))) 0 0)) z)
 
   base-next : (c next : ℕ) → baseOf (frameOf p c ∷ framesOf p c) + next < 4294967296 →
     baseOf (framesOf p c) + (frameOf p c .base + next) < 4294967296
@@ -107,14 +107,14 @@ module _ (N : Numbers) (p : List ℕ) where
 module _ (p : List ℕ) (c : ℕ) (S : Sound p c) where
   -- the level of a block's variable
   pub block-level : (i : ℕ) → i < c → frameOf p i .role ≡ 7 → frameOf p i .a ≡ suc (heightOf (framesOf p i))
-  unfolding Owned levelOf
+  unfolding Owned levelAt
   block-level i b e = S .plain i b .owned .0 e
 
   pub block-held : (i l : ℕ) → i < c → frameOf p i .role ≡ 7 → frameOf p i .a ≡ suc l → holderOf p l ≡ i
-  unfolding levelOf
+  unfolding levelAt
   block-held i l b e a =
-      let o : levelOf p i .outer ≡ heightOf (framesOf p i) = S .plain i b .outer-blocks in
-      let q : levelOf p i .outer ≡ l = omega (arith, block-level i b e) in
+      let o : levelAt p i .outer ≡ heightOf (framesOf p i) = S .plain i b .outer-blocks in
+      let q : levelAt p i .outer ≡ l = omega (arith, block-level i b e) in
       ap (λ (y : ℕ). holderOf p y) (sym q) ∙ S .held i b e
 
   pub block-low : (l : ℕ) → 33 < l → blockIn (framesOf p c) l ≡ 0

@@ -23,13 +23,13 @@ use Rattle.explicit.specs.declared.Level.{Level}
 use Rattle.automaton.specs.walk.Row.{sumOf, nameId}
 use Rattle.explicit.specs.inner.Path.{riseAll, heightOf, storeOf, baseOf, passesOf, upOf}
 use Rattle.explicit.proofs.PathWords.{frames-length}
-use Rattle.explicit.specs.inner.Levels.{fieldOf, frameOf, levelOf, framesOf, Sound}
+use Rattle.explicit.specs.inner.Levels.{fieldOf, frameOf, levelAt, framesOf, Sound}
 use Rattle.automaton.specs.walk.Name.{noMove}
-use Rattle.explicit.specs.inner.Kept.{spotIn, startOf, stopOf, untilOf, childOf, Kept, Covers, waitAt}
+use Rattle.explicit.specs.inner.Kept.{spotIn, startOf, stopOf, untilOf, childOf, KeptPath, Covers, waitAt}
 use Rattle.explicit.specs.inner.Kept.{Arrived, Listening}
-use Rattle.explicit.specs.declared.Ear.{Ear}
+use Rattle.explicit.specs.declared.Wait.{Wait}
 use Rattle.explicit.specs.declared.Site.{Site}
-use Rattle.explicit.specs.inner.Moves.{earOf, targetOf}
+use Rattle.explicit.specs.inner.Moves.{waitOf, targetOf}
 use Rattle.explicit.specs.inner.States.{atStart, sheetAt}
 use Rattle.automaton.specs.walk.Name.{atWait}
 use Rattle.explicit.proofs.PathLead.{rise-hear}
@@ -45,7 +45,7 @@ frames-less p zero h = absurd (omega arith)
 frames-less p (suc i) h = let e : suc i - 1 ≡ i = omega arith in rw e
 
 start-less : (p : List ℕ) (c : ℕ) → 0 < c → startOf p c ≡ fieldOf p (c - 1) 3
-unfolding startOf levelOf
+unfolding startOf levelAt
 start-less p c h = rw (ne-eqb c 0 (λ z. omega arith))
 
 pub fewer : (p : List ℕ) (c left : ℕ) → Sound p c → left ≤ c → Sound p left
@@ -79,16 +79,16 @@ far-leads N s p c r out o e h = rw (← e) h
 -- how many blocks are outside
 pub height-inside : (p : List ℕ) (c o r h : ℕ) → Sound p c → (c ≡ 0 → ⊥) → o ≡ fieldOf p (c - 1) 5 →
   r ≡ fieldOf p (c - 1) 6 → r ≡ 7 → h ≡ sumOf o 1 → h ≡ heightOf (framesOf p c)
-unfolding heightOf heightIn levelOf frameOf
+unfolding heightOf heightIn levelAt frameOf
 height-inside p c o r h S n a b d e =
-    let g : levelOf p (c - 1) .outer ≡ heightOf (framesOf p (c - 1)) = S .plain (c - 1) (omega arith) .outer-blocks in
+    let g : levelAt p (c - 1) .outer ≡ heightOf (framesOf p (c - 1)) = S .plain (c - 1) (omega arith) .outer-blocks in
     rw (frames-less p c (omega arith), eq-eqb (fieldOf p (c - 1) 6) 7 (sym b ∙ d)) (e ∙ rw (a, g))
 
 pub height-beside : (p : List ℕ) (c o r : ℕ) → Sound p c → (c ≡ 0 → ⊥) → o ≡ fieldOf p (c - 1) 5 →
   r ≡ fieldOf p (c - 1) 6 → (r ≡ 7 → ⊥) → o ≡ heightOf (framesOf p c)
-unfolding heightOf heightIn levelOf frameOf
+unfolding heightOf heightIn levelAt frameOf
 height-beside p c o r S n a b d =
-    let g : levelOf p (c - 1) .outer ≡ heightOf (framesOf p (c - 1)) = S .plain (c - 1) (omega arith) .outer-blocks in
+    let g : levelAt p (c - 1) .outer ≡ heightOf (framesOf p (c - 1)) = S .plain (c - 1) (omega arith) .outer-blocks in
     rw (frames-less p c (omega arith), ne-eqb (fieldOf p (c - 1) 6) 7 (λ z. d (b ∙ z))) (a ∙ g)
 
 pub height-none : (p : List ℕ) (c : ℕ) → c ≡ 0 → 0 ≡ heightOf (framesOf p c)
@@ -100,7 +100,7 @@ pub spot-private : (t : List ℕ) (root : ℕ) (p : List ℕ) (c k part kind val
   part ≡ fieldOf p (c - 1) 0 → kind ≡ fieldOf p (c - 1) 1 → value ≡ fieldOf p (c - 1) 2 → base ≡ fieldOf p (c - 1) 3 →
   word t part 0 ≡ 128 → o ≡ inPrivate t part kind value (k - base) (storeOf (framesOf p c)) →
   Here o ≡ spotIn t root p c k noMove
-unfolding spotIn levelOf
+unfolding spotIn levelAt
 spot-private t root p c k part kind value base o n a b d e w h =
     rw (ne-eqb c 0 n, ← a, ← b, ← d, ← e)
     (ap Here h ∙ sym (down-private t part kind value (k - base) (heightOf (framesOf p c)) (storeOf (framesOf p c))
@@ -110,12 +110,12 @@ pub spot-down : (t : List ℕ) (root : ℕ) (p : List ℕ) (c k part kind value 
   part ≡ fieldOf p (c - 1) 0 → kind ≡ fieldOf p (c - 1) 1 → value ≡ fieldOf p (c - 1) 2 → base ≡ fieldOf p (c - 1) 3 →
   h ≡ heightOf (framesOf p c) → S ≡ downOf t part kind value (k - base) (storeOf (framesOf p c)) h noMove →
   S ≡ spotIn t root p c k noMove
-unfolding spotIn levelOf
+unfolding spotIn levelAt
 spot-down t root p c k part kind value base h S n a b d e g q = rw (ne-eqb c 0 n, ← a, ← b, ← d, ← e, ← g) q
 
 -- a level that is left
 pub leaves : (p : List ℕ) (c k v : ℕ) → v ≡ fieldOf p (c - 1) 4 → k < v → Covers p c k
-unfolding levelOf
+unfolding levelAt
 leaves p c k v e h z = omega (arith, e)
 
 -- the level of a part
@@ -128,14 +128,14 @@ unfolding childOf upOf
 child-is t root p c k part kind value f s w z e h u a b d g i j = rw (g, a, b, d, i, j, frames-length p c)
 
 -- whom a state waits for
-ear-fields : (t : List ℕ) (k at q x : ℕ) →
-  (earOf t k at q x .state ≡ k) × (earOf t k at q x .at ≡ at) × (earOf t k at q x .kind ≡ q) × (earOf t k at q x
+wait-fields : (t : List ℕ) (k at q x : ℕ) →
+  (waitOf t k at q x .state ≡ k) × (waitOf t k at q x .at ≡ at) × (waitOf t k at q x .kind ≡ q) × (waitOf t k at q x
       .value ≡ x)
-unfolding earOf
-ear-fields t k at q x = go (ℕ-discrete q 7)
+unfolding waitOf
+wait-fields t k at q x = go (ℕ-discrete q 7)
   where
-    go : Dec (q ≡ 7) → (earOf t k at q x .state ≡ k) × (earOf t k at q x .at ≡ at) × (earOf t k at q x .kind ≡ q) ×
-      (earOf t k at q x .value ≡ x)
+    go : Dec (q ≡ 7) → (waitOf t k at q x .state ≡ k) × (waitOf t k at q x .at ≡ at) × (waitOf t k at q x .kind ≡ q) ×
+      (waitOf t k at q x .value ≡ x)
     go (yes e) = rw (eq-eqb q 7 e) (refl, refl, refl, refl)
     go (no e) = rw (ne-eqb q 7 e) (refl, refl, refl, refl)
 
@@ -147,36 +147,38 @@ waits-first t N root k at q x o e w z =
     let h : Hear root 7 0 ≡ Hear at q x = rw z at (e ∙ w) in
     cc
 
-ear-named : (t : List ℕ) (k at q x : ℕ) → (q ≡ 7 → ⊥) → earOf t k at q x .id ≡ nameId t at
-unfolding earOf
-ear-named t k at q x n = rw (ne-eqb q 7 n)
+wait-named : (t : List ℕ) (k at q x : ℕ) → (q ≡ 7 → ⊥) → waitOf t k at q x .id ≡ nameId t at
+unfolding waitOf
+wait-named t k at q x n = rw (ne-eqb q 7 n)
 
-pub row-listens : (t : List ℕ) (N : Numbers) (root : ℕ) (p : List ℕ) (c k at q x : ℕ) (out : Out) (ear : Ear) →
-  Arrived t root p c k out → out ≡ Hear at q x → ear ≡ earOf t k at q x → Listening t N root p c ear
-row-listens t N root p c k at q x out ear A w g = record
+pub row-listens : (t : List ℕ) (N : Numbers) (root : ℕ) (p : List ℕ) (c k at q x : ℕ) (out : Out) (wait : Wait) →
+  Arrived t root p c k out → out ≡ Hear at q x → wait ≡ waitOf t k at q x → Listening t N root p c wait
+row-listens t N root p c k at q x out wait A w g = record
   { sound = A .kept .sound
   ; hears = λ m. rw (g, f .0, f .1, f .2, f .3) (A .at .hears N m at q x w)
   ; first = rw (g, f .0, f .2) (waits-first t N root k at q x _ (A .at .does N)
       (ap (λ (y : Out). riseAll N (framesOf p c) y) w ∙ rise-hear N (framesOf p c) at q x))
-  ; named = rw (g, f .1, f .2) (λ n. ear-named t k at q x n) }
+  ; named = rw (g, f .1, f .2) (λ n. wait-named t k at q x n) }
   where
-    f : (earOf t k at q x .state ≡ k) × (earOf t k at q x .at ≡ at) × (earOf t k at q x .kind ≡ q) ×
-      (earOf t k at q x .value ≡ x)
-    f = ear-fields t k at q x
+    f : (waitOf t k at q x .state ≡ k) × (waitOf t k at q x .at ≡ at) × (waitOf t k at q x .kind ≡ q) ×
+      (waitOf t k at q x .value ≡ x)
+    f = wait-fields t k at q x
 
 -- where a move leads
-pub heard-start : (t : List ℕ) (N : Numbers) (s : Site) (p : List ℕ) (c : ℕ) (ear : Ear) (m : Move) (o : Out) (r : ℕ) →
-  Listening t N (s .root) p c ear → ear .state ≡ 0 → o ≡ atStart t (s .root) m →
-  r ≡ targetOf s (riseAll N (framesOf p c) o) → r ≡ targetOf s (sheetAt t N (s .root) (ear .state) m)
+pub heard-start : (t : List ℕ) (N : Numbers) (s : Site) (p : List ℕ) (c : ℕ) (wait : Wait) (m : Move) (o : Out)
+    (r : ℕ) →
+  Listening t N (s .root) p c wait → wait .state ≡ 0 → o ≡ atStart t (s .root) m →
+  r ≡ targetOf s (riseAll N (framesOf p c) o) → r ≡ targetOf s (sheetAt t N (s .root) (wait .state) m)
 unfolding waitAt
-heard-start t N s p c ear m o r L z e g =
-    let h = rw (eq-eqb (ear .state) 0 z) at (L .hears m) in
+heard-start t N s p c wait m o r L z e g =
+    let h = rw (eq-eqb (wait .state) 0 z) at (L .hears m) in
     g ∙ ap (λ (y : Out). targetOf s (riseAll N (framesOf p c) y)) e ∙ ap (λ (y : Out). targetOf s y) (sym h)
 
-pub heard-later : (t : List ℕ) (N : Numbers) (s : Site) (p : List ℕ) (c : ℕ) (ear : Ear) (m : Move) (o : Out) (r : ℕ) →
-  Listening t N (s .root) p c ear → (ear .state ≡ 0 → ⊥) → o ≡ atWait t (ear .at) (ear .kind) (ear .value) m →
-  r ≡ targetOf s (riseAll N (framesOf p c) o) → r ≡ targetOf s (sheetAt t N (s .root) (ear .state) m)
+pub heard-later : (t : List ℕ) (N : Numbers) (s : Site) (p : List ℕ) (c : ℕ) (wait : Wait) (m : Move) (o : Out)
+    (r : ℕ) →
+  Listening t N (s .root) p c wait → (wait .state ≡ 0 → ⊥) → o ≡ atWait t (wait .at) (wait .kind) (wait .value) m →
+  r ≡ targetOf s (riseAll N (framesOf p c) o) → r ≡ targetOf s (sheetAt t N (s .root) (wait .state) m)
 unfolding waitAt
-heard-later t N s p c ear m o r L z e g =
-    let h = rw (ne-eqb (ear .state) 0 z) at (L .hears m) in
+heard-later t N s p c wait m o r L z e g =
+    let h = rw (ne-eqb (wait .state) 0 z) at (L .hears m) in
     g ∙ ap (λ (y : Out). targetOf s (riseAll N (framesOf p c) y)) e ∙ ap (λ (y : Out). targetOf s y) (sym h)

@@ -12,10 +12,10 @@ use Rattle.automaton.specs.declared.Spot.the-variants.{Inside}
 use Rattle.automaton.specs.walk.Shows.{Words}
 use Rattle.explicit.specs.declared.Level.{Level}
 use Rattle.explicit.specs.inner.Path.{heightOf, Owned}
-use Rattle.explicit.specs.inner.Levels.{frameOf, framesOf, levelOf, holderOf, enteredOf, Plain, Sound}
+use Rattle.explicit.specs.inner.Levels.{frameOf, framesOf, levelAt, holderOf, enteredOf, Plain, Sound}
 use Rattle.automaton.specs.walk.Name.{noMove}
 use Rattle.explicit.specs.inner.Kept.{spotIn, stopOf, childOf}
-use Rattle.explicit.specs.inner.Kept.{Stands, Kept, Covers}
+use Rattle.explicit.specs.inner.Kept.{Stands, KeptPath, Covers}
 use Rattle.explicit.proofs.PathWords.{frames-length, frames-next, entered-length, entered-new, entered-old}
 use Rattle.explicit.proofs.PathWords.{entered-frames, holder-new, holder-old}
 use Rattle.explicit.proofs.PathValues.{height-low}
@@ -37,7 +37,7 @@ heights-rise p i (suc c) h b = go (decLt i (suc c)) (λ l. heights-rise p i c l 
 
 module _ (t : List ℕ) (W : Words t) (root : ℕ) where
   -- the levels with one more
-  module _ (p : List ℕ) (c k part kind value : ℕ) (f : Frame) (s : k < 65536) (h : c < 33) (K : Kept t root p c k)
+  module _ (p : List ℕ) (c k part kind value : ℕ) (f : Frame) (s : k < 65536) (h : c < 33) (K : KeptPath t root p c k)
       (I : Inner t root p c k part kind value f) where
     abbrev l : Level
     l = childOf t root p c k part kind value f
@@ -73,12 +73,12 @@ module _ (t : List ℕ) (W : Words t) (root : ℕ) where
     room : length p ≡ 462
     room = K .sound .room
 
-    plain-all : (i : ℕ) → (i < c) ⊎ (i ≡ c) → Plain (framesOf q i) (levelOf q i)
+    plain-all : (i : ℕ) → (i < c) ⊎ (i ≡ c) → Plain (framesOf q i) (levelAt q i)
     plain-all i (inl a) = rw (entered-old p c l h room i a, entered-frames p c l h room i (omega arith)) (K .sound
         .plain i a)
     plain-all i (inr e) = rw (e, entered-new p c l h room, entered-frames p c l h room c (omega arith)) child-plain
 
-    stands-all : (i : ℕ) → (i < c) ⊎ (i ≡ c) → Stands t root (framesOf q i) (levelOf q i)
+    stands-all : (i : ℕ) → (i < c) ⊎ (i ≡ c) → Stands t root (framesOf q i) (levelAt q i)
     stands-all i (inl a) = rw (entered-old p c l h room i a, entered-frames p c l h room i (omega arith)) (K .stands i
         a)
     stands-all i (inr e) =
@@ -86,7 +86,7 @@ module _ (t : List ℕ) (W : Words t) (root : ℕ) where
             kind value f h (K
             .stands) I)
 
-    begun-all : (i : ℕ) → (i < c) ⊎ (i ≡ c) → levelOf q i .base ≤ k
+    begun-all : (i : ℕ) → (i < c) ⊎ (i ≡ c) → levelAt q i .base ≤ k
     begun-all i (inl a) = rw (entered-old p c l h room i a) (K .begun i a)
     begun-all i (inr e) = rw (e, entered-new p c l h room) child-begins
 
@@ -95,22 +95,22 @@ module _ (t : List ℕ) (W : Words t) (root : ℕ) where
     outer-low = omega (arith, height-low (framesOf p c), frames-length p c)
 
     -- a block before it has fewer outside
-    outer-less : (i : ℕ) → i < c → levelOf p i .f .role ≡ 7 → levelOf p i .outer ≡ l .outer → ⊥
+    outer-less : (i : ℕ) → i < c → levelAt p i .f .role ≡ 7 → levelAt p i .outer ≡ l .outer → ⊥
     unfolding childOf
     outer-less i a e g =
-        let o : levelOf p i .outer ≡ heightOf (framesOf p i) = K .sound .plain i a .outer-blocks in
+        let o : levelAt p i .outer ≡ heightOf (framesOf p i) = K .sound .plain i a .outer-blocks in
         let s : heightOf (framesOf p (suc i)) ≡ suc (heightOf (framesOf p i)) =
-              ap heightOf (frames-next p i) ∙ height-block (levelOf p i .f) (framesOf p i) e
+              ap heightOf (frames-next p i) ∙ height-block (levelAt p i .f) (framesOf p i) e
                 (omega (arith, frames-length p i)) in
         omega (arith, heights-rise p (suc i) c (omega arith) (omega arith))
 
-    held-all : (i : ℕ) → (i < c) ⊎ (i ≡ c) → levelOf q i .f .role ≡ 7 → holderOf q (levelOf q i .outer) ≡ i
+    held-all : (i : ℕ) → (i < c) ⊎ (i ≡ c) → levelAt q i .f .role ≡ 7 → holderOf q (levelAt q i .outer) ≡ i
     held-all i (inl a) = rw (entered-old p c l h room i a) (λ e.
-      holder-old p c l h room (levelOf p i .outer) (λ _ g. outer-less i a e g) ∙ K .sound .held i a e)
+      holder-old p c l h room (levelAt p i .outer) (λ _ g. outer-less i a e g) ∙ K .sound .held i a e)
     held-all i (inr d) = rw (d, entered-new p c l h room) (λ e. holder-new p c l h room e outer-low)
 
     -- THEOREM: with the part's level the path is kept
-    pub deeper : (p′ : List ℕ) → p′ ≡ q → Kept t root p′ (c + 1) k × Covers p′ (c + 1) k
+    pub deeper : (p′ : List ℕ) → p′ ≡ q → KeptPath t root p′ (c + 1) k × Covers p′ (c + 1) k
     deeper p′ e = rw (e, add-one) (record
       { sound = record
           { room = entered-length p c l h room
@@ -123,8 +123,9 @@ module _ (t : List ℕ) (W : Words t) (root : ℕ) where
 
   -- a turn of the code: the part's level is written
   pub goes-deeper : (p p′ : List ℕ) (c k part kind value inner : ℕ) (f : Frame) (l : Level) → k < 65536 → c < 33 →
-    Kept t root p c k → Covers p c k → Inside part kind value inner f ≡ spotIn t root p c k noMove →
-    l ≡ childOf t root p c k part kind value f → p′ ≡ enteredOf p c l → Kept t root p′ (c + 1) k × Covers p′ (c + 1) k
+    KeptPath t root p c k → Covers p c k → Inside part kind value inner f ≡ spotIn t root p c k noMove →
+    l ≡ childOf t root p c k part kind value f → p′ ≡ enteredOf p c l → KeptPath t root p′ (c + 1) k × Covers p′
+        (c + 1) k
   goes-deeper p p′ c k part kind value inner f l s h K C e g w =
       deeper p c k part kind value f s h K (entered t W root p c k part kind value inner f s h K C e) p′
         (w ∙ ap (λ (y : Level). enteredOf p c y) g)
@@ -138,8 +139,8 @@ child-low t root p c k part kind value f l S h e =
     rw e (omega (arith, height-low (framesOf p c), frames-length p c))
 
 -- fewer levels are kept too, and for a later state
-pub kept-fewer : {t : List ℕ} {root : ℕ} {p : List ℕ} {c k : ℕ} (c′ k′ : ℕ) → Kept t root p c k → c′ ≤ c → k ≤ k′ →
-  Kept t root p c′ k′
+pub kept-fewer : {t : List ℕ} {root : ℕ} {p : List ℕ} {c k : ℕ} (c′ k′ : ℕ) → KeptPath t root p c k → c′ ≤ c → k ≤ k′ →
+  KeptPath t root p c′ k′
 kept-fewer c′ k′ K a b = record
   { sound = record
       { room = K .sound .room; few = omega (arith, K .sound .few); plain = λ i l. K .sound .plain i (omega arith)
@@ -148,7 +149,7 @@ kept-fewer c′ k′ K a b = record
   ; begun = λ i l. omega (arith, K .begun i (omega arith)) }
 
 -- before the first state
-pub kept-none : (t : List ℕ) (root : ℕ) (p : List ℕ) → length p ≡ 462 → Kept t root p 0 0
+pub kept-none : (t : List ℕ) (root : ℕ) (p : List ℕ) → length p ≡ 462 → KeptPath t root p 0 0
 kept-none t root p e = record
   { sound = record { room = e; few = omega arith; plain = λ i l. absurd (omega arith); held = λ i l. absurd (omega
       arith) }

@@ -16,7 +16,7 @@ use Rattle.automaton.specs.declared.Spot.the-variants.{Here, Inside}
 use Rattle.automaton.specs.walk.Row.{nameCount, nameId, sumOf, partClass, partValues, partWeight}
 use Rattle.language.specs.Operator.{operate}
 use Rattle.automaton.specs.walk.Types.{answersOf, answerNumber, questionKind, questionValue}
-use Rattle.automaton.specs.walk.Name.{argHere, inArgs, replyHere, replyOf, atWait, inName, spotsOf, saidOf, copiesOf}
+use Rattle.automaton.specs.walk.Name.{argHere, inArgs, replyHere, replyOf, atWait, inName, argSpots, saidOf, copiesOf}
 use Rattle.automaton.specs.walk.Down.{inFetch, inSeq, inWhile, condIn, inCond, operateIn, inOperate, assignIn, inAssign}
 use Rattle.automaton.specs.walk.Down.{inNew, inPrivate, downAs, downOf}
 use Rattle.language.specs.declared.Numbers.{Numbers}
@@ -94,11 +94,11 @@ module _ (t : List ℕ) where
   listens-name at q x k =
       listens-pick (eqb k 0) _ _ (still (Here (saidOf q (nameId t at) 0 x)) tt)
       (listens-pick (eqb k 1) _ _ (waits at q x)
-      (listens-pick (ltb (k - 2) (spotsOf t at 0 (nameCount t at))) _ _
-        (still (inArgs t at 0 (nameCount t at) (k - 2) 2 (sumOf 2 (spotsOf t at 0 (nameCount t at))))
-          (still-args at 0 (nameCount t at) (k - 2) 2 (sumOf 2 (spotsOf t at 0 (nameCount t at)))))
-        (still (Here (replyOf t (nameId t at) at 0 (nameCount t at) (k - 2 - spotsOf t at 0 (nameCount t at))))
-          (still-reply (nameId t at) at 0 (nameCount t at) (k - 2 - spotsOf t at 0 (nameCount t at))))))
+      (listens-pick (ltb (k - 2) (argSpots t at 0 (nameCount t at))) _ _
+        (still (inArgs t at 0 (nameCount t at) (k - 2) 2 (sumOf 2 (argSpots t at 0 (nameCount t at))))
+          (still-args at 0 (nameCount t at) (k - 2) 2 (sumOf 2 (argSpots t at 0 (nameCount t at)))))
+        (still (Here (replyOf t (nameId t at) at 0 (nameCount t at) (k - 2 - argSpots t at 0 (nameCount t at))))
+          (still-reply (nameId t at) at 0 (nameCount t at) (k - 2 - argSpots t at 0 (nameCount t at))))))
 
   still-fetch : (at k : ℕ) → StillAt (inFetch t at k)
   unfolding inFetch StillAt

@@ -20,12 +20,12 @@ use Rattle.automaton.specs.walk.Step.{stepAt}
 use Rattle.automaton.specs.walk.Shows.{Words}
 use Rattle.explicit.specs.inner.States.{atStart, afterOf, sheetAt}
 use Rattle.explicit.specs.inner.Path.{Same, SameAt, riseAll, heightOf, storeOf}
-use Rattle.explicit.specs.inner.Levels.{framesOf, levelOf}
+use Rattle.explicit.specs.inner.Levels.{framesOf, levelAt}
 use Rattle.automaton.specs.walk.Name.{noMove}
 use Rattle.explicit.specs.inner.Kept.{sheetSpot, spotIn, startOf, stopOf, leastOf, untilOf, childOf}
-use Rattle.explicit.specs.inner.Kept.{Stands, Kept, Covers}
-use Rattle.automaton.specs.walk.Row.{placeOf}
-use Rattle.automaton.proofs.Sums.{place-small}
+use Rattle.explicit.specs.inner.Kept.{Stands, KeptPath, Covers}
+use Rattle.automaton.specs.walk.Row.{mulAddOf}
+use Rattle.automaton.proofs.Sums.{mul-add-small}
 use Rattle.explicit.proofs.Steady.{in-copy, small-word, steady, steady-argument}
 use Rattle.explicit.proofs.PathWords.{frames-length}
 use Rattle.explicit.proofs.PathValues.{height-low}
@@ -73,9 +73,9 @@ arg-base : (part class n w k base after part′ kind value inner : ℕ) (f : Fra
 unfolding argHere
 arg-base part class n w k base after part′ kind value inner f e p a b d =
     let h = rw (ne-eqb w 0 (λ z. omega arith)) at e in
-    let g : f ≡ framedOf 6 (placeOf (k / w) w base) after class n (k / w) = cc in
-    let q : f .base ≡ placeOf (k / w) w base = ap (λ (y : Frame). y .base) g in
-    omega (arith, q, place-small (k / w) w base (omega (arith, in-copy w k p .2)) a (omega arith))
+    let g : f ≡ framedOf 6 (mulAddOf (k / w) w base) after class n (k / w) = cc in
+    let q : f .base ≡ mulAddOf (k / w) w base = ap (λ (y : Frame). y .base) g in
+    omega (arith, q, mul-add-small (k / w) w base (omega (arith, in-copy w k p .2)) a (omega arith))
 
 as-same : (t : List ℕ) (outer : ℕ) (F : ℕ → Move → Spot) (k part kind value inner : ℕ) (f : Frame) (S : Spot) →
   S ≡ Inside part kind value inner f → SameAt t outer F k S → Same t outer F k part kind value inner f
@@ -144,8 +144,8 @@ module _ (t : List ℕ) (W : Words t) (root : ℕ) where
                 (omega arith) F (λ k′ m r d. refl)))
 
   -- of the innermost of some levels
-  inner-next : (p : List ℕ) (i k part kind value inner : ℕ) (f : Frame) → k < 65536 → i < 33 → 0 < levelOf p i .base →
-    levelOf p i .base ≤ k → k < levelOf p i .end →
+  inner-next : (p : List ℕ) (i k part kind value inner : ℕ) (f : Frame) → k < 65536 → i < 33 → 0 < levelAt p i .base →
+    levelAt p i .base ≤ k → k < levelAt p i .end →
     spotIn t root p (suc i) k noMove ≡ Inside part kind value inner f → Inner t root p (suc i) k part kind value f
   inner-next p i k part kind value inner f s u o a b e = record
     { begins = omega (arith, S .whole, start-next p i)
@@ -157,16 +157,16 @@ module _ (t : List ℕ) (W : Words t) (root : ℕ) where
         ∙ ap (λ (y : ℕ). Inside part kind value y f) (omega (arith, start-next p i)) }
     where
       base : ℕ
-      base = levelOf p i .base
+      base = levelAt p i .base
       height : ℕ
       height = heightOf (framesOf p (suc i))
       F : ℕ → Move → Spot
-      F k m = downOf t (levelOf p i .part) (levelOf p i .kind) (levelOf p i .value) k (storeOf (framesOf p (suc i)))
+      F k m = downOf t (levelAt p i .part) (levelAt p i .kind) (levelAt p i .value) k (storeOf (framesOf p (suc i)))
         (heightOf (framesOf p (suc i))) m
       S : Same t height F (k - base) part kind value inner f
       S = as-same t height F (k - base) part kind value inner f (F (k - base) noMove) (sym (spot-next t root p i k
           noMove) ∙ e)
-        (steady t W height (levelOf p i .part) (levelOf p i .kind) (levelOf p i .value)
+        (steady t W height (levelAt p i .part) (levelAt p i .kind) (levelAt p i .value)
           (storeOf (framesOf p (suc i))) (omega (arith, height-low (framesOf p (suc i)), frames-length p (suc i)))
           (k - base) noMove (omega arith))
       over : (k′ : ℕ) → base + f .base ≤ k′ → (k′ ≤ k) ⊎ (k′ < startOf p (suc i) + f .base + word t part 1) →
@@ -176,7 +176,7 @@ module _ (t : List ℕ) (W : Words t) (root : ℕ) where
 
   -- THEOREM: a part that the path is entered to stands there
   pub deeper-stands : (p : List ℕ) (c k part kind value : ℕ) (f : Frame) → c < 33 →
-    ((i : ℕ) → i < c → Stands t root (framesOf p i) (levelOf p i)) → Inner t root p c k part kind value f →
+    ((i : ℕ) → i < c → Stands t root (framesOf p i) (levelAt p i)) → Inner t root p c k part kind value f →
     Stands t root (framesOf p c) (childOf t root p c k part kind value f)
   unfolding childOf
   deeper-stands p c k part kind value f h S I = record
@@ -201,7 +201,7 @@ module _ (t : List ℕ) (W : Words t) (root : ℕ) where
               (heightOf (f ∷ fs)) m)) (omega (arith, frames-length p c))
 
   -- where the path holds the state k
-  pub entered : (p : List ℕ) (c k part kind value inner : ℕ) (f : Frame) → k < 65536 → c < 33 → Kept t root p c k →
+  pub entered : (p : List ℕ) (c k part kind value inner : ℕ) (f : Frame) → k < 65536 → c < 33 → KeptPath t root p c k →
     Covers p c k → Inside part kind value inner f ≡ spotIn t root p c k noMove → Inner t root p c k part kind value f
   unfolding spotIn
   entered p zero k part kind value inner f s h K C e = inner-first p k part kind value inner f s (sym e)

@@ -13,7 +13,7 @@ use Rattle.automaton.specs.declared.Move.{Move}
 use Rattle.automaton.specs.declared.Frame.{Frame}
 use Rattle.automaton.specs.declared.Out.{Out}
 use Rattle.automaton.specs.declared.Out.the-variants.{Go, Exit, Say, Hear, Stuck}
-use Rattle.automaton.specs.walk.Row.{sumOf, placeOf}
+use Rattle.automaton.specs.walk.Row.{sumOf, mulAddOf}
 use Rattle.automaton.specs.walk.Up.{goesOf, riseOf}
 use Rattle.automaton.proofs.Sums.{sum-small}
 use Rattle.explicit.specs.inner.Path.{riseAll, baseOf, heightOf, Owned, blockIn}

@@ -1,7 +1,6 @@
--- What a step of the innermost part becomes in the whole sheet: a silent step that writes no block's variable is moved
--- by
--- the first state of the part, and an exit that no block of its variable is left to see leads where it leads without
--- it.
+-- What a step of the innermost part becomes in the whole sheet: a silent step that writes no block's variable is
+-- moved by the first state of the part, and an exit that no block of its variable is left to see leads where it leads
+-- without it.
 use mathlib.Core.Path.{_≡_, refl, sym, _∙_, ap}
 use mathlib.Core.Bool.{Bool, true, false}
 use mathlib.Core.List.{List, [], _∷_}
@@ -19,7 +18,7 @@ use Rattle.automaton.specs.declared.Frame.{Frame}
 use Rattle.automaton.specs.declared.Out.{Out}
 use Rattle.automaton.specs.declared.Out.the-variants.{Go, Exit, Say, Hear, Stuck}
 use Rattle.language.specs.Operator.{operate}
-use Rattle.automaton.specs.walk.Row.{sumOf, placeOf}
+use Rattle.automaton.specs.walk.Row.{sumOf, mulAddOf}
 use Rattle.automaton.specs.walk.Types.{questionKind, questionValue, answerNumber}
 use Rattle.automaton.specs.walk.Store.{heightIn}
 use Rattle.automaton.specs.walk.Up.{exitDone, exitTruth, exitValue, exitResult, exitOperate, exitAssign, exitArgument}
@@ -63,7 +62,7 @@ alike-result (some x) l u v = a-exit 5 x v
 
 -- the copy of a part that a value leads to, the result of an operator, the number of an answer
 abbrev copy : Frame → ℕ → ℕ
-copy f x = placeOf x (f .b) (f .a)
+copy f x = mulAddOf x (f .b) (f .a)
 
 abbrev result : Numbers → Frame → ℕ → Option ℕ
 result N f x = operate N (f .b % 256) (f .a % 65536) (x % 65536)
@@ -90,7 +89,7 @@ module _ (N : Numbers) where
   quiet-rise : (f : Frame) (o : Out) → Quiet o → Quiet (riseOf N f o)
   unfolding riseOf goesOf
   quiet-rise f o (q-go next l u) =
-      quiet-pick (eqb (f .role) 7) (quiet-pick (eqb l (f .a)) (q-go (placeOf u (f .b) next) 0 0) (q-go (sumOf (f .base)
+      quiet-pick (eqb (f .role) 7) (quiet-pick (eqb l (f .a)) (q-go (mulAddOf u (f .b) next) 0 0) (q-go (sumOf (f .base)
           next) l u))
       (q-go (sumOf (f .base) next) l u)
   quiet-rise f o (q-exit k x l u) = quiet-exits f k x l u

@@ -11,12 +11,12 @@ use Rattle.automaton.specs.declared.Out.{Out}
 use Rattle.automaton.specs.declared.Out.the-variants.{Go, Exit, Say, Hear, Stuck}
 use Rattle.automaton.specs.walk.Row.{sumOf}
 use Rattle.explicit.specs.declared.Site.{Site}
-use Rattle.explicit.specs.declared.Ear.{Ear}
+use Rattle.explicit.specs.declared.Wait.{Wait}
 use Rattle.explicit.specs.inner.Path.{riseAll, Owned}
 use Rattle.explicit.specs.inner.Levels.{framesOf, Sound}
 use Rattle.explicit.specs.inner.Kept.{Arrived}
 use Rattle.explicit.specs.inner.Rows.{withEdge, withEdges, past, withHead}
-use Rattle.explicit.specs.inner.Moves.{letterOf, earOf, targetOf, visibleOf, silentOf, edgesOf, heardEdges}
+use Rattle.explicit.specs.inner.Moves.{letterOf, waitOf, targetOf, visibleOf, silentOf, edgesOf, heardEdges}
 use Rattle.explicit.proofs.PathRise.{Quiet, q-go, q-exit, q-stuck, quiet-all}
 use Rattle.explicit.proofs.PathLead.{rise-say, rise-hear, rise-stuck}
 use Rattle.explicit.proofs.PathSays.{frames-owned}
@@ -89,10 +89,10 @@ module _ (t : List ℕ) (N : Numbers) (s : Site) (p : List ℕ) (c k e : ℕ) (o
         (ap (λ (y : Out). riseAll N (framesOf p c) y) eo ∙ r .1)
         (edge-of ws₁ ws′ N (s .n) e (s .o) (r .0) letter to m el g ew) ee
 
-  pub row-hears : (of q x e′ : ℕ) (ear : Ear) (ws′ : List ℕ) → out ≡ Hear of q x → ear ≡ earOf t k of q x →
-    e′ ≡ past e (heardEdges t N s ear 35) → ws′ ≡ withEdges ws₁ (s .n) e (heardEdges t N s ear 35) →
+  pub row-hears : (of q x e′ : ℕ) (wait : Wait) (ws′ : List ℕ) → out ≡ Hear of q x → wait ≡ waitOf t k of q x →
+    e′ ≡ past e (heardEdges t N s wait 35) → ws′ ≡ withEdges ws₁ (s .n) e (heardEdges t N s wait 35) →
     WroteRow t N s ws k e e′ ws′
-  row-hears of q x e′ ear ws′ eo er ee ew =
+  row-hears of q x e′ wait ws′ eo er ee ew =
       row-hear t N s k e e′ of q x did ws ws₁ ws′ (sym (A .at .does N)) head
         (ap (λ (y : Out). riseAll N (framesOf p c) y) eo ∙ rise-hear N (framesOf p c) of q x)
-        (wrote-by t N s ear k of q x e e′ ws₁ ws′ er ee ew)
+        (wrote-by t N s wait k of q x e e′ ws₁ ws′ er ee ew)

@@ -20,7 +20,7 @@ use Rattle.automaton.specs.walk.Up.{riseOf}
 use Rattle.automaton.specs.walk.Step.{onSpot, stepAt}
 use Rattle.explicit.specs.inner.States.{afterOf, sheetAt, withinOf}
 use Rattle.explicit.specs.inner.Path.{riseAll, heightOf, storeOf, baseOf, Owned}
-use Rattle.explicit.specs.inner.Levels.{framesOf, levelOf, Sound}
+use Rattle.explicit.specs.inner.Levels.{framesOf, levelAt, Sound}
 use Rattle.explicit.specs.inner.Kept.{sheetSpot, spotIn, startOf, stopOf}
 use Rattle.explicit.specs.inner.Kept.{Stands}
 use Rattle.explicit.proofs.PathWords.{frames-next, frames-length}
@@ -61,26 +61,26 @@ sheet-says t N root k m = go (ℕ-discrete k 0) (decLt k (afterOf t root))
 
 -- a level's states are those of the part it gives
 level-says : (t : List ℕ) (N : Numbers) (root : ℕ) (p : List ℕ) (i k : ℕ) (m : Move) → i < 32 →
-  Stands t root (framesOf p i) (levelOf p i) → levelOf p i .base ≤ k → k < levelOf p i .end →
+  Stands t root (framesOf p i) (levelAt p i) → levelAt p i .base ≤ k → k < levelAt p i .end →
   sheetAt t N root k m ≡ riseAll N (framesOf p (suc i)) (after-spot t N (framesOf p (suc i)) (32 - suc i) m
-    (downOf t (levelOf p i .part) (levelOf p i .kind) (levelOf p i .value) (k - levelOf p i .base)
+    (downOf t (levelAt p i .part) (levelAt p i .kind) (levelAt p i .value) (k - levelAt p i .base)
       (storeOf (framesOf p (suc i))) (heightOf (framesOf p (suc i))) m))
 unfolding after-spot stepAt storeOf heightOf
 level-says t N root p i k m h S a b =
     let e : 32 - length (framesOf p i) ≡ suc (32 - suc i) = omega (arith, frames-length p i) in
     rw (frames-next p i) (subst (λ (y : ℕ). sheetAt t N root k m ≡
-      riseAll N (levelOf p i .f ∷ framesOf p i) (stepAt t N y (levelOf p i .part) (levelOf p i .kind) (levelOf p i
+      riseAll N (levelAt p i .f ∷ framesOf p i) (stepAt t N y (levelAt p i .part) (levelAt p i .kind) (levelAt p i
           .value)
-        (k - levelOf p i .base) (storeOf (levelOf p i .f ∷ framesOf p i)) (heightOf (levelOf p i .f ∷ framesOf p i)) m))
+        (k - levelAt p i .base) (storeOf (levelAt p i .f ∷ framesOf p i)) (heightOf (levelAt p i .f ∷ framesOf p i)) m))
       e (S .says N k m a b))
 
 -- the innermost of c levels has the state k
 abbrev pub Holds : List ℕ → ℕ → ℕ → Type 0
-Holds p c k = 0 < c → (levelOf p (c - 1) .base ≤ k) × (k < levelOf p (c - 1) .end)
+Holds p c k = 0 < c → (levelAt p (c - 1) .base ≤ k) × (k < levelAt p (c - 1) .end)
 
 -- THEOREM: a state of the innermost level does what is done where it is there, risen through the frames
 pub path-says : (t : List ℕ) (N : Numbers) (root : ℕ) (p : List ℕ) (c k : ℕ) (m : Move) → c < 33 →
-  ((i : ℕ) → i < c → Stands t root (framesOf p i) (levelOf p i)) → Holds p c k →
+  ((i : ℕ) → i < c → Stands t root (framesOf p i) (levelAt p i)) → Holds p c k →
   sheetAt t N root k m ≡ riseAll N (framesOf p c) (after-spot t N (framesOf p c) (32 - c) m (spotIn t root p c k m))
 unfolding spotIn riseAll framesOf
 path-says t N root p zero k m h S l = sheet-says t N root k m
@@ -91,21 +91,21 @@ path-says t N root p (suc i) k m h S l =
         .0) (b .1))
 
 -- the innermost of some levels
-pub start-next : (p : List ℕ) (i : ℕ) → startOf p (suc i) ≡ levelOf p i .base
+pub start-next : (p : List ℕ) (i : ℕ) → startOf p (suc i) ≡ levelAt p i .base
 unfolding startOf
 start-next p i = let e : suc i - 1 ≡ i = omega arith in rw (ne-eqb (suc i) 0 (λ z. omega arith), e)
 
-pub stop-next : (t : List ℕ) (root : ℕ) (p : List ℕ) (i : ℕ) → stopOf t root p (suc i) ≡ levelOf p i .end
+pub stop-next : (t : List ℕ) (root : ℕ) (p : List ℕ) (i : ℕ) → stopOf t root p (suc i) ≡ levelAt p i .end
 unfolding stopOf
 stop-next t root p i = let e : suc i - 1 ≡ i = omega arith in rw (ne-eqb (suc i) 0 (λ z. omega arith), e)
 
 pub spot-next : (t : List ℕ) (root : ℕ) (p : List ℕ) (i k : ℕ) (m : Move) → spotIn t root p (suc i) k m ≡
-  downOf t (levelOf p i .part) (levelOf p i .kind) (levelOf p i .value) (k - levelOf p i .base)
+  downOf t (levelAt p i .part) (levelAt p i .kind) (levelAt p i .value) (k - levelAt p i .base)
     (storeOf (framesOf p (suc i))) (heightOf (framesOf p (suc i))) m
 unfolding spotIn
 spot-next t root p i k m = let e : suc i - 1 ≡ i = omega arith in rw (ne-eqb (suc i) 0 (λ z. omega arith), e)
 
-pub stop-low : (t : List ℕ) (root : ℕ) (p : List ℕ) (c : ℕ) → ((i : ℕ) → i < c → Stands t root (framesOf p i) (levelOf p
+pub stop-low : (t : List ℕ) (root : ℕ) (p : List ℕ) (c : ℕ) → ((i : ℕ) → i < c → Stands t root (framesOf p i) (levelAt p
     i)) →
   stopOf t root p c ≤ afterOf t root
 unfolding stopOf
@@ -113,7 +113,7 @@ stop-low t root p zero S = omega arith
 stop-low t root p (suc i) S = omega (arith, stop-next t root p i, S i (omega arith) .before-answers)
 
 pub in-range : (t : List ℕ) (root : ℕ) (p : List ℕ) (c k : ℕ) → 0 < c → startOf p c ≤ k → k < stopOf t root p c →
-  (levelOf p (c - 1) .base ≤ k) × (k < levelOf p (c - 1) .end)
+  (levelAt p (c - 1) .base ≤ k) × (k < levelAt p (c - 1) .end)
 unfolding startOf stopOf
 in-range t root p c k g a b =
     let n : (c ≡ 0 → ⊥) = λ z. omega arith in

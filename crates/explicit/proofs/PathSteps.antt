@@ -12,12 +12,12 @@ use Rattle.automaton.specs.declared.Move.{Move}
 use Rattle.automaton.specs.declared.Frame.{Frame}
 use Rattle.automaton.specs.declared.Out.{Out}
 use Rattle.automaton.specs.declared.Out.the-variants.{Go, Exit, Say, Hear, Stuck}
-use Rattle.automaton.specs.walk.Row.{sumOf, placeOf}
+use Rattle.automaton.specs.walk.Row.{sumOf, mulAddOf}
 use Rattle.automaton.specs.walk.Up.{exitsOf}
 use Rattle.explicit.specs.declared.Site.{Site}
 use Rattle.explicit.specs.inner.Moves.{targetOf}
 use Rattle.explicit.specs.inner.Path.{riseAll, baseOf, storeOf, heightOf, Owned, upOf, blockIn}
-use Rattle.explicit.specs.inner.Levels.{fieldOf, frameOf, levelOf, framesOf, holderOf, Sound}
+use Rattle.explicit.specs.inner.Levels.{fieldOf, frameOf, levelAt, framesOf, holderOf, Sound}
 use Rattle.explicit.specs.inner.Kept.{startOf}
 use Rattle.explicit.proofs.PathWords.{frames-next}
 use Rattle.explicit.proofs.PathLead.{rise-go, block-none}
@@ -36,7 +36,7 @@ unfolding upOf framesOf
 up-none p c e = rw e
 
 pub up-some : (p : List ℕ) (c u : ℕ) → Sound p c → (c ≡ 0 → ⊥) → u ≡ fieldOf p (c - 1) 12 → u ≡ upOf (framesOf p c)
-unfolding levelOf
+unfolding levelAt
 up-some p c u S n e =
     e ∙ S .plain (c - 1) (omega arith) .upper ∙ ap upOf (sym (frames-less p c (omega arith)))
 
@@ -151,7 +151,7 @@ module _ (N : Numbers) (s : Site) (p : List ℕ) (c next l u b m : ℕ) (S : Sou
     again : suc (m - 1) ≡ m
     again = omega arith
 
-    pub lead-copy : (a f x q r : ℕ) → a ≡ startOf p m → f ≡ fieldOf p (m - 1) 9 → x ≡ placeOf u f (b + next - a) →
+    pub lead-copy : (a f x q r : ℕ) → a ≡ startOf p m → f ≡ fieldOf p (m - 1) 9 → x ≡ mulAddOf u f (b + next - a) →
       x < 4294901760 → q ≡ startOf p (m - 1) → r ≡ sumOf (s .o) (q + x) →
       r ≡ targetOf s (riseAll N (framesOf p c) (Go next l u))
     unfolding frameOf targetOf
@@ -160,9 +160,10 @@ module _ (N : Numbers) (s : Site) (p : List ℕ) (c next l u b m : ℕ) (S : Sou
         let L : Sound p (m - 1) = fewer p c (m - 1) S (omega (arith, block-within p c l m d n .1)) in
         let w : a ≡ baseOf (framesOf p (suc (m - 1))) =
               ga ∙ start-base p m M ∙ ap (λ (y : ℕ). baseOf (framesOf p y)) (sym again) in
-        let x′ : placeOf u (frameOf p (m - 1) .b) (baseOf (framesOf p c) + next - baseOf (framesOf p (suc (m - 1)))) ≡ x
+        let x′ : mulAddOf u (frameOf p (m - 1) .b) (baseOf (framesOf p c) + next - baseOf (framesOf p (suc (m - 1))))
+            ≡ x
             =
-              rw (← base, ← w) (sym (gx ∙ ap (λ (y : ℕ). placeOf u y (b + next - a)) gf)) in
+              rw (← base, ← w) (sym (gx ∙ ap (λ (y : ℕ). mulAddOf u y (b + next - a)) gf)) in
         let q′ : q ≡ baseOf (framesOf p (m - 1)) = gq ∙ start-base p (m - 1) L in
         rw (rise-block N p c l u next (m - 1) found near .1, x′,
           rise-go N (framesOf p (m - 1)) x 0 0 (block-none (framesOf p (m - 1)) (frames-owned p (m - 1) L))

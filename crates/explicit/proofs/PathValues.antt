@@ -16,15 +16,15 @@ use Rattle.automaton.specs.declared.Out.{Out}
 use Rattle.automaton.specs.declared.Spot.{Spot}
 use Rattle.automaton.specs.declared.Spot.the-variants.{Here}
 use Rattle.automaton.specs.walk.Row.{sumOf}
-use Rattle.automaton.specs.walk.Store.{pushed, storeIn, heightIn}
+use Rattle.automaton.specs.walk.Store.{withValue, storeIn, heightIn}
 use Rattle.automaton.specs.walk.Down.{inPrivate, downAs, downOf}
 use Rattle.explicit.specs.inner.Path.{heightOf, storeOf}
 
-pushed-length : (s : List ℕ) (h v : ℕ) → length (pushed s h v) ≡ length s
-unfolding pushed
+pushed-length : (s : List ℕ) (h v : ℕ) → length (withValue s h v) ≡ length s
+unfolding withValue
 pushed-length s h v = go (decLt h 32)
   where
-    go : Dec (h < 32) → length (pushed s h v) ≡ length s
+    go : Dec (h < 32) → length (withValue s h v) ≡ length s
     go (yes l) = rw (lt-ltb h 32 l) (length-set s h (v % 65536))
     go (no l) = rw (le-ltb h 32 (omega arith))
 
@@ -58,17 +58,17 @@ value-passed f fs l r = rw (ne-eqb (f .role) 7 r)
 
 pub value-other : (f : Frame) (fs : List Frame) (l : ℕ) → f .role ≡ 7 → (heightOf fs ≡ l → ⊥) →
   getD (storeOf (f ∷ fs)) l 0 ≡ getD (storeOf fs) l 0
-unfolding storeOf storeIn pushed
+unfolding storeOf storeIn withValue
 value-other f fs l r n = rw (eq-eqb (f .role) 7 r) (go (decLt (heightOf fs) 32))
   where
-    go : Dec (heightOf fs < 32) → getD (pushed (storeOf fs) (heightOf fs) (f .c)) l 0 ≡ getD (storeOf fs) l 0
+    go : Dec (heightOf fs < 32) → getD (withValue (storeOf fs) (heightOf fs) (f .c)) l 0 ≡ getD (storeOf fs) l 0
     go (yes h) = rw (lt-ltb (heightOf fs) 32 h) (getD-set-other (storeOf fs) (heightOf fs) l (f .c % 65536) 0 (λ e.
         n (sym e)))
     go (no h) = rw (le-ltb (heightOf fs) 32 (omega arith))
 
 pub value-own : (f : Frame) (fs : List Frame) (l : ℕ) → f .role ≡ 7 → heightOf fs ≡ l → l < 32 →
   f .c % 65536 ≡ getD (storeOf (f ∷ fs)) l 0
-unfolding storeOf storeIn pushed
+unfolding storeOf storeIn withValue
 value-own f fs l r e h =
     rw (eq-eqb (f .role) 7 r, e, lt-ltb l 32 h)
     (sym (getD-set-same (storeOf fs) l (f .c % 65536) 0 (omega (arith, store-length fs))))

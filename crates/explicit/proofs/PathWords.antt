@@ -10,7 +10,7 @@ use lib.ListN.{getD, set, length, length-set}
 use lib.Seq.{getD-set-same, getD-set-other}
 use Rattle.automaton.specs.declared.Frame.{Frame}
 use Rattle.explicit.specs.declared.Level.{Level}
-use Rattle.explicit.specs.inner.Levels.{fieldOf, frameOf, levelOf, framesOf, setAll, levelWords, withLevel}
+use Rattle.explicit.specs.inner.Levels.{fieldOf, frameOf, levelAt, framesOf, setAll, levelWords, withLevel}
 use Rattle.explicit.specs.inner.Levels.{holderOf, enteredOf}
 
 set-length : (p : List ℕ) (x : ℕ) (vs : List ℕ) → length (setAll p x vs) ≡ length p
@@ -37,8 +37,8 @@ set-in p x (v ∷ vs) (suc j) r h =
 
 -- the level that is written, and those before it
 module _ (p : List ℕ) (c : ℕ) (l : Level) where
-  level-new : 13 * c + 13 ≤ length p → levelOf (withLevel p c l) c ≡ l
-  unfolding levelOf frameOf fieldOf levelWords
+  level-new : 13 * c + 13 ≤ length p → levelAt (withLevel p c l) c ≡ l
+  unfolding levelAt frameOf fieldOf levelWords
   level-new r =
       simp (at 0 (omega arith), at 1 (omega arith), at 2 (omega arith), at 3 (omega arith), at 4 (omega arith),
         at 5 (omega arith), at 6 (omega arith), at 7 (omega arith), at 8 (omega arith), at 9 (omega arith),
@@ -57,8 +57,8 @@ module _ (p : List ℕ) (c : ℕ) (l : Level) where
       simp (field-old i 6 h (omega arith), field-old i 7 h (omega arith), field-old i 8 h (omega arith),
         field-old i 9 h (omega arith), field-old i 10 h (omega arith), field-old i 11 h (omega arith))
 
-  level-old : (i : ℕ) → i < c → levelOf (withLevel p c l) i ≡ levelOf p i
-  unfolding levelOf
+  level-old : (i : ℕ) → i < c → levelAt (withLevel p c l) i ≡ levelAt p i
+  unfolding levelAt
   level-old i h =
       simp (frame-old i h, field-old i 0 h (omega arith), field-old i 1 h (omega arith), field-old i 2 h (omega arith),
         field-old i 3 h (omega arith), field-old i 4 h (omega arith), field-old i 5 h (omega arith),
@@ -70,8 +70,8 @@ module _ (p : List ℕ) (c : ℕ) (l : Level) where
   frames-old (suc i) h = rw (frame-old i (omega arith), frames-old i (omega arith))
 
 -- the frames are the levels'
-pub frames-next : (p : List ℕ) (i : ℕ) → framesOf p (suc i) ≡ levelOf p i .f ∷ framesOf p i
-unfolding framesOf levelOf
+pub frames-next : (p : List ℕ) (i : ℕ) → framesOf p (suc i) ≡ levelAt p i .f ∷ framesOf p i
+unfolding framesOf levelAt
 frames-next p i = refl
 
 pub frames-length : (p : List ℕ) (i : ℕ) → length (framesOf p i) ≡ i
@@ -97,8 +97,8 @@ module _ (p : List ℕ) (o v : ℕ) where
       simp (field-far i 6 h (omega arith), field-far i 7 h (omega arith), field-far i 8 h (omega arith),
         field-far i 9 h (omega arith), field-far i 10 h (omega arith), field-far i 11 h (omega arith))
 
-  level-far : (i : ℕ) → i < 33 → levelOf (set p (429 + o) v) i ≡ levelOf p i
-  unfolding levelOf
+  level-far : (i : ℕ) → i < 33 → levelAt (set p (429 + o) v) i ≡ levelAt p i
+  unfolding levelAt
   level-far i h =
       simp (frame-far i h, field-far i 0 h (omega arith), field-far i 1 h (omega arith), field-far i 2 h (omega arith),
         field-far i 3 h (omega arith), field-far i 4 h (omega arith), field-far i 5 h (omega arith),
@@ -121,21 +121,21 @@ module _ (p : List ℕ) (c : ℕ) (l : Level) (h : c < 33) (r : length p ≡ 462
       go (yes e) = rw (eq-eqb (l .f .role) 7 e) (length-set (withLevel p c l) (429 + l .outer) c ∙ w)
       go (no e) = rw (ne-eqb (l .f .role) 7 e) w
 
-  pub entered-new : levelOf (enteredOf p c l) c ≡ l
+  pub entered-new : levelAt (enteredOf p c l) c ≡ l
   unfolding enteredOf
   entered-new = go (ℕ-discrete (l .f .role) 7)
     where
-      go : Dec (l .f .role ≡ 7) → levelOf (enteredOf p c l) c ≡ l
+      go : Dec (l .f .role ≡ 7) → levelAt (enteredOf p c l) c ≡ l
       go (yes e) =
           rw (eq-eqb (l .f .role) 7 e)
           (level-far (withLevel p c l) (l .outer) c c h ∙ level-new p c l (omega (arith, r)))
       go (no e) = rw (ne-eqb (l .f .role) 7 e) (level-new p c l (omega (arith, r)))
 
-  pub entered-old : (i : ℕ) → i < c → levelOf (enteredOf p c l) i ≡ levelOf p i
+  pub entered-old : (i : ℕ) → i < c → levelAt (enteredOf p c l) i ≡ levelAt p i
   unfolding enteredOf
   entered-old i b = go (ℕ-discrete (l .f .role) 7)
     where
-      go : Dec (l .f .role ≡ 7) → levelOf (enteredOf p c l) i ≡ levelOf p i
+      go : Dec (l .f .role ≡ 7) → levelAt (enteredOf p c l) i ≡ levelAt p i
       go (yes e) =
           rw (eq-eqb (l .f .role) 7 e) (level-far (withLevel p c l) (l .outer) c i (omega arith) ∙ level-old p c l i b)
       go (no e) = rw (ne-eqb (l .f .role) 7 e) (level-old p c l i b)

@@ -16,9 +16,9 @@ use Rattle.dfa.specs.Graph.{rest}
 use Rattle.explicit.specs.declared.Site.{Site}
 use Rattle.explicit.specs.Explicit.{Explicit}
 use Rattle.explicit.specs.inner.States.{spotsOf}
-use Rattle.explicit.specs.inner.Rows.{Row, noEdges, withRows}
+use Rattle.explicit.specs.inner.Rows.{StateRow, noEdges, withRows}
 use Rattle.explicit.specs.inner.Moves.{rowOf, edgesAfter, filledOf}
-use Rattle.explicit.specs.inner.Shown.{Fine, edgesBelow, Shown, Room, Automaton}
+use Rattle.explicit.specs.inner.Shown.{Fine, edgesBelow, ShownRows, Room, Automaton}
 use Rattle.explicit.specs.inner.Ready.{Ready}
 use Rattle.explicit.proofs.Writing.{row-length, rows-length, row-shown, before-is, rows-shown, none-fine}
 use Rattle.explicit.proofs.Writing.{none-more}
@@ -26,12 +26,12 @@ use Rattle.explicit.proofs.Automata.{explicit-of}
 use Rattle.explicit.proofs.SheetRows.{spots-ready, row-right, sheet-few}
 
 -- the rows of a sheet of K states stand from its first state on, and then the end
-pub record Placed (N : Numbers) (t : List ℕ) (s : Site) (K : ℕ) (row : ℕ → Row) : Type 0 where
+pub record Placed (N : Numbers) (t : List ℕ) (s : Site) (K : ℕ) (row : ℕ → StateRow) : Type 0 where
   pub rows : (k : ℕ) → k < K → row (s .o + k) ≡ rowOf t N s k
   pub end : row (s .o + K) ≡ noEdges
 
 -- the edges of c states from o on
-edges-from : (row r : ℕ → Row) (o c : ℕ) → ((k : ℕ) → k < c → row (o + k) ≡ r k) →
+edges-from : (row r : ℕ → StateRow) (o c : ℕ) → ((k : ℕ) → k < c → row (o + k) ≡ r k) →
     edgesBelow row (o + c) ≡ edgesBelow row o + edgesBelow r c
 unfolding edgesBelow
 edges-from row r o zero same = rw (add-zero o) (omega arith)
@@ -47,7 +47,7 @@ filled-length t N s ws e =
         (edgesAfter t N s e) noEdges ∙
       rows-length ws (s .n) (s .o) e (rowOf t N s) (spotsOf t (s .root))
 
-module _ {N : Numbers} {t : List ℕ} (s : Site) {T : Ty} {M : Term} (R : Ready N t (s .root) T M) {row : ℕ → Row}
+module _ {N : Numbers} {t : List ℕ} (s : Site) {T : Ty} {M : Term} (R : Ready N t (s .root) T M) {row : ℕ → StateRow}
     (P : Placed N t s (spots T M) row) where
   -- the edges before the end, and those with it
   edges-before : edgesBelow row (s .o + spots T M) ≡ edgesBelow row (s .o) + edgesBelow (rowOf t N s) (spots T M)
@@ -85,13 +85,14 @@ module _ {N : Numbers} {t : List ℕ} (s : Site) {T : Ty} {M : Term} (R : Ready 
 
     -- THEOREM: filling shows them
     pub placed-shown : (ws : List ℕ) → Room ws (s .n) (edgesBelow row (s .o + size T M)) →
-        Shown ws (s .n) (s .o) row → Shown (filledOf t N s ws (edgesBelow row (s .o))) (s .n) (s .o + size T M) row
+        ShownRows ws (s .n) (s .o) row → ShownRows (filledOf t N s ws (edgesBelow row (s .o))) (s .n)
+            (s .o + size T M) row
     unfolding filledOf
     placed-shown ws Q S =
         let e = edgesBelow row (s .o) in
         let vs = withRows ws (s .n) (s .o) e (rowOf t N s) (spots T M) in
         let Q′ : Room ws (s .n) (edgesBelow row (s .o + spots T M)) = rw (← edges-with) Q in
-        let B : Shown vs (s .n) (s .o + spots T M) row =
+        let B : ShownRows vs (s .n) (s .o + spots T M) row =
               rows-shown ws (s .n) (s .o) row (rowOf t N s) (spots T M) (P .rows)
                 (λ k h. row-right s R room most k h .fine) (omega arith) Q′ S in
         let len = rows-length ws (s .n) (s .o) e (rowOf t N s) (spots T M) in

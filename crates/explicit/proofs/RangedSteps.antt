@@ -13,7 +13,7 @@ use Rattle.language.specs.Term.{Term, skip, diverge, const, private, name, fetc
 use Rattle.language.specs.Term.{new, Args, no-args, arg}
 use Rattle.language.specs.Typing.{Typed, a-skip, a-diverge, a-const, a-private, a-name, a-fetch, an-operate}
 use Rattle.language.specs.Typing.{an-assign, a-seq, a-while, a-cond, a-new, TypedArgs, no-more, one-more}
-use Rattle.language.proofs.LetterLaws.{Values, Small}
+use Rattle.explicit.specs.Letter.{Values, Small}
 use Rattle.machine.specs.Action.{Next, AnswersAt, Action, go, say, hear, mapAction}
 use Rattle.machine.specs.Position.{Store, types, Position, PositionArgs}
 use Rattle.machine.specs.Position as position

@@ -24,7 +24,7 @@ use Rattle.sheet.specs.Fine.{FineUse, Fine, FineArgs, FineNames, Accepted}
 use Rattle.sheet.proofs.WellTyped.{accepted-typed}
 use Rattle.machine.specs.Range.{TyIn, InRange, InRangeArgs}
 use Rattle.machine.proofs.Scope.{scoped-of}
-use Rattle.explicit.proofs.Settling.{AllSmall}
+use Rattle.explicit.specs.Letter.{AllSmall}
 use Rattle.explicit.proofs.Spelling.{complete-small}
 
 -- the types of a sheet

@@ -8,7 +8,7 @@ use lib.Dec.{leb}
 use Rattle.language.specs.Choice.{pick}
 use Rattle.language.specs.declared.Numbers.{Numbers}
 use Rattle.language.specs.Number.{numbers}
-use Rattle.language.specs.Letter.{rank}
+use Rattle.explicit.specs.Letter.{rank}
 
 pub rank-small : (N : Numbers) (v r : ℕ) → r ≡ rank N (v % 65536) → r < 65664
 unfolding rank

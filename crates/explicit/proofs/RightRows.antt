@@ -8,8 +8,7 @@ use lib.ListN.{length}
 use Rattle.language.specs.declared.Numbers.{Numbers}
 use Rattle.language.specs.Number.{numbers}
 use Rattle.language.specs.Move.{Event, at, Move, move}
-use Rattle.language.specs.Letter.{letter}
-use Rattle.language.proofs.LetterLaws.{Small}
+use Rattle.explicit.specs.Letter.{letter, Small}
 use Rattle.machine.specs.Action.{Next, to, out, dead, Heard, Listen, Hears}
 use Rattle.machine.specs.Action.{Action, go, say, hear}
 use Rattle.machine.specs.Decide.{when, same-move?}
@@ -20,22 +19,22 @@ use Rattle.automaton.specs.declared.Move.{Move as Record}
 use Rattle.automaton.specs.declared.Out.{Out}
 use Rattle.automaton.specs.declared.Out.the-variants.{Say, Hear}
 use Rattle.automaton.specs.walk.Row.{sumOf}
-use Rattle.automaton.specs.walk.Shows.{moveOf, Given}
+use Rattle.automaton.specs.walk.Shows.{moveOf, GivenMove}
 use Rattle.automaton.proofs.Sums.{sum-small, when-no}
-use Rattle.explicit.specs.declared.Ear.{Ear}
+use Rattle.explicit.specs.declared.Wait.{Wait}
 use Rattle.explicit.specs.declared.Site.{Site}
 use Rattle.explicit.specs.Explicit.{packed, silentWord}
 use Rattle.explicit.specs.inner.States.{sheetAt}
-use Rattle.explicit.specs.inner.Moves.{codeAt, letterOf, limitOf, earOf, targetOf, visibleOf, silentOf}
+use Rattle.explicit.specs.inner.Moves.{codeAt, letterOf, limitOf, waitOf, targetOf, visibleOf, silentOf}
 use Rattle.explicit.specs.inner.Moves.{edgeBy, heardEdges}
 use Rattle.explicit.specs.inner.Moves.{edgesOf, rowFor, rowOf}
-use Rattle.explicit.specs.inner.Acts.{Waits, Leads, Says, Listens, waits, leads, Acts}
+use Rattle.explicit.specs.inner.Acts.{Waits, Leads, SaysMove, Listens, waits, leads, Acts}
 use Rattle.explicit.specs.inner.Ranged.{ActionIn}
 use Rattle.explicit.specs.inner.Shown.{Right}
 use Rattle.explicit.proofs.Codes.{code-below, letter-of, eventBy, move-again, move-by, small-by}
 use Rattle.explicit.proofs.Codes.{kind-small, letter-small}
 use Rattle.explicit.proofs.EdgeLists.{Each, Climbs}
-use Rattle.explicit.proofs.Heard.{Heeds, heeds, ear-state, limit-one}
+use Rattle.explicit.proofs.Heard.{Heeds, heeds, wait-state, limit-one}
 use Rattle.explicit.proofs.HeardEdges.{candidate, each-heard}
 use Rattle.explicit.proofs.HeardCount.{heard-few}
 use Rattle.explicit.proofs.HeardLetters.{heard-climbs}
@@ -88,8 +87,8 @@ module _ (t : List ℕ) (N : Numbers) (s : Site) (state : ℕ) {K : ℕ} where
   leads-edges (out a) y h = absurd h
   leads-edges dead y h = rw h refl
 
-  one-said : (m : Move) (x : Next (Index K) (Unit {0})) (y : Out) → Says m x y → length (edgesOf t N s state y) ≤ 1
-  unfolding Says edgesOf
+  one-said : (m : Move) (x : Next (Index K) (Unit {0})) (y : Out) → SaysMove m x y → length (edgesOf t N s state y) ≤ 1
+  unfolding SaysMove edgesOf
   one-said m (to i) y h = rw h (omega arith)
   one-said m (out a) y h = rw h (omega arith)
   one-said m dead y h = absurd h
@@ -116,18 +115,18 @@ module _ (N : Numbers) (few : N .z ≤ 7) (t : List ℕ) (s : Site) {K : ℕ} (r
             e ∙ ap (packed (s .o) (s .n)) (sym (when-same (same-move? m m) x refl))), tt)
         (λ y _ d. when-no (same-move? m y) (λ _. x) (λ q. d .0 (letter-of N few m h ∙ ap (letter N) q)))
 
-  say-row : (m : Move) (x : Next (Index K) (Unit {0})) (y : Out) → Says m x y → Small N m →
+  say-row : (m : Move) (x : Next (Index K) (Unit {0})) (y : Out) → SaysMove m x y → Small N m →
       Right N (s .n) (s .o) (say m x) (rowFor t N s state y)
-  unfolding Says packed
+  unfolding SaysMove packed
   say-row m (to i) y h r =
       rw h (said-row m (to i) (i .0) (sum-small (s .o) (i .0) (omega (arith, i .1))) r)
   say-row m (out a) y h r = rw h (said-row m (out a) K (sum-small (s .o) K (omega arith)) r)
   say-row m dead y h r = absurd h
 
   -- a wait
-  module _ (l : Listen) (k : (r : Heard) → Hears l r → Next (Index K) (Unit {0})) (ear : Ear) (h : Heeds t l ear)
-      (here : ear .state ≡ state)
-      (acts : (m : Record) → Given m → Listens N t m l k (sheetAt t N (s .root) state m)) where
+  module _ (l : Listen) (k : (r : Heard) → Hears l r → Next (Index K) (Unit {0})) (wait : Wait) (h : Heeds t l wait)
+      (here : wait .state ≡ state)
+      (acts : (m : Record) → GivenMove m → Listens N t m l k (sheetAt t N (s .root) state m)) where
     shown : (i j : ℕ) (e : Event) (y : Out) → Listens N t (moveOf (move (at i j) e)) l k y →
         targetOf s y ≡ packed (s .o) (s .n) (edge-hear l k (move (at i j) e))
     shown i j e y (waits f w g) = absurd (no-move i j e (sym f))
@@ -135,28 +134,28 @@ module _ (N : Numbers) (few : N .z ≤ 7) (t : List ℕ) (s : Site) {K : ℕ} (r
         leads-target s room most (edge-hear l k (move (at i′ j′) e′)) y g
           ∙ ap (λ (m : Move). packed (s .o) (s .n) (edge-hear l k m)) (sym (move-again i j i′ j′ e e′ f))
 
-    sound : (a b r : ℕ) → a < 7 → b < 5 → r < numbers N → codeAt N r < limitOf t ear a b →
-        Sound N (s .o) (s .n) (hear l k) (edgeBy t N s (ear .state) (candidate N ear a b r))
+    sound : (a b r : ℕ) → a < 7 → b < 5 → r < numbers N → codeAt N r < limitOf t wait a b →
+        Sound N (s .o) (s .n) (hear l k) (edgeBy t N s (wait .state) (candidate N wait a b r))
     unfolding Sound edgeBy edge
     sound a b r x y z w =
-        let m = move (at (ear .id) b) (eventBy a (codeAt N r)) in
-        let small = small-by N a (ear .id) b (codeAt N r) x (h .byte) (omega arith) (code-below N r z) in
-        let same = move-by a (ear .id) b (codeAt N r) x (λ q. omega (arith, limit-one t ear a b q)) in
-        let given = acts (moveOf m) (inr (ear .id, b, _, refl)) in
+        let m = move (at (wait .id) b) (eventBy a (codeAt N r)) in
+        let small = small-by N a (wait .id) b (codeAt N r) x (h .byte) (omega arith) (code-below N r z) in
+        let same = move-by a (wait .id) b (codeAt N r) x (λ q. omega (arith, limit-one t wait a b q)) in
+        let given = acts (moveOf m) (inr (wait .id, b, _, refl)) in
         (m, small, sym (letter-of N few m small) ∙ ap (letterOf N) same,
-          rw (here, ← same) (shown (ear .id) b (eventBy a (codeAt N r)) _ given))
+          rw (here, ← same) (shown (wait .id) b (eventBy a (codeAt N r)) _ given))
 
-    hear-row : Right N (s .n) (s .o) (hear l k) (record { silent = 0; edges = heardEdges t N s ear 35 })
+    hear-row : Right N (s .n) (s .o) (hear l k) (record { silent = 0; edges = heardEdges t N s wait 35 })
     unfolding silentWord edge
     hear-row =
-        right-by N (s .o) (s .n) few room (hear l k) _ refl (heard-climbs t N s ear few (h .byte))
-          (each-heard t N s ear (Sound N (s .o) (s .n) (hear l k)) sound 35 (omega arith))
-          (λ m small d. left-out N few t s l k ear h m small d)
+        right-by N (s .o) (s .n) few room (hear l k) _ refl (heard-climbs t N s wait few (h .byte))
+          (each-heard t N s wait (Sound N (s .o) (s .n) (hear l k)) sound 35 (omega arith))
+          (λ m small d. left-out N few t s l k wait h m small d)
 
 -- THEOREM: the row that the code makes for a state shows the state's action
 pub right-row : (N : Numbers) → N .z ≤ 7 → (t : List ℕ) (s : Site) {K : ℕ} (a : Action (Index K) (Unit {0})) (k : ℕ) →
     s .o + K + 1 < s .n → s .n ≤ 8193 →
-    ((m : Record) → Given m → Acts N t m a (sheetAt t N (s .root) k m)) → ActionIn N a →
+    ((m : Record) → GivenMove m → Acts N t m a (sheetAt t N (s .root) k m)) → ActionIn N a →
     Right N (s .n) (s .o) a (rowOf t N s k)
 unfolding rowOf Acts ActionIn
 right-row N few t s (go x) k room most h i = go-row N few t s room most k x _ (h none (inl refl))
@@ -166,11 +165,11 @@ right-row N few t s {K} (hear l f) k room most h i = cases (waited (h none (inl 
     cases : {y : Out} → Waiting N t l y → Right N (s .n) (s .o) (hear l f) (rowFor t N s k y)
     cases (waiting {node = node} {q = q} {x = x} w e) =
         rw e (unfold rowFor visibleOf silentOf edgesOf in
-          hear-row N few t s room most k l f (earOf t k node q x) (heeds t k w) (ear-state t k node q x) h)
+          hear-row N few t s room most k l f (waitOf t k node q x) (heeds t k w) (wait-state t k node q x) h)
 
 -- THEOREM: it has at most as many edges as the degree of the action
 pub few-row : (N : Numbers) (t : List ℕ) (s : Site) {K : ℕ} (a : Action (Index K) (Unit {0})) (k : ℕ) →
-    ((m : Record) → Given m → Acts N t m a (sheetAt t N (s .root) k m)) →
+    ((m : Record) → GivenMove m → Acts N t m a (sheetAt t N (s .root) k m)) →
     length (rowOf t N s k .edges) ≤ degree a
 unfolding rowOf rowFor Acts degree
 few-row N t s (go x) k h = rw (leads-edges t N s k x _ (h none (inl refl))) (omega arith)
@@ -179,4 +178,4 @@ few-row N t s (hear l f) k h = cases (waited (h none (inl refl)))
   where
     cases : {y : Out} → Waiting N t l y → length (edgesOf t N s k y) ≤ hearings l
     cases (waiting {node = node} {q = q} {x = x} w e) =
-        rw e (unfold edgesOf in omega (arith, heard-few t N s (earOf t k node q x), heeds t k w .few))
+        rw e (unfold edgesOf in omega (arith, heard-few t N s (waitOf t k node q x), heeds t k w .few))

@@ -4,14 +4,11 @@ use mathlib.Core.Bool.{Bool, true, false, cond}
 use mathlib.Core.List.{List, [], _∷_}
 use Prim.Native.Nat.{ℕ, zero, suc, _+_, _-_, _≤_, _<_}
 use native.Mathlib.Omega.{arith}
-use native.Mathlib.Numerals.{add-one}
 use lib.ListN.{getD}
 use lib.Dec.{eqb}
 use borrow.Author.Tests.{eq-eqb, ne-eqb}
 use Rattle.language.specs.declared.Numbers.{Numbers}
 use Rattle.language.specs.Move.{Move, Word}
-use Rattle.language.specs.Letter.{letter}
-use Rattle.language.proofs.LetterLaws.{Small}
 use Rattle.machine.specs.Action.{Next, to, out, dead, Action, go, say, hear}
 use Rattle.machine.specs.Edge.{edge}
 use Rattle.machine.specs.Settle.{Index, settle, next, run}
@@ -20,6 +17,9 @@ use Rattle.machine.proofs.Silent.{Stops}
 use Rattle.dfa.specs.Graph as graph
 use Rattle.dfa.specs.Graph.{δ, look, target, Graph}
 use Rattle.silent.specs.Silent.{stepped, moved, Settled, Settling}
+use Rattle.silent.proofs.laws.Settle.{rising}
+use Rattle.silent.proofs.laws.Settled.{settled-here}
+use Rattle.explicit.specs.Letter.{letter, Small, AllSmall, along}
 use Rattle.explicit.specs.Explicit.{packed, silentWord, Explicit}
 use Rattle.explicit.proofs.Advance.{advance, advances, advances-last, View, stops, goes, view, advance-stop}
 use Rattle.explicit.proofs.Advance.{advance-go, go-not-stop, settle-dead, stopped, unstopped}
@@ -77,24 +77,8 @@ module _ {N : Numbers} {S G : List ℕ} {n o K : ℕ} {step : Index K → Action
           rw (word-go f, ne-eqb (suc (packed o n y)) 0 (λ z. omega arith))
             (ap (packed o n) (sym (unstopped step m x l (λ h. go-not-stop step f (rw e at h)))))
 
--- the dead state settles at itself
-stays : (S : List ℕ) (d m : ℕ) → getD S d 0 ≡ 0 → moved S m d ≡ d
-unfolding moved
-stays S d zero e = refl
-stays S d (suc m) e = rw (stays S d m e, eq-eqb _ _ e)
-
-at-rest : (S : List ℕ) (n : ℕ) → getD S (n - 1) 0 ≡ 0 → Settled S n (n - 1) (n - 1)
-at-rest S n e = record { steps = n; enough = omega arith; ends = sym (rw (stays S (n - 1) n e, eq-eqb _ _ e)) }
-
 module _ {S G G′ : List ℕ} {n : ℕ} (g : Graph G n) (R : Settling n S G G′) (rest : getD S (n - 1) 0 ≡ 0) where
   -- the first edges rise
-  from-first : (p : ℕ) → p ≤ n → getD G 0 0 ≤ getD G p 0
-  from-first zero h = omega arith
-  from-first (suc p) h =
-      let a = from-first p (omega arith) in
-      let b : getD G p 0 ≤ getD G (p + 1) 0 = g .edges p (omega arith) .le in
-      rw (← add-one) (omega arith)
-
   to-last : (d p : ℕ) → p + d ≡ n → getD G p 0 ≤ getD G n 0
   to-last zero p h = ap-le (omega arith)
     where
@@ -108,7 +92,7 @@ module _ {S G G′ : List ℕ} {n : ℕ} (g : Graph G n) (R : Settling n S G G�
   -- where a letter leads, before and after
   looked : (m k i : ℕ) → getD G 0 0 ≤ i → i + k ≤ getD G n 0 → Settled S n (look G n m k i) (look G′ n m k i)
   unfolding look
-  looked m zero i l h = at-rest S n rest
+  looked m zero i l h = settled-here S n (n - 1) rest
   looked m (suc k) i l h =
       let later = looked m k (suc i) (omega arith) (omega arith) in
       rw (R .letters i) (by (eqb (graph.letter G n i) m) later)
@@ -120,20 +104,11 @@ module _ {S G G′ : List ℕ} {n : ℕ} (g : Graph G n) (R : Settling n S G G�
 
   pub leads : (p m : ℕ) → p < n → Settled S n (δ G n p m) (δ G′ n p m)
   leads p m h =
-      let a = from-first p (omega arith) in
+      let a = rising G n g p (omega arith) in
       let b = to-last (n - (p + 1)) (p + 1) (omega arith) in
       let c = g .edges p h .le in
       rw (R .first p (omega arith), R .first (p + 1) (omega arith))
         (looked m (getD G (p + 1) 0 - getD G p 0) (getD G p 0) a (omega arith))
-
--- the state after a word of moves
-unfoldable pub along : (ℕ → ℕ → ℕ) → Numbers → ℕ → Word → ℕ
-along d N p [] = p
-along d N p (m ∷ u) = along d N (d p (letter N m)) u
-
-unfoldable pub AllSmall : Numbers → Word → Type 0
-AllSmall N [] = Unit
-AllSmall N (m ∷ u) = Small N m × AllSmall N u
 
 module _ {N : Numbers} {S G G′ : List ℕ} {n o K : ℕ} {step : Index K → Action (Index K) (Unit {0})}
     (E : Explicit N S G n o step) (g : Graph G n) (R : Settling n S G G′) where

@@ -12,11 +12,11 @@ use Rattle.language.specs.Ty.{Ty}
 use Rattle.language.specs.Term.{Term}
 use Rattle.language.specs.Weight.{size}
 use Rattle.machine.specs.Sheet.{spots, steps}
-use Rattle.machine.specs.Degree.{degree, total, count, degreeAt}
+use Rattle.machine.specs.Degree.{degree, total, numberIf, degreeAt}
 use Rattle.machine.proofs.Accepts.{spots-size}
 use Rattle.machine.proofs.Degrees.{few-edges}
 use Rattle.automaton.specs.declared.Move.{Move as Record}
-use Rattle.automaton.specs.walk.Shows.{Given}
+use Rattle.automaton.specs.walk.Shows.{GivenMove}
 use Rattle.explicit.specs.declared.Site.{Site}
 use Rattle.explicit.specs.inner.States.{spotsOf, sheetAt}
 use Rattle.explicit.specs.inner.Moves.{rowOf}
@@ -40,7 +40,7 @@ module _ {N : Numbers} {t : List ℕ} (s : Site) {T : Ty} {M : Term} (R : Ready 
   spots-fit = omega (arith, spots-ready, few-spots)
 
   -- what the code says of a state shows its action
-  acts-ready : (k : ℕ) (h : k < spots T M) (m : Record) → Given m →
+  acts-ready : (k : ℕ) (h : k < spots T M) (m : Record) → GivenMove m →
       Acts N t m (steps T M (k, h)) (sheetAt t N (s .root) k m)
   acts-ready k h m g = acts N t (R .words) (R .represents) few-spots m g k h
 
@@ -53,8 +53,8 @@ module _ {N : Numbers} {t : List ℕ} (s : Site) {T : Ty} {M : Term} (R : Ready 
 
   -- a row has at most as many edges as the degree of its state
   row-few : (k : ℕ) → k < spots T M → (d : Dec (k < spots T M)) →
-      length (rowOf t N s k .edges) ≤ count d (λ h. degree (steps T M (k, h)))
-  unfolding count
+      length (rowOf t N s k .edges) ≤ numberIf d (λ h. degree (steps T M (k, h)))
+  unfolding numberIf
   row-few k l (yes h) = few-row N t s (steps T M (k, h)) k (acts-ready k h)
   row-few k l (no h) = absurd (h l)
 

@@ -5,14 +5,14 @@ use Prim.Native.Nat.{ℕ, _+_, _-_, _≤_, _<_}
 use native.Mathlib.Omega.{arith}
 use Rattle.language.specs.declared.Numbers.{Numbers}
 use Rattle.language.specs.Move.{Move, move}
-use Rattle.language.specs.Letter.{letter}
-use Rattle.language.proofs.LetterLaws.{Small, letter-injective}
+use Rattle.explicit.specs.Letter.{letter, Small}
+use Rattle.explicit.proofs.LetterLaws.{letter-injective}
 use Rattle.machine.specs.Action.{Next, to, out, dead}
 use Rattle.machine.specs.Action.{Action, go, say, hear}
 use Rattle.machine.specs.Edge.{edge}
 use Rattle.machine.specs.Settle.{Index}
 use Rattle.explicit.specs.Explicit.{packed, silentWord}
-use Rattle.explicit.specs.inner.Rows.{Edge, Row}
+use Rattle.explicit.specs.inner.Rows.{Edge, StateRow}
 use Rattle.explicit.specs.inner.Shown.{lookup, Right}
 use Rattle.explicit.proofs.EdgeLists.{Each, each-map, Absent, Climbs, rising, found}
 
@@ -37,7 +37,7 @@ module _ (N : Numbers) (o n : ℕ) {K : ℕ} where
 
   -- THEOREM: a row is right if its letters climb, each edge is that of a move, and the moves that are left out lead
   -- nowhere
-  pub right-by : N .z ≤ 7 → o + K + 1 < n → (a : Action (Index K) (Unit {0})) (r : Row) →
+  pub right-by : N .z ≤ 7 → o + K + 1 < n → (a : Action (Index K) (Unit {0})) (r : StateRow) →
       r .silent ≡ silentWord o n a → Climbs 0 134217728 (r .edges) → Each (Sound a) (r .edges) →
       ((m : Move) → Small N m → Absent (letter N m) (r .edges) → edge a m ≡ dead) → Right N n o a r
   unfolding Sound packed

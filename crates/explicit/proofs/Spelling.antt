@@ -12,11 +12,10 @@ use Rattle.language.specs.Term as t
 use Rattle.language.specs.Term.{Term, skip, diverge, const, name, fetch, operate, assign, seq, while, cond, new}
 use Rattle.language.specs.Term.{Args, no-args, arg}
 use Rattle.language.specs.Play.{Cat, Star, end, more, hide, Use, Plays, PlaysArg, whole, Complete}
-use Rattle.language.proofs.LetterLaws.{Values, Small}
+use Rattle.explicit.specs.Letter.{Values, Small, AllSmall}
 use Rattle.machine.specs.Range.{TyIn, InRange, InRangeArgs}
 use Rattle.machine.proofs.Block.{Tidy, clear, seen, used}
 use Rattle.machine.proofs.Scope.{Scoped, tidy}
-use Rattle.explicit.proofs.Settling.{AllSmall}
 
 module _ (N : Numbers) where
   -- every move is private or has a letter

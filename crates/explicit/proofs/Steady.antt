@@ -18,13 +18,13 @@ use Rattle.automaton.specs.declared.Out.{Out}
 use Rattle.automaton.specs.declared.Out.the-variants.{Exit, Stuck}
 use Rattle.automaton.specs.declared.Spot.{Spot}
 use Rattle.automaton.specs.declared.Spot.the-variants.{Here, Inside}
-use Rattle.automaton.specs.walk.Row.{partWeight, partClass, partValues, nameCount, nameId, sumOf, placeOf}
+use Rattle.automaton.specs.walk.Row.{partWeight, partClass, partValues, nameCount, nameId, sumOf, mulAddOf}
 use Rattle.automaton.specs.walk.Types.{questionsOf, questionKind, questionValue, answersOf}
-use Rattle.automaton.specs.walk.Name.{framedOf, copiesOf, argHere, inArgs, spotsOf, inName}
+use Rattle.automaton.specs.walk.Name.{framedOf, copiesOf, argHere, inArgs, argSpots, inName}
 use Rattle.automaton.specs.walk.Down.{inFetch, inSeq, inWhile, condIn, inCond, operateIn, inOperate, assignIn, inAssign}
 use Rattle.automaton.specs.walk.Down.{inNew, inPrivate, downAs, downOf}
 use Rattle.automaton.specs.walk.Shows.{Words}
-use Rattle.automaton.proofs.Sums.{sum-small, place-small, quotient, remainder, times}
+use Rattle.automaton.proofs.Sums.{sum-small, mul-add-small, quotient, remainder, times}
 use Rattle.explicit.specs.inner.Path.{Same, SameAt, Steady}
 
 -- the copy v of a part of weight w
@@ -194,8 +194,8 @@ module _ (t : List ℕ) (W : Words t) (outer : ℕ) where
       go (no h) (no g) =
           inside (λ k m. operateIn a b w v o n k) k _ _ _ _ _ (operateIn a b w v o n k) (copied (λ k m. operateIn a
               b w v o n k) k b w v (λ y. 2)
-            (λ y. 0) (λ y. framedOf 4 (placeOf y v w) y o n 0) (omega arith) l d (omega arith)
-            (λ y s. place-small y v w s (omega (arith, small-word t W b 1)) (omega (arith, small-word t W a 1)))
+            (λ y. 0) (λ y. framedOf 4 (mulAddOf y v w) y o n 0) (omega arith) l d (omega arith)
+            (λ y s. mul-add-small y v w s (omega (arith, small-word t W b 1)) (omega (arith, small-word t W a 1)))
             (λ y s. omega arith) (λ k′ m′ h′. rw (le-ltb k′ w h′, ne-eqb v 0 g)))
             (rw (le-ltb k w (omega arith), ne-eqb v 0 g))
 
@@ -211,8 +211,8 @@ module _ (t : List ℕ) (W : Words t) (outer : ℕ) where
       go (no h) (no g) =
           inside (λ k m. assignIn a b w v n k) k _ _ _ _ _ (assignIn a b w v n k) (copied (λ k m. assignIn a b w v n
               k) k a w v (λ y. 6)
-            (λ y. y) (λ y. framedOf 5 (placeOf y v w) 0 0 0 0) (omega arith) l d (omega arith)
-            (λ y s. place-small y v w s (omega (arith, small-word t W a 1)) (omega (arith, small-word t W b 1)))
+            (λ y. y) (λ y. framedOf 5 (mulAddOf y v w) 0 0 0 0) (omega arith) l d (omega arith)
+            (λ y s. mul-add-small y v w s (omega (arith, small-word t W a 1)) (omega (arith, small-word t W b 1)))
             (λ y s. omega arith) (λ k′ m′ h′. rw (le-ltb k′ w h′, ne-eqb v 0 g)))
             (rw (le-ltb k w (omega arith), ne-eqb v 0 g))
 
@@ -223,7 +223,7 @@ module _ (t : List ℕ) (W : Words t) (outer : ℕ) where
       w : ℕ
       w = word t (word t at 5) 1
       as-new : (w ≡ 0 → ⊥) → (k : ℕ) → inNew t at q x k outer ≡
-        Inside (word t at 5) q x ((k - 0) % w) (framedOf 7 (placeOf ((k - 0) / w) w 0) (sumOf outer 1) w ((k - 0) / w)
+        Inside (word t at 5) q x ((k - 0) % w) (framedOf 7 (mulAddOf ((k - 0) / w) w 0) (sumOf outer 1) w ((k - 0) / w)
             0)
       as-new g k = let z : k - 0 ≡ k = omega arith in rw (ne-eqb w 0 g, z)
       go : Dec (w ≡ 0) → SameAt t outer (λ k m. inNew t at q x k outer) k (inNew t at q x k outer)
@@ -233,8 +233,8 @@ module _ (t : List ℕ) (W : Words t) (outer : ℕ) where
               outer) k
               (word t at 5) 0 w
             (λ y. q) (λ y. x)
-            (λ y. framedOf 7 (placeOf y w 0) (sumOf outer 1) w y 0) (omega arith) l refl (omega arith)
-            (λ y s. place-small y w 0 s (small-word t W (word t at 5) 1) (omega arith))
+            (λ y. framedOf 7 (mulAddOf y w 0) (sumOf outer 1) w y 0) (omega arith) l refl (omega arith)
+            (λ y s. mul-add-small y w 0 s (small-word t W (word t at 5) 1) (omega arith))
             (λ y s. omega (arith, sum-small outer 1 (omega arith)))
             (λ k′ m′ h′. as-new g k′)) (as-new g k)
 
@@ -255,36 +255,36 @@ module _ (t : List ℕ) (W : Words t) (outer : ℕ) where
       y : ℕ
       y = (k - b) / w
       f : Frame
-      f = framedOf 6 (placeOf y w b) after class n y
+      f = framedOf 6 (mulAddOf y w b) after class n y
       c : (y * w + (k - b) % w ≡ k - b) × ((k - b) % w < w) × (y ≤ k - b)
       c = in-copy w (k - b) p
-      base : placeOf y w b ≡ y * w + b
-      base = place-small y w b (omega (arith, c .2)) (omega (arith, small-word t W part 1)) (omega arith)
-      over : (k′ : ℕ) → (k′ ≤ k) ⊎ (k′ < placeOf y w b + word t part 1) → (k′ ≤ k) ⊎ (k′ - b < y * w + w)
+      base : mulAddOf y w b ≡ y * w + b
+      base = mul-add-small y w b (omega (arith, c .2)) (omega (arith, small-word t W part 1)) (omega arith)
+      over : (k′ : ℕ) → (k′ ≤ k) ⊎ (k′ < mulAddOf y w b + word t part 1) → (k′ ≤ k) ⊎ (k′ - b < y * w + w)
       over k′ (inl g) = inl g
       over k′ (inr g) = inr (omega (arith, base))
       below : (k′ : ℕ) → y * w + b ≤ k′ → (k′ ≤ k) ⊎ (k′ - b < y * w + w) → k′ - b < y * w + w
       below k′ r (inl g) = omega (arith, c .0, c .1)
       below k′ r (inr g) = g
       again : (k′ : ℕ) (m : Move) → y * w + b ≤ k′ → k′ - b < y * w + w → (k′ ≤ k) ⊎ (k′ - b < y * w + w) →
-        F k′ m ≡ Inside part (questionKind class y) (questionValue class y) (k′ - placeOf y w b) f
+        F k′ m ≡ Inside part (questionKind class y) (questionValue class y) (k′ - mulAddOf y w b) f
       again k′ m r d o =
           let v = copy y w (k′ - b) (omega arith) d in
-          let u : k′ - b - y * w ≡ k′ - placeOf y w b = omega (arith, base) in
+          let u : k′ - b - y * w ≡ k′ - mulAddOf y w b = omega (arith, base) in
           h k′ m (omega arith) o ∙ rw (ne-eqb w 0 (λ e. omega arith), v .0, v .1, u)
 
   -- the copies of an argument, where one of them has the position k
-  copies-are : (q w k : ℕ) → k < placeOf q w 0 → placeOf q w 0 ≡ q * w
-  unfolding placeOf
+  copies-are : (q w k : ℕ) → k < mulAddOf q w 0 → mulAddOf q w 0 ≡ q * w
+  unfolding mulAddOf
   copies-are q w k h = go (decLt q 65536) (decLt w 65536)
     where
-      go : Dec (q < 65536) → Dec (w < 65536) → placeOf q w 0 ≡ q * w
-      go (yes a) (yes b) = place-small q w 0 a b (omega arith) ∙ omega arith
+      go : Dec (q < 65536) → Dec (w < 65536) → mulAddOf q w 0 ≡ q * w
+      go (yes a) (yes b) = mul-add-small q w 0 a b (omega arith) ∙ omega arith
       go (yes a) (no b) = 
-          let z : placeOf q w 0 ≡ 0 = simp (lt-ltb q 65536 a, le-ltb w 65536 (omega arith)) in
+          let z : mulAddOf q w 0 ≡ 0 = simp (lt-ltb q 65536 a, le-ltb w 65536 (omega arith)) in
           absurd (omega (arith, z))
       go (no a) b = 
-          let z : placeOf q w 0 ≡ 0 = simp (le-ltb q 65536 (omega arith)) in
+          let z : mulAddOf q w 0 ≡ 0 = simp (le-ltb q 65536 (omega arith)) in
           absurd (omega (arith, z))
 
   sum-are : (a b k : ℕ) → k < sumOf a b → sumOf a b ≡ a + b
@@ -329,7 +329,7 @@ module _ (t : List ℕ) (W : Words t) (outer : ℕ) where
       q : ℕ
       q = questionsOf (partClass t at j) (partValues t at j)
       c : ℕ
-      c = placeOf q w 0
+      c = mulAddOf q w 0
       all : c ≡ q * w
       all = copies-are q w (k - b) y
       p : 0 < w
@@ -338,10 +338,10 @@ module _ (t : List ℕ) (W : Words t) (outer : ℕ) where
       below k′ (inl g) = omega arith
       below k′ (inr g) = omega (arith, all, last-copy q w (k - b) p (omega (arith, all)))
 
-  args : (at j n b after k : ℕ) → b ≤ k → k < 65536 → k - b < spotsOf t at j n → (F : ℕ → Move → Spot) →
-    ((k′ : ℕ) (m : Move) → b ≤ k′ → k′ - b < spotsOf t at j n → F k′ m ≡ inArgs t at j n (k′ - b) b after) →
+  args : (at j n b after k : ℕ) → b ≤ k → k < 65536 → k - b < argSpots t at j n → (F : ℕ → Move → Spot) →
+    ((k′ : ℕ) (m : Move) → b ≤ k′ → k′ - b < argSpots t at j n → F k′ m ≡ inArgs t at j n (k′ - b) b after) →
     SameAt t outer F k (inArgs t at j n (k - b) b after)
-  unfolding inArgs SameAt spotsOf
+  unfolding inArgs SameAt argSpots
   args at j zero b after k l s i F h = tt
   args at j (suc n) b after k l s i F h =
       go (decLt (k - b) c) (λ r v. args at (sumOf j 1) n (b + c) next k r s v F)
@@ -349,7 +349,7 @@ module _ (t : List ℕ) (W : Words t) (outer : ℕ) where
       c : ℕ
       c = copiesOf t at j
       more : ℕ
-      more = spotsOf t at (sumOf j 1) n
+      more = argSpots t at (sumOf j 1) n
       both : sumOf c more ≡ c + more
       both = sum-are c more (k - b) i
       next : ℕ
@@ -373,7 +373,7 @@ module _ (t : List ℕ) (W : Words t) (outer : ℕ) where
   steady-name at q x k m l = go (ℕ-discrete k 0) (ℕ-discrete k 1) (decLt (k - 2) all)
     where
       all : ℕ
-      all = spotsOf t at 0 (nameCount t at)
+      all = argSpots t at 0 (nameCount t at)
       go : Dec (k ≡ 0) → Dec (k ≡ 1) → Dec (k - 2 < all) → SameAt t outer (λ k m. inName t at q x k m) k (inName t at q
           x k m)
       go (yes a) b c = rw (eq-eqb k 0 a) tt

@@ -8,11 +8,11 @@ use native.Mathlib.Decide.{decLt}
 use native.Mathlib.Nat.{mod-eq-of-lt, add-zero, add-suc}
 use lib.ListN.{length, getD, set, length-set}
 use lib.Seq.{getD-set-same, getD-set-other}
-use Rattle.automaton.specs.walk.Row.{sumOf, placeOf}
-use Rattle.automaton.proofs.Sums.{sum-small, place-small}
-use Rattle.explicit.specs.inner.Rows.{Edge, Row, noEdges, edgeAt, withEdge, withEdges, past, withHead}
+use Rattle.automaton.specs.walk.Row.{sumOf, mulAddOf}
+use Rattle.automaton.proofs.Sums.{sum-small, mul-add-small}
+use Rattle.explicit.specs.inner.Rows.{Edge, StateRow, noEdges, edgeAt, withEdge, withEdges, past, withHead}
 use Rattle.explicit.specs.inner.Rows.{withRow, before, withRows, closedOf}
-use Rattle.explicit.specs.inner.Shown.{Rising, Fine, Standing, edgesBelow, Shown, Room, Automaton}
+use Rattle.explicit.specs.inner.Shown.{Rising, Fine, Standing, edgesBelow, ShownRows, Room, Automaton}
 
 -- edges in two runs
 pub with-append : (ws : List ℕ) (n e : ℕ) (xs ys : List Edge) →
@@ -48,15 +48,15 @@ edges-length ws n e (x ∷ xs) =
 
 pub head-length : (ws : List ℕ) (n p e s : ℕ) → length (withHead ws n p e s) ≡ length ws
 unfolding withHead
-head-length ws n p e s = two-length ws p (placeOf 5 n p) (s % 4294967296) (e % 4294967296)
+head-length ws n p e s = two-length ws p (mulAddOf 5 n p) (s % 4294967296) (e % 4294967296)
 
-pub row-length : (ws : List ℕ) (n o k e : ℕ) (r : Row) → length (withRow ws n o k e r) ≡ length ws
+pub row-length : (ws : List ℕ) (n o k e : ℕ) (r : StateRow) → length (withRow ws n o k e r) ≡ length ws
 unfolding withRow
 row-length ws n o k e r =
     edges-length (withHead ws n (sumOf o k) e (r .silent)) n e (r .edges) ∙
       head-length ws n (sumOf o k) e (r .silent)
 
-pub rows-length : (ws : List ℕ) (n o e : ℕ) (r : ℕ → Row) (c : ℕ) → length (withRows ws n o e r c) ≡ length ws
+pub rows-length : (ws : List ℕ) (n o e : ℕ) (r : ℕ → StateRow) (c : ℕ) → length (withRows ws n o e r c) ≡ length ws
 unfolding withRows
 rows-length ws n o e r zero = refl
 rows-length ws n o e r (suc c) =
@@ -65,7 +65,7 @@ rows-length ws n o e r (suc c) =
 pub closed-length : (ws : List ℕ) (n e : ℕ) → length (closedOf ws n e) ≡ length ws
 unfolding closedOf
 closed-length ws n e =
-    length-set (withHead ws n (n - 1) e 0) (placeOf 6 n 0) (e % 4294967296) ∙ head-length ws n (n - 1) e 0
+    length-set (withHead ws n (n - 1) e 0) (mulAddOf 6 n 0) (e % 4294967296) ∙ head-length ws n (n - 1) e 0
 
 -- two words written one after the other: the others stay, and both are there
 two-other : (ws : List ℕ) (i j a b k : ℕ) → k ≢ i → k ≢ j → getD (set (set ws i a) j b) k 0 ≡ getD ws k 0
@@ -81,7 +81,7 @@ two-second ws i j a b h = getD-set-same (set ws i a) j b 0 (omega (arith, length
 pub edge-at : (n e : ℕ) → n ≤ 8193 → 6 * n + 1 + 2 * e < 4294967296 → edgeAt n e ≡ 6 * n + 1 + 2 * e
 unfolding edgeAt
 edge-at n e f h =
-    rw (place-small 6 n 1 (omega arith) (omega arith) (omega arith), sum-small e e (omega arith))
+    rw (mul-add-small 6 n 1 (omega arith) (omega arith) (omega arith), sum-small e e (omega arith))
       (sum-small (6 * n + 1) (e + e) (omega arith) ∙ omega arith)
 
 edge-is : (ws : List ℕ) (n e l t : ℕ) → n ≤ 8193 → 6 * n + 2 + 2 * e < 4294967296 →
@@ -96,7 +96,7 @@ edge-is ws n e l t f h =
 head-is : (ws : List ℕ) (n p e s : ℕ) → n ≤ 8193 → p < n →
     withHead ws n p e s ≡ set (set ws p (s % 4294967296)) (5 * n + p) (e % 4294967296)
 unfolding withHead
-head-is ws n p e s f h = rw (place-small 5 n p (omega arith) (omega arith) (omega arith))
+head-is ws n p e s f h = rw (mul-add-small 5 n p (omega arith) (omega arith) (omega arith))
 
 -- the words that edges from edge e on leave: those before them, and those after them
 pub edges-other : (ws : List ℕ) (n e : ℕ) (xs : List Edge) → n ≤ 8193 →
@@ -114,7 +114,7 @@ edges-other ws n e (x ∷ xs) f s j out =
           (λ q. out (omega arith) (omega arith)) (λ q. out (omega arith) (omega arith)))
 
 -- the words of a row: its head, and its edges
-pub row-other : (ws : List ℕ) (n o k e : ℕ) (r : Row) → n ≤ 8193 → o + k < n →
+pub row-other : (ws : List ℕ) (n o k e : ℕ) (r : StateRow) → n ≤ 8193 → o + k < n →
     6 * n + 1 + 2 * (e + length (r .edges)) < 4294967296 → (j : ℕ) → j ≢ o + k → j ≢ 5 * n + (o + k) →
     ((6 * n + 1 + 2 * e ≤ j) → j < 6 * n + 1 + 2 * (e + length (r .edges)) → ⊥) →
     getD (withRow ws n o k e r) j 0 ≡ getD ws j 0
@@ -178,7 +178,7 @@ edges-stand ws n e a (x ∷ xs) R h =
           (less (withEdge ws n e (x .letter) (x .target)) (suc e + length xs) len (omega arith) R) (h .3))
 
 -- a head that is written is there
-row-silent : (ws : List ℕ) (n o k p e : ℕ) (r : Row) → o + k ≡ p → p < n → r .silent < 4294967296 →
+row-silent : (ws : List ℕ) (n o k p e : ℕ) (r : StateRow) → o + k ≡ p → p < n → r .silent < 4294967296 →
     Room ws n (e + length (r .edges)) → getD (withRow ws n o k e r) p 0 ≡ r .silent
 unfolding withRow
 row-silent ws n o k p e r q l h R =
@@ -187,7 +187,7 @@ row-silent ws n o k p e r q l h R =
         rw (head-is ws n p e (r .silent) (R .few) l, mod-eq-of-lt h)
           (two-first ws p (5 * n + p) (r .silent) (e % 4294967296) (omega (arith, R .words)) (λ z. omega arith)))
 
-row-first : (ws : List ℕ) (n o k p e : ℕ) (r : Row) → o + k ≡ p → p < n → Room ws n (e + length (r .edges)) →
+row-first : (ws : List ℕ) (n o k p e : ℕ) (r : StateRow) → o + k ≡ p → p < n → Room ws n (e + length (r .edges)) →
     getD (withRow ws n o k e r) (5 * n + p) 0 ≡ e
 unfolding withRow
 row-first ws n o k p e r q l R =
@@ -198,7 +198,7 @@ row-first ws n o k p e r q l R =
         rw (head-is ws n p e (r .silent) (R .few) l, small)
           (two-second ws p (5 * n + p) (r .silent % 4294967296) e (omega (arith, R .words))))
 
-row-stands : (ws : List ℕ) (n o k e : ℕ) (r : Row) → Fine n r → Room ws n (e + length (r .edges)) →
+row-stands : (ws : List ℕ) (n o k e : ℕ) (r : StateRow) → Fine n r → Room ws n (e + length (r .edges)) →
     Standing (withRow ws n o k e r) n e (r .edges)
 unfolding withRow
 row-stands ws n o k e r F R =
@@ -207,22 +207,22 @@ row-stands ws n o k e r F R =
         (head-length ws n (sumOf o k) e (r .silent)) (omega arith) R) (F .rising)
 
 -- more states have more edges
-edges-more : (row : ℕ → Row) (p d q : ℕ) → p + d ≡ q → edgesBelow row p ≤ edgesBelow row q
+edges-more : (row : ℕ → StateRow) (p d q : ℕ) → p + d ≡ q → edgesBelow row p ≤ edgesBelow row q
 unfolding edgesBelow
 edges-more row p zero q e = subst (λ (x : ℕ). edgesBelow row p ≤ edgesBelow row x) {x = p} {y = q} (omega arith)
   (omega arith)
 edges-more row p (suc d) zero e = absurd (omega arith)
 edges-more row p (suc d) (suc q) e = omega (arith, edges-more row p d q (omega arith))
 
-pub edges-up : (row : ℕ → Row) (p q : ℕ) → p ≤ q → edgesBelow row p ≤ edgesBelow row q
+pub edges-up : (row : ℕ → StateRow) (p q : ℕ) → p ≤ q → edgesBelow row p ≤ edgesBelow row q
 edges-up row p q h = edges-more row p (q - p) q (omega arith)
 
 -- rows are shown on where their words stay
-pub shown-on : (ws vs : List ℕ) (n c : ℕ) (row : ℕ → Row) →
+pub shown-on : (ws vs : List ℕ) (n c : ℕ) (row : ℕ → StateRow) →
     ((j : ℕ) → j < c → getD vs j 0 ≡ getD ws j 0) →
     ((j : ℕ) → 5 * n ≤ j → j < 5 * n + c → getD vs j 0 ≡ getD ws j 0) →
     ((j : ℕ) → 6 * n + 1 ≤ j → j < 6 * n + 1 + 2 * edgesBelow row c → getD vs j 0 ≡ getD ws j 0) →
-    Shown ws n c row → Shown vs n c row
+    ShownRows ws n c row → ShownRows vs n c row
 unfolding edgesBelow
 shown-on ws vs n c row silent first edge S = record
   { silents = λ p h. silent p h ∙ S .silents p h
@@ -239,16 +239,16 @@ below-suc P p old new j h = by (decLt j p)
     by (no a) = subst P {x = p} {y = j} (omega arith) new
 
 -- THEOREM: a row that is written is shown
-pub row-shown : (ws : List ℕ) (n o k p : ℕ) (row : ℕ → Row) → o + k ≡ p → p < n → Fine n (row p) →
-    Room ws n (edgesBelow row (suc p)) → Shown ws n p row →
-    Shown (withRow ws n o k (edgesBelow row p) (row p)) n (suc p) row
+pub row-shown : (ws : List ℕ) (n o k p : ℕ) (row : ℕ → StateRow) → o + k ≡ p → p < n → Fine n (row p) →
+    Room ws n (edgesBelow row (suc p)) → ShownRows ws n p row →
+    ShownRows (withRow ws n o k (edgesBelow row p) (row p)) n (suc p) row
 unfolding edgesBelow
 row-shown ws n o k p row q l F R S =
     let vs = withRow ws n o k (edgesBelow row p) (row p) in
     let stays : (j : ℕ) → j ≢ p → j ≢ 5 * n + p → j < 6 * n + 1 + 2 * edgesBelow row p → getD vs j 0 ≡ getD ws j 0 =
           λ j a b c. row-other ws n o k (edgesBelow row p) (row p) (R .few) (omega arith) (R .small) j
             (λ z. a (omega arith)) (λ z. b (omega arith)) (λ d e. omega arith) in
-    let T : Shown vs n p row =
+    let T : ShownRows vs n p row =
           shown-on ws vs n p row (λ j h. stays j (λ z. omega arith) (λ z. omega arith) (omega arith))
             (λ j a h. stays j (λ z. omega arith) (λ z. omega arith) (omega arith))
             (λ j a h. stays j (λ z. omega arith) (λ z. omega arith) (omega arith)) S in
@@ -261,13 +261,13 @@ row-shown ws n o k p row q l F R S =
           (row-stands ws n o k (edgesBelow row p) (row p) F R) }
 
 -- the edges of one more state
-edges-next : (row : ℕ → Row) (o c : ℕ) →
+edges-next : (row : ℕ → StateRow) (o c : ℕ) →
     edgesBelow row (o + suc c) ≡ edgesBelow row (o + c) + length (row (o + c) .edges)
 unfolding edgesBelow
 edges-next row o c = rw (add-suc o c)
 
 -- the first edge after the c states from o on, where r k is the row of the state o + k
-pub before-is : (o : ℕ) (row r : ℕ → Row) (c : ℕ) → ((k : ℕ) → k < c → row (o + k) ≡ r k) →
+pub before-is : (o : ℕ) (row r : ℕ → StateRow) (c : ℕ) → ((k : ℕ) → k < c → row (o + k) ≡ r k) →
     edgesBelow row (o + c) < 4294967296 → before (edgesBelow row o) r c ≡ edgesBelow row (o + c)
 unfolding before
 before-is o row r zero same h = rw (add-zero o)
@@ -277,15 +277,15 @@ before-is o row r (suc c) same h =
       (past-plus (edgesBelow row (o + c)) (row (o + c) .edges) (omega arith) ∙ sym e)
 
 -- THEOREM: the rows of a sheet that are written one after the other are shown
-pub rows-shown : (ws : List ℕ) (n o : ℕ) (row r : ℕ → Row) (c : ℕ) → ((k : ℕ) → k < c → row (o + k) ≡ r k) →
-    ((k : ℕ) → k < c → Fine n (r k)) → o + c ≤ n → Room ws n (edgesBelow row (o + c)) → Shown ws n o row →
-    Shown (withRows ws n o (edgesBelow row o) r c) n (o + c) row
+pub rows-shown : (ws : List ℕ) (n o : ℕ) (row r : ℕ → StateRow) (c : ℕ) → ((k : ℕ) → k < c → row (o + k) ≡ r k) →
+    ((k : ℕ) → k < c → Fine n (r k)) → o + c ≤ n → Room ws n (edgesBelow row (o + c)) → ShownRows ws n o row →
+    ShownRows (withRows ws n o (edgesBelow row o) r c) n (o + c) row
 unfolding withRows
 rows-shown ws n o row r zero same fine l R S = rw (add-zero o) S
 rows-shown ws n o row r (suc c) same fine l R S =
     let e = edges-next row o c in
     let vs = withRows ws n o (edgesBelow row o) r c in
-    let T : Shown vs n (o + c) row =
+    let T : ShownRows vs n (o + c) row =
           rows-shown ws n o row r c (λ k h. same k (omega arith)) (λ k h. fine k (omega arith)) (omega arith)
             (less ws (edgesBelow row (o + c)) refl (omega arith) R) S in
     let R′ : Room vs n (edgesBelow row (suc (o + c))) =
@@ -300,7 +300,7 @@ pub none-fine : (n : ℕ) → Fine n noEdges
 unfolding Rising
 none-fine n = record { silent-state = omega arith; rising = tt }
 
-pub none-more : (row : ℕ → Row) (p : ℕ) → row p ≡ noEdges → edgesBelow row (suc p) ≡ edgesBelow row p
+pub none-more : (row : ℕ → StateRow) (p : ℕ) → row p ≡ noEdges → edgesBelow row (suc p) ≡ edgesBelow row p
 unfolding edgesBelow
 none-more row p e = rw e (omega arith)
 
@@ -310,28 +310,28 @@ closed-is : (ws : List ℕ) (n e : ℕ) → n ≤ 8193 → closedOf ws n e ≡
 unfolding closedOf withRow withEdges
 closed-is ws n e f =
     let s : sumOf 0 (n - 1) ≡ n - 1 = sum-small 0 (n - 1) (omega arith) ∙ omega arith in
-    let p : placeOf 6 n 0 ≡ 6 * n = place-small 6 n 0 (omega arith) (omega arith) (omega arith) ∙ omega arith in
+    let p : mulAddOf 6 n 0 ≡ 6 * n = mul-add-small 6 n 0 (omega arith) (omega arith) (omega arith) ∙ omega arith in
     rw (s, p)
 
 -- the dead state has no edges
-pub all-edges : (n : ℕ) (row : ℕ → Row) → 0 < n → row (n - 1) ≡ noEdges → edgesBelow row n ≡ edgesBelow row (n - 1)
+pub all-edges : (n : ℕ) (row : ℕ → StateRow) → 0 < n → row (n - 1) ≡ noEdges → edgesBelow row n ≡ edgesBelow row (n - 1)
 all-edges n row some dead =
     subst (λ (x : ℕ). edgesBelow row x ≡ edgesBelow row (n - 1)) {x = suc (n - 1)} {y = n} (omega arith)
       (none-more row (n - 1) dead)
 
-module _ (ws : List ℕ) (n : ℕ) (row : ℕ → Row) (some : 0 < n) (dead : row (n - 1) ≡ noEdges)
+module _ (ws : List ℕ) (n : ℕ) (row : ℕ → StateRow) (some : 0 < n) (dead : row (n - 1) ≡ noEdges)
     (R : Room ws n (edgesBelow row (n - 1))) where
   -- THEOREM: closing shows the row of the dead state too
-  pub closed-shown : Shown ws n (n - 1) row → Shown (closedOf ws n (edgesBelow row (n - 1))) n n row
+  pub closed-shown : ShownRows ws n (n - 1) row → ShownRows (closedOf ws n (edgesBelow row (n - 1))) n n row
   closed-shown S =
       let e = edgesBelow row (n - 1) in
       let vs = withRow ws n 0 (n - 1) e noEdges in
       let R′ : Room ws n (edgesBelow row (suc (n - 1))) = rw (none-more row (n - 1) dead) R in
       let F : Fine n (row (n - 1)) = rw dead (none-fine n) in
-      let T : Shown (withRow ws n 0 (n - 1) e (row (n - 1))) n (suc (n - 1)) row =
+      let T : ShownRows (withRow ws n 0 (n - 1) e (row (n - 1))) n (suc (n - 1)) row =
             row-shown ws n 0 (n - 1) (n - 1) row (omega arith) (omega arith) F R′ S in
-      let T′ : Shown vs n n row =
-            subst (λ (x : ℕ). Shown vs n x row) {x = suc (n - 1)} {y = n} (omega arith) (rw dead at T) in
+      let T′ : ShownRows vs n n row =
+            subst (λ (x : ℕ). ShownRows vs n x row) {x = suc (n - 1)} {y = n} (omega arith) (rw dead at T) in
       let stays : (j : ℕ) → j ≢ 6 * n → getD (set vs (6 * n) (e % 4294967296)) j 0 ≡ getD vs j 0 =
             λ j a. getD-set-other vs (6 * n) j (e % 4294967296) 0 a in
       rw (closed-is ws n e (R .few))
@@ -348,7 +348,7 @@ module _ (ws : List ℕ) (n : ℕ) (row : ℕ → Row) (some : 0 < n) (dead : ro
           (omega (arith, row-length ws n 0 (n - 1) e noEdges, R .words)))
 
   -- THEOREM: the rows of all other states, closed, are an automaton
-  pub closed-automaton : ((p : ℕ) → p < n - 1 → Fine n (row p)) → Shown ws n (n - 1) row →
+  pub closed-automaton : ((p : ℕ) → p < n - 1 → Fine n (row p)) → ShownRows ws n (n - 1) row →
       Automaton (closedOf ws n (edgesBelow row (n - 1))) n row
   closed-automaton fine S =
       let e = edgesBelow row (n - 1) in

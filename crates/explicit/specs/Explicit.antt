@@ -6,8 +6,7 @@ use Prim.Native.Nat.{ℕ, suc, _+_, _-_, _<_}
 use lib.ListN.{getD}
 use Rattle.language.specs.declared.Numbers.{Numbers}
 use Rattle.language.specs.Move.{Move}
-use Rattle.language.specs.Letter.{letter}
-use Rattle.language.proofs.LetterLaws.{Small}
+use Rattle.explicit.specs.Letter.{letter, Small}
 use Rattle.machine.specs.Action.{Next, to, out, dead, Action, go, say, hear}
 use Rattle.machine.specs.Edge.{edge}
 use Rattle.machine.specs.Settle.{Index}

@@ -9,7 +9,7 @@ use crate::levels::start_at;
 use crate::levels::up_at;
 use automaton::Out;
 use automaton::Silent;
-use automaton::row::place;
+use automaton::row::mul_add;
 use automaton::row::sum;
 use automaton::up::exits;
 use automaton::up::goes;
@@ -75,7 +75,7 @@ fn moved(
     ensures { λ r. ⌜ ((N : Numbers) → r
         ≡ targetOf s (riseAll N (framesOf (now (p .entry)) c) (Go next level set))) ⌝ }
 {
-    let copy = place(
+    let copy = mul_add(
         set,
         field(p, m - 1, B),
         start_at(p, c) + next - start_at(p, m),
@@ -164,4 +164,27 @@ pub(crate) fn exit(
         }
     }
     dead(s.n)
+}
+
+// Where a step inside c levels leads.
+pub(crate) fn reach(n: Numbers, s: Site, p: &[usize; WORDS], c: usize, o: Out) -> usize
+    requires { ⌜ Sound (now p) c ⌝ }
+    ensures { λ r. ⌜ r ≡ targetOf s (riseAll n (framesOf (now (p .entry)) c) o) ⌝ }
+{
+    match o {
+        Out::Go { next, level, set } => lead(s, p, c, next, level, set),
+        Out::Exit {
+            kind,
+            value,
+            level,
+            set,
+        } => exit(n, s, p, c, kind, value, level, set),
+        Out::Say { said: _, next: _ } => dead(s.n),
+        Out::Hear {
+            at: _,
+            kind: _,
+            value: _,
+        } => dead(s.n),
+        Out::Stuck => dead(s.n),
+    }
 }

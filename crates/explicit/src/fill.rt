@@ -3,18 +3,19 @@ use crate::Site;
 use crate::Stop;
 use crate::exits::dead;
 use crate::exits::lead;
+use crate::exits::reach;
 use crate::hear::hear;
-use crate::hear::reach;
-use crate::letters::ear_of;
+use crate::letters::wait_of;
 use crate::letters::letter_of;
 use crate::levels::WORDS;
 use crate::path::go_to;
+use crate::rows::EDGES;
 use crate::rows::put;
 use crate::rows::write_edge;
 use crate::rows::write_head;
 use crate::whole::spots_of;
 use automaton::Out;
-use automaton::row::place;
+use automaton::row::mul_add;
 use automaton::row::sum;
 use language::Numbers;
 ghost use mathlib.Core.Path.{_≡_};
@@ -93,7 +94,7 @@ fn write_row(
             at: of,
             kind,
             value,
-        } => hear(t, n, s, words, p, c, ear_of(t, k, of, kind, value), e),
+        } => hear(t, n, s, words, p, c, wait_of(t, k, of, kind, value), e),
         Out::Stuck => e,
     }
 }
@@ -126,5 +127,5 @@ pub fn close(words: &mut [u32], n: usize, e: usize)
     ensures { λ r. ⌜ now (words .exit) ≡ closedOf (now (words .entry)) n e ⌝ }
 {
     write_head(words, n, dead(n), e, 0);
-    put(words, place(6, n, 0), e);
+    put(words, mul_add(EDGES, n, 0), e);
 }

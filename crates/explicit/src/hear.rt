@@ -1,19 +1,16 @@
 // The edges of a waiting state: the moves that it takes, in the order of their letters, and where they lead.
-use crate::Ear;
+use crate::Wait;
 use crate::Site;
-use crate::exits::dead;
 use crate::exits::exit;
-use crate::exits::lead;
+use crate::exits::reach;
 use crate::letters::answer_kind;
 use crate::letters::code_at;
 use crate::letters::letter_of;
 use crate::letters::limit;
-use crate::letters::question_limit;
 use crate::levels::WORDS;
 use crate::rows::write_edge;
 use crate::whole::at_start;
 use automaton::Move;
-use automaton::Out;
 use automaton::moves::OPENING;
 use automaton::moves::RUN;
 use automaton::moves::WRITE;
@@ -24,13 +21,12 @@ use automaton::row::name_count;
 use automaton::row::part_class;
 use automaton::row::part_values;
 use automaton::row::sum;
+use automaton::types::question_limit;
 use language::Numbers;
 ghost use mathlib.Core.Path.{_≡_};
 ghost use Prim.Native.Nat.{_-_, _≤_};
 ghost use Rattle.language.specs.Number.{numbers};
 ghost use Rattle.explicit.specs.inner.States.{sheetAt};
-ghost use Rattle.explicit.specs.inner.Path.{riseAll};
-ghost use Rattle.explicit.specs.inner.Levels.{framesOf, Sound};
 ghost use Rattle.explicit.specs.inner.Kept.{Listening, Calling, Argument, Arguments, Answering};
 ghost use Rattle.explicit.specs.inner.Rows.{withEdges, past};
 ghost use Rattle.explicit.specs.inner.Moves.{targetOf, valueEdge, valueEdges, blockEdges, heardEdges};
@@ -38,39 +34,22 @@ ghost use Rattle.explicit.specs.inner.Moves.{questionEdges, askedEdges, 
 
 // A name has at most this many arguments.
 const ARGUMENTS: usize = 4;
-
-// Where a step inside c levels leads.
-pub(crate) fn reach(n: Numbers, s: Site, p: &[usize; WORDS], c: usize, o: Out) -> usize
-    requires { ⌜ Sound (now p) c ⌝ }
-    ensures { λ r. ⌜ r ≡ targetOf s (riseAll n (framesOf (now (p .entry)) c) o) ⌝ }
-{
-    match o {
-        Out::Go { next, level, set } => lead(s, p, c, next, level, set),
-        Out::Exit {
-            kind,
-            value,
-            level,
-            set,
-        } => exit(n, s, p, c, kind, value, level, set),
-        Out::Say { said: _, next: _ } => dead(s.n),
-        Out::Hear {
-            at: _,
-            kind: _,
-            value: _,
-        } => dead(s.n),
-        Out::Stuck => dead(s.n),
-    }
-}
+// The name itself, as an argument.
+const OWN: usize = 0;
+// The places of moves: the name itself and its arguments.
+const PLACES: usize = 5;
+// All pairs of a kind of move and such a place.
+const BLOCKS: usize = 35;
 
 // Where a move leads at a state that waits, to which a path of c levels leads.
-fn heard(t: &[u16], n: Numbers, s: Site, p: &[usize; WORDS], c: usize, ear: Ear, m: Move) -> usize
-    requires { ⌜ Listening (now t) n (s .root) (now p) c ear ⌝ }
-    ensures { λ r. ⌜ r ≡ targetOf s (sheetAt (now (t .entry)) n (s .root) (ear .state) m) ⌝ }
+fn heard(t: &[u16], n: Numbers, s: Site, p: &[usize; WORDS], c: usize, wait: Wait, m: Move) -> usize
+    requires { ⌜ Listening (now t) n (s .root) (now p) c wait ⌝ }
+    ensures { λ r. ⌜ r ≡ targetOf s (sheetAt (now (t .entry)) n (s .root) (wait .state) m) ⌝ }
 {
-    if ear.state == 0 {
+    if wait.state == 0 {
         return reach(n, s, p, c, at_start(t, s.root, m));
     }
-    reach(n, s, p, c, waiting(t, ear.at, ear.kind, ear.value, m))
+    reach(n, s, p, c, waiting(t, wait.at, wait.kind, wait.value, m))
 }
 
 // The edge by the value of number r, where it is below the limit.
@@ -81,17 +60,17 @@ fn hear_value(
     words: &mut [u32],
     p: &[usize; WORDS],
     c: usize,
-    ear: Ear,
+    wait: Wait,
     kind: usize,
     arg: usize,
     below: usize,
     r: usize,
     e: usize,
 ) -> usize
-    requires { ⌜ Listening (now t) n (s .root) (now p) c ear ⌝ }
-    ensures returned { λ x. ⌜ x ≡ past e (valueEdge (now (t .entry)) n s ear kind arg below r) ⌝ }
+    requires { ⌜ Listening (now t) n (s .root) (now p) c wait ⌝ }
+    ensures returned { λ x. ⌜ x ≡ past e (valueEdge (now (t .entry)) n s wait kind arg below r) ⌝ }
     ensures written { λ x. ⌜ now (words .exit) ≡ withEdges (now (words .entry)) (s .n) e
-        (valueEdge (now (t .entry)) n s ear kind arg below r) ⌝ }
+        (valueEdge (now (t .entry)) n s wait kind arg below r) ⌝ }
 {
     let value = code_at(n, r);
     if below <= value {
@@ -99,11 +78,11 @@ fn hear_value(
     }
     let m = Move {
         kind,
-        id: ear.id,
+        id: wait.id,
         arg,
         value,
     };
-    write_edge(words, s.n, e, letter_of(n, m), heard(t, n, s, p, c, ear, m));
+    write_edge(words, s.n, e, letter_of(n, m), heard(t, n, s, p, c, wait, m));
     sum(e, 1)
 }
 
@@ -115,22 +94,22 @@ fn hear_values(
     words: &mut [u32],
     p: &[usize; WORDS],
     c: usize,
-    ear: Ear,
+    wait: Wait,
     kind: usize,
     arg: usize,
     below: usize,
     e: usize,
 ) -> usize
-    requires { ⌜ Listening (now t) n (s .root) (now p) c ear ⌝ }
-    ensures returned { λ x. ⌜ x ≡ past e (valueEdges (now (t .entry)) n s ear kind arg below (numbers n)) ⌝ }
+    requires { ⌜ Listening (now t) n (s .root) (now p) c wait ⌝ }
+    ensures returned { λ x. ⌜ x ≡ past e (valueEdges (now (t .entry)) n s wait kind arg below (numbers n)) ⌝ }
     ensures written { λ x. ⌜ now (words .exit) ≡ withEdges (now (words .entry)) (s .n) e
-        (valueEdges (now (t .entry)) n s ear kind arg below (numbers n)) ⌝ }
+        (valueEdges (now (t .entry)) n s wait kind arg below (numbers n)) ⌝ }
 {
     let all = 2 * n.z as usize + 1;
     let mut r = 0;
     let mut next = e;
     while r < all {
-        next = hear_value(t, n, s, words, p, c, ear, kind, arg, below, r, next);
+        next = hear_value(t, n, s, words, p, c, wait, kind, arg, below, r, next);
         r += 1;
     }
     next
@@ -144,21 +123,21 @@ fn hear_block(
     words: &mut [u32],
     p: &[usize; WORDS],
     c: usize,
-    ear: Ear,
+    wait: Wait,
     kind: usize,
     arg: usize,
     e: usize,
 ) -> usize
-    requires { ⌜ Listening (now t) n (s .root) (now p) c ear ⌝ }
-    ensures returned { λ x. ⌜ x ≡ past e (blockEdges (now (t .entry)) n s ear kind arg) ⌝ }
+    requires { ⌜ Listening (now t) n (s .root) (now p) c wait ⌝ }
+    ensures returned { λ x. ⌜ x ≡ past e (blockEdges (now (t .entry)) n s wait kind arg) ⌝ }
     ensures written { λ x. ⌜ now (words .exit) ≡ withEdges (now (words .entry)) (s .n) e
-        (blockEdges (now (t .entry)) n s ear kind arg) ⌝ }
+        (blockEdges (now (t .entry)) n s wait kind arg) ⌝ }
 {
-    let below = limit(t, ear, kind, arg);
+    let below = limit(t, wait, kind, arg);
     if below == 0 {
         return e;
     }
-    hear_values(t, n, s, words, p, c, ear, kind, arg, below, e)
+    hear_values(t, n, s, words, p, c, wait, kind, arg, below, e)
 }
 
 // The edges by the questions of a kind at an argument of the name that a state waits for.
@@ -169,22 +148,22 @@ fn hear_argument(
     words: &mut [u32],
     p: &[usize; WORDS],
     c: usize,
-    ear: Ear,
+    wait: Wait,
     kind: usize,
     arg: usize,
     e: usize,
 ) -> usize
-    requires { ⌜ Listening (now t) n (s .root) (now p) c ear × Argument (now t) ear arg ⌝ }
-    ensures returned { λ x. ⌜ x ≡ past e (blockEdges (now (t .entry)) n s ear kind arg) ⌝ }
+    requires { ⌜ Listening (now t) n (s .root) (now p) c wait × Argument (now t) wait arg ⌝ }
+    ensures returned { λ x. ⌜ x ≡ past e (blockEdges (now (t .entry)) n s wait kind arg) ⌝ }
     ensures written { λ x. ⌜ now (words .exit) ≡ withEdges (now (words .entry)) (s .n) e
-        (blockEdges (now (t .entry)) n s ear kind arg) ⌝ }
+        (blockEdges (now (t .entry)) n s wait kind arg) ⌝ }
 {
     let j = arg - 1;
-    let below = question_limit(part_class(t, ear.at, j), part_values(t, ear.at, j), kind);
+    let below = question_limit(part_class(t, wait.at, j), part_values(t, wait.at, j), kind);
     if below == 0 {
         return e;
     }
-    hear_values(t, n, s, words, p, c, ear, kind, arg, below, e)
+    hear_values(t, n, s, words, p, c, wait, kind, arg, below, e)
 }
 
 // The edges by the questions of a kind at the first arguments.
@@ -195,21 +174,21 @@ fn hear_questions(
     words: &mut [u32],
     p: &[usize; WORDS],
     c: usize,
-    ear: Ear,
+    wait: Wait,
     kind: usize,
     count: usize,
     e: usize,
 ) -> usize
-    requires { ⌜ Listening (now t) n (s .root) (now p) c ear × Arguments (now t) ear count ⌝ }
-    ensures returned { λ x. ⌜ x ≡ past e (questionEdges (now (t .entry)) n s ear kind count) ⌝ }
+    requires { ⌜ Listening (now t) n (s .root) (now p) c wait × Arguments (now t) wait count ⌝ }
+    ensures returned { λ x. ⌜ x ≡ past e (questionEdges (now (t .entry)) n s wait kind count) ⌝ }
     ensures written { λ x. ⌜ now (words .exit) ≡ withEdges (now (words .entry)) (s .n) e
-        (questionEdges (now (t .entry)) n s ear kind count) ⌝ }
+        (questionEdges (now (t .entry)) n s wait kind count) ⌝ }
 {
     let mut arg = 0;
     let mut next = e;
     while arg < count {
         arg += 1;
-        next = hear_argument(t, n, s, words, p, c, ear, kind, arg, next);
+        next = hear_argument(t, n, s, words, p, c, wait, kind, arg, next);
     }
     next
 }
@@ -222,21 +201,21 @@ fn hear_kinds(
     words: &mut [u32],
     p: &[usize; WORDS],
     c: usize,
-    ear: Ear,
+    wait: Wait,
     count: usize,
     first: usize,
     end: usize,
     e: usize,
 ) -> usize
-    requires { ⌜ Listening (now t) n (s .root) (now p) c ear × (Arguments (now t) ear count × (first ≤ end)) ⌝ }
-    ensures returned { λ x. ⌜ x ≡ past e (askedEdges (now (t .entry)) n s ear count first (end - first)) ⌝ }
+    requires { ⌜ Listening (now t) n (s .root) (now p) c wait × (Arguments (now t) wait count × (first ≤ end)) ⌝ }
+    ensures returned { λ x. ⌜ x ≡ past e (askedEdges (now (t .entry)) n s wait count first (end - first)) ⌝ }
     ensures written { λ x. ⌜ now (words .exit) ≡ withEdges (now (words .entry)) (s .n) e
-        (askedEdges (now (t .entry)) n s ear count first (end - first)) ⌝ }
+        (askedEdges (now (t .entry)) n s wait count first (end - first)) ⌝ }
 {
     let mut kind = first;
     let mut next = e;
     while kind < end {
-        next = hear_questions(t, n, s, words, p, c, ear, kind, count, next);
+        next = hear_questions(t, n, s, words, p, c, wait, kind, count, next);
         kind += 1;
     }
     next
@@ -250,16 +229,16 @@ fn hear_answer(
     words: &mut [u32],
     p: &[usize; WORDS],
     c: usize,
-    ear: Ear,
+    wait: Wait,
     kind: usize,
     below: usize,
     r: usize,
     e: usize,
 ) -> usize
-    requires { ⌜ Answering (now t) n s (now p) c ear kind below ⌝ }
-    ensures returned { λ x. ⌜ x ≡ past e (valueEdge (now (t .entry)) n s ear kind 0 below r) ⌝ }
+    requires { ⌜ Answering (now t) n s (now p) c wait kind below ⌝ }
+    ensures returned { λ x. ⌜ x ≡ past e (valueEdge (now (t .entry)) n s wait kind 0 below r) ⌝ }
     ensures written { λ x. ⌜ now (words .exit) ≡ withEdges (now (words .entry)) (s .n) e
-        (valueEdge (now (t .entry)) n s ear kind 0 below r) ⌝ }
+        (valueEdge (now (t .entry)) n s wait kind 0 below r) ⌝ }
 {
     let value = code_at(n, r);
     if below <= value {
@@ -267,8 +246,8 @@ fn hear_answer(
     }
     let m = Move {
         kind,
-        id: ear.id,
-        arg: 0,
+        id: wait.id,
+        arg: OWN,
         value,
     };
     write_edge(
@@ -289,16 +268,16 @@ fn hear_answers(
     words: &mut [u32],
     p: &[usize; WORDS],
     c: usize,
-    ear: Ear,
+    wait: Wait,
     kind: usize,
     e: usize,
 ) -> usize
-    requires { ⌜ Listening (now t) n (s .root) (now p) c ear × Calling ear ⌝ }
-    ensures returned { λ x. ⌜ x ≡ past e (blockEdges (now (t .entry)) n s ear kind 0) ⌝ }
+    requires { ⌜ Listening (now t) n (s .root) (now p) c wait × Calling wait ⌝ }
+    ensures returned { λ x. ⌜ x ≡ past e (blockEdges (now (t .entry)) n s wait kind 0) ⌝ }
     ensures written { λ x. ⌜ now (words .exit) ≡ withEdges (now (words .entry)) (s .n) e
-        (blockEdges (now (t .entry)) n s ear kind 0) ⌝ }
+        (blockEdges (now (t .entry)) n s wait kind 0) ⌝ }
 {
-    let below = limit(t, ear, kind, 0);
+    let below = limit(t, wait, kind, OWN);
     if below == 0 {
         return e;
     }
@@ -306,7 +285,7 @@ fn hear_answers(
     let mut r = 0;
     let mut next = e;
     while r < all {
-        next = hear_answer(t, n, s, words, p, c, ear, kind, below, r, next);
+        next = hear_answer(t, n, s, words, p, c, wait, kind, below, r, next);
         r += 1;
     }
     next
@@ -320,18 +299,18 @@ fn hear_all(
     words: &mut [u32],
     p: &[usize; WORDS],
     c: usize,
-    ear: Ear,
+    wait: Wait,
     e: usize,
 ) -> usize
-    requires { ⌜ Listening (now t) n (s .root) (now p) c ear ⌝ }
-    ensures returned { λ x. ⌜ x ≡ past e (heardEdges (now (t .entry)) n s ear 35) ⌝ }
+    requires { ⌜ Listening (now t) n (s .root) (now p) c wait ⌝ }
+    ensures returned { λ x. ⌜ x ≡ past e (heardEdges (now (t .entry)) n s wait 35) ⌝ }
     ensures written { λ x. ⌜ now (words .exit) ≡ withEdges (now (words .entry)) (s .n) e
-        (heardEdges (now (t .entry)) n s ear 35) ⌝ }
+        (heardEdges (now (t .entry)) n s wait 35) ⌝ }
 {
     let mut b = 0;
     let mut next = e;
-    while b < 35 {
-        next = hear_block(t, n, s, words, p, c, ear, b / 5, b % 5, next);
+    while b < BLOCKS {
+        next = hear_block(t, n, s, words, p, c, wait, b / PLACES, b % PLACES, next);
         b += 1;
     }
     next
@@ -357,18 +336,18 @@ fn hear_called(
     words: &mut [u32],
     p: &[usize; WORDS],
     c: usize,
-    ear: Ear,
+    wait: Wait,
     e: usize,
 ) -> usize
-    requires { ⌜ Listening (now t) n (s .root) (now p) c ear × Calling ear ⌝ }
-    ensures returned { λ x. ⌜ x ≡ past e (heardEdges (now (t .entry)) n s ear 35) ⌝ }
+    requires { ⌜ Listening (now t) n (s .root) (now p) c wait × Calling wait ⌝ }
+    ensures returned { λ x. ⌜ x ≡ past e (heardEdges (now (t .entry)) n s wait 35) ⌝ }
     ensures written { λ x. ⌜ now (words .exit) ≡ withEdges (now (words .entry)) (s .n) e
-        (heardEdges (now (t .entry)) n s ear 35) ⌝ }
+        (heardEdges (now (t .entry)) n s wait 35) ⌝ }
 {
-    let own = answer_kind(cell(t, ear.at, CLASS), ear.kind);
-    let count = asking(t, ear.at);
-    let asked = hear_kinds(t, n, s, words, p, c, ear, count, RUN, own, e);
-    let answered = hear_block(t, n, s, words, p, c, ear, own, 0, asked);
+    let own = answer_kind(cell(t, wait.at, CLASS), wait.kind);
+    let count = asking(t, wait.at);
+    let asked = hear_kinds(t, n, s, words, p, c, wait, count, RUN, own, e);
+    let answered = hear_block(t, n, s, words, p, c, wait, own, OWN, asked);
     hear_kinds(
         t,
         n,
@@ -376,7 +355,7 @@ fn hear_called(
         words,
         p,
         c,
-        ear,
+        wait,
         count,
         own + 1,
         WRITE + 1,
@@ -392,20 +371,20 @@ pub(crate) fn hear(
     words: &mut [u32],
     p: &[usize; WORDS],
     c: usize,
-    ear: Ear,
+    wait: Wait,
     e: usize,
 ) -> usize
-    requires { ⌜ Listening (now t) n (s .root) (now p) c ear ⌝ }
-    ensures returned { λ x. ⌜ x ≡ past e (heardEdges (now (t .entry)) n s ear 35) ⌝ }
+    requires { ⌜ Listening (now t) n (s .root) (now p) c wait ⌝ }
+    ensures returned { λ x. ⌜ x ≡ past e (heardEdges (now (t .entry)) n s wait 35) ⌝ }
     ensures written { λ x. ⌜ now (words .exit) ≡ withEdges (now (words .entry)) (s .n) e
-        (heardEdges (now (t .entry)) n s ear 35) ⌝ }
+        (heardEdges (now (t .entry)) n s wait 35) ⌝ }
 {
-    if ear.kind == OPENING {
-        return hear_all(t, n, s, words, p, c, ear, e);
+    if wait.kind == OPENING {
+        return hear_all(t, n, s, words, p, c, wait, e);
     }
-    if name_count(t, ear.at) == 0 {
-        let own = answer_kind(cell(t, ear.at, CLASS), ear.kind);
-        return hear_answers(t, n, s, words, p, c, ear, own, e);
+    if name_count(t, wait.at) == 0 {
+        let own = answer_kind(cell(t, wait.at, CLASS), wait.kind);
+        return hear_answers(t, n, s, words, p, c, wait, own, e);
     }
-    hear_called(t, n, s, words, p, c, ear, e)
+    hear_called(t, n, s, words, p, c, wait, e)
 }

@@ -1,6 +1,7 @@
 // The moves that a waiting state takes: for each kind and argument the values below a limit, in the order of the signed
 // values; and the letter of a move.
-use crate::Ear;
+use crate::Wait;
+use crate::whole::WHOLE;
 use automaton::Move;
 use automaton::moves::ASK;
 use automaton::moves::DONE;
@@ -19,12 +20,28 @@ use automaton::row::part_class;
 use automaton::row::part_values;
 use automaton::types::COMMAND;
 use automaton::types::EXPRESSION;
+use automaton::types::question_limit;
 use language::Numbers;
 ghost use mathlib.Core.Path.{_≡_};
 ghost use Prim.Native.Nat.{_%_};
-ghost use Rattle.language.specs.Letter.{rank};
-ghost use Rattle.explicit.specs.inner.Moves.{codeAt, letterOf, questionLimit, answerLimit, answerKind, limitOf};
-ghost use Rattle.explicit.specs.inner.Moves.{earOf};
+ghost use Rattle.explicit.specs.Letter.{rank};
+ghost use Rattle.explicit.specs.inner.Moves.{codeAt, letterOf, answerLimit, answerKind, limitOf};
+ghost use Rattle.explicit.specs.inner.Moves.{waitOf};
+
+// The rank of the value 0: a rank is the signed value plus this.
+const RANK_ZERO: usize = 128;
+// A letter is kind, id, argument and rank, a byte each: what a kind, an id and an argument count.
+const KIND_UNIT: usize = 16777216;
+
+const ID_UNIT: usize = 65536;
+
+const ARGUMENT_UNIT: usize = 256;
+// How many numbers a byte, a kind and a value can be.
+const BYTES: usize = 256;
+
+const KINDS: usize = 8;
+
+const CODES: usize = 65536;
 
 // The value of number r in the order of the signed values.
 pub(crate) fn code_at(n: Numbers, r: usize) -> usize
@@ -42,54 +59,29 @@ pub(crate) fn rank_of(n: Numbers, value: usize) -> usize
     ensures { λ r. ⌜ r ≡ rank n (value % 65536) ⌝ }
 {
     let z = n.z as usize;
-    let v = value % 65536;
+    let v = value % CODES;
     if v <= z {
-        return 128 + v;
+        return RANK_ZERO + v;
     }
-    if 128 + v < 2 * z + 1 {
+    if RANK_ZERO + v < 2 * z + 1 {
         return 0;
     }
-    128 + v - (2 * z + 1)
+    RANK_ZERO + v - (2 * z + 1)
 }
 
 // The letter of a move.
 pub(crate) fn letter_of(n: Numbers, m: Move) -> usize
     ensures { λ r. ⌜ r ≡ letterOf n m ⌝ }
 {
-    let place = m.kind % 8 * 16777216 + m.id % 256 * 65536 + m.arg % 256 * 256;
+    let place = m.kind % KINDS * KIND_UNIT + m.id % BYTES * ID_UNIT + m.arg % BYTES * ARGUMENT_UNIT;
     if m.kind < VALUE {
         return place;
     }
     place + rank_of(n, m.value)
 }
 
-// How many values a question of a kind has at a type: none where it is no question of the type, and one where it
-// carries no value.
-pub(crate) fn question_limit(class: usize, values: usize, kind: usize) -> usize
-    ensures { λ r. ⌜ r ≡ questionLimit class values kind ⌝ }
-{
-    if class == COMMAND {
-        if kind == RUN {
-            return 1;
-        }
-        return 0;
-    }
-    if class == EXPRESSION {
-        if kind == ASK {
-            return 1;
-        }
-        return 0;
-    }
-    if kind == READ {
-        return 1;
-    }
-    if kind == WRITE {
-        return values;
-    }
-    0
-}
-
-// The same for the answers of a kind to the question q of value x.
+// How many values the answers of a kind to the question q of value x have at a type: none where the type has no such
+// question or the question no such answers, and one where they carry no value.
 pub(crate) fn answer_limit(class: usize, values: usize, q: usize, x: usize, kind: usize) -> usize
     ensures { λ r. ⌜ r ≡ answerLimit class values q x kind ⌝ }
 {
@@ -139,7 +131,7 @@ pub(crate) fn answer_kind(class: usize, q: usize) -> usize
 }
 
 // The same for the moves of a kind at an argument of the one a state waits for; argument 0 is the name itself.
-pub fn limit(t: &[u16], e: Ear, kind: usize, arg: usize) -> usize
+pub fn limit(t: &[u16], e: Wait, kind: usize, arg: usize) -> usize
     ensures { λ r. ⌜ r ≡ limitOf (now (t .entry)) e kind arg ⌝ }
 {
     let at = e.at;
@@ -169,19 +161,19 @@ pub fn limit(t: &[u16], e: Ear, kind: usize, arg: usize) -> usize
 }
 
 // Whom the state k waits for.
-pub(crate) fn ear_of(t: &[u16], state: usize, at: usize, kind: usize, value: usize) -> Ear
-    ensures { λ r. ⌜ r ≡ earOf (now (t .entry)) state at kind value ⌝ }
+pub(crate) fn wait_of(t: &[u16], state: usize, at: usize, kind: usize, value: usize) -> Wait
+    ensures { λ r. ⌜ r ≡ waitOf (now (t .entry)) state at kind value ⌝ }
 {
     if kind == OPENING {
-        return Ear {
+        return Wait {
             state,
-            id: 255,
+            id: WHOLE,
             at,
             kind,
             value,
         };
     }
-    Ear {
+    Wait {
         state,
         id: name_id(t, at),
         at,

@@ -97,9 +97,9 @@ fn put_level(p: &mut [usize; WORDS], i: usize, l: Level)
     let at = FIELDS * i;
     let f = l.f;
     put_four(p, at, l.part, l.kind, l.value, l.base);
-    put_four(p, at + 4, l.end, l.outer, f.role, f.base);
-    put_four(p, at + 8, f.a, f.b, f.c, f.d);
-    p[at + 12] = l.up;
+    put_four(p, at + END, l.end, l.outer, f.role, f.base);
+    put_four(p, at + A, f.a, f.b, f.c, f.d);
+    p[at + UP] = l.up;
 }
 
 // Level i becomes l and, where that is a block's, is noted.

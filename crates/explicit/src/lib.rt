@@ -33,9 +33,9 @@ pub struct Site {
     pub o: usize,
 }
 
-// Whom a state waits for: the name at a place of the table, with its id, asked the question of this kind and value; the
-// kind 7 is the first question of a play.
-pub struct Ear {
+// A state that waits, and for whom: the name at a place of the table, with its id, asked the question of this kind and
+// value; the kind OPENING is the first question of a play. A waiting state hears, or takes, the moves of that name.
+pub struct Wait {
     pub state: usize,
     pub id: usize,
     pub at: usize,
@@ -44,8 +44,8 @@ pub struct Ear {
 }
 
 // A level of the path to a state: a part, asked the question of this kind and value, whose first state is base and
-// which is the same up to the state `end`; the blocks outside it, the levels up to the one where its exits lead, and what
-// its steps become in the part above it.
+// which is the same up to the state `end`; the blocks outside it, the levels up to the one where its exits lead, and
+// what its steps become in the part above it.
 pub struct Level {
     pub part: usize,
     pub kind: usize,

@@ -41,21 +41,26 @@ ghost use Rattle.automaton.specs.walk.Down.{inPrivate};
 ghost use Rattle.explicit.specs.inner.Path.{storeOf};
 ghost use Rattle.explicit.specs.inner.Levels.{framesOf, Sound};
 ghost use Rattle.explicit.specs.inner.Kept.{spotIn, startOf, stopOf, leastOf, untilOf, childOf};
-ghost use Rattle.explicit.specs.inner.Kept.{Kept, Covers, Arrived};
+ghost use Rattle.explicit.specs.inner.Kept.{KeptPath, Covers, Arrived};
+
+// How many blocks enclose a part at most, and how many numbers a value can be.
+const HEIGHT: usize = 32;
+
+const CODES: usize = 65536;
 
 // The value of the private variable of level l, inside c levels.
 fn value_at(p: &[usize; WORDS], c: usize, l: usize) -> usize
     requires { ⌜ Sound (now p) c ⌝ }
     ensures { λ r. ⌜ r ≡ getD (storeOf (framesOf (now (p .entry)) c)) l 0 ⌝ }
 {
-    if 32 <= l {
+    if HEIGHT <= l {
         return 0;
     }
     let m = block_at(p, c, l + 1);
     if m == 0 {
         return 0;
     }
-    field(p, m - 1, C) % 65536
+    field(p, m - 1, C) % CODES
 }
 
 // Position k of a private variable inside c levels: its own step, then the exit.
@@ -102,7 +107,7 @@ fn private_at(
 
 // Where the state k is in the innermost of c levels.
 fn spot_at(t: &[u16], root: usize, p: &[usize; WORDS], c: usize, k: usize) -> Spot
-    requires { ⌜ Kept (now t) root (now p) c k ⌝ }
+    requires { ⌜ KeptPath (now t) root (now p) c k ⌝ }
     ensures { λ r. ⌜ r ≡ spotIn (now (t .entry)) root (now (p .entry)) c k noMove ⌝ }
 {
     if c == 0 {
@@ -201,7 +206,7 @@ fn leave(p: &[usize; WORDS], c: usize, k: usize) -> usize
 
 // Down from the innermost of c levels to the part where the state k is at hand.
 fn enter(t: &[u16], root: usize, p: &mut [usize; WORDS], c: usize, k: usize) -> Stop
-    requires { ⌜ Kept (now t) root (now p) c k × (Covers (now p) c k × (k < 65536)) ⌝ }
+    requires { ⌜ KeptPath (now t) root (now p) c k × (Covers (now p) c k × (k < 65536)) ⌝ }
     ensures { λ r. ⌜ Arrived (now (t .entry)) root (now (p .exit)) (r .levels) k (r .out) ⌝ }
 {
     let mut at = c;
@@ -232,7 +237,7 @@ fn enter(t: &[u16], root: usize, p: &mut [usize; WORDS], c: usize, k: usize) -> 
 
 // From a path of c levels to one of a state before k to that of the state k.
 pub(crate) fn go_to(t: &[u16], root: usize, p: &mut [usize; WORDS], c: usize, k: usize) -> Stop
-    requires { ⌜ Kept (now t) root (now p) c k × (k < 65536) ⌝ }
+    requires { ⌜ KeptPath (now t) root (now p) c k × (k < 65536) ⌝ }
     ensures { λ r. ⌜ Arrived (now (t .entry)) root (now (p .exit)) (r .levels) k (r .out) ⌝ }
 {
     let left = leave(p, c, k);

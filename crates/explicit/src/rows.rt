@@ -1,17 +1,25 @@
 // Rows of the automaton in words: the silent word and the first edge of a state, and its edges.
-use automaton::row::place;
+use automaton::row::mul_add;
 use automaton::row::sum;
 ghost use mathlib.Core.Path.{_≡_};
 ghost use Prim.Native.Nat.{_%_};
 ghost use lib.ListN.{set};
 ghost use Rattle.explicit.specs.inner.Rows.{withEdge, withHead};
 
+// How many numbers a word of 32 bits can be.
+const WORDS: usize = 4294967296;
+// Where parts of an automaton of n states begin: this many times n words are before the first edges of its states, and
+// before the end of its edges.
+const FIRSTS: usize = 5;
+
+pub(crate) const EDGES: usize = 6;
+
 // Word i becomes v, where there is such a word.
 pub(crate) fn put(words: &mut [u32], i: usize, v: usize)
     ensures { λ r. ⌜ now (words .exit) ≡ set (now (words .entry)) i (v % 4294967296) ⌝ }
 {
     if i < words.len() {
-        words[i] = (v % 4294967296) as u32;
+        words[i] = (v % WORDS) as u32;
     }
 }
 
@@ -19,7 +27,7 @@ pub(crate) fn put(words: &mut [u32], i: usize, v: usize)
 pub(crate) fn write_edge(words: &mut [u32], n: usize, e: usize, letter: usize, target: usize)
     ensures { λ r. ⌜ now (words .exit) ≡ withEdge (now (words .entry)) n e letter target ⌝ }
 {
-    let i = sum(place(6, n, 1), sum(e, e));
+    let i = sum(mul_add(EDGES, n, 1), sum(e, e));
     put(words, i, letter);
     put(words, sum(i, 1), target);
 }
@@ -29,5 +37,5 @@ pub(crate) fn write_head(words: &mut [u32], n: usize, p: usize, e: usize, silent
     ensures { λ r. ⌜ now (words .exit) ≡ withHead (now (words .entry)) n p e silent ⌝ }
 {
     put(words, p, silent);
-    put(words, place(5, n, p), e);
+    put(words, mul_add(FIRSTS, n, p), e);
 }

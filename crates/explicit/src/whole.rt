@@ -13,7 +13,7 @@ use automaton::row::CLASS;
 use automaton::row::VALUES;
 use automaton::row::WEIGHT;
 use automaton::row::cell;
-use automaton::row::place;
+use automaton::row::mul_add;
 use automaton::row::sum;
 use automaton::types::COMMAND;
 use automaton::types::answers;
@@ -43,7 +43,7 @@ fn opened(t: &[u16], root: usize, m: Move) -> Out
         return Out::Stuck;
     }
     Out::Go {
-        next: place(i - 1, cell(t, root, WEIGHT), 1),
+        next: mul_add(i - 1, cell(t, root, WEIGHT), 1),
         level: 0,
         set: 0,
     }
@@ -95,7 +95,7 @@ fn replied(class: usize, values: usize, k: usize) -> Move
 pub(crate) fn after_of(t: &[u16], root: usize) -> usize
     ensures { λ r. ⌜ r ≡ afterOf (now (t .entry)) root ⌝ }
 {
-    place(
+    mul_add(
         questions(cell(t, root, CLASS), cell(t, root, VALUES)),
         cell(t, root, WEIGHT),
         1,

@@ -3,4 +3,3 @@ pub mod NumberLaws
 pub mod NumberSteps
 pub mod OperatorLaws
 pub mod OperatorSteps
-pub mod LetterLaws

@@ -4,7 +4,6 @@ pub mod Operators
 pub mod Operator
 pub mod Ty
 pub mod Move
-pub mod Letter
 pub mod Term
 pub mod Play
 pub mod Weight

@@ -1,3 +1,4 @@
+-- That the machine of a term, and its automaton on numbers, have exactly the plays of the term.
 pub mod Execution
 pub mod Embedding
 pub mod Outcome

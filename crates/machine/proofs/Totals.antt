@@ -7,7 +7,7 @@ use native.Mathlib.Nat.{add-zero, zero-add, add-suc}
 use native.Mathlib.Omega.{arith}
 use Rattle.machine.specs.Numbered.{Numbered, decode-at, empty, single, iso, sum-code, sum, product-code}
 use Rattle.machine.specs.Numbered.{product}
-use Rattle.machine.specs.Degree.{total, count}
+use Rattle.machine.specs.Degree.{total, numberIf}
 
 -- sums of the same numbers
 total-same : (f g : ℕ → ℕ) (n : ℕ) → ((k : ℕ) → k < n → f k ≡ g k) → total f n ≡ total g n
@@ -39,7 +39,7 @@ total-most f c (suc n) h = omega (arith, total-most f c n h, h n)
 
 -- the number f gives for the element of number k, 0 where there is none
 unfoldable pub valueAt : {X : Type 0} {n : ℕ} → Numbered X n → (X → ℕ) → ℕ → ℕ
-valueAt {n = n} P f k = count (decLt k n) (λ h. f (P .decode k h))
+valueAt {n = n} P f k = numberIf (decLt k n) (λ h. f (P .decode k h))
 
 -- the sum of f over the elements
 unfoldable pub totalOf : {X : Type 0} {n : ℕ} → Numbered X n → (X → ℕ) → ℕ
@@ -48,10 +48,10 @@ totalOf {n = n} P f = total (valueAt P f) n
 module _ {X : Type 0} {n : ℕ} (P : Numbered X n) where
   -- at the number of x it is f x
   value-code : (f : X → ℕ) (k : ℕ) (x : X) → k ≡ P .code x → valueAt P f k ≡ f x
-  unfolding valueAt count
+  unfolding valueAt numberIf
   value-code f k x e = cases (decLt k n)
     where
-      cases : (d : Dec (k < n)) → count d (λ h. f (P .decode k h)) ≡ f x
+      cases : (d : Dec (k < n)) → numberIf d (λ h. f (P .decode k h)) ≡ f x
       cases (yes h) = ap f (decode-at P k h x e)
       cases (no l) = absurd (omega (arith, P .bound x))
 
@@ -66,10 +66,10 @@ module _ {X : Type 0} {n : ℕ} (P : Numbered X n) where
 
   -- numbers that are each, twice, at most c
   pub totalOf-most : (f : X → ℕ) (c : ℕ) → ((x : X) → 2 * f x ≤ c) → 2 * totalOf P f ≤ c * n
-  unfolding totalOf valueAt count
+  unfolding totalOf valueAt numberIf
   totalOf-most f c h = total-most _ c n (λ k. cases k (decLt k n))
     where
-      cases : (k : ℕ) (d : Dec (k < n)) → 2 * count d (λ l. f (P .decode k l)) ≤ c
+      cases : (k : ℕ) (d : Dec (k < n)) → 2 * numberIf d (λ l. f (P .decode k l)) ≤ c
       cases k (yes l) = h (P .decode k l)
       cases k (no l) = zero-le
 

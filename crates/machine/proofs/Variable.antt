@@ -11,7 +11,7 @@ use Rattle.language.specs.Term.{Term, private, new}
 use Rattle.language.specs.Play.{Plays, VarPair, reading, writing, hide}
 use Rattle.machine.specs.Action.{Next, dead, out, Action}
 use Rattle.machine.specs.Position.{Context, Store, entry, State, Exit}
-use Rattle.machine.specs.Step.{cell, access, step}
+use Rattle.machine.specs.Step.{askVariable, access, step}
 use Rattle.machine.proofs.Iff.{_▸_}
 use Rattle.machine.proofs.Execution.{After, Reaches, Reaches-dead, ends-at, stepped}
 use Rattle.machine.proofs.Embedding.{ends}
@@ -26,7 +26,7 @@ module _ {S A : Type 0} (F : Next S A → Type 0) (nowhere : F dead → ⊥) whe
   access-forth : (n : Context) (i : ℕ) (σ : Store n) (q : Question) (k : Store n → Answer → Next S A) →
     F (access n i σ q k) →
     (a : Answer) × VarPair q a × At n i (question q) σ (λ τ. At n i (answer a) τ (λ τ′. F (k τ′ a)))
-  unfolding access cell At Cell
+  unfolding access askVariable At Cell
   access-forth [] i σ q k x = absurd (nowhere x)
   access-forth (m ∷ n) zero σ run k x = absurd (nowhere x)
   access-forth (m ∷ n) zero σ ask k x = absurd (nowhere x)
@@ -39,7 +39,7 @@ module _ {S A : Type 0} (F : Next S A → Type 0) (nowhere : F dead → ⊥) whe
   -- and back
   access-back : (n : Context) (i : ℕ) (σ : Store n) (q : Question) (a : Answer) (k : Store n → Answer → Next S A) →
     VarPair q a → At n i (question q) σ (λ τ. At n i (answer a) τ (λ τ′. F (k τ′ a))) → F (access n i σ q k)
-  unfolding access cell At Cell
+  unfolding access askVariable At Cell
   access-back [] i σ q a k p x = absurd x
   access-back (m ∷ n) zero σ q a k reading x = rw (x .0) at (x .1)
   access-back (m ∷ n) zero σ q a k (writing {v}) x =

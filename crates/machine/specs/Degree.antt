@@ -44,10 +44,10 @@ total f zero = 0
 total f (suc n) = total f n + f n
 
 -- the number f gives where a decision says yes, else 0
-unfoldable pub count : {X : Type 0} → Dec X → (X → ℕ) → ℕ
-count (yes x) f = f x
-count (no n) f = 0
+unfoldable pub numberIf : {X : Type 0} → Dec X → (X → ℕ) → ℕ
+numberIf (yes x) f = f x
+numberIf (no n) f = 0
 
 -- the degree of the state k, 0 where there is none
 unfoldable pub degreeAt : (T : Ty) (M : Term) → ℕ → ℕ
-degreeAt T M k = count (decLt k (spots T M)) (λ h. degree (steps T M (k, h)))
+degreeAt T M k = numberIf (decLt k (spots T M)) (λ h. degree (steps T M (k, h)))

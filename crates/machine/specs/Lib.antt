@@ -1,3 +1,4 @@
+-- The machine of a term: actions, positions, steps, numbers for its states, and the automaton of a whole sheet.
 pub mod Action
 pub mod Decide
 pub mod Position

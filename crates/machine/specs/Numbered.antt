@@ -1,4 +1,5 @@
--- Types whose elements are numbered: sums count the left part first, a product x × y is x * (how many y) + y.
+-- Types whose elements are numbered: sums count the left part first, a product x × y is x * (how many y) + y. A
+-- numbering carries its laws as fields, so what is proved of sums and products stands here with them.
 use mathlib.Core.Path.{_≡_, refl, _∙_, ap, ap₂}
 use mathlib.Core.Logic.{_⊎_, inl, inr}
 use mathlib.Core.HLevel.{Σ-prop-path}

@@ -1,4 +1,4 @@
--- The positions of a term are the numbers below its weight.
+-- The positions of a term are the numbers below its weight: the numbering itself, whose fields say so.
 use mathlib.Core.Path.{_≡_, refl, subst}
 use mathlib.Core.Logic.{_⊎_, inl, inr}
 use mathlib.Core.List.{List, [], _∷_}

@@ -61,16 +61,16 @@ module _ {S A : Type 0} where
   onSome (some v) x = x v
 
   -- a question to a variable of m values that holds v: the value it holds then, and the answer
-  unfoldable pub cell : (m : ℕ) → Val m → Question → (Val m → Answer → Next S A) → Next S A
-  cell m v run k = dead
-  cell m v ask k = dead
-  cell m v read k = k v (value (v .0))
-  cell m v (write x) k = when (decLt x m) (λ h. k (x, h) ok)
+  unfoldable pub askVariable : (m : ℕ) → Val m → Question → (Val m → Answer → Next S A) → Next S A
+  askVariable m v run k = dead
+  askVariable m v ask k = dead
+  askVariable m v read k = k v (value (v .0))
+  askVariable m v (write x) k = when (decLt x m) (λ h. k (x, h) ok)
 
   -- a question to the variable of the enclosing block i
   unfoldable pub access : (n : Context) → ℕ → Store n → Question → (Store n → Answer → Next S A) → Next S A
   access [] i σ q k = dead
-  access (m ∷ n) zero σ q k = cell m (σ .0) q (λ v. k (v, σ .1))
+  access (m ∷ n) zero σ q k = askVariable m (σ .0) q (λ v. k (v, σ .1))
   access (m ∷ n) (suc i) σ q k = access n i (σ .1) q (λ τ. k (σ .0, τ))
 
 -- a reply of the arguments after the first

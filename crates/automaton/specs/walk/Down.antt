@@ -11,7 +11,12 @@ use Rattle.automaton.specs.declared.Out.{Out}
 use Rattle.automaton.specs.declared.Out.the-variants.{Go, Exit, Stuck}
 use Rattle.automaton.specs.declared.Spot.{Spot}
 use Rattle.automaton.specs.declared.Spot.the-variants.{Here, Inside}
-use Rattle.automaton.specs.walk.Row.{partWeight, partValues, sumOf, placeOf}
+use Rattle.automaton.specs.walk.MoveKind.{RUN, DONE, ASK, READ, OK, VALUE, WRITE}
+use Rattle.automaton.specs.walk.RowKind.{SKIP, CONSTANT, NAME, FETCH, OPERATE, ASSIGN, SEQUENCE, IF, WHILE, NEW}
+use Rattle.automaton.specs.walk.RowKind.{PRIVATE}
+use Rattle.automaton.specs.walk.Role.{SAME, THEN, TEST, SELECT, RIGHT, ASSIGNED, BLOCK}
+use Rattle.automaton.specs.walk.Column.{KIND, VALUES, DETAIL}
+use Rattle.automaton.specs.walk.Row.{partOf, partWeight, partValues, sumOf, mulAddOf}
 use Rattle.automaton.specs.walk.Name.{framedOf, inName}
 
 -- the exit with an answer
@@ -20,85 +25,86 @@ leavesOf kind value = Here (Exit kind value 0 0)
 
 -- position k of a fetch: its variable is read
 unfoldable pub inFetch : List ℕ → ℕ → ℕ → Spot
-inFetch t at k = Inside (word t at 5) 3 0 k (framedOf 0 0 0 0 0 0)
+inFetch t at k = Inside (partOf t at 0) READ 0 k (framedOf SAME 0 0 0 0 0)
 
 -- position k of a sequence
 unfoldable pub inSeq : List ℕ → ℕ → ℕ → ℕ → ℕ → Spot
 inSeq t at q x k =
-    pick (ltb k (partWeight t at 0)) (Inside (word t at 5) 0 0 k (framedOf 1 0 (partWeight t at 0) 0 0 0))
-    (Inside (word t at 6) q x (k - partWeight t at 0) (framedOf 0 (partWeight t at 0) 0 0 0 0))
+    pick (ltb k (partWeight t at 0)) (Inside (partOf t at 0) RUN 0 k (framedOf THEN 0 (partWeight t at 0) 0 0 0))
+    (Inside (partOf t at 1) q x (k - partWeight t at 0) (framedOf SAME (partWeight t at 0) 0 0 0 0))
 
 -- position k of a loop
 unfoldable pub inWhile : List ℕ → ℕ → ℕ → Spot
 inWhile t at k =
-    pick (ltb k (partWeight t at 0)) (Inside (word t at 5) 2 0 k (framedOf 2 0 (partWeight t at 0) 0 0 0))
-    (Inside (word t at 6) 0 0 (k - partWeight t at 0) (framedOf 1 (partWeight t at 0) 0 0 0 0))
+    pick (ltb k (partWeight t at 0)) (Inside (partOf t at 0) ASK 0 k (framedOf TEST 0 (partWeight t at 0) 0 0 0))
+    (Inside (partOf t at 1) RUN 0 (k - partWeight t at 0) (framedOf THEN (partWeight t at 0) 0 0 0 0))
 
 -- position k of a choice: the test b weighs w, and the first branch m weighs v
 unfoldable pub condIn : ℕ → ℕ → ℕ → ℕ → ℕ → ℕ → ℕ → ℕ → Spot
 condIn b m n w v q x k =
-    pick (ltb k w) (Inside b 2 0 k (framedOf 2 0 w (sumOf w v) 0 0))
-    (pick (ltb (k - w) v) (Inside m q x (k - w) (framedOf 0 w 0 0 0 0))
-    (Inside n q x (k - w - v) (framedOf 0 (sumOf w v) 0 0 0 0)))
+    pick (ltb k w) (Inside b ASK 0 k (framedOf TEST 0 w (sumOf w v) 0 0))
+    (pick (ltb (k - w) v) (Inside m q x (k - w) (framedOf SAME w 0 0 0 0))
+    (Inside n q x (k - w - v) (framedOf SAME (sumOf w v) 0 0 0 0)))
 
 -- position k of the choice at a place
 unfoldable pub inCond : List ℕ → ℕ → ℕ → ℕ → ℕ → Spot
-inCond t at q x k = condIn (word t at 5) (word t at 6) (word t at 7) (partWeight t at 0) (partWeight t at 1) q x k
+inCond t at q x k = condIn (partOf t at 0) (partOf t at 1) (partOf t at 2) (partWeight t at 0) (partWeight t at 1) q x k
 
 -- position k of an operation: the left operand weighs w, and the right one v for each of the m values of the left
 unfoldable pub operateIn : ℕ → ℕ → ℕ → ℕ → ℕ → ℕ → ℕ → Spot
 operateIn l r w v o m k =
-    pick (ltb k w) (Inside l 2 0 k (framedOf 3 0 w v m 0))
+    pick (ltb k w) (Inside l ASK 0 k (framedOf SELECT 0 w v m 0))
     (pick (eqb v 0) (Here Stuck)
-    (Inside r 2 0 ((k - w) % v) (framedOf 4 (placeOf ((k - w) / v) v w) ((k - w) / v) o m 0)))
+    (Inside r ASK 0 ((k - w) % v) (framedOf RIGHT (mulAddOf ((k - w) / v) v w) ((k - w) / v) o m 0)))
 
 -- position k of the operation at a place
 unfoldable pub inOperate : List ℕ → ℕ → ℕ → Spot
 inOperate t at k =
-    operateIn (word t at 5) (word t at 6) (partWeight t at 0) (partWeight t at 1) (word t at 4) (partValues t at 0) k
+    operateIn (partOf t at 0) (partOf t at 1) (partWeight t at 0) (partWeight t at 1) (word t at DETAIL)
+        (partValues t at 0) k
 
 -- position k of an assignment: the expression e weighs w, and the variable v for each of its m values
 unfoldable pub assignIn : ℕ → ℕ → ℕ → ℕ → ℕ → ℕ → Spot
 assignIn var e w v m k =
-    pick (ltb k w) (Inside e 2 0 k (framedOf 3 0 w v m 0))
+    pick (ltb k w) (Inside e ASK 0 k (framedOf SELECT 0 w v m 0))
     (pick (eqb v 0) (Here Stuck)
-    (Inside var 6 ((k - w) / v) ((k - w) % v) (framedOf 5 (placeOf ((k - w) / v) v w) 0 0 0 0)))
+    (Inside var WRITE ((k - w) / v) ((k - w) % v) (framedOf ASSIGNED (mulAddOf ((k - w) / v) v w) 0 0 0 0)))
 
 -- position k of the assignment at a place
 unfoldable pub inAssign : List ℕ → ℕ → ℕ → Spot
 inAssign t at k =
-    assignIn (word t at 5) (word t at 6) (partWeight t at 1) (partWeight t at 0) (partValues t at 0) k
+    assignIn (partOf t at 0) (partOf t at 1) (partWeight t at 1) (partWeight t at 0) (partValues t at 0) k
 
 -- position k of a block that h blocks enclose
 unfoldable pub inNew : List ℕ → ℕ → ℕ → ℕ → ℕ → ℕ → Spot
 inNew t at q x k h =
     pick (eqb (partWeight t at 0) 0) (Here Stuck)
-    (Inside (word t at 5) q x (k % partWeight t at 0)
-      (framedOf 7 (placeOf (k / partWeight t at 0) (partWeight t at 0) 0) (sumOf h 1) (partWeight t at 0)
+    (Inside (partOf t at 0) q x (k % partWeight t at 0)
+      (framedOf BLOCK (mulAddOf (k / partWeight t at 0) (partWeight t at 0) 0) (sumOf h 1) (partWeight t at 0)
         (k / partWeight t at 0) 0))
 
 -- position k of a private variable: its own step, then the exit
 unfoldable pub inPrivate : List ℕ → ℕ → ℕ → ℕ → ℕ → List ℕ → Out
 inPrivate t at q x k s =
     pick (eqb k 0) (Go 1 0 0)
-    (pick (eqb q 3) (Exit 5 (getD s (word t at 4) 0) 0 0)
-    (pick (eqb q 6) (pick (ltb x (word t at 3)) (Exit 4 0 (sumOf (word t at 4) 1) x) Stuck) Stuck))
+    (pick (eqb q READ) (Exit VALUE (getD s (word t at DETAIL) 0) 0 0)
+    (pick (eqb q WRITE) (pick (ltb x (word t at VALUES)) (Exit OK 0 (sumOf (word t at DETAIL) 1) x) Stuck) Stuck))
 
 -- position k of the term of a kind
 unfoldable pub downAs : ℕ → List ℕ → ℕ → ℕ → ℕ → ℕ → List ℕ → ℕ → Move → Spot
 downAs kind t at q x k s h m =
-    pick (eqb kind 16) (leavesOf 1 0)
-    (pick (eqb kind 18) (leavesOf 5 (word t at 4))
-    (pick (eqb kind 20) (inName t at q x k m)
-    (pick (eqb kind 21) (inFetch t at k)
-    (pick (eqb kind 22) (inOperate t at k)
-    (pick (eqb kind 23) (inAssign t at k)
-    (pick (eqb kind 24) (inSeq t at q x k)
-    (pick (eqb kind 25) (inCond t at q x k)
-    (pick (eqb kind 26) (inWhile t at k)
-    (pick (eqb kind 27) (inNew t at q x k h)
-    (pick (eqb kind 128) (Here (inPrivate t at q x k s)) (Here Stuck)))))))))))
+    pick (eqb kind SKIP) (leavesOf DONE 0)
+    (pick (eqb kind CONSTANT) (leavesOf VALUE (word t at DETAIL))
+    (pick (eqb kind NAME) (inName t at q x k m)
+    (pick (eqb kind FETCH) (inFetch t at k)
+    (pick (eqb kind OPERATE) (inOperate t at k)
+    (pick (eqb kind ASSIGN) (inAssign t at k)
+    (pick (eqb kind SEQUENCE) (inSeq t at q x k)
+    (pick (eqb kind IF) (inCond t at q x k)
+    (pick (eqb kind WHILE) (inWhile t at k)
+    (pick (eqb kind NEW) (inNew t at q x k h)
+    (pick (eqb kind PRIVATE) (Here (inPrivate t at q x k s)) (Here Stuck)))))))))))
 
 -- position k of the term at a place
 abbrev pub downOf : List ℕ → ℕ → ℕ → ℕ → ℕ → List ℕ → ℕ → Move → Spot
-downOf t at q x k s h m = downAs (word t at 0) t at q x k s h m
+downOf t at q x k s h m = downAs (word t at KIND) t at q x k s h m

@@ -11,17 +11,32 @@ use Rattle.automaton.specs.declared.Out.{Out}
 use Rattle.automaton.specs.declared.Out.the-variants.{Go, Exit, Say, Hear, Stuck}
 use Rattle.automaton.specs.declared.Spot.{Spot}
 use Rattle.automaton.specs.declared.Spot.the-variants.{Here, Inside}
-use Rattle.automaton.specs.walk.Row.{partWeight, partClass, partValues, nameId, nameCount, sumOf, placeOf}
+use Rattle.automaton.specs.walk.MoveKind.{DONE, OK, VALUE, NO-MOVE}
+use Rattle.automaton.specs.walk.Role.{ARGUMENT}
+use Rattle.automaton.specs.walk.Class.{COMMAND}
+use Rattle.automaton.specs.walk.Column.{CLASS, VALUES}
+use Rattle.automaton.specs.walk.Row.{partOf, partWeight, partClass, partValues, nameId, nameCount, sumOf}
+use Rattle.automaton.specs.walk.Row.{mulAddOf}
 use Rattle.automaton.specs.walk.Types.{questionsOf, answersOf, questionKind, questionValue, questionNumber}
 use Rattle.automaton.specs.walk.Types.{answerNumber}
 
 -- no move: what a state does before one is given
 abbrev pub noMove : Move
-noMove = record { kind = 255; id = 0; arg = 0; value = 0 }
+noMove = record { kind = NO-MOVE; id = 0; arg = 0; value = 0 }
+
+-- the first positions of a name: its question is put, its moves are waited for, its arguments begin
+abbrev pub CALL : ℕ
+CALL = 0
+
+abbrev pub WAIT : ℕ
+WAIT = 1
+
+abbrev pub INNER : ℕ
+INNER = 2
 
 -- a move is said, and the name waits
 abbrev pub saidOf : ℕ → ℕ → ℕ → ℕ → Out
-saidOf kind id arg value = Say (record { kind = kind; id = id; arg = arg; value = value }) 1
+saidOf kind id arg value = Say (record { kind = kind; id = id; arg = arg; value = value }) WAIT
 
 -- a frame
 abbrev pub framedOf : ℕ → ℕ → ℕ → ℕ → ℕ → ℕ → Frame
@@ -29,17 +44,17 @@ framedOf role base a b c d = record { role = role; base = base; a = a; b = b; c 
 
 -- how many positions argument j has: its weight for each question
 unfoldable pub copiesOf : List ℕ → ℕ → ℕ → ℕ
-copiesOf t at j = placeOf (questionsOf (partClass t at j) (partValues t at j)) (partWeight t at j) 0
+copiesOf t at j = mulAddOf (questionsOf (partClass t at j) (partValues t at j)) (partWeight t at j) 0
 
 -- how many positions n arguments from argument j on have
-unfoldable pub spotsOf : List ℕ → ℕ → ℕ → ℕ → ℕ
-spotsOf t at j zero = 0
-spotsOf t at j (suc n) = sumOf (copiesOf t at j) (spotsOf t at (sumOf j 1) n)
+unfoldable pub argSpots : List ℕ → ℕ → ℕ → ℕ → ℕ
+argSpots t at j zero = 0
+argSpots t at j (suc n) = sumOf (copiesOf t at j) (argSpots t at (sumOf j 1) n)
 
 -- the answer of number k of an argument
 unfoldable pub replyHere : ℕ → ℕ → ℕ → ℕ → ℕ → Out
 replyHere id class m arg k =
-    pick (eqb class 0) (saidOf 1 id arg 0) (pick (leb m k) (saidOf 4 id arg 0) (saidOf 5 id arg k))
+    pick (eqb class COMMAND) (saidOf DONE id arg 0) (pick (leb m k) (saidOf OK id arg 0) (saidOf VALUE id arg k))
 
 -- reply k of n arguments from argument j on
 unfoldable pub replyOf : List ℕ → ℕ → ℕ → ℕ → ℕ → ℕ → Out
@@ -54,7 +69,7 @@ unfoldable pub argHere : ℕ → ℕ → ℕ → ℕ → ℕ → ℕ → ℕ →
 argHere part class m w k base after =
     pick (eqb w 0) (Here Stuck)
     (Inside part (questionKind class (k / w)) (questionValue class (k / w)) (k % w)
-      (framedOf 6 (placeOf (k / w) w base) after class m (k / w)))
+      (framedOf ARGUMENT (mulAddOf (k / w) w base) after class m (k / w)))
 
 -- position k of n arguments from argument j on; their positions begin at base, their replies at after
 unfoldable pub inArgs : List ℕ → ℕ → ℕ → ℕ → ℕ → ℕ → ℕ → Spot
@@ -63,12 +78,12 @@ inArgs t at j (suc n) k base after =
     pick (leb (copiesOf t at j) k)
     (inArgs t at (sumOf j 1) n (k - copiesOf t at j) (sumOf base (copiesOf t at j))
       (sumOf after (answersOf (partClass t at j) (partValues t at j))))
-    (argHere (word t at (5 + j)) (partClass t at j) (partValues t at j) (partWeight t at j) k base after)
+    (argHere (partOf t at j) (partClass t at j) (partValues t at j) (partWeight t at j) k base after)
 
 -- the name's own move: an answer to its question ends it
 unfoldable pub hearAnswer : List ℕ → ℕ → ℕ → ℕ → Move → Out
 hearAnswer t at q x m =
-    pick (eqb (answerNumber (word t at 2) (word t at 3) q x (m .kind) (m .value)) 0) Stuck
+    pick (eqb (answerNumber (word t at CLASS) (word t at VALUES) q x (m .kind) (m .value)) 0) Stuck
     (Exit (m .kind) (m .value) 0 0)
 
 -- a move at argument j: a question enters its copy of the argument
@@ -76,7 +91,7 @@ unfoldable pub hearQuestion : List ℕ → ℕ → ℕ → Move → Out
 hearQuestion t at j m =
     let i = questionNumber (partClass t at j) (partValues t at j) (m .kind) (m .value) in
     pick (leb (nameCount t at) j) Stuck
-    (pick (eqb i 0) Stuck (Go (placeOf (i - 1) (partWeight t at j) (sumOf 2 (spotsOf t at 0 j))) 0 0))
+    (pick (eqb i 0) Stuck (Go (mulAddOf (i - 1) (partWeight t at j) (sumOf INNER (argSpots t at 0 j))) 0 0))
 
 -- what follows a move at a name that waits
 unfoldable pub listenOf : List ℕ → ℕ → ℕ → ℕ → Move → Out
@@ -86,13 +101,13 @@ listenOf t at q x m =
 
 -- a name that waits: for a move, or what follows the move that is given
 unfoldable pub atWait : List ℕ → ℕ → ℕ → ℕ → Move → Out
-atWait t at q x m = pick (eqb (m .kind) 255) (Hear at q x) (listenOf t at q x m)
+atWait t at q x m = pick (eqb (m .kind) NO-MOVE) (Hear at q x) (listenOf t at q x m)
 
 -- position k of a name
 unfoldable pub inName : List ℕ → ℕ → ℕ → ℕ → ℕ → Move → Spot
 inName t at q x k m =
-    pick (eqb k 0) (Here (saidOf q (nameId t at) 0 x))
-    (pick (eqb k 1) (Here (atWait t at q x m))
-    (pick (ltb (k - 2) (spotsOf t at 0 (nameCount t at)))
-    (inArgs t at 0 (nameCount t at) (k - 2) 2 (sumOf 2 (spotsOf t at 0 (nameCount t at))))
-    (Here (replyOf t (nameId t at) at 0 (nameCount t at) (k - 2 - spotsOf t at 0 (nameCount t at))))))
+    pick (eqb k CALL) (Here (saidOf q (nameId t at) 0 x))
+    (pick (eqb k WAIT) (Here (atWait t at q x m))
+    (pick (ltb (k - INNER) (argSpots t at 0 (nameCount t at)))
+    (inArgs t at 0 (nameCount t at) (k - INNER) INNER (sumOf INNER (argSpots t at 0 (nameCount t at))))
+    (Here (replyOf t (nameId t at) at 0 (nameCount t at) (k - INNER - argSpots t at 0 (nameCount t at))))))

@@ -16,15 +16,17 @@ use Rattle.machine.specs.Position.{Context, Store, types, State, Exit as ExitOf
 use Rattle.machine.specs.Numbering.{numbered, numberedArgs, numbered-replies}
 use Rattle.sheet.specs.table.Rep.{Rep}
 use Rattle.automaton.specs.declared.Move.{Move as Record}
+use Rattle.automaton.specs.walk.MoveKind.{RUN, DONE, ASK, READ, OK, VALUE, WRITE, NO-MOVE}
+use Rattle.automaton.specs.walk.Name.{noMove}
 use Rattle.automaton.specs.declared.Out.{Out as Did}
 use Rattle.automaton.specs.declared.Out.the-variants.{Go, Exit, Say, Hear, Stuck}
 
 -- the kind and the value of a question, and of an answer
 unfoldable pub kindQ : Question → ℕ
-kindQ run = 0
-kindQ ask = 2
-kindQ read = 3
-kindQ (write v) = 6
+kindQ run = RUN
+kindQ ask = ASK
+kindQ read = READ
+kindQ (write v) = WRITE
 
 unfoldable pub valueQ : Question → ℕ
 valueQ run = 0
@@ -33,9 +35,9 @@ valueQ read = 0
 valueQ (write v) = v
 
 unfoldable pub kindA : Answer → ℕ
-kindA done = 1
-kindA ok = 4
-kindA (value v) = 5
+kindA done = DONE
+kindA ok = OK
+kindA (value v) = VALUE
 
 unfoldable pub valueA : Answer → ℕ
 valueA done = 0
@@ -46,11 +48,11 @@ valueA (value v) = v
 unfoldable pub moveOf : Move → Record
 moveOf (move (at i j) (question q)) = record { kind = kindQ q; id = i; arg = j; value = valueQ q }
 moveOf (move (at i j) (answer a)) = record { kind = kindA a; id = i; arg = j; value = valueA a }
-moveOf (move (private i) e) = record { kind = 255; id = 0; arg = 0; value = 0 }
+moveOf (move (private i) e) = noMove
 
 -- what is given: nothing, or a move at a place
-abbrev pub Given : Record → Type 0
-Given m = (m .kind ≡ 255) ⊎ ((i : ℕ) × (j : ℕ) × (e : Event) × (m ≡ moveOf (move (at i j) e)))
+abbrev pub GivenMove : Record → Type 0
+GivenMove m = (m .kind ≡ NO-MOVE) ⊎ ((i : ℕ) × (j : ℕ) × (e : Event) × (m ≡ moveOf (move (at i j) e)))
 
 -- every word of the table is a word of 16 bits
 abbrev pub Words : List ℕ → Type 0
@@ -62,22 +64,22 @@ stored [] σ = []
 stored (m ∷ n) σ = σ .0 .0 ∷ stored n (σ .1)
 
 -- the values with u at the variable of level l - 1, and unchanged where l is 0
-unfoldable pub written : List ℕ → ℕ → ℕ → List ℕ
-written [] l u = []
-written (v ∷ vs) l u = pick (eqb l (suc (length vs))) (u ∷ vs) (v ∷ written vs l u)
+unfoldable pub updated : List ℕ → ℕ → ℕ → List ℕ
+updated [] l u = []
+updated (v ∷ vs) l u = pick (eqb l (suc (length vs))) (u ∷ vs) (v ∷ updated vs l u)
 
 -- the code holds the values, each at its level
-unfoldable pub Held : List ℕ → List ℕ → Type 0
-Held s [] = Unit
-Held s (v ∷ vs) = (getD s (length vs) 0 ≡ v) × Held s vs
+unfoldable pub HeldStore : List ℕ → List ℕ → Type 0
+HeldStore s [] = Unit
+HeldStore s (v ∷ vs) = (getD s (length vs) 0 ≡ v) × HeldStore s vs
 
 -- the steps of a term M in a context, from a state whose variables have the values vs
 module _ (n : Context) (M : Term) (vs : List ℕ) where
   -- a silent step, an exit, or none: the position and the answer by number, and the variable that is written
   unfoldable pub ShowsNext : Next (State n M) (ExitOf n) → Did → Type 0
-  ShowsNext (to s) o = (l : ℕ) × (u : ℕ) × (o ≡ Go (numbered M .code (s .1)) l u) × (stored n (s .0) ≡ written vs l u)
+  ShowsNext (to s) o = (l : ℕ) × (u : ℕ) × (o ≡ Go (numbered M .code (s .1)) l u) × (stored n (s .0) ≡ updated vs l u)
   ShowsNext (out e) o = (l : ℕ) × (u : ℕ) × (o ≡ Exit (kindA (e .1)) (valueA (e .1)) l u)
-    × (stored n (e .0) ≡ written vs l u)
+    × (stored n (e .0) ≡ updated vs l u)
   ShowsNext dead o = o ≡ Stuck
 
   -- a move that is said, which writes no variable
@@ -105,7 +107,7 @@ module _ (K : Numbers) (t : List ℕ) (n : Context) (M : Term) (vs : List ℕ) w
   -- the move
   pub data ShowsHeard (m : Record) (l : Listen) (k : (r : Heard) → Hears l r → Next (State n M) (ExitOf n))
     (o : Did) : Type 0 where
-    waits : {node q x : ℕ} → m .kind ≡ 255 → Awaits K t l node q x → o ≡ Hear node q x → ShowsHeard m l k o
+    waits : {node q x : ℕ} → m .kind ≡ NO-MOVE → Awaits K t l node q x → o ≡ Hear node q x → ShowsHeard m l k o
     leads : (i j : ℕ) (e : Event) → m ≡ moveOf (move (at i j) e) →
       ShowsNext n M vs (edge-hear l k (move (at i j) e)) o → ShowsHeard m l k o
 
@@ -118,9 +120,9 @@ module _ (K : Numbers) (t : List ℕ) (n : Context) (M : Term) (vs : List ℕ) w
 module _ (n : Context) (args : Args) (base after : ℕ) (vs : List ℕ) where
   unfoldable pub ArgsNext : Next (StateArgs n args) (ExitArgs n (types args)) → Did → Type 0
   ArgsNext (to s) o = (l : ℕ) × (u : ℕ) × (o ≡ Go (base + numberedArgs args .code (s .1)) l u)
-    × (stored n (s .0) ≡ written vs l u)
+    × (stored n (s .0) ≡ updated vs l u)
   ArgsNext (out e) o = (l : ℕ) × (u : ℕ) × (o ≡ Go (after + numbered-replies (types args) .code (e .1)) l u)
-    × (stored n (e .0) ≡ written vs l u)
+    × (stored n (e .0) ≡ updated vs l u)
   ArgsNext dead o = o ≡ Stuck
 
   unfoldable pub ArgsSaid : Move → Next (StateArgs n args) (ExitArgs n (types args)) → Did → Type 0
@@ -131,7 +133,7 @@ module _ (n : Context) (args : Args) (base after : ℕ) (vs : List ℕ) where
 module _ (K : Numbers) (t : List ℕ) (n : Context) (args : Args) (base after : ℕ) (vs : List ℕ) where
   pub data ArgsHeard (m : Record) (l : Listen)
     (k : (r : Heard) → Hears l r → Next (StateArgs n args) (ExitArgs n (types args))) (o : Did) : Type 0 where
-    a-waits : {node q x : ℕ} → m .kind ≡ 255 → Awaits K t l node q x → o ≡ Hear node q x → ArgsHeard m l k o
+    a-waits : {node q x : ℕ} → m .kind ≡ NO-MOVE → Awaits K t l node q x → o ≡ Hear node q x → ArgsHeard m l k o
     a-leads : (i j : ℕ) (e : Event) → m ≡ moveOf (move (at i j) e) →
       ArgsNext n args base after vs (edge-hear l k (move (at i j) e)) o → ArgsHeard m l k o
 

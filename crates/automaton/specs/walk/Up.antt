@@ -8,41 +8,50 @@ use Rattle.language.specs.declared.Numbers.{Numbers}
 use Rattle.automaton.specs.declared.Frame.{Frame}
 use Rattle.automaton.specs.declared.Out.{Out}
 use Rattle.automaton.specs.declared.Out.the-variants.{Go, Exit, Say, Hear, Stuck}
-use Rattle.automaton.specs.walk.Row.{sumOf, placeOf}
+use Rattle.automaton.specs.walk.MoveKind.{DONE, OK, VALUE}
+use Rattle.automaton.specs.walk.Role.{THEN, TEST, SELECT, RIGHT, ASSIGNED, ARGUMENT, BLOCK}
+use Rattle.automaton.specs.walk.Row.{sumOf, mulAddOf}
 use Rattle.automaton.specs.walk.Types.{questionKind, questionValue, answerNumber}
+
+-- the truths
+abbrev pub FALSE : ℕ
+FALSE = 0
+
+abbrev pub TRUE : ℕ
+TRUE = 1
 
 -- done leads on
 unfoldable pub exitDone : ℕ → ℕ → ℕ → ℕ → Out
-exitDone kind next level set = pick (eqb kind 1) (Go next level set) Stuck
+exitDone kind next level set = pick (eqb kind DONE) (Go next level set) Stuck
 
 -- a truth leads to a, and a falsehood to b, or out where b is 0
 unfoldable pub exitTruth : ℕ → ℕ → ℕ → ℕ → ℕ → ℕ → Out
 exitTruth kind value a b level set =
-    pick (eqb kind 5)
-    (pick (eqb value 1) (Go a level set)
-    (pick (eqb value 0) (pick (eqb b 0) (Exit 1 0 level set) (Go b level set)) Stuck))
+    pick (eqb kind VALUE)
+    (pick (eqb value TRUE) (Go a level set)
+    (pick (eqb value FALSE) (pick (eqb b 0) (Exit DONE 0 level set) (Go b level set)) Stuck))
     Stuck
 
 -- a value leads to its copy of the other part
 unfoldable pub exitValue : ℕ → ℕ → Frame → ℕ → ℕ → Out
 exitValue kind value f level set =
-    pick (eqb kind 5) (pick (ltb value (f .c)) (Go (placeOf value (f .b) (f .a)) level set) Stuck) Stuck
+    pick (eqb kind VALUE) (pick (ltb value (f .c)) (Go (mulAddOf value (f .b) (f .a)) level set) Stuck) Stuck
 
 -- the exit with a result, where there is one
 unfoldable pub exitResult : Option ℕ → ℕ → ℕ → Out
 exitResult none level set = Stuck
-exitResult (some v) level set = Exit 5 v level set
+exitResult (some v) level set = Exit VALUE v level set
 
 -- the result of the operator b for the left operand a
 unfoldable pub exitOperate : Numbers → ℕ → ℕ → Frame → ℕ → ℕ → Out
 exitOperate N kind value f level set =
-    pick (eqb kind 5)
+    pick (eqb kind VALUE)
     (pick (ltb value (f .c)) (exitResult (operate N (f .b % 256) (f .a % 65536) (value % 65536)) level set) Stuck)
     Stuck
 
 -- the answer ok of a variable ends its assignment
 unfoldable pub exitAssign : ℕ → ℕ → ℕ → Out
-exitAssign kind level set = pick (eqb kind 4) (Exit 1 0 level set) Stuck
+exitAssign kind level set = pick (eqb kind OK) (Exit DONE 0 level set) Stuck
 
 -- an answer to the question of this copy of an argument leads to the reply
 unfoldable pub exitArgument : ℕ → ℕ → Frame → ℕ → ℕ → Out
@@ -57,19 +66,19 @@ exitNew kind value f level set = pick (eqb level (f .a)) (Exit kind value 0 0) (
 -- a part's exit
 unfoldable pub exitsOf : Numbers → Frame → ℕ → ℕ → ℕ → ℕ → Out
 exitsOf N f kind value level set =
-    pick (eqb (f .role) 1) (exitDone kind (f .a) level set)
-    (pick (eqb (f .role) 2) (exitTruth kind value (f .a) (f .b) level set)
-    (pick (eqb (f .role) 3) (exitValue kind value f level set)
-    (pick (eqb (f .role) 4) (exitOperate N kind value f level set)
-    (pick (eqb (f .role) 5) (exitAssign kind level set)
-    (pick (eqb (f .role) 6) (exitArgument kind value f level set)
-    (pick (eqb (f .role) 7) (exitNew kind value f level set) (Exit kind value level set)))))))
+    pick (eqb (f .role) THEN) (exitDone kind (f .a) level set)
+    (pick (eqb (f .role) TEST) (exitTruth kind value (f .a) (f .b) level set)
+    (pick (eqb (f .role) SELECT) (exitValue kind value f level set)
+    (pick (eqb (f .role) RIGHT) (exitOperate N kind value f level set)
+    (pick (eqb (f .role) ASSIGNED) (exitAssign kind level set)
+    (pick (eqb (f .role) ARGUMENT) (exitArgument kind value f level set)
+    (pick (eqb (f .role) BLOCK) (exitNew kind value f level set) (Exit kind value level set)))))))
 
 -- a part's silent step: a block whose variable is written moves to the copy of that value
 unfoldable pub goesOf : Frame → ℕ → ℕ → ℕ → Out
 goesOf f next level set =
-    pick (eqb (f .role) 7)
-    (pick (eqb level (f .a)) (Go (placeOf set (f .b) next) 0 0) (Go (sumOf (f .base) next) level set))
+    pick (eqb (f .role) BLOCK)
+    (pick (eqb level (f .a)) (Go (mulAddOf set (f .b) next) 0 0) (Go (sumOf (f .base) next) level set))
     (Go (sumOf (f .base) next) level set)
 
 -- a part's step

@@ -3,7 +3,7 @@ use mathlib.Core.List.{List, [], _∷_}
 use Prim.Native.Nat.{ℕ}
 use Rattle.language.specs.declared.Numbers.{Numbers}
 use Rattle.language.specs.Move.{Word}
-use Rattle.language.specs.Letter.{letter}
+use Rattle.explicit.specs.Letter.{letter}
 
 -- the letter of each move
 unfoldable pub letters : Numbers → Word → List ℕ

@@ -13,12 +13,14 @@ use Rattle.sheet.specs.table.Rep.{TyRow}
 use Rattle.automaton.specs.declared.Move.{Move as Record}
 use Rattle.automaton.specs.declared.Out.{Out}
 use Rattle.automaton.specs.declared.Out.the-variants.{Go, Exit, Say, Hear, Stuck}
+use Rattle.automaton.specs.walk.MoveKind.{OPENING, NO-MOVE}
 use Rattle.automaton.specs.walk.Shows.{moveOf, Awaits}
+use Rattle.explicit.specs.inner.States.{WHOLE}
 
 -- whom a state waits for: a name at a place of the table, or the asker of the whole term, which is at the root
 pub data Waits (N : Numbers) (t : List ℕ) : Listen → ℕ → ℕ → ℕ → Type 0 where
   calls : {l : Listen} {node q x : ℕ} → Awaits N t l node q x → Waits N t l node q x
-  opens : {T : Ty} {root : ℕ} → TyRow t root T → Waits N t (opening 255 T) root 7 0
+  opens : {T : Ty} {root : ℕ} → TyRow t root T → Waits N t (opening WHOLE T) root OPENING 0
 
 -- where a silent step or a move that is heard leads
 unfoldable pub Leads : {K : ℕ} → Next (Index K) (Unit {0}) → Out → Type 0
@@ -27,20 +29,20 @@ Leads (out a) o = ⊥
 Leads dead o = o ≡ Stuck
 
 -- a move that is said; the end has the number K
-unfoldable pub Says : {K : ℕ} → Move → Next (Index K) (Unit {0}) → Out → Type 0
-Says m (to s) o = o ≡ Say (moveOf m) (s .0)
-Says {K} m (out a) o = o ≡ Say (moveOf m) K
-Says m dead o = ⊥
+unfoldable pub SaysMove : {K : ℕ} → Move → Next (Index K) (Unit {0}) → Out → Type 0
+SaysMove m (to s) o = o ≡ Say (moveOf m) (s .0)
+SaysMove {K} m (out a) o = o ≡ Say (moveOf m) K
+SaysMove m dead o = ⊥
 
 module _ (N : Numbers) (t : List ℕ) {K : ℕ} where
   -- a wait: where no move is given the state says whom it waits for, and where one is given it shows what follows it
   pub data Listens (m : Record) (l : Listen) (k : (r : Heard) → Hears l r → Next (Index K) (Unit {0})) (o : Out) :
       Type 0 where
-    waits : {node q x : ℕ} → m .kind ≡ 255 → Waits N t l node q x → o ≡ Hear node q x → Listens m l k o
+    waits : {node q x : ℕ} → m .kind ≡ NO-MOVE → Waits N t l node q x → o ≡ Hear node q x → Listens m l k o
     leads : (i j : ℕ) (e : Event) → m ≡ moveOf (move (at i j) e) → Leads (edge-hear l k (move (at i j) e)) o →
       Listens m l k o
 
   unfoldable pub Acts : Record → Action (Index K) (Unit {0}) → Out → Type 0
   Acts m (go x) o = Leads x o
-  Acts m (say y x) o = Says y x o
+  Acts m (say y x) o = SaysMove y x o
   Acts m (hear l k) o = Listens m l k o

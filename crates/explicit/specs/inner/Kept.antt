@@ -11,6 +11,8 @@ use Rattle.automaton.specs.declared.Move.{Move}
 use Rattle.automaton.specs.declared.Frame.{Frame}
 use Rattle.automaton.specs.declared.Out.{Out}
 use Rattle.automaton.specs.declared.Out.the-variants.{Exit, Say, Hear}
+use Rattle.automaton.specs.walk.MoveKind.{OPENING}
+use Rattle.automaton.specs.walk.Column.{WEIGHT, CLASS, VALUES}
 use Rattle.automaton.specs.walk.Row.{nameId, nameCount}
 use Rattle.explicit.specs.declared.Site.{Site}
 use Rattle.explicit.specs.inner.Moves.{targetOf}
@@ -20,33 +22,33 @@ use Rattle.automaton.specs.walk.Name.{noMove, argHere, atWait}
 use Rattle.automaton.specs.walk.Down.{downOf}
 use Rattle.automaton.specs.walk.Step.{stepAt}
 use Rattle.explicit.specs.declared.Level.{Level}
-use Rattle.explicit.specs.declared.Ear.{Ear}
+use Rattle.explicit.specs.declared.Wait.{Wait}
 use Rattle.explicit.specs.inner.States.{atStart, repliedOf, afterOf, spotsOf, sheetAt}
 use Rattle.explicit.specs.inner.Path.{riseAll, heightOf, storeOf, upOf}
-use Rattle.explicit.specs.inner.Levels.{framesOf, levelOf, Plain, Sound}
+use Rattle.explicit.specs.inner.Levels.{framesOf, levelAt, Plain, Sound}
 
 -- where the state k is: the start, a copy of the term, or an answer
 unfoldable pub sheetSpot : List ℕ → ℕ → ℕ → Move → Spot
 sheetSpot t root k m =
     pick (eqb k 0) (Here (atStart t root m))
-    (pick (ltb k (afterOf t root)) (argHere root (word t root 2) (word t root 3) (word t root 1) (k - 1) 1 (afterOf
-        t root))
-    (Here (Say (repliedOf (word t root 2) (word t root 3) (k - afterOf t root)) (spotsOf t root))))
+    (pick (ltb k (afterOf t root))
+    (argHere root (word t root CLASS) (word t root VALUES) (word t root WEIGHT) (k - 1) 1 (afterOf t root))
+    (Here (Say (repliedOf (word t root CLASS) (word t root VALUES) (k - afterOf t root)) (spotsOf t root))))
 
 -- where it is in the innermost of c levels
 unfoldable pub spotIn : List ℕ → ℕ → List ℕ → ℕ → ℕ → Move → Spot
 spotIn t root p c k m =
     pick (eqb c 0) (sheetSpot t root k m)
-    (downOf t (levelOf p (c - 1) .part) (levelOf p (c - 1) .kind) (levelOf p (c - 1) .value) (k - levelOf p (c - 1)
-        .base)
+    (downOf t (levelAt p (c - 1) .part) (levelAt p (c - 1) .kind) (levelAt p (c - 1) .value)
+      (k - levelAt p (c - 1) .base)
       (storeOf (framesOf p c)) (heightOf (framesOf p c)) m)
 
 -- the first state of the innermost of c levels, and the end of its states
 unfoldable pub startOf : List ℕ → ℕ → ℕ
-startOf p c = pick (eqb c 0) 0 (levelOf p (c - 1) .base)
+startOf p c = pick (eqb c 0) 0 (levelAt p (c - 1) .base)
 
 unfoldable pub stopOf : List ℕ → ℕ → List ℕ → ℕ → ℕ
-stopOf t root p c = pick (eqb c 0) (afterOf t root) (levelOf p (c - 1) .end)
+stopOf t root p c = pick (eqb c 0) (afterOf t root) (levelAt p (c - 1) .end)
 
 -- the end of a part's states: past k, and within the whole's
 unfoldable pub leastOf : ℕ → ℕ → ℕ
@@ -59,26 +61,26 @@ untilOf k past end = pick (leb past k) (leastOf (k + 1) end) (leastOf past end)
 unfoldable pub childOf : List ℕ → ℕ → List ℕ → ℕ → ℕ → ℕ → ℕ → ℕ → Frame → Level
 childOf t root p c k part kind value f =
     record { part = part; kind = kind; value = value; base = startOf p c + f .base
-           ; end = untilOf k (startOf p c + f .base + word t part 1) (stopOf t root p c)
+           ; end = untilOf k (startOf p c + f .base + word t part WEIGHT) (stopOf t root p c)
            ; outer = heightOf (framesOf p c); up = upOf (f ∷ framesOf p c); f = f }
 
 -- a level, inside others, says what its states do
 pub record Stands (t : List ℕ) (root : ℕ) (fs : List Frame) (l : Level) : Type 0 where
   pub before-answers : l .end ≤ afterOf t root
   pub says : (N : Numbers) (k : ℕ) (m : Move) → l .base ≤ k → k < l .end → sheetAt t N root k m ≡
-    riseAll N (l .f ∷ fs) (stepAt t N (32 - length fs) (l .part) (l .kind) (l .value) (k - l .base) (storeOf (l .f ∷
-        fs))
+    riseAll N (l .f ∷ fs) (stepAt t N (32 - length fs) (l .part) (l .kind) (l .value) (k - l .base) 
+      (storeOf (l .f ∷ fs))
       (heightOf (l .f ∷ fs)) m)
 
 -- the words hold c levels that say so, and their states begin at k or before
-pub record Kept (t : List ℕ) (root : ℕ) (p : List ℕ) (c k : ℕ) : Type 0 where
+pub record KeptPath (t : List ℕ) (root : ℕ) (p : List ℕ) (c k : ℕ) : Type 0 where
   pub sound : Sound p c
-  pub stands : (i : ℕ) → i < c → Stands t root (framesOf p i) (levelOf p i)
-  pub begun : (i : ℕ) → i < c → levelOf p i .base ≤ k
+  pub stands : (i : ℕ) → i < c → Stands t root (framesOf p i) (levelAt p i)
+  pub begun : (i : ℕ) → i < c → levelAt p i .base ≤ k
 
 -- the state k is one of the innermost level's
 abbrev pub Covers : List ℕ → ℕ → ℕ → Type 0
-Covers p c k = 0 < c → k < levelOf p (c - 1) .end
+Covers p c k = 0 < c → k < levelAt p (c - 1) .end
 
 -- what follows a move at the state k, which waits
 unfoldable pub waitAt : List ℕ → ℕ → ℕ → ℕ → ℕ → ℕ → Move → Out
@@ -92,32 +94,32 @@ pub record Does (t : List ℕ) (root : ℕ) (p : List ℕ) (c k : ℕ) (out : Ou
 
 -- the path has come to the state k
 pub record Arrived (t : List ℕ) (root : ℕ) (p : List ℕ) (c k : ℕ) (out : Out) : Type 0 where
-  pub kept : Kept t root p c k
+  pub kept : KeptPath t root p c k
   pub at : Does t root p c k out
 
 -- what the one a state waits for says, the path says of the state
-pub record Listening (t : List ℕ) (N : Numbers) (root : ℕ) (p : List ℕ) (c : ℕ) (e : Ear) : Type 0 where
+pub record Listening (t : List ℕ) (N : Numbers) (root : ℕ) (p : List ℕ) (c : ℕ) (e : Wait) : Type 0 where
   pub sound : Sound p c
   pub hears : (m : Move) → sheetAt t N root (e .state) m ≡
     riseAll N (framesOf p c) (waitAt t root (e .state) (e .at) (e .kind) (e .value) m)
-  pub first : e .state ≡ 0 → e .kind ≡ 7
-  pub named : (e .kind ≡ 7 → ⊥) → e .id ≡ nameId t (e .at)
+  pub first : e .state ≡ 0 → e .kind ≡ OPENING
+  pub named : (e .kind ≡ OPENING → ⊥) → e .id ≡ nameId t (e .at)
 
 -- a state that waits for a name, not for the first question
-abbrev pub Calling : Ear → Type 0
-Calling e = e .kind ≡ 7 → ⊥
+abbrev pub Calling : Wait → Type 0
+Calling e = e .kind ≡ OPENING → ⊥
 
 -- a number of arguments of the name that a state waits for, and one of its arguments
-pub record Arguments (t : List ℕ) (e : Ear) (count : ℕ) : Type 0 where
+pub record Arguments (t : List ℕ) (e : Wait) (count : ℕ) : Type 0 where
   pub calls : Calling e
   pub within : count ≤ nameCount t (e .at)
 
-pub record Argument (t : List ℕ) (e : Ear) (arg : ℕ) : Type 0 where
+pub record Argument (t : List ℕ) (e : Wait) (arg : ℕ) : Type 0 where
   pub within : Arguments t e arg
   pub some : 0 < arg
 
 -- an answer below the limit of the name that a state waits for is an exit of the innermost level
-pub record Answering (t : List ℕ) (N : Numbers) (s : Site) (p : List ℕ) (c : ℕ) (e : Ear) (kind below : ℕ) : Type 0
+pub record Answering (t : List ℕ) (N : Numbers) (s : Site) (p : List ℕ) (c : ℕ) (e : Wait) (kind below : ℕ) : Type 0
     where
   pub sound : Sound p c
   pub exits : (v : ℕ) → v < below →

@@ -8,22 +8,26 @@ use lib.Dec.{eqb}
 use Rattle.language.specs.Choice.{pick}
 use Rattle.automaton.specs.declared.Frame.{Frame}
 use Rattle.explicit.specs.declared.Level.{Level}
+use Rattle.automaton.specs.walk.Role.{BLOCK}
+use Rattle.explicit.specs.inner.Field.{LEVELS, FIELDS, PART, QUESTION, QUESTION-VALUE, BASE, END, OUTER, ROLE}
+use Rattle.explicit.specs.inner.Field.{OFFSET, A, B, C, D, UP}
+use Rattle.explicit.specs.inner.Field.{HOLDERS, WORDS}
 use Rattle.explicit.specs.inner.Path.{heightOf, baseOf, Owned, upOf}
 
 -- word j of level i
 unfoldable pub fieldOf : List ℕ → ℕ → ℕ → ℕ
-fieldOf p i j = getD p (13 * i + j) 0
+fieldOf p i j = getD p (FIELDS * i + j) 0
 
 unfoldable pub frameOf : List ℕ → ℕ → Frame
 frameOf p i =
-    record { role = fieldOf p i 6; base = fieldOf p i 7; a = fieldOf p i 8; b = fieldOf p i 9; c = fieldOf p i 10; d
-        = fieldOf p i 11 }
+    record { role = fieldOf p i ROLE; base = fieldOf p i OFFSET; a = fieldOf p i A; b = fieldOf p i B; c = fieldOf p i C
+           ; d = fieldOf p i D }
 
-unfoldable pub levelOf : List ℕ → ℕ → Level
-levelOf p i =
-    record { part = fieldOf p i 0; kind = fieldOf p i 1; value = fieldOf p i 2; base = fieldOf p i 3; end = fieldOf p i
-        4
-           ; outer = fieldOf p i 5; up = fieldOf p i 12; f = frameOf p i }
+unfoldable pub levelAt : List ℕ → ℕ → Level
+levelAt p i =
+    record { part = fieldOf p i PART; kind = fieldOf p i QUESTION; value = fieldOf p i QUESTION-VALUE
+           ; base = fieldOf p i BASE; end = fieldOf p i END; outer = fieldOf p i OUTER; up = fieldOf p i UP
+           ; f = frameOf p i }
 
 -- the frames of the first levels, the innermost first
 unfoldable pub framesOf : List ℕ → ℕ → List Frame
@@ -41,15 +45,15 @@ levelWords l =
       ∷ l .f .d ∷ l .up ∷ []
 
 abbrev pub withLevel : List ℕ → ℕ → Level → List ℕ
-withLevel p i l = setAll p (13 * i) (levelWords l)
+withLevel p i l = setAll p (FIELDS * i) (levelWords l)
 
 -- the level that is a block's with so many blocks outside
 unfoldable pub holderOf : List ℕ → ℕ → ℕ
-holderOf p outer = getD p (429 + outer) 0
+holderOf p outer = getD p (HOLDERS + outer) 0
 
 -- a level is entered: it is written and, where it is a block's, noted
 unfoldable pub enteredOf : List ℕ → ℕ → Level → List ℕ
-enteredOf p i l = pick (eqb (l .f .role) 7) (set (withLevel p i l) (429 + l .outer) i) (withLevel p i l)
+enteredOf p i l = pick (eqb (l .f .role) BLOCK) (set (withLevel p i l) (HOLDERS + l .outer) i) (withLevel p i l)
 
 -- a level inside others
 pub record Plain (fs : List Frame) (l : Level) : Type 0 where
@@ -62,7 +66,7 @@ pub record Plain (fs : List Frame) (l : Level) : Type 0 where
 
 -- the words hold c levels
 pub record Sound (p : List ℕ) (c : ℕ) : Type 0 where
-  pub room : length p ≡ 462
-  pub few : c ≤ 33
-  pub plain : (i : ℕ) → i < c → Plain (framesOf p i) (levelOf p i)
-  pub held : (i : ℕ) → i < c → levelOf p i .f .role ≡ 7 → holderOf p (levelOf p i .outer) ≡ i
+  pub room : length p ≡ WORDS
+  pub few : c ≤ LEVELS
+  pub plain : (i : ℕ) → i < c → Plain (framesOf p i) (levelAt p i)
+  pub held : (i : ℕ) → i < c → levelAt p i .f .role ≡ BLOCK → holderOf p (levelAt p i .outer) ≡ i

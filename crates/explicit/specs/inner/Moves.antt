@@ -6,16 +6,21 @@ use lib.Dec.{eqb, ltb, leb}
 use Rattle.language.specs.Choice.{pick}
 use Rattle.language.specs.declared.Numbers.{Numbers}
 use Rattle.language.specs.Number.{numbers}
-use Rattle.language.specs.Letter.{rank}
+use Rattle.explicit.specs.Letter.{rank, KIND-UNIT, ID-UNIT, ARGUMENT-UNIT}
 use Rattle.sheet.specs.table.Rep.{word}
 use Rattle.automaton.specs.declared.Move.{Move}
 use Rattle.automaton.specs.declared.Out.{Out}
 use Rattle.automaton.specs.declared.Out.the-variants.{Go, Exit, Say, Hear, Stuck}
+use Rattle.automaton.specs.walk.MoveKind.{RUN, DONE, ASK, READ, OK, VALUE, WRITE, OPENING}
+use Rattle.automaton.specs.walk.Class.{COMMAND, EXPRESSION}
+use Rattle.automaton.specs.walk.Column.{CLASS, VALUES}
 use Rattle.automaton.specs.walk.Row.{sumOf, nameId, nameCount, partClass, partValues}
-use Rattle.explicit.specs.declared.Ear.{Ear}
+use Rattle.automaton.specs.walk.Types.{questionLimit}
+use Rattle.automaton.specs.walk.Name.{noMove}
+use Rattle.explicit.specs.declared.Wait.{Wait}
 use Rattle.explicit.specs.declared.Site.{Site}
-use Rattle.explicit.specs.inner.States.{spotsOf, sheetAt}
-use Rattle.explicit.specs.inner.Rows.{Edge, Row, noEdges, withRow, before, withRows}
+use Rattle.explicit.specs.inner.States.{WHOLE, spotsOf, sheetAt}
+use Rattle.explicit.specs.inner.Rows.{Edge, StateRow, noEdges, withRow, before, withRows}
 
 -- the value of number r in the order of the signed values
 unfoldable pub codeAt : Numbers → ℕ → ℕ
@@ -24,46 +29,49 @@ codeAt N r = pick (ltb r (N .z)) (r + N .z + 1) (r - N .z)
 -- the letter of a move
 unfoldable pub letterOf : Numbers → Move → ℕ
 letterOf N m =
-    let place = m .kind % 8 * 16777216 + m .id % 256 * 65536 + m .arg % 256 * 256 in
-    pick (ltb (m .kind) 5) place (place + rank N (m .value % 65536))
+    let place = m .kind % 8 * KIND-UNIT + m .id % 256 * ID-UNIT + m .arg % 256 * ARGUMENT-UNIT in
+    pick (ltb (m .kind) VALUE) place (place + rank N (m .value % 65536))
 
--- how many values a question of a kind has at a type: none where it is no question of the type, and one where it
--- carries no value
-unfoldable pub questionLimit : ℕ → ℕ → ℕ → ℕ
-questionLimit class m kind =
-    pick (eqb class 0) (pick (eqb kind 0) 1 0)
-    (pick (eqb class 1) (pick (eqb kind 2) 1 0)
-    (pick (eqb kind 3) 1 (pick (eqb kind 6) m 0)))
-
--- the same for the answers of a kind to the question q of value x
+-- how many values the answers of a kind to the question q of value x have at a type: none where the type has no such
+-- question or the question no such answers, and one where they carry no value
 unfoldable pub answerLimit : ℕ → ℕ → ℕ → ℕ → ℕ → ℕ
 answerLimit class m q x kind =
-    pick (eqb class 0) (pick (eqb q 0) (pick (eqb kind 1) 1 0) 0)
-    (pick (eqb class 1) (pick (eqb q 2) (pick (eqb kind 5) m 0) 0)
-    (pick (eqb q 3) (pick (eqb kind 5) m 0)
-    (pick (eqb q 6) (pick (ltb x m) (pick (eqb kind 4) 1 0) 0) 0)))
+    pick (eqb class COMMAND) (pick (eqb q RUN) (pick (eqb kind DONE) 1 0) 0)
+    (pick (eqb class EXPRESSION) (pick (eqb q ASK) (pick (eqb kind VALUE) m 0) 0)
+    (pick (eqb q READ) (pick (eqb kind VALUE) m 0)
+    (pick (eqb q WRITE) (pick (ltb x m) (pick (eqb kind OK) 1 0) 0) 0)))
 
 -- the kind of the answers to the question q at a type
 unfoldable pub answerKind : ℕ → ℕ → ℕ
-answerKind class q = pick (eqb class 0) 1 (pick (eqb q 6) 4 5)
+answerKind class q = pick (eqb class COMMAND) DONE (pick (eqb q WRITE) OK VALUE)
 
 -- the same for the moves of a kind at an argument of the one a state waits for
-unfoldable pub limitOf : List ℕ → Ear → ℕ → ℕ → ℕ
+unfoldable pub limitOf : List ℕ → Wait → ℕ → ℕ → ℕ
 limitOf t e kind arg =
-    pick (eqb (e .kind) 7)
-    (pick (eqb arg 0) (questionLimit (word t (e .at) 2) (word t (e .at) 3) kind) 0)
-    (pick (eqb arg 0) (answerLimit (word t (e .at) 2) (word t (e .at) 3) (e .kind) (e .value) kind)
+    pick (eqb (e .kind) OPENING)
+    (pick (eqb arg 0) (questionLimit (word t (e .at) CLASS) (word t (e .at) VALUES) kind) 0)
+    (pick (eqb arg 0) (answerLimit (word t (e .at) CLASS) (word t (e .at) VALUES) (e .kind) (e .value) kind)
     (pick (ltb (nameCount t (e .at)) arg) 0
     (questionLimit (partClass t (e .at) (arg - 1)) (partValues t (e .at) (arg - 1)) kind)))
 
 -- how many arguments of a name have moves: at most four
+abbrev pub ARGUMENTS : ℕ
+ARGUMENTS = 4
+
 unfoldable pub askingOf : List ℕ → ℕ → ℕ
-askingOf t at = pick (ltb 4 (nameCount t at)) 4 (nameCount t at)
+askingOf t at = pick (ltb ARGUMENTS (nameCount t at)) ARGUMENTS (nameCount t at)
+
+-- the places of moves, the name itself and its arguments, and all pairs of a kind of move and such a place
+abbrev pub PLACES : ℕ
+PLACES = 5
+
+abbrev pub BLOCKS : ℕ
+BLOCKS = 35
 
 -- whom the state k waits for
-unfoldable pub earOf : List ℕ → ℕ → ℕ → ℕ → ℕ → Ear
-earOf t state at kind value =
-    pick (eqb kind 7) (record { state = state; id = 255; at = at; kind = kind; value = value })
+unfoldable pub waitOf : List ℕ → ℕ → ℕ → ℕ → ℕ → Wait
+waitOf t state at kind value =
+    pick (eqb kind OPENING) (record { state = state; id = WHOLE; at = at; kind = kind; value = value })
     (record { state = state; id = nameId t at; at = at; kind = kind; value = value })
 
 -- the state to which a step leads: the dead state, n - 1, where it leads nowhere
@@ -92,50 +100,50 @@ module _ (t : List ℕ) (N : Numbers) (s : Site) where
   edgeBy k m = record { letter = letterOf N m; target = targetOf s (sheetAt t N (s .root) k m) }
 
   -- the edge by the value of number r, where it is below the limit
-  unfoldable pub valueEdge : Ear → ℕ → ℕ → ℕ → ℕ → List Edge
-  valueEdge ear kind arg below r =
+  unfoldable pub valueEdge : Wait → ℕ → ℕ → ℕ → ℕ → List Edge
+  valueEdge wait kind arg below r =
       pick (leb below (codeAt N r)) []
-      (edgeBy (ear .state) (record { kind = kind; id = ear .id; arg = arg; value = codeAt N r }) ∷ [])
+      (edgeBy (wait .state) (record { kind = kind; id = wait .id; arg = arg; value = codeAt N r }) ∷ [])
 
   -- the edges by the first r values
-  unfoldable pub valueEdges : Ear → ℕ → ℕ → ℕ → ℕ → List Edge
-  valueEdges ear kind arg below zero = []
-  valueEdges ear kind arg below (suc r) = valueEdges ear kind arg below r ++ valueEdge ear kind arg below r
+  unfoldable pub valueEdges : Wait → ℕ → ℕ → ℕ → ℕ → List Edge
+  valueEdges wait kind arg below zero = []
+  valueEdges wait kind arg below (suc r) = valueEdges wait kind arg below r ++ valueEdge wait kind arg below r
 
   -- the edges by the moves of a kind at an argument
-  unfoldable pub blockEdges : Ear → ℕ → ℕ → List Edge
-  blockEdges ear kind arg =
-      pick (eqb (limitOf t ear kind arg) 0) [] (valueEdges ear kind arg (limitOf t ear kind arg) (numbers N))
+  unfoldable pub blockEdges : Wait → ℕ → ℕ → List Edge
+  blockEdges wait kind arg =
+      pick (eqb (limitOf t wait kind arg) 0) [] (valueEdges wait kind arg (limitOf t wait kind arg) (numbers N))
 
   -- the edges by the first b pairs of a kind and an argument, 0 to 4
-  unfoldable pub heardEdges : Ear → ℕ → List Edge
-  heardEdges ear zero = []
-  heardEdges ear (suc b) = heardEdges ear b ++ blockEdges ear (b / 5) (b % 5)
+  unfoldable pub heardEdges : Wait → ℕ → List Edge
+  heardEdges wait zero = []
+  heardEdges wait (suc b) = heardEdges wait b ++ blockEdges wait (b / PLACES) (b % PLACES)
 
   -- the edges by the questions of a kind at the first arguments
-  unfoldable pub questionEdges : Ear → ℕ → ℕ → List Edge
-  questionEdges ear kind zero = []
-  questionEdges ear kind (suc j) = questionEdges ear kind j ++ blockEdges ear kind (suc j)
+  unfoldable pub questionEdges : Wait → ℕ → ℕ → List Edge
+  questionEdges wait kind zero = []
+  questionEdges wait kind (suc j) = questionEdges wait kind j ++ blockEdges wait kind (suc j)
 
   -- the edges by the questions of m kinds, from a first one, at the first `count` arguments
-  unfoldable pub askedEdges : Ear → ℕ → ℕ → ℕ → List Edge
-  askedEdges ear count first zero = []
-  askedEdges ear count first (suc m) = askedEdges ear count first m ++ questionEdges ear (first + m) count
+  unfoldable pub askedEdges : Wait → ℕ → ℕ → ℕ → List Edge
+  askedEdges wait count first zero = []
+  askedEdges wait count first (suc m) = askedEdges wait count first m ++ questionEdges wait (first + m) count
 
   -- the edges of a state that does so
   unfoldable pub edgesOf : ℕ → Out → List Edge
   edgesOf k (Go next level set) = []
   edgesOf k (Exit kind value level set) = []
   edgesOf k (Say said next) = record { letter = letterOf N said; target = sumOf (s .o) next } ∷ []
-  edgesOf k (Hear at kind value) = heardEdges (earOf t k at kind value) 35
+  edgesOf k (Hear at kind value) = heardEdges (waitOf t k at kind value) BLOCKS
   edgesOf k Stuck = []
 
   -- the row of a state that does so, and of the state k
-  unfoldable pub rowFor : ℕ → Out → Row
+  unfoldable pub rowFor : ℕ → Out → StateRow
   rowFor k o = record { silent = silentOf s o; edges = edgesOf k o }
 
-  unfoldable pub rowOf : ℕ → Row
-  rowOf k = rowFor k (sheetAt t N (s .root) k (record { kind = 255; id = 0; arg = 0; value = 0 }))
+  unfoldable pub rowOf : ℕ → StateRow
+  rowOf k = rowFor k (sheetAt t N (s .root) k noMove)
 
   -- the edge after those of the sheet, where its first edge is e
   unfoldable pub edgesAfter : ℕ → ℕ

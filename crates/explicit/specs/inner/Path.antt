@@ -15,14 +15,16 @@ use Rattle.automaton.specs.declared.Out.{Out}
 use Rattle.automaton.specs.declared.Out.the-variants.{Go, Exit, Say, Hear, Stuck}
 use Rattle.automaton.specs.declared.Spot.{Spot}
 use Rattle.automaton.specs.declared.Spot.the-variants.{Here, Inside}
+use Rattle.automaton.specs.walk.Role.{SAME, BLOCK}
+use Rattle.automaton.specs.walk.Column.{WEIGHT}
 use Rattle.automaton.specs.walk.Store.{storeIn, heightIn}
 use Rattle.automaton.specs.walk.Up.{riseOf}
 
 -- descending by F from position k, in `outer` blocks, comes to a part, and to the same part from each of its positions
 pub record Same (t : List ℕ) (outer : ℕ) (F : ℕ → Move → Spot) (k part kind value inner : ℕ) (f : Frame) : Type 0 where
   pub whole : f .base + inner ≡ k
-  pub own : f .role ≡ 7 → f .a ≡ suc outer
-  pub same : (k′ : ℕ) (m : Move) → f .base ≤ k′ → (k′ ≤ k) ⊎ (k′ < f .base + word t part 1) →
+  pub own : f .role ≡ BLOCK → f .a ≡ suc outer
+  pub same : (k′ : ℕ) (m : Move) → f .base ≤ k′ → (k′ ≤ k) ⊎ (k′ < f .base + word t part WEIGHT) →
     F k′ m ≡ Inside part kind value (k′ - f .base) f
 
 unfoldable pub SameAt : List ℕ → ℕ → (ℕ → Move → Spot) → ℕ → Spot → Type 0
@@ -54,11 +56,11 @@ baseOf (f ∷ fs) = baseOf fs + f .base
 -- a block's variable has the level that the blocks outside leave it
 unfoldable pub Owned : List Frame → Type 0
 Owned [] = Unit
-Owned (f ∷ fs) = (f .role ≡ 7 → f .a ≡ suc (heightOf fs)) × Owned fs
+Owned (f ∷ fs) = (f .role ≡ BLOCK → f .a ≡ suc (heightOf fs)) × Owned fs
 
 -- whether a frame of a role passes an exit on: the whole exits so, or a block does
 unfoldable pub passesOf : ℕ → Bool
-passesOf role = pick (eqb role 0) true (eqb role 7)
+passesOf role = pick (eqb role SAME) true (eqb role BLOCK)
 
 -- how many frames there are up to the innermost that does not pass an exit on, counted from the outermost; 0 where all
 -- do
@@ -70,5 +72,5 @@ upOf (f ∷ fs) = pick (passesOf (f .role)) (upOf fs) (suc (length fs))
 unfoldable pub blockIn : List Frame → ℕ → ℕ
 blockIn [] level = 0
 blockIn (f ∷ fs) level =
-    pick (eqb (f .role) 7) (pick (eqb level (f .a)) (suc (length fs)) (blockIn fs level))
+    pick (eqb (f .role) BLOCK) (pick (eqb level (f .a)) (suc (length fs)) (blockIn fs level))
     (blockIn fs level)

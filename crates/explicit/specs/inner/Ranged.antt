@@ -4,7 +4,7 @@ use Prim.Native.Nat.{ℕ, _<_, _≤_}
 use lib.ListN.{length}
 use Rattle.language.specs.declared.Numbers.{Numbers}
 use Rattle.language.specs.Ty.{Ty}
-use Rattle.language.proofs.LetterLaws.{Small}
+use Rattle.explicit.specs.Letter.{Small}
 use Rattle.machine.specs.Range.{TyIn}
 use Rattle.machine.specs.Action.{Listen, calling, opening, Action, go, say, hear}
 

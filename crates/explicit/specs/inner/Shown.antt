@@ -7,13 +7,12 @@ use lib.Dec.{eqb}
 use lib.ListN.{length, getD}
 use Rattle.language.specs.declared.Numbers.{Numbers}
 use Rattle.language.specs.Move.{Move}
-use Rattle.language.specs.Letter.{letter}
-use Rattle.language.proofs.LetterLaws.{Small}
+use Rattle.explicit.specs.Letter.{letter, Small}
 use Rattle.machine.specs.Action.{Action}
 use Rattle.machine.specs.Edge.{edge}
 use Rattle.machine.specs.Settle.{Index}
 use Rattle.explicit.specs.Explicit.{packed, silentWord}
-use Rattle.explicit.specs.inner.Rows.{Edge, Row}
+use Rattle.explicit.specs.inner.Rows.{Edge, StateRow}
 
 -- where the letter x leads by the edges, and to the state d where no edge has it
 unfoldable pub lookup : ℕ → List Edge → ℕ → ℕ
@@ -26,7 +25,7 @@ Rising n a [] = Unit
 Rising n a (e ∷ es) = (a ≤ e .letter) × (e .letter < 2 ^ 27) × (e .target < n) × Rising n (suc (e .letter)) es
 
 -- a row of an automaton of n states
-pub record Fine (n : ℕ) (r : Row) : Type 0 where
+pub record Fine (n : ℕ) (r : StateRow) : Type 0 where
   pub silent-state : r .silent ≤ n
   pub rising : Rising n 0 (r .edges)
 
@@ -38,12 +37,12 @@ Standing ws n e (x ∷ xs) =
       Standing ws n (suc e) xs
 
 -- how many edges the states below k have
-unfoldable pub edgesBelow : (ℕ → Row) → ℕ → ℕ
+unfoldable pub edgesBelow : (ℕ → StateRow) → ℕ → ℕ
 edgesBelow row zero = 0
 edgesBelow row (suc k) = edgesBelow row k + length (row k .edges)
 
 -- the words show the rows of the states below c, their edges one after the other
-pub record Shown (ws : List ℕ) (n c : ℕ) (row : ℕ → Row) : Type 0 where
+pub record ShownRows (ws : List ℕ) (n c : ℕ) (row : ℕ → StateRow) : Type 0 where
   pub silents : (p : ℕ) → p < c → getD ws p 0 ≡ row p .silent
   pub firsts : (p : ℕ) → p < c → getD ws (5 * n + p) 0 ≡ edgesBelow row p
   pub edges : (p : ℕ) → p < c → Standing ws n (edgesBelow row p) (row p .edges)
@@ -55,16 +54,16 @@ pub record Room (ws : List ℕ) (n e : ℕ) : Type 0 where
   pub small : 6 * n + 1 + 2 * e < 4294967296
 
 -- the words are an automaton of n states, with these rows
-pub record Automaton (ws : List ℕ) (n : ℕ) (row : ℕ → Row) : Type 0 where
+pub record Automaton (ws : List ℕ) (n : ℕ) (row : ℕ → StateRow) : Type 0 where
   pub some : 0 < n
   pub few : n ≤ 8193
   pub room : 6 * n + 1 + 2 * edgesBelow row n ≤ length ws
-  pub shown : Shown ws n n row
+  pub shown : ShownRows ws n n row
   pub last : getD ws (6 * n) 0 ≡ edgesBelow row n
   pub fine : (p : ℕ) → p < n → Fine n (row p)
 
 -- the row of a state shows its action
-pub record Right (N : Numbers) (n o : ℕ) {K : ℕ} (a : Action (Index K) (Unit {0})) (r : Row) : Type 0 where
+pub record Right (N : Numbers) (n o : ℕ) {K : ℕ} (a : Action (Index K) (Unit {0})) (r : StateRow) : Type 0 where
   pub fine : Fine n r
   pub silent-right : r .silent ≡ silentWord o n a
   pub edges-right : (m : Move) → Small N m → lookup (n - 1) (r .edges) (letter N m) ≡ packed o n (edge a m)

@@ -9,48 +9,55 @@ use Rattle.sheet.specs.table.Rep.{word}
 use Rattle.automaton.specs.declared.Move.{Move}
 use Rattle.automaton.specs.declared.Out.{Out}
 use Rattle.automaton.specs.declared.Out.the-variants.{Go, Say, Hear, Stuck}
-use Rattle.automaton.specs.walk.Row.{sumOf, placeOf}
+use Rattle.automaton.specs.walk.MoveKind.{DONE, OK, VALUE, OPENING, NO-MOVE}
+use Rattle.automaton.specs.walk.Class.{COMMAND}
+use Rattle.automaton.specs.walk.Column.{WEIGHT, CLASS, VALUES}
+use Rattle.automaton.specs.walk.Row.{sumOf, mulAddOf}
 use Rattle.automaton.specs.walk.Types.{questionsOf, answersOf, questionNumber}
 use Rattle.automaton.specs.walk.Name.{argHere}
 use Rattle.automaton.specs.walk.Up.{riseOf}
 use Rattle.automaton.specs.walk.Step.{onSpot, stepAt}
 
+-- the id that stands for the whole term
+abbrev pub WHOLE : ℕ
+WHOLE = 255
+
 -- the first question enters its copy of the term
 unfoldable pub openedOf : List ℕ → ℕ → Move → Out
 openedOf t root m =
-    let i = questionNumber (word t root 2) (word t root 3) (m .kind) (m .value) in
-    pick (eqb (m .id) 255)
-    (pick (eqb (m .arg) 0) (pick (eqb i 0) Stuck (Go (placeOf (i - 1) (word t root 1) 1) 0 0)) Stuck)
+    let i = questionNumber (word t root CLASS) (word t root VALUES) (m .kind) (m .value) in
+    pick (eqb (m .id) WHOLE)
+    (pick (eqb (m .arg) 0) (pick (eqb i 0) Stuck (Go (mulAddOf (i - 1) (word t root WEIGHT) 1) 0 0)) Stuck)
     Stuck
 
 -- the start: it waits for the question, or what follows the move that is given
 unfoldable pub atStart : List ℕ → ℕ → Move → Out
-atStart t root m = pick (eqb (m .kind) 255) (Hear root 7 0) (openedOf t root m)
+atStart t root m = pick (eqb (m .kind) NO-MOVE) (Hear root OPENING 0) (openedOf t root m)
 
 -- position k of the copies of the term; the answers begin at the state `after`
 unfoldable pub withinOf : List ℕ → Numbers → ℕ → ℕ → ℕ → Move → Out
 withinOf t N root k after m =
-    onSpot (argHere root (word t root 2) (word t root 3) (word t root 1) k 1 after)
+    onSpot (argHere root (word t root CLASS) (word t root VALUES) (word t root WEIGHT) k 1 after)
     (λ part kind value inner f. riseOf N f (stepAt t N 32 part kind value inner (replicate 32 0) 0 m))
 
 -- answer k of a type, at the place of the whole term
 unfoldable pub repliedOf : ℕ → ℕ → ℕ → Move
 repliedOf class values k =
-    pick (eqb class 0) (record { kind = 1; id = 255; arg = 0; value = 0 })
-    (pick (leb values k) (record { kind = 4; id = 255; arg = 0; value = 0 })
-    (record { kind = 5; id = 255; arg = 0; value = k }))
+    pick (eqb class COMMAND) (record { kind = DONE; id = WHOLE; arg = 0; value = 0 })
+    (pick (leb values k) (record { kind = OK; id = WHOLE; arg = 0; value = 0 })
+    (record { kind = VALUE; id = WHOLE; arg = 0; value = k }))
 
 -- the first of the states that answer
 unfoldable pub afterOf : List ℕ → ℕ → ℕ
-afterOf t root = placeOf (questionsOf (word t root 2) (word t root 3)) (word t root 1) 1
+afterOf t root = mulAddOf (questionsOf (word t root CLASS) (word t root VALUES)) (word t root WEIGHT) 1
 
 -- how many states the sheet has but the end
 unfoldable pub spotsOf : List ℕ → ℕ → ℕ
-spotsOf t root = sumOf (afterOf t root) (answersOf (word t root 2) (word t root 3))
+spotsOf t root = sumOf (afterOf t root) (answersOf (word t root CLASS) (word t root VALUES))
 
 -- what the state k does
 unfoldable pub sheetAt : List ℕ → Numbers → ℕ → ℕ → Move → Out
 sheetAt t N root k m =
     pick (eqb k 0) (atStart t root m)
     (pick (ltb k (afterOf t root)) (withinOf t N root (k - 1) (afterOf t root) m)
-    (Say (repliedOf (word t root 2) (word t root 3) (k - afterOf t root)) (spotsOf t root)))
+    (Say (repliedOf (word t root CLASS) (word t root VALUES) (k - afterOf t root)) (spotsOf t root)))

@@ -17,8 +17,8 @@ div-v c = search needs
 part-at-requires : tie.Need-part-at-requires
 part-at-requires c κs = search needs
 
-place-requires : tie.Need-place-requires
-place-requires c κs = search needs
+mul-add-requires : tie.Need-mul-add-requires
+mul-add-requires c κs = search needs
 
 sum-requires : tie.Need-sum-requires
 sum-requires c κs = search needs
@@ -33,10 +33,10 @@ returns-2 : tie.Need-returns-2
 unfolding inNew
 returns-2 c =
     simp (← c .before .before .before .before .before .part-weight .ensures, ← c .before .before .before .part-at
-    .ensures, ← c .before .before .place .ensures, ← c .before .sum .ensures, ← c .framed .ensures, ne-eqb _ _
+    .ensures, ← c .before .before .mul-add .ensures, ← c .before .sum .ensures, ← c .framed .ensures, ne-eqb _ _
     (c .before .before .before .before .if1 .left))
 
 pub in-new-spec : {M : Type 1} → statement M
 in-new-spec =
-    tie.close (tie.spec part-weight-requires returns div-v part-at-requires place-requires sum-requires
+    tie.close (tie.spec part-weight-requires returns div-v part-at-requires mul-add-requires sum-requires
     framed-requires rem-t13 returns-2)

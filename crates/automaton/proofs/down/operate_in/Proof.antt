@@ -18,8 +18,8 @@ returns-2 c = simp (le-ltb _ _ (c .before .if1 .left), eq-eqb _ _ (c .if2 .taken
 div-x : tie.Need-div-x
 div-x c = search needs
 
-place-requires : tie.Need-place-requires
-place-requires c κs = search needs
+mul-add-requires : tie.Need-mul-add-requires
+mul-add-requires c κs = search needs
 
 framed-requires-2 : tie.Need-framed-requires-2
 framed-requires-2 c κs = search needs
@@ -30,9 +30,9 @@ rem-t14 c = search needs
 returns-3 : tie.Need-returns-3
 unfolding operateIn
 returns-3 c =
-    simp (← c .before .place .ensures, ← c .framed2 .ensures, le-ltb _ _ (c .before .before .before .if1 .left),
+    simp (← c .before .mul-add .ensures, ← c .framed2 .ensures, le-ltb _ _ (c .before .before .before .if1 .left),
     ne-eqb _ _ (c .before .before .if2 .left))
 
 pub operate-in-spec : {M : Type 1} → statement M
 operate-in-spec =
-    tie.close (tie.spec framed-requires returns returns-2 div-x place-requires framed-requires-2 rem-t14 returns-3)
+    tie.close (tie.spec framed-requires returns returns-2 div-x mul-add-requires framed-requires-2 rem-t14 returns-3)

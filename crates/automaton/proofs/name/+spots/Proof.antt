@@ -1,6 +1,6 @@
 use Prim.Native.Nat.{ℕ, _<_}
 use borrow.Author.Needs.{needs}
-use Rattle.automaton.specs.walk.Name.{spotsOf}
+use Rattle.automaton.specs.walk.Name.{argSpots}
 use Rattle.automaton.proofs.Steps.{spots-step}
 use borrow.Fn.Kinds.{In}
 use borrow.Fn.PlainCycle.{Measures, is, falls, and}
@@ -28,7 +28,7 @@ spots-calls t =
 -- spots
 module _ (t : ℕ) where
   spots-returns : spots-lts.Need-returns (spots-calls t) (spots-at t) spots.Post
-  unfolding spotsOf
+  unfolding argSpots
   spots-returns c = rw (c .if1 .taken)
 
   spots-copies-requires : spots-lts.Need-copies-requires (spots-calls t) (spots-at t) spots.Post

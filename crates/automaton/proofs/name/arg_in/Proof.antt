@@ -17,8 +17,8 @@ question-kind-requires c κs = search needs
 question-value-requires : tie.Need-question-value-requires
 question-value-requires c κs = search needs
 
-place-requires : tie.Need-place-requires
-place-requires c κs = search needs
+mul-add-requires : tie.Need-mul-add-requires
+mul-add-requires c κs = search needs
 
 framed-requires : tie.Need-framed-requires
 framed-requires c κs = search needs
@@ -30,9 +30,9 @@ returns-2 : tie.Need-returns-2
 unfolding argHere
 returns-2 c =
     simp (← c .before .before .before .question-kind .ensures, ← c .before .before .question-value .ensures, ← c
-    .before .place .ensures, ← c .framed .ensures, ne-eqb _ _ (c .before .before .before .before .if1 .left))
+    .before .mul-add .ensures, ← c .framed .ensures, ne-eqb _ _ (c .before .before .before .before .if1 .left))
 
 pub arg-in-spec : {M : Type 1} → statement M
 arg-in-spec =
-    tie.close (tie.spec returns div-i question-kind-requires question-value-requires place-requires framed-requires
+    tie.close (tie.spec returns div-i question-kind-requires question-value-requires mul-add-requires framed-requires
     rem-t14 returns-2)

@@ -15,16 +15,16 @@ questions-requires c κs = search needs
 part-weight-requires : tie.Need-part-weight-requires
 part-weight-requires c κs = search needs
 
-place-requires : tie.Need-place-requires
-place-requires c κs = search needs
+mul-add-requires : tie.Need-mul-add-requires
+mul-add-requires c κs = search needs
 
 returns : tie.Need-returns
 unfolding copiesOf
 returns c =
     simp (← c .before .before .before .before .part-class .ensures, ← c .before .before .before .part-values .ensures,
-    ← c .before .before .questions .ensures, ← c .before .part-weight .ensures, ← c .place .ensures)
+    ← c .before .before .questions .ensures, ← c .before .part-weight .ensures, ← c .mul-add .ensures)
 
 pub copies-spec : {M : Type 1} → statement M
 copies-spec =
     tie.close
-    (tie.spec part-class-requires part-values-requires questions-requires part-weight-requires place-requires returns)
+    (tie.spec part-class-requires part-values-requires questions-requires part-weight-requires mul-add-requires returns)

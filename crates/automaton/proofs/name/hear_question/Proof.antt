@@ -33,14 +33,14 @@ spots-requires c κs = search needs
 sum-requires : tie.Need-sum-requires
 sum-requires c κs = search needs
 
-sub-place : tie.Need-sub-place
-sub-place c = search needs
+sub-mul-add : tie.Need-sub-mul-add
+sub-mul-add c = search needs
 
 part-weight-requires : tie.Need-part-weight-requires
 part-weight-requires c κs = search needs
 
-place-requires : tie.Need-place-requires
-place-requires c κs = search needs
+mul-add-requires : tie.Need-mul-add-requires
+mul-add-requires c κs = search needs
 
 returns-3 : tie.Need-returns-3
 unfolding hearQuestion
@@ -49,10 +49,10 @@ returns-3 c =
     .before .before .before .before .before .before .before .part-class .ensures, ← c .before .before .before .before
     .before .before .part-values .ensures, ← c .before .before .before .before .before .question-number .ensures, ← c
     .before .before .before .spots .ensures, ← c .before .before .sum .ensures, ← c .before .part-weight .ensures, ← c
-    .place .ensures, lt-leb _ _ (c .before .before .before .before .before .before .before .before .if1 .left), ne-eqb
+    .mul-add .ensures, lt-leb _ _ (c .before .before .before .before .before .before .before .before .if1 .left), ne-eqb
     _ _ (c .before .before .before .before .if2 .left))
 
 pub hear-question-spec : {M : Type 1} → statement M
 hear-question-spec =
     tie.close (tie.spec name-count-requires returns part-class-requires part-values-requires question-number-requires
-    returns-2 spots-requires sum-requires sub-place part-weight-requires place-requires returns-3)
+    returns-2 spots-requires sum-requires sub-mul-add part-weight-requires mul-add-requires returns-3)

@@ -4,13 +4,13 @@ use Rattle.automaton.specs.walk.Up.{exitValue}
 use Rattle.automaton.proofs.up.exit_value.Statement.{statement}
 use Rattle.automaton.proofs.up.exit_value.Tie as tie
 
-place-requires : tie.Need-place-requires
-place-requires c κs = search needs
+mul-add-requires : tie.Need-mul-add-requires
+mul-add-requires c κs = search needs
 
 returns : tie.Need-returns
 unfolding exitValue
 returns c =
-    simp (← c .place .ensures, eq-eqb _ _ (c .before .before .before .if1 .taken), lt-ltb _ _ (c .before .if2 .taken))
+    simp (← c .mul-add .ensures, eq-eqb _ _ (c .before .before .before .if1 .taken), lt-ltb _ _ (c .before .if2 .taken))
 
 returns-2 : tie.Need-returns-2
 unfolding exitValue
@@ -21,4 +21,4 @@ unfolding exitValue
 returns-3 c = simp (ne-eqb _ _ (c .if1 .left))
 
 pub exit-value-spec : {M : Type 1} → statement M
-exit-value-spec = tie.close (tie.spec place-requires returns returns-2 returns-3)
+exit-value-spec = tie.close (tie.spec mul-add-requires returns returns-2 returns-3)

@@ -15,21 +15,22 @@ field-requires c κs = (omega (arith, c .pre .0 .few, block-within _ _ _ _ (c .p
 start-at-requires : tie.Need-start-at-requires
 start-at-requires c κs = c .before .pre .0
 
-add-place : tie.Need-add-place
-add-place c = omega (arith, lead-low _ _ _ (c .before .before .pre .0) (c .start-at .ensures), c .before .before .pre .1
+add-mul-add : tie.Need-add-mul-add
+add-mul-add c = omega (arith, lead-low _ _ _ (c .before .before .pre .0)
+    (c .start-at .ensures), c .before .before .pre .1
     .0)
 
 start-at-requires-2 : tie.Need-start-at-requires-2
 start-at-requires-2 c κs = fewer _ _ _ (c .before .before .pre .0) (block-within _ _ _ _ (c .before .before .pre .1 .1
     .0) (λ z. omega (arith, c .before .before .pre .1 .1 .1)) .1)
 
-sub-place : tie.Need-sub-place
-sub-place c = lead-within _ _ _ _ _ _ (c .before .before .before .pre .0) (c .before .before .before .pre .1 .0) (c
+sub-mul-add : tie.Need-sub-mul-add
+sub-mul-add c = lead-within _ _ _ _ _ _ (c .before .before .before .pre .0) (c .before .before .before .pre .1 .0) (c
     .before .start-at .ensures) (c .before .before .before .pre .1 .1 .0) (λ z. omega (arith, c .before .before .before
     .pre .1 .1 .1)) _ (c .start-at2 .ensures)
 
-place-requires : tie.Need-place-requires
-place-requires c κs = search needs
+mul-add-requires : tie.Need-mul-add-requires
+mul-add-requires c κs = search needs
 
 far-requires : tie.Need-far-requires
 far-requires c κs = c .before .before .before .before .before .pre .0
@@ -59,8 +60,8 @@ returns-2 c = λ N. lead-copy N _ _ _ _ _ _ _ _ (c .before .before .before .befo
     .start-at .ensures) (c .before .before .before .before .before .before .before .pre .1 .1 .0) (λ z. omega (arith, c
     .before .before .before .before .before .before .before .pre .1 .1 .1)) _ _ _ _ _ (c .before .before .before .before
     .start-at2 .ensures) (c .before .before .before .before .before .before .field .ensures) (c .before .before .before
-    .place .ensures) (c .before .before .if1 .left) (c .before .start-at3 .ensures) (c .sum .ensures)
+    .mul-add .ensures) (c .before .before .if1 .left) (c .before .start-at3 .ensures) (c .sum .ensures)
 
 pub moved-spec : {M : Type 1} → statement M
-moved-spec = tie.close (tie.spec sub-field field-requires start-at-requires add-place start-at-requires-2 sub-place
-    place-requires far-requires returns sub-start-at start-at-requires-3 add-sum sum-requires returns-2)
+moved-spec = tie.close (tie.spec sub-field field-requires start-at-requires add-mul-add start-at-requires-2 sub-mul-add
+    mul-add-requires far-requires returns sub-start-at start-at-requires-3 add-sum sum-requires returns-2)

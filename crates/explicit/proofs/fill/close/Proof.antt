@@ -10,8 +10,8 @@ dead-requires c κs = search needs
 write-head-requires : tie.Need-write-head-requires
 write-head-requires c κs = search needs
 
-place-requires : tie.Need-place-requires
-place-requires c κs = search needs
+mul-add-requires : tie.Need-mul-add-requires
+mul-add-requires c κs = search needs
 
 put-requires : tie.Need-put-requires
 put-requires c κs = search needs
@@ -23,8 +23,8 @@ returns : tie.Need-returns
 unfolding closedOf
 returns c =
     simp (← c .before .before .before .before .before .before .before .before .dead .ensures, ← c .before .before
-    .before .before .before .before .before .write-head .ensures, ← c .before .before .before .place .ensures, ← c
+    .before .before .before .before .before .write-head .ensures, ← c .before .before .before .mul-add .ensures, ← c
     .before .before .put .ensures)
 
 pub close-spec : {M : Type 1} → statement M
-close-spec = tie.close (tie.spec dead-requires write-head-requires place-requires put-requires same-length returns)
+close-spec = tie.close (tie.spec dead-requires write-head-requires mul-add-requires put-requires same-length returns)

@@ -1,5 +1,5 @@
 use borrow.Author.Needs.{needs}
-use Rattle.explicit.specs.inner.Kept.{Kept}
+use Rattle.explicit.specs.inner.Kept.{KeptPath}
 use Rattle.explicit.proofs.PathDeeper.{kept-none, kept-fewer}
 use native.Mathlib.Omega.{arith}
 use Prim.Native.Nat.{_-_, _≤_}
@@ -12,7 +12,7 @@ use Rattle.explicit.proofs.fill.fill.Tie as tie
 
 abbrev Inv-loop : tie.InvT-loop
 Inv-loop t n s words₀ e root all p₀ c₀ k₀ next₀ words p c k next = (k ≤ all) × ((length words ≡ length words₀) ×
-    (Kept t root p c k × Filled (rowOf t n s) (s .n) (s .o) e words₀ k next words))
+    (KeptPath t root p c k × Filled (rowOf t n s) (s .n) (s .o) e words₀ k next words))
 
 abbrev μ-loop : tie.MeasureT-loop
 μ-loop t n s words₀ e root all p₀ c₀ k₀ next₀ words p c k next = all - k

@@ -40,12 +40,13 @@ sum-requires-2 c κs = search needs
 enum-known-o-2 : tie.Need-enum-known-o-2
 enum-known-o-2 c = search needs
 
-ear-of-requires : tie.Need-ear-of-requires
-ear-of-requires c κs = search needs
+wait-of-requires : tie.Need-wait-of-requires
+wait-of-requires c κs = search needs
 
 hear-requires : tie.Need-hear-requires
 hear-requires c κs = row-listens _ _ _ _ _ _ _ _ _ _ _ (c .before .before .before .before .before .before .before
-    .before .before .before .before .before .before .pre) (c .before .before .before .o2 .given .1) (c .ear-of .ensures)
+    .before .before .before .before .before .before .pre) (c .before .before .before .o2 .given .1)
+        (c .wait-of .ensures)
 
 enum-told-3 : tie.Need-enum-told-3
 enum-told-3 c = search needs
@@ -95,7 +96,8 @@ returns-4 c = row-hears _ _ _ _ _ _ _ _ (c .before .before .before .before .befo
     .before .before .before .before .before .before .silent-at .ensures) (c .before .before .before .before .before
     .before .before .before .before .before .before .before .sum .ensures) (c .before .before .before .before .before
     .before .before .before .before .before .write-head .ensures) _ _ _ _ _ _ (c .before .before .before .before .before
-    .before .o2 .given .1) (c .before .before .before .ear-of .ensures) (c .before .before .hear .ensures .0) (c .before
+    .before .o2 .given .1) (c .before .before .before .wait-of .ensures) (c .before .before .hear .ensures .0)
+        (c .before
     .before .hear .ensures .1)
 
 same-length-5 : tie.Need-same-length-5
@@ -110,6 +112,6 @@ returns-5 c = row-quiet _ _ _ _ _ _ _ _ (c .before .before .before .before .befo
 
 pub write-row-spec : {M : Type 1} → statement M
 write-row-spec = tie.close (tie.spec sum-requires silent-at-requires write-head-requires enum-told enum-told-2
-    enum-known-o letter-of-requires lead-requires write-edge-requires sum-requires-2 enum-known-o-2 ear-of-requires
+    enum-known-o letter-of-requires lead-requires write-edge-requires sum-requires-2 enum-known-o-2 wait-of-requires
     hear-requires enum-told-3 same-length returns same-length-2 returns-2 same-length-3 returns-3 same-length-4
     returns-4 same-length-5 returns-5)

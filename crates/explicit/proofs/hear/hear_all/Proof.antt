@@ -9,11 +9,11 @@ use Rattle.explicit.proofs.hear.hear_all.Statement.{statement}
 use Rattle.explicit.proofs.hear.hear_all.Tie as tie
 
 abbrev Inv-loop : tie.InvT-loop
-Inv-loop t n s words₀ p c ear e b₀ next₀ words b next = (b ≤ 35) × ((length words ≡ length words₀) × Wrote words₀
-    (s .n) e (heardEdges t n s ear b) next words)
+Inv-loop t n s words₀ p c wait e b₀ next₀ words b next = (b ≤ 35) × ((length words ≡ length words₀) × Wrote words₀
+    (s .n) e (heardEdges t n s wait b) next words)
 
 abbrev μ-loop : tie.MeasureT-loop
-μ-loop t n s words₀ p c ear e b₀ next₀ words b next = 35 - b
+μ-loop t n s words₀ p c wait e b₀ next₀ words b next = 35 - b
 
 loop-holds : tie.Need-loop-holds Inv-loop μ-loop
 loop-holds c = (omega arith, (refl, heard-first _ _ _ _ _ _))

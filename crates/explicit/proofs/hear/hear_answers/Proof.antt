@@ -11,11 +11,11 @@ use Rattle.explicit.proofs.hear.hear_answers.Statement.{statement}
 use Rattle.explicit.proofs.hear.hear_answers.Tie as tie
 
 abbrev Inv-loop : tie.InvT-loop
-Inv-loop t n s words₀ p c ear kind e below all r₀ next₀ words r next = (r ≤ all) ×
-    ((length words ≡ length words₀) × Wrote words₀ (s .n) e (valueEdges t n s ear kind 0 below r) next words)
+Inv-loop t n s words₀ p c wait kind e below all r₀ next₀ words r next = (r ≤ all) ×
+    ((length words ≡ length words₀) × Wrote words₀ (s .n) e (valueEdges t n s wait kind 0 below r) next words)
 
 abbrev μ-loop : tie.MeasureT-loop
-μ-loop t n s words₀ p c ear kind e below all r₀ next₀ words r next = all - r
+μ-loop t n s words₀ p c wait kind e below all r₀ next₀ words r next = all - r
 
 limit-requires : tie.Need-limit-requires Inv-loop μ-loop
 limit-requires c κs = search needs

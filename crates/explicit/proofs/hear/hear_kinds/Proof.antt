@@ -10,12 +10,12 @@ use Rattle.explicit.proofs.hear.hear_kinds.Statement.{statement}
 use Rattle.explicit.proofs.hear.hear_kinds.Tie as tie
 
 abbrev Inv-loop : tie.InvT-loop
-Inv-loop t n s words₀ p c ear count first end e kind₀ next₀ words kind next = ((first ≤ kind) × (kind ≤ end)) ×
+Inv-loop t n s words₀ p c wait count first end e kind₀ next₀ words kind next = ((first ≤ kind) × (kind ≤ end)) ×
     ((length words ≡ length words₀) ×
-    Wrote words₀ (s .n) e (askedEdges t n s ear count first (kind - first)) next words)
+    Wrote words₀ (s .n) e (askedEdges t n s wait count first (kind - first)) next words)
 
 abbrev μ-loop : tie.MeasureT-loop
-μ-loop t n s words₀ p c ear count first end e kind₀ next₀ words kind next = end - kind
+μ-loop t n s words₀ p c wait count first end e kind₀ next₀ words kind next = end - kind
 
 loop-holds : tie.Need-loop-holds Inv-loop μ-loop
 loop-holds c = ((omega arith, c .before .before .pre .1 .1), (refl, asked-first _ _ _ _ _ _ _ _ _ refl))

@@ -10,11 +10,11 @@ use Rattle.explicit.proofs.hear.hear_questions.Statement.{statement}
 use Rattle.explicit.proofs.hear.hear_questions.Tie as tie
 
 abbrev Inv-loop : tie.InvT-loop
-Inv-loop t n s words₀ p c ear kind count e arg₀ next₀ words arg next = (arg ≤ count) ×
-    ((length words ≡ length words₀) × Wrote words₀ (s .n) e (questionEdges t n s ear kind arg) next words)
+Inv-loop t n s words₀ p c wait kind count e arg₀ next₀ words arg next = (arg ≤ count) ×
+    ((length words ≡ length words₀) × Wrote words₀ (s .n) e (questionEdges t n s wait kind arg) next words)
 
 abbrev μ-loop : tie.MeasureT-loop
-μ-loop t n s words₀ p c ear kind count e arg₀ next₀ words arg next = count - arg
+μ-loop t n s words₀ p c wait kind count e arg₀ next₀ words arg next = count - arg
 
 loop-holds : tie.Need-loop-holds Inv-loop μ-loop
 loop-holds c = (omega arith, (refl, questions-first _ _ _ _ _ _ _))

@@ -9,11 +9,11 @@ use Rattle.explicit.proofs.hear.hear_values.Statement.{statement}
 use Rattle.explicit.proofs.hear.hear_values.Tie as tie
 
 abbrev Inv-loop : tie.InvT-loop
-Inv-loop t n s words₀ p c ear kind arg below e all r₀ next₀ words r next = (r ≤ all) ×
-    ((length words ≡ length words₀) × Wrote words₀ (s .n) e (valueEdges t n s ear kind arg below r) next words)
+Inv-loop t n s words₀ p c wait kind arg below e all r₀ next₀ words r next = (r ≤ all) ×
+    ((length words ≡ length words₀) × Wrote words₀ (s .n) e (valueEdges t n s wait kind arg below r) next words)
 
 abbrev μ-loop : tie.MeasureT-loop
-μ-loop t n s words₀ p c ear kind arg below e all r₀ next₀ words r next = all - r
+μ-loop t n s words₀ p c wait kind arg below e all r₀ next₀ words r next = all - r
 
 cast-all : tie.Need-cast-all Inv-loop μ-loop
 cast-all c = search needs

@@ -2,7 +2,7 @@ use borrow.Author.Needs.{needs}
 use native.Mathlib.Omega.{arith}
 use borrow.Author.Tests.{le-leb, lt-leb, lt-ltb, le-ltb, eq-eqb, ne-eqb}
 use Rattle.language.specs.Number.{numbers}
-use Rattle.language.specs.Letter.{rank}
+use Rattle.explicit.specs.Letter.{rank}
 use Rattle.explicit.proofs.letters.rank_of.Statement.{statement}
 use Rattle.explicit.proofs.letters.rank_of.Tie as tie
 

@@ -1,6 +1,6 @@
 use borrow.Author.Needs.{needs}
 use native.Mathlib.Omega.{arith}
-use Rattle.explicit.specs.inner.Levels.{levelOf}
+use Rattle.explicit.specs.inner.Levels.{levelAt}
 use Rattle.explicit.specs.inner.Kept.{startOf}
 use borrow.Author.Tests.{le-leb, lt-leb, lt-ltb, le-ltb, eq-eqb, ne-eqb}
 use Rattle.explicit.proofs.levels.start_at.Statement.{statement}
@@ -17,7 +17,7 @@ field-requires : tie.Need-field-requires
 field-requires c κs = (omega (arith, c .before .pre .few), omega arith)
 
 returns-2 : tie.Need-returns-2
-unfolding startOf levelOf
+unfolding startOf levelAt
 returns-2 c = simp (← c .field .ensures, ne-eqb _ _ (c .before .if1 .left))
 
 pub start-at-spec : {M : Type 1} → statement M

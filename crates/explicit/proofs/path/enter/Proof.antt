@@ -2,7 +2,7 @@ use borrow.Author.Needs.{needs}
 use native.Mathlib.Omega.{arith}
 use mathlib.Core.Path.{_≡_, refl, sym, _∙_}
 use Prim.Native.Nat.{_-_}
-use Rattle.explicit.specs.inner.Kept.{Kept, Covers}
+use Rattle.explicit.specs.inner.Kept.{KeptPath, Covers}
 use Rattle.explicit.proofs.PathInner.{entered}
 use Rattle.explicit.proofs.PathDeeper.{goes-deeper, child-low}
 use Rattle.explicit.proofs.PathArrives.{arrives, arrives-deep}
@@ -12,7 +12,7 @@ use Rattle.explicit.proofs.path.enter.Tie as tie
 
 abbrev Inv-loop : tie.InvT-loop
 Inv-loop t root p₀ c k at₀ p at =
-    Kept t root p at k × Covers p at k
+    KeptPath t root p at k × Covers p at k
 
 abbrev μ-loop : tie.MeasureT-loop
 μ-loop t root p₀ c k at₀ p at = 33 - at

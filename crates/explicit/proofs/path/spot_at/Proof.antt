@@ -2,7 +2,7 @@ use borrow.Author.Needs.{needs}
 use native.Mathlib.Omega.{arith}
 use mathlib.Core.Path.{sym, _∙_}
 use Prim.Native.Nat.{_-_}
-use Rattle.explicit.specs.inner.Levels.{levelOf}
+use Rattle.explicit.specs.inner.Levels.{levelAt}
 use Rattle.explicit.specs.inner.Kept.{spotIn}
 use Rattle.explicit.proofs.PathCode.{spot-private, spot-down}
 use borrow.Author.Tests.{le-leb, lt-leb, lt-ltb, le-ltb, eq-eqb, ne-eqb}
@@ -32,7 +32,7 @@ field-requires-4 : tie.Need-field-requires-4
 field-requires-4 c κs = (omega (arith, c .before .before .before .before .before .pre .sound .few), omega arith)
 
 sub-inner : tie.Need-sub-inner
-unfolding levelOf
+unfolding levelAt
 sub-inner c = omega (arith, c .field4 .ensures, c .before .before .before .before .before .before .pre
     .begun (c .before .before .before .before .before .before .args .c - 1) (omega (arith, c .before .before .before
         .before .if1 .left)))

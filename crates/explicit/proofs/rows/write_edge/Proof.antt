@@ -4,8 +4,8 @@ use Rattle.explicit.specs.inner.Rows.{withEdge, edgeAt}
 use Rattle.explicit.proofs.rows.write_edge.Statement.{statement}
 use Rattle.explicit.proofs.rows.write_edge.Tie as tie
 
-place-requires : tie.Need-place-requires
-place-requires c κs = search needs
+mul-add-requires : tie.Need-mul-add-requires
+mul-add-requires c κs = search needs
 
 sum-requires : tie.Need-sum-requires
 sum-requires c κs = search needs
@@ -28,7 +28,7 @@ same-length c = search needs
 returns : tie.Need-returns
 unfolding withEdge edgeAt
 returns c =
-    simp (← c .before .before .before .before .before .before .before .before .before .before .before .place .ensures,
+    simp (← c .before .before .before .before .before .before .before .before .before .before .before .mul-add .ensures,
     ← c .before .before .before .before .before .before .before .before .before .before .sum .ensures, ← c .before
     .before .before .before .before .before .before .before .before .sum2 .ensures, ← c .before .before .before
     .before .before .before .before .put .ensures, ← c .before .before .before .sum3 .ensures, ← c .before .before
@@ -36,5 +36,5 @@ returns c =
 
 pub write-edge-spec : {M : Type 1} → statement M
 write-edge-spec = tie.close
-    (tie.spec place-requires sum-requires sum-requires-2 put-requires sum-requires-3 put-requires-2 same-length
+    (tie.spec mul-add-requires sum-requires sum-requires-2 put-requires sum-requires-3 put-requires-2 same-length
     returns)

@@ -7,8 +7,8 @@ use Rattle.explicit.proofs.rows.write_head.Tie as tie
 put-requires : tie.Need-put-requires
 put-requires c κs = search needs
 
-place-requires : tie.Need-place-requires
-place-requires c κs = search needs
+mul-add-requires : tie.Need-mul-add-requires
+mul-add-requires c κs = search needs
 
 put-requires-2 : tie.Need-put-requires-2
 put-requires-2 c κs = search needs
@@ -20,7 +20,7 @@ returns : tie.Need-returns
 unfolding withHead
 returns c =
     simp (← c .before .before .before .before .before .before .before .put .ensures, ← c .before .before .before
-    .place .ensures, ← c .before .before .put2 .ensures)
+    .mul-add .ensures, ← c .before .before .put2 .ensures)
 
 pub write-head-spec : {M : Type 1} → statement M
-write-head-spec = tie.close (tie.spec put-requires place-requires put-requires-2 same-length returns)
+write-head-spec = tie.close (tie.spec put-requires mul-add-requires put-requires-2 same-length returns)

@@ -16,15 +16,15 @@ questions-requires c κs = search needs
 cell-requires-3 : tie.Need-cell-requires-3
 cell-requires-3 c κs = search needs
 
-place-requires : tie.Need-place-requires
-place-requires c κs = search needs
+mul-add-requires : tie.Need-mul-add-requires
+mul-add-requires c κs = search needs
 
 returns : tie.Need-returns
 unfolding afterOf
 returns c =
     simp (← c .before .before .before .before .cell .ensures, ← c .before .before .before .cell2 .ensures, ← c .before
-    .before .questions .ensures, ← c .before .cell3 .ensures, ← c .place .ensures)
+    .before .questions .ensures, ← c .before .cell3 .ensures, ← c .mul-add .ensures)
 
 pub after-of-spec : {M : Type 1} → statement M
 after-of-spec = tie.close
-    (tie.spec cell-requires cell-requires-2 questions-requires cell-requires-3 place-requires returns)
+    (tie.spec cell-requires cell-requires-2 questions-requires cell-requires-3 mul-add-requires returns)

@@ -28,24 +28,24 @@ returns-3 c =
     .question-number .ensures, eq-eqb _ _ (c .before .before .before .before .before .before .if1 .left), eq-eqb _ _
     (c .before .before .before .before .if2 .left), eq-eqb _ _ (c .if3 .taken))
 
-sub-place : tie.Need-sub-place
-sub-place c = search needs
+sub-mul-add : tie.Need-sub-mul-add
+sub-mul-add c = search needs
 
 cell-requires-3 : tie.Need-cell-requires-3
 cell-requires-3 c κs = search needs
 
-place-requires : tie.Need-place-requires
-place-requires c κs = search needs
+mul-add-requires : tie.Need-mul-add-requires
+mul-add-requires c κs = search needs
 
 returns-4 : tie.Need-returns-4
 unfolding openedOf
 returns-4 c =
     simp (← c .before .before .before .before .before .cell .ensures, ← c .before .before .before .before .cell2
-    .ensures, ← c .before .before .before .question-number .ensures, ← c .before .cell3 .ensures, ← c .place .ensures,
+    .ensures, ← c .before .before .before .question-number .ensures, ← c .before .cell3 .ensures, ← c .mul-add .ensures,
     eq-eqb _ _ (c .before .before .before .before .before .before .before .before .if1 .left), eq-eqb _ _ (c .before
     .before .before .before .before .before .if2 .left), ne-eqb _ _ (c .before .before .if3 .left))
 
 pub opened-spec : {M : Type 1} → statement M
 opened-spec = tie.close
-    (tie.spec returns returns-2 cell-requires cell-requires-2 question-number-requires returns-3 sub-place
-    cell-requires-3 place-requires returns-4)
+    (tie.spec returns returns-2 cell-requires cell-requires-2 question-number-requires returns-3 sub-mul-add
+    cell-requires-3 mul-add-requires returns-4)

@@ -1,7 +1,7 @@
 use borrow.Author.Needs.{needs}
 use Rattle.explicit.proofs.Reaching.{reach-as, reach-say, reach-hear, reach-stuck}
-use Rattle.explicit.proofs.hear.reach.Statement.{statement}
-use Rattle.explicit.proofs.hear.reach.Tie as tie
+use Rattle.explicit.proofs.exits.reach.Statement.{statement}
+use Rattle.explicit.proofs.exits.reach.Tie as tie
 
 enum-known-o : tie.Need-enum-known-o
 enum-known-o c = search needs

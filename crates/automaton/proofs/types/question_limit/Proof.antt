@@ -1,8 +1,8 @@
 use borrow.Author.Needs.{needs}
 use borrow.Author.Tests.{le-leb, lt-leb, lt-ltb, le-ltb, eq-eqb, ne-eqb}
-use Rattle.explicit.specs.inner.Moves.{questionLimit}
-use Rattle.explicit.proofs.letters.question_limit.Statement.{statement}
-use Rattle.explicit.proofs.letters.question_limit.Tie as tie
+use Rattle.automaton.specs.walk.Types.{questionLimit}
+use Rattle.automaton.proofs.types.question_limit.Statement.{statement}
+use Rattle.automaton.proofs.types.question_limit.Tie as tie
 
 returns : tie.Need-returns
 unfolding questionLimit

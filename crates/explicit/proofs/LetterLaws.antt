@@ -9,23 +9,14 @@ use lib.Dec.{T, leb, ltb, ltb→lt}
 use lib.IntN.{ℤ, pos, negsuc, _-ℤ_}
 use lib.Signed.{ltZ, _<ℤ_}
 use borrow.Author.Tests.{leb-true, leb-false}
 use Rattle.language.specs.declared.Numbers.{Numbers}
 use Rattle.language.specs.Choice.{pick}
 use Rattle.language.specs.Number.{numbers, signed}
 use Rattle.language.specs.Ty.{Question, run, ask, read, write, Answer, done, ok, value}
 use Rattle.language.specs.Move.{Event, question, answer, Place, at, private, Move, move, kind, valueOf}
 use Rattle.language.specs.Move.{ByValue, Earlier}
-use Rattle.language.specs.Letter.{rank, ranked, letter, unranked, eventOf}
+use Rattle.explicit.specs.Letter.{rank, ranked, letter, unranked, eventOf, Values, Small}
 use Rattle.language.proofs.NumberLaws.{minus-below}
-
--- the range of the parts of a move, a byte each
-unfoldable pub Values : Numbers → List ℕ → Type 0
-Values N [] = Unit
-Values N (v ∷ vs) = v < numbers N
-
-unfoldable pub Small : Numbers → Move → Type 0
-Small N (move (at id j) e) = (id < 256) × (j < 256) × Values N (valueOf e)
-Small N (move (private i) e) = ⊥
 
 module _ (N : Numbers) (few : N .z ≤ 127) where
   -- a rank is a byte
@@ -56,7 +47,8 @@ module _ (N : Numbers) (few : N .z ≤ 127) where
       go true false e f t = absurd (rw (minus-below y M hy) at t)
       go false true e f t = omega (arith, leb-false x (N .z) e, leb-true y (N .z) f)
       go false false e f t =
-          let u : T (ltZ (negsuc (M - suc x)) (negsuc (M - suc y))) = rw (minus-below x M hx, minus-below y M hy) at t in
+          let u : T (ltZ (negsuc (M - suc x)) (negsuc (M - suc y))) = rw
+              (minus-below x M hx, minus-below y M hy) at t in
           omega (arith, leb-false x (N .z) e, leb-false y (N .z) f, ltb→lt (M - suc y) (M - suc x) u)
 
   by-value : (xs ys : List ℕ) → Values N xs → Values N ys → ByValue N xs ys → ranked N xs < ranked N ys
@@ -94,7 +86,8 @@ module _ (N : Numbers) (few : N .z ≤ 127) where
       back r true e f g = f (leb-true 128 r e)
       back r false e f g = g (leb-false 128 r e)
       go : (b : Bool) → leb v (N .z) ≡ b →
-          pick (leb 128 (pick b (128 + v) (128 + v - (2 * N .z + 1)))) (pick b (128 + v) (128 + v - (2 * N .z + 1)) - 128)
+          pick (leb 128 (pick b (128 + v) (128 + v - (2 * N .z + 1)))) (pick b (128 + v) (128 + v -
+              (2 * N .z + 1)) - 128)
             (pick b (128 + v) (128 + v - (2 * N .z + 1)) + (2 * N .z + 1) - 128) ≡ v
       go true e = back (128 + v) _ refl (λ l. omega arith) (λ l. absurd (omega arith))
       go false e =

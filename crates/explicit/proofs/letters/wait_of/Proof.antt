@@ -1,19 +1,19 @@
 use borrow.Author.Needs.{needs}
 use borrow.Author.Tests.{le-leb, lt-leb, lt-ltb, le-ltb, eq-eqb, ne-eqb}
-use Rattle.explicit.specs.inner.Moves.{earOf}
-use Rattle.explicit.proofs.letters.ear_of.Statement.{statement}
-use Rattle.explicit.proofs.letters.ear_of.Tie as tie
+use Rattle.explicit.specs.inner.Moves.{waitOf}
+use Rattle.explicit.proofs.letters.wait_of.Statement.{statement}
+use Rattle.explicit.proofs.letters.wait_of.Tie as tie
 
 returns : tie.Need-returns
-unfolding earOf
+unfolding waitOf
 returns c = simp (eq-eqb _ _ (c .if1 .taken))
 
 name-id-requires : tie.Need-name-id-requires
 name-id-requires c κs = search needs
 
 returns-2 : tie.Need-returns-2
-unfolding earOf
+unfolding waitOf
 returns-2 c = simp (← c .name-id .ensures, ne-eqb _ _ (c .before .if1 .left))
 
-pub ear-of-spec : {M : Type 1} → statement M
-ear-of-spec = tie.close (tie.spec returns name-id-requires returns-2)
+pub wait-of-spec : {M : Type 1} → statement M
+wait-of-spec = tie.close (tie.spec returns name-id-requires returns-2)
