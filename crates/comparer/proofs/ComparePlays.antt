@@ -3,7 +3,7 @@ use mathlib.Core.Path.{_≡_, refl, sym, ap, ap₂, _∙_}
 use mathlib.Core.Logic.{_↔_}
 use mathlib.Core.Bool.{Bool, true, false}
 use mathlib.Core.List.{List}
-use mathlib.Core.Option.{none}
+use mathlib.Core.Option.{Option, none}
 use Prim.Native.Nat.{ℕ, zero, suc, _+_, _*_, _-_, _≤_, _<_, min}
 use native.Mathlib.Omega.{arith}
 use lib.ListN.{length, getD, replicate}
@@ -24,11 +24,12 @@ use Rattle.sheet.specs.table.Tabled.{TabledBy}
 use Rattle.sheet.specs.declared.names.Reading.{Reading}
 use Rattle.sheet.specs.declared.names.Reading.the-variants as reading
 use Rattle.comparer.specs.Plays.{Alike, Only}
-use Rattle.comparer.specs.Refusals.{Refusal, refusing, sameFirst, comparable, onRead, compareRefusal}
+use Rattle.comparer.specs.Refusals.{Refusal, refusing, sameFirst, matching, onRead, pairRefusal}
+use Rattle.comparer.specs.Refusals.{compareRefusal}
 use Rattle.comparer.specs.Promise.{Decided, same, apart, ComparedBy, ComparePromise}
 use Rattle.comparer.specs.inner.Built.{TwoReady, TwoBuilt}
 use Rattle.comparer.specs.inner.Deciding.{Deciding, OnlyTerm, Verdicts, alike, differ}
-use Rattle.comparer.specs.inner.Handed.{causeOf}
+use Rattle.comparer.specs.inner.Causes.{causeOf, bothCause, numberOf}
 use Rattle.comparer.specs.declared.Cause.{Cause}
 use Rattle.comparer.specs.declared.Comparison.{Comparison}
 use Rattle.comparer.specs.declared.Comparison.the-variants.{Refused}
@@ -84,8 +85,8 @@ pub record AsOne (old new : List ℕ) (ty b : ℕ) : Type 0 where
 
 -- comparable sheets have the same numbers and result type
 pub as-one : {old new : List ℕ} {root ty b w : ℕ} (other : ℕ) {x : Bool} → Taken old root ty w →
-    x ≡ comparable old new root other ty b → x ≡ true → AsOne old new ty b
-unfolding comparable
+    x ≡ matching old new root other ty b → x ≡ true → AsOne old new ty b
+unfolding matching
 as-one {old} {new} {root} {ty} {b} other A e f =
     by (eqb root other) (sameFirst root old new) (eqb ty b) refl refl (sym e ∙ f)
   where
@@ -146,7 +147,7 @@ pub both : (old new : List ℕ) {x y : Reading} {root ty w next other b v next�
     {N M : Numbers} {all more : ℕ} → ReadsSheet (numbersAt old) (sheetOf old) x t₀ t →
     (length t₀ ≡ 36864 → TabledBy old x t) → length t₀ ≡ 36864 → x ≡ reading.Sheet root ty w next →
     ReadsSheet (numbersAt new) (sheetOf new) y u₀ u → (length u₀ ≡ 36864 → TabledBy new y u) → length u₀ ≡ 36864 →
-    y ≡ reading.Sheet other b v next′ → k ≡ comparable old new root other ty b → k ≡ true → N ≡ numbersAt old →
+    y ≡ reading.Sheet other b v next′ → k ≡ matching old new root other ty b → k ≡ true → N ≡ numbersAt old →
     M ≡ numbersAt new → all ≡ min (sizeOf N ty w) 4097 → more ≡ min (sizeOf M b v) 4097 →
     Both N old new root other all more t u
 both old new {root = root} {ty = ty} {other = other} R B l e R′ B′ l′ e′ c h n n′ s s′ =
@@ -205,40 +206,68 @@ module _ {N : Numbers} {old new : List ℕ} {root other all more : ℕ} {t u : L
         (d (deciding ws ws₁ space h e l b))
     ; cleared = k ∙ ap (λ i. replicate i 0) (j ∙ e) })
 
+-- by the three tests
+abbrev judgement : Bool → Bool → Bool → Option Refusal
+judgement p q s = pick p (pick q (refusing 13 2 0) (pick s (refusing 14 2 0) none)) (refusing 12 2 0)
+
+stopped-by : (p q s : Bool) {number : ℕ} → number ≡ numberOf (judgement p q s) → (number ≡ 0 → ⊥) →
+    judgement p q s ≡ refusing number 2 0
+unfolding numberOf
+stopped-by false q s e h = rw e refl
+stopped-by true true s e h = rw e refl
+stopped-by true false true e h = rw e refl
+stopped-by true false false e h = absurd (h e)
+
+passed-by : (p q s : Bool) → numberOf (judgement p q s) ≡ 0 → (p ≡ true) × (q ≡ false) × (s ≡ false)
+unfolding numberOf
+passed-by false q s e = absurd (omega (arith, e))
+passed-by true true s e = absurd (omega (arith, e))
+passed-by true false true e = absurd (omega (arith, e))
+passed-by true false false e = (refl, refl, refl)
+
+-- two sheets that are not refused: they match, and enough is lent for sizes that add up to n
+pub record Passed (fit : Bool) (words space n : ℕ) : Type 0 where
+  pub matched : fit ≡ true
+  pub words-enough : 32 * (n + 1) ≤ words
+  pub space-enough : 4 * (n - 1) ≤ space
+
 -- both sheets are read
 module _ (old new ws space : List ℕ) {root ty w other b v : ℕ} (A : Taken old root ty w) (B : Taken new other b v)
     where
   -- the judgement after that
   judged : compareRefusal old new (length ws) (length space) ≡
-      pick (comparable old new root other ty b)
-        (pick (ltb (length ws) (32 * (sizeOf (numbersAt old) ty w + sizeOf (numbersAt new) b v + 1)))
-          (refusing 13 2 0)
-          (pick (ltb (length space) (4 * (sizeOf (numbersAt old) ty w + sizeOf (numbersAt new) b v - 1)))
-            (refusing 14 2 0) none))
-        (refusing 12 2 0)
+      pairRefusal (matching old new root other ty b) (length ws) (length space)
+        (sizeOf (numbersAt old) ty w + sizeOf (numbersAt new) b v)
   unfolding compareRefusal onRead
   judged = rw (A .reads, B .reads, A .rooted, B .rooted)
 
-  -- they are not comparable
-  pub refused-apart : {x : Bool} {r : Comparison} → x ≡ comparable old new root other ty b → x ≡ false →
-      r ≡ Refused 12 2 0 → ComparePromise old new ws space r ws space
-  refused-apart e f g = refuses old new ws space 12 2 0 (judged ∙ rw (← e, f)) g
+  module _ {fit : Bool} {all more number : ℕ} (e : fit ≡ matching old new root other ty b)
+      (s : all ≡ sizeOf (numbersAt old) ty w) (k : more ≡ sizeOf (numbersAt new) b v)
+      (n : number ≡ numberOf (pairRefusal fit (length ws) (length space) (all + more))) where
+    -- by the names of the code
+    judged-as : compareRefusal old new (length ws) (length space) ≡
+        pairRefusal fit (length ws) (length space) (all + more)
+    judged-as = judged ∙ rw (← e, ← s, ← k) refl
 
-  module _ {x : Bool} {all more : ℕ} (e : x ≡ comparable old new root other ty b) (f : x ≡ true)
-      (s : all ≡ sizeOf (numbersAt old) ty w) (k : more ≡ sizeOf (numbersAt new) b v) where
-    -- there are too few words
-    pub refused-words : {r : Comparison} → length ws < 32 * (all + more + 1) → r ≡ Refused 13 2 0 →
-        ComparePromise old new ws space r ws space
-    refused-words h g =
-        refuses old new ws space 13 2 0 (judged ∙ rw (← e, f, ← s, ← k, lt-ltb _ _ h)) g
+    -- they are refused together
+    pub refused-pair : {q : Cause} {r : Comparison} → (number ≡ 0 → ⊥) → q ≡ bothCause number →
+        r ≡ Refused (q .number) (q .sheet) (q .place) → ComparePromise old new ws space r ws space
+    refused-pair h f g =
+        refuses old new ws space number 2 0
+          (judged-as ∙
+            stopped-by fit (ltb (length ws) (32 * (all + more + 1))) (ltb (length space) (4 * (all + more - 1))) n h)
+          (g ∙ ap (λ q. Refused (q .number) (q .sheet) (q .place)) f)
 
-    -- there is too little play space
-    pub refused-space : {r : Comparison} → 32 * (all + more + 1) ≤ length ws → length space < 4 * (all + more - 1) →
-        r ≡ Refused 14 2 0 → ComparePromise old new ws space r ws space
-    refused-space h l g =
-        refuses old new ws space 14 2 0 (judged ∙ rw (← e, f, ← s, ← k, le-ltb _ _ h, lt-ltb _ _ l)) g
+    -- the tests passed
+    tests : number ≡ 0 → (fit ≡ true) × (ltb (length ws) (32 * (all + more + 1)) ≡ false) ×
+        (ltb (length space) (4 * (all + more - 1)) ≡ false)
+    tests z =
+        passed-by fit (ltb (length ws) (32 * (all + more + 1))) (ltb (length space) (4 * (all + more - 1))) (sym n ∙ z)
 
     -- nothing is refused
-    pub accepted-call : 32 * (all + more + 1) ≤ length ws → 4 * (all + more - 1) ≤ length space →
-        compareRefusal old new (length ws) (length space) ≡ none
-    accepted-call h l = judged ∙ rw (← e, f, ← s, ← k, le-ltb _ _ h, le-ltb _ _ l)
+    pub passed : number ≡ 0 → Passed fit (length ws) (length space) (all + more)
+    passed z = record
+      { matched = tests z .0; words-enough = ltb-false _ _ (tests z .1); space-enough = ltb-false _ _ (tests z .2) }
+
+    pub accepted-call : number ≡ 0 → compareRefusal old new (length ws) (length space) ≡ none
+    accepted-call z = judged-as ∙ rw (tests z .0, tests z .1, tests z .2) refl

@@ -5,7 +5,6 @@ use mathlib.Core.Path.{_≡_, sym, ap₂, subst}
 use mathlib.Core.Logic.{_↔_}
 use mathlib.Core.List.{[]}
 use lib.ListN.{length}
-use Rattle.language.specs.Ty.{Ty}
 use Rattle.language.specs.Typing.{Typed}
 use Rattle.language.specs.Move.{Word}
 use Rattle.language.specs.Play.{Complete}
@@ -16,16 +15,12 @@ use Rattle.sheet.specs.Meaning.{tyOf, termOf, typeOf}
 use Rattle.sheet.proofs.WellTyped.{accepted-typed}
 use Rattle.explicit.proofs.Ranges.{type-in, sheet-range}
 use Rattle.comparer.specs.Demands.{Comparable, DifferShort, PlayShort}
-use Rattle.comparer.specs.Plays.{Only}
+use Rattle.comparer.specs.Plays.{wholeType, Only}
 use Rattle.comparer.proofs.Lengths.{differ-short, play-short}
 use Rattle.comparer.proofs.Exactly.{not-alike}
 
--- the type of the term of a sheet
-abbrev whole-type : Sheet → Ty
-whole-type S = tyOf (S .numbers) (typeOf S)
-
 -- comparable sheets have terms of one type
-one-type : (S T : Sheet) → Comparable S T → whole-type S ≡ whole-type T
+one-type : (S T : Sheet) → Comparable S T → wholeType S ≡ wholeType T
 one-type S T c = ap₂ tyOf (c .numbers) (c .types)
 
 -- THEOREM: the plays are the same exactly when no play of at most S + T - 1 moves belongs to exactly one
@@ -34,17 +29,17 @@ unfolding Only
 differs S T A B c =
     ((λ h which u l o. not-alike which S T u o (h u)),
      (λ none. subst (λ X.
-         ((u : Word) → length u ≤ size (whole-type S) (termOf S) + size X (termOf T) - 1 →
-           Complete (whole-type S) (termOf S) u → (Complete X (termOf T) u → ⊥) → ⊥) →
-         ((u : Word) → length u ≤ size (whole-type S) (termOf S) + size X (termOf T) - 1 →
-           Complete X (termOf T) u → (Complete (whole-type S) (termOf S) u → ⊥) → ⊥) →
-         (u : Word) → Complete (whole-type S) (termOf S) u ↔ Complete X (termOf T) u)
+         ((u : Word) → length u ≤ size (wholeType S) (termOf S) + size X (termOf T) - 1 →
+           Complete (wholeType S) (termOf S) u → (Complete X (termOf T) u → ⊥) → ⊥) →
+         ((u : Word) → length u ≤ size (wholeType S) (termOf S) + size X (termOf T) - 1 →
+           Complete X (termOf T) u → (Complete (wholeType S) (termOf S) u → ⊥) → ⊥) →
+         (u : Word) → Complete (wholeType S) (termOf S) u ↔ Complete X (termOf T) u)
        (one-type S T c)
-       (differ-short (whole-type S) (termOf S) (termOf T) (S .numbers) (omega (arith, A .z-below))
+       (differ-short (wholeType S) (termOf S) (termOf T) (S .numbers) (omega (arith, A .z-below))
          (accepted-typed S A) typed (type-in (S .numbers) (A .z-above) (typeOf S)) (sheet-range S A) in-range)
        (λ u l p q. none 0 u l (p, q)) (λ u l p q. none 1 u l (p, q))))
   where
-    typed : Typed [] (termOf T) (whole-type S)
+    typed : Typed [] (termOf T) (wholeType S)
     typed = subst (λ X. Typed [] (termOf T) X) (sym (one-type S T c)) (accepted-typed T B)
     in-range : InRange (S .numbers) (termOf T)
     in-range = subst (λ N. InRange N (termOf T)) (sym (c .numbers)) (sheet-range T B)
@@ -52,6 +47,6 @@ differs S T A B c =
 -- THEOREM: a sheet has a complete play exactly when it has one of at most S - 1 moves
 pub plays : PlayShort
 plays S A =
-    ((λ p. play-short (whole-type S) (termOf S) (S .numbers) (omega (arith, A .z-below)) (accepted-typed S A)
+    ((λ p. play-short (wholeType S) (termOf S) (S .numbers) (omega (arith, A .z-below)) (accepted-typed S A)
        (type-in (S .numbers) (A .z-above) (typeOf S)) (sheet-range S A) (p .0) (p .1)),
      (λ p. (p .0, p .1 .0)))

@@ -39,19 +39,10 @@ use Rattle.comparer.specs.declared.play.Parsed.{Parsed}
 use Rattle.comparer.specs.declared.play.Parsed.the-variants.{Moves, Bad}
 use Rattle.comparer.specs.inner.Built.{OneReady, OneBuilt}
 use Rattle.comparer.specs.inner.Bytes.{counted}
-use Rattle.comparer.specs.inner.Handed.{Handed, causeOf, HandedPlay, playCause}
-use Rattle.comparer.specs.inner.Walk.{AtLeast, Told, Reached}
+use Rattle.comparer.specs.inner.Causes.{causeOf, bothCause, playCause}
+use Rattle.comparer.specs.inner.Walk.{AtLeast, Marked, Reached}
 use Rattle.comparer.proofs.FollowPlays.{built-single, counts}
 use Rattle.comparer.proofs.WritingPlays.{good-moves}
-
--- what is handed on is a refusal
-pub handed : {x : Reading} {n p : ℕ} → x ≡ Refusal n p → Handed x
-unfolding Handed
-handed e = rw e tt
-
-pub handed-play : {x : Parsed} {p : ℕ} → x ≡ Bad p → HandedPlay x
-unfolding HandedPlay
-handed-play e = rw e tt
 
 -- a refusal that is promised
 refuses : (s play ws ws′ : List ℕ) (a b p : ℕ) (r : Following) → followRefusal s play (length ws) ≡ refusing a b p →
@@ -154,11 +145,12 @@ module _ {s t : List ℕ} {N : Numbers} {root all : ℕ} (O : Opened s t N root 
         (termOf (O .tabled .sheet)))
 
   -- too few words
-  pub refuses-words : (play ws ws′ : List ℕ) {r : Following} → length ws < 32 * (all + 1) → r ≡ Refused 13 2 0 →
-      ws′ ≡ ws → FollowPromise s play ws r ws′
-  refuses-words play ws ws′ h f k =
+  pub refuses-words : (play ws ws′ : List ℕ) {q : Cause} {r : Following} → length ws < 32 * (all + 1) →
+      q ≡ bothCause 13 → r ≡ Refused (q .number) (q .sheet) (q .place) → ws′ ≡ ws → FollowPromise s play ws r ws′
+  refuses-words play ws ws′ h c f k =
       refuses s play ws ws′ 13 2 0 _
-        (O .goes-on play (length ws) ∙ rw (lt-ltb (length ws) (32 * (all + 1)) h) refl) f k
+        (O .goes-on play (length ws) ∙ rw (lt-ltb (length ws) (32 * (all + 1)) h) refl)
+        (f ∙ ap (λ q. Refused (q .number) (q .sheet) (q .place)) c) k
 
   -- a bad play
   pub refuses-play : (play ws ws′ : List ℕ) {x : Parsed} {p : ℕ} {q : Cause} {r : Following} →
@@ -243,22 +235,22 @@ module _ {s t : List ℕ} {N : Numbers} {root all : ℕ} (O : Opened s t N root 
       opened-graph =
           same-graph (rest (5 * (all + 1)) ws′) (rest (5 * (all + 1)) ws″) (all + 1) (opened-single .graph) (M .1)
 
-      unfoldable told : Told (all + 1) (all - 1) ws″
-      told = record
+      unfoldable marked : Marked (all + 1) (all - 1) ws″
+      marked = record
         { automaton = rest (5 * (all + 1)) ws′; graph = opened-single .graph; same = M .1; marks = M .0 }
 
       -- THEOREM: the accepted answer is what follow promises
       pub followed : (play ws₃ : List ℕ) {x : Parsed} {total : ℕ} {r : Reach} →
           ((i : ℕ) → getD play i 0 < 256) → x ≡ counted 0 (parse 0 play) → x ≡ Moves total →
-          ((f : ℕ) (T : Told (all + 1) f ws″) (rs : List (List ℕ)) → parse 0 play ≡ moves rs → length rs ≡ total →
+          ((f : ℕ) (T : Marked (all + 1) f ws″) (rs : List (List ℕ)) → parse 0 play ≡ moves rs → length rs ≡ total →
             Reached (T .automaton) (all + 1) f rs r) →
           ws₃ ≡ replicate (length ws) 0 → FollowPromise s play ws (Follows (r .count) (eqb (r .last) (all - 1))) ws₃
-      unfolding FollowedBy told
+      unfolding FollowedBy marked
       followed play ws₃ {r = r} bytes e m L z =
           let g = given-moves (parse 0 play) (sym m ∙ e) in
           let rs = g .0 in
           let p = g .1 .0 in
-          let R = L (all - 1) told rs p (g .1 .1) in
+          let R = L (all - 1) marked rs p (g .1 .1) in
           rw (goes-through play ws rs room p) (record
             { sheet = O .tabled .sheet
             ; held = record { type = O .kind; size = _; reads = O .tabled .accepts }

@@ -10,7 +10,7 @@ use lib.Dec.{ltb}
 use Rattle.language.specs.Choice.{pick}
 use Rattle.sheet.specs.Reader.{Answer, got, refused, Whole, sheetOf, sizeOf, numbersAt, checks, readSheet, rejected}
 use Rattle.comparer.specs.Records.{Given, moves, bad, parse}
-use Rattle.comparer.specs.Refusals.{Refusal, refusing, comparable, rootOf, onRead, onGiven, followRefusal}
+use Rattle.comparer.specs.Refusals.{Refusal, refusing, matching, rootOf, onRead, onGiven, followRefusal}
 use Rattle.comparer.specs.Refusals.{compareRefusal}
 use Rattle.comparer.specs.Demands.{FollowNumber, CompareNumber, NumbersOnly}
 use Rattle.comparer.proofs.FromCheck.{FromCheck, Caused, sheet-caused}
@@ -66,7 +66,7 @@ compare-among old new words space =
     on-read CompareNumber from-sheets (sheetOf old) 0 _ (sheet-caused old) (λ root ty w.
       on-read CompareNumber from-sheets (sheetOf new) 1 _ (sheet-caused new) (λ other type-of-other v.
         let n = sizeOf (numbersAt old) ty w + sizeOf (numbersAt new) type-of-other v in
-        lent (comparable old new root other ty type-of-other) (ltb words (32 * (n + 1)))
+        lent (matching old new root other ty type-of-other) (ltb words (32 * (n + 1)))
           (ltb space (4 * (n - 1)))))
 
 -- check: the sheet's

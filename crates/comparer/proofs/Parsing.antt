@@ -25,15 +25,15 @@ unfolding widthOf
 width k w q = by (decLt k 5) (decLt k 7)
   where
     by : Dec (k < 5) → Dec (k < 7) → Width k w
-    by (yes h) d = three (rw (lt-ltb k 5 h) at q) h (lt-ltb k 5 h)
+    by (yes h) d = three (rw (lt-ltb k 7 (omega arith), lt-ltb k 5 h) at q) h (lt-ltb k 5 h)
     by (no h) (yes l) =
         let a : ltb k 5 ≡ false = le-ltb k 5 (omega arith) in
         let b : ltb k 7 ≡ true = lt-ltb k 7 l in
-        four (rw (a, b) at q) (omega arith) l a b
+        four (rw (b, a) at q) (omega arith) l a b
     by (no h) (no l) =
         let a : ltb k 5 ≡ false = le-ltb k 5 (omega arith) in
         let b : ltb k 7 ≡ false = le-ltb k 7 (omega arith) in
-        unknown (rw (a, b) at q) (omega arith) a b
+        unknown (rw b at q) (omega arith) a b
 
 -- a record of a kind that there is, not cut short
 step-of : (at w : ℕ) (s : List ℕ) → Width (getD s 0 0) w → 0 < w → w ≤ length s →

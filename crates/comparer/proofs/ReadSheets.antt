@@ -27,12 +27,6 @@ use Rattle.sheet.proofs.WellTyped.{accepted-typed}
 use Rattle.explicit.proofs.Ranges.{type-in, sheet-range}
 use Rattle.comparer.specs.Promise.{Holds}
 use Rattle.comparer.specs.Refusals.{rootOf}
-use Rattle.comparer.specs.inner.Handed.{Handed}
-
--- a refusal may be handed on
-pub handed : {x : Reading} {number place : ℕ} → x ≡ reading.Refusal number place → Handed x
-unfolding Handed
-handed e = rw e tt
 
 -- a reading that is refused is that of a refused sheet
 refused-answer : {x : Reading} {number place : ℕ} (A : Answer Whole) → x ≡ eraseSheet A →

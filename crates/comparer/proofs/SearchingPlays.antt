@@ -14,7 +14,7 @@ use Rattle.dfa.proofs.laws.Look.{δ-lt}
 use Rattle.dfa.proofs.laws.SameEdges.{same-walk}
 use Rattle.comparer.specs.Records.{moves, parse}
 use Rattle.comparer.specs.inner.Bytes.{firstLetter}
-use Rattle.comparer.specs.inner.Walk.{AtLeast, stateAfter, Told, Reached}
+use Rattle.comparer.specs.inner.Walk.{AtLeast, stateAfter, Marked, Reached}
 use Rattle.comparer.proofs.WalkingPlays.{Walked, walked-first, walked-state}
 
 -- the mark of the state after k records
@@ -76,7 +76,7 @@ walk-below G n g p [] h = h
 walk-below G n g p (m ∷ w) h = walk-below G n g (δ G n p m) w (δ-lt G n p m g h)
 
 -- the words tell which beginnings are live
-module _ (n : ℕ) (ws : List ℕ) (f : ℕ) (T : Told n f ws) (rs : List (List ℕ)) where
+module _ (n : ℕ) (ws : List ℕ) (f : ℕ) (T : Marked n f ws) (rs : List (List ℕ)) where
   -- a beginning leads to the same state
   state : (k : ℕ) → stateAfter (rest (5 * n) ws) n rs k ≡ stateAfter (T .automaton) n rs k
   state k = same-walk (T .automaton) (rest (5 * n) ws) n (T .graph) (T .same) 0 (take k (map firstLetter rs))
@@ -88,7 +88,7 @@ module _ (n : ℕ) (ws : List ℕ) (f : ℕ) (T : Told n f ws) (rs : List (List 
 
 -- after the last record
 pub search-last : (n : ℕ) (ws play : List ℕ) (total p at i count : ℕ) →
-    Searched n ws play total p at i count → total ≤ i → (f : ℕ) (T : Told n f ws) (rs : List (List ℕ)) →
+    Searched n ws play total p at i count → total ≤ i → (f : ℕ) (T : Marked n f ws) (rs : List (List ℕ)) →
     parse 0 play ≡ moves rs → length rs ≡ total →
     Reached (T .automaton) n f rs (record { count = count; last = p })
 search-last n ws play total p at i count S h f T rs e l = record

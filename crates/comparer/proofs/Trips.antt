@@ -16,6 +16,7 @@ use Rattle.dfa.specs.Reading.{walk, reversed}
 use Rattle.dfa.proofs.laws.Live.{no-true}
 use Rattle.dfa.proofs.laws.Reading.{reversed-length, walk-reversed, reversed-reversed}
 use Rattle.difference.proofs.laws.Short.{compared}
+use Rattle.comparer.specs.inner.Spell.{letters}
 use Rattle.comparer.proofs.Unletter.{Unletter, of, none, unletter, letter-below}
 
 -- the state after a word, where σ p m is the one after the move m in the state p
@@ -55,14 +56,9 @@ none-recognized N A fin h = record
   { small = λ u c. absurd c
   ; accepts = λ u s. ((λ e. h (ap fin (sym (trip-stays A u)) ∙ e)), (λ c. absurd c)) }
 
--- the letters of a word
-unfoldable letters : Numbers → Word → List ℕ
-letters N [] = []
-letters N (m ∷ u) = letter N m ∷ letters N u
-
 -- a word kept last letter first, and read first letter first
-after-turned : (δ : ℕ → ℕ → ℕ) (p : ℕ) (w : List ℕ) → after δ p (reversed w) ≡ walk δ p w
-after-turned δ p w = sym (walk-reversed δ p (reversed w)) ∙ ap (walk δ p) (reversed-reversed w)
+after-reversed : (δ : ℕ → ℕ → ℕ) (p : ℕ) (w : List ℕ) → after δ p (reversed w) ≡ walk δ p w
+after-reversed δ p w = sym (walk-reversed δ p (reversed w)) ∙ ap (walk δ p) (reversed-reversed w)
 
 -- where a letter leads: to n - 1 if it is the letter of no move
 unfoldable leads : (n : ℕ) → (ℕ → Move → ℕ) → {N : Numbers} {x : ℕ} → Unletter N x → ℕ → ℕ
@@ -146,7 +142,7 @@ module _ (N : Numbers) (few : N .z ≤ 127) (n : ℕ) (σ : ℕ → Move → ℕ
            (λ d. let s = Q .small u d in P .accepts u s .0 (same s ∙ Q .accepts u s .1 d)))
         where
           read : AllSmall N u → (r : ℕ) → after δ r (reversed (letters N u)) ≡ trip σ r u
-          read s r = after-turned δ r (letters N u) ∙ walk-trip u s r
+          read s r = after-reversed δ r (letters N u) ∙ walk-trip u s r
           same : AllSmall N u → fin (trip σ p u) ≡ fin (trip σ q u)
           same s = ap fin (sym (read s p)) ∙ h (reversed (letters N u)) ∙ ap fin (read s q)
 

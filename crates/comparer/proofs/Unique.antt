@@ -20,7 +20,7 @@ use Rattle.sheet.specs.Reader.{accepted, readSheet, written}
 use Rattle.sheet.proofs.Right.{gives}
 use Rattle.comparer.specs.Plays.{Alike, Only, FirstPlay}
 use Rattle.comparer.specs.Records.{moves}
-use Rattle.comparer.specs.Refusals.{Refusal, refusing, comparable, rootOf, onRead, followRefusal, compareRefusal}
+use Rattle.comparer.specs.Refusals.{Refusal, refusing, matching, rootOf, onRead, followRefusal, compareRefusal}
 use Rattle.comparer.specs.Promise.{Holds, Begins, Greatest, NoPlay, Counted, FollowedBy, Decided, same, apart, ComparedBy}
 use Rattle.comparer.specs.Demands.{FollowUnique, CompareUnique}
 use Rattle.comparer.specs.declared.Comparison.{Comparison}
@@ -57,7 +57,7 @@ same-numbers old new words space h = go (sheetOf old) (sheetOf new) refl refl h
     judged root ty w other b v =
         let S = sizeOf (numbersAt old) ty w in
         let T = sizeOf (numbersAt new) b v in
-        pick (comparable old new root other ty b)
+        pick (matching old new root other ty b)
         (pick (ltb words (32 * (S + T + 1))) (refusing 13 2 0)
         (pick (ltb space (4 * (S + T - 1))) (refusing 14 2 0) none))
         (refusing 12 2 0)
@@ -65,9 +65,9 @@ same-numbers old new words space h = go (sheetOf old) (sheetOf new) refl refl h
         onRead A 0 (λ root ty w. onRead B 1 (λ other b v. judged root ty w other b v)) ≡ none →
         numbersAt old ≡ numbersAt new
     go (got x ty w end) (got y b v end′) e f k =
-        by (comparable old new (rootOf x) (rootOf y) ty b) refl k
+        by (matching old new (rootOf x) (rootOf y) ty b) refl k
       where
-        by : (c : Bool) → comparable old new (rootOf x) (rootOf y) ty b ≡ c →
+        by : (c : Bool) → matching old new (rootOf x) (rootOf y) ty b ≡ c →
             pick c (pick (ltb words (32 * (sizeOf (numbersAt old) ty w + sizeOf (numbersAt new) b v + 1)))
               (refusing 13 2 0)
               (pick (ltb space (4 * (sizeOf (numbersAt old) ty w + sizeOf (numbersAt new) b v - 1)))

@@ -8,10 +8,9 @@ use Prim.Native.Nat.{ℕ, zero, suc}
 use lib.Dec.{eqb}
 use lib.ListN.{length}
 use borrow.Author.Tests.{eqb-true, not-true}
-use Rattle.language.specs.Ty.{Ty}
 use Rattle.language.specs.Move.{Word}
 use Rattle.sheet.specs.Written.{Sheet}
-use Rattle.sheet.specs.Meaning.{tyOf, termOf, typeOf}
+use Rattle.sheet.specs.Meaning.{termOf}
 use Rattle.sheet.specs.Fine.{Accepted}
 use Rattle.sheet.specs.Reader.{Checks, accepted, rejected, readSheet}
 use Rattle.sheet.proofs.Right.{gives}
@@ -19,16 +18,13 @@ use Rattle.sheet.proofs.WellTyped.{accepted-typed}
 use Rattle.machine.specs.Settle.{run}
 use Rattle.machine.specs.Sheet.{spots, steps, begin}
 use Rattle.machine.proofs.Accepts.{language}
-use Rattle.comparer.specs.Plays.{CompletePlay, Alike, Only, FirstPlay}
-use Rattle.comparer.specs.Worked.{Result, same, apart, Row, Says, Worked, Every}
+use Rattle.comparer.specs.Plays.{wholeType, CompletePlay, Alike, Only, FirstPlay}
+use Rattle.comparer.specs.Worked.{Result, same, apart, TableRow, Says, Worked, Every}
 use Rattle.comparer.proofs.Listing.{all, both, Machine, State}
 use Rattle.comparer.proofs.Search.{ends, ends-true, coded, Agree, reached, related, related-agree, only, first}
 use Rattle.comparer.proofs.Search.{first-agree, found}
 
--- the type of a sheet, its machine and where it begins
-abbrev wholeType : Sheet → Ty
-wholeType S = tyOf (S .numbers) (typeOf S)
-
+-- the states of a sheet, its machine and where it begins
 abbrev count : Sheet → ℕ
 count S = spots (wholeType S) (termOf S)
 
@@ -53,13 +49,13 @@ decided (apart which k) S T =
     firstFound which k S T (found (machine S) (machine T) (S .numbers) k (start S) (start T))
 
 -- whether a row is right, where its bytes are read so
-unfoldable pub rowRead : Row → Checks → Checks → Bool
+unfoldable pub rowRead : TableRow → Checks → Checks → Bool
 rowRead r (accepted S a n) (accepted T b m) =
     eqb n (r .old-size) && (eqb m (r .new-size) && decided (r .result) S T)
 rowRead r (accepted S a n) (rejected number place) = false
 rowRead r (rejected number place) c = false
 
-unfoldable pub rowChecked : Row → Bool
+unfoldable pub rowChecked : TableRow → Bool
 rowChecked r = rowRead r (readSheet (r .old)) (readSheet (r .new))
 
 -- the machine of an accepted sheet accepts its complete plays
@@ -110,7 +106,7 @@ module _ (S T : Sheet) (A : Accepted S) (B : Accepted T) where
   decided-so (apart which k) e = found-play which k _ e
 
 -- THEOREM: a row that is checked holds
-pub checked-row : (r : Row) → rowChecked r ≡ true → Worked r
+pub checked-row : (r : TableRow) → rowChecked r ≡ true → Worked r
 unfolding rowChecked rowRead
 checked-row r e = by (readSheet (r .old)) (readSheet (r .new)) refl refl e
   where
@@ -127,7 +123,7 @@ checked-row r e = by (readSheet (r .old)) (readSheet (r .new)) refl refl e
     by (rejected k p) y f g e = absurd (false≢true e)
 
 -- THEOREM: so does a table whose rows are checked
-pub checked-rows : (rs : List Row) → all rowChecked rs ≡ true → Every rs
+pub checked-rows : (rs : List TableRow) → all rowChecked rs ≡ true → Every rs
 unfolding all Every
 checked-rows [] e = tt
 checked-rows (r ∷ rs) e =

@@ -1,5 +1,4 @@
--- A play as it is given to follow: its records, or the place of the first bad one. Document 01, "Move records and
--- their
+-- A play as it is given to follow: its records, or the place of the first bad one. Document 01, "Move records and their
 -- order", and cause 15: "a play with a record of kind above 6 or a record cut short".
 use Prim.Native.Nat.{ℕ, _+_}
 use mathlib.Core.List.{List, [], _∷_}
@@ -9,6 +8,10 @@ use Rattle.language.specs.Choice.{pick}
 pub data Given : Type 0 where
   moves : List (List ℕ) → Given
   bad : ℕ → Given
+
+-- how many bytes a record of a kind has: kinds 5 and 6 have a value
+abbrev pub width : ℕ → ℕ
+width kind = pick (ltb kind 5) 3 4
 
 -- one record more at the start
 unfoldable pub preceded : List ℕ → Given → Given

@@ -1,6 +1,6 @@
 -- The refusals of follow and compare: number, sheet and place. Document 01, "Three services": "Compare finishes the
 -- old sheet before the new one, then 12, 13, 14. Follow: the sheet, 13, 15. A service on one sheet names it "old"; 13
--- and 14 are always "both"." Sheets: 0 old, 1 new, 2 both.
+-- and 14 are always "both"."
 use Prim.Native.Nat.{ℕ, zero, suc, _+_, _*_, _-_}
 use mathlib.Core.Bool.{Bool, true, false}
 use mathlib.Core.List.{List}
@@ -20,14 +20,37 @@ pub record Refusal : Type 0 where
 abbrev pub refusing : ℕ → ℕ → ℕ → Option Refusal
 refusing number sheet place = some (record { number = number; sheet = sheet; place = place })
 
+-- the numbers beside those of a sheet
+abbrev pub headings-differ : ℕ
+headings-differ = 12
+
+abbrev pub too-few-words : ℕ
+too-few-words = 13
+
+abbrev pub space-too-short : ℕ
+space-too-short = 14
+
+abbrev pub bad-play : ℕ
+bad-play = 15
+
+-- the sheets that an answer names
+abbrev pub old-sheet : ℕ
+old-sheet = 0
+
+abbrev pub new-sheet : ℕ
+new-sheet = 1
+
+abbrev pub both-sheets : ℕ
+both-sheets = 2
+
 -- whether the first n bytes are the same
 unfoldable pub sameFirst : ℕ → List ℕ → List ℕ → Bool
 sameFirst zero s u = true
 sameFirst (suc n) s u = pick (eqb (getD s n 0) (getD u n 0)) (sameFirst n s u) false
 
 -- whether the headings, "all bytes up to the term", and the result types are the same
-unfoldable pub comparable : List ℕ → List ℕ → ℕ → ℕ → ℕ → ℕ → Bool
-comparable old new root other ty type-of-other =
+unfoldable pub matching : List ℕ → List ℕ → ℕ → ℕ → ℕ → ℕ → Bool
+matching old new root other ty type-of-other =
     pick (eqb root other) (pick (sameFirst root old new) (eqb ty type-of-other) false) false
 
 -- the place of the term
@@ -41,21 +64,34 @@ onRead (refused number place) sheet k = refusing number sheet place
 
 unfoldable pub onGiven : Given → Option Refusal
 onGiven (moves rs) = none
-onGiven (bad place) = refusing 15 0 place
+onGiven (bad place) = refusing bad-play old-sheet place
+
+-- words that are asked for, for sizes that add up to n, and bytes of play space
+abbrev pub words-asked : ℕ → ℕ
+words-asked n = 32 * (n + 1)
+
+abbrev pub bytes-asked : ℕ → ℕ
+bytes-asked n = 4 * (n - 1)
 
 -- follow on a sheet, a play and so many words
 unfoldable pub followRefusal : List ℕ → List ℕ → ℕ → Option Refusal
 followRefusal s play words =
-    onRead (sheetOf s) 0 (λ root ty w.
-      pick (ltb words (32 * (sizeOf (numbersAt s) ty w + 1))) (refusing 13 2 0) (onGiven (parse 0 play)))
+    onRead (sheetOf s) old-sheet (λ root ty w.
+      pick (ltb words (words-asked (sizeOf (numbersAt s) ty w))) (refusing too-few-words both-sheets 0)
+      (onGiven (parse 0 play)))
+
+-- "then 12, 13, 14": of two sheets that are read, whether their headings and result types are the same, so many words
+-- and bytes of play space, and the sum of the sizes
+abbrev pub pairRefusal : Bool → ℕ → ℕ → ℕ → Option Refusal
+pairRefusal same words space n =
+    pick same
+    (pick (ltb words (words-asked n)) (refusing too-few-words both-sheets 0)
+    (pick (ltb space (bytes-asked n)) (refusing space-too-short both-sheets 0) none))
+    (refusing headings-differ both-sheets 0)
 
 -- compare on two sheets, so many words and bytes of play space
 unfoldable pub compareRefusal : List ℕ → List ℕ → ℕ → ℕ → Option Refusal
 compareRefusal old new words space =
-    onRead (sheetOf old) 0 (λ root ty w. onRead (sheetOf new) 1 (λ other type-of-other v.
-      let S = sizeOf (numbersAt old) ty w in
-      let T = sizeOf (numbersAt new) type-of-other v in
-      pick (comparable old new root other ty type-of-other)
-      (pick (ltb words (32 * (S + T + 1))) (refusing 13 2 0)
-      (pick (ltb space (4 * (S + T - 1))) (refusing 14 2 0) none))
-      (refusing 12 2 0)))
+    onRead (sheetOf old) old-sheet (λ root ty w. onRead (sheetOf new) new-sheet (λ other type-of-other v.
+      pairRefusal (matching old new root other ty type-of-other) words space
+        (sizeOf (numbersAt old) ty w + sizeOf (numbersAt new) type-of-other v)))

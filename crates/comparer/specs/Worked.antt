@@ -16,7 +16,7 @@ pub data Result : Type 0 where
   apart : ℕ → ℕ → Result
 
 -- a row: the bytes and the sizes of both sheets, and the result
-pub record Row : Type 0 where
+pub record TableRow : Type 0 where
   pub old : List ℕ
   pub new : List ℕ
   pub old-size : ℕ
@@ -29,7 +29,7 @@ Says same S T = (u : Word) → Alike S T u
 Says (apart which moves) S T = (u : Word) × (FirstPlay S T which u × (length u ≡ moves))
 
 -- a row holds: the bytes are read as two sheets of these sizes, and the result is so
-pub record Worked (r : Row) : Type 0 where
+pub record Worked (r : TableRow) : Type 0 where
   pub first-sheet : Sheet
   pub second-sheet : Sheet
   pub first-type : ℕ
@@ -39,7 +39,7 @@ pub record Worked (r : Row) : Type 0 where
   pub says : Says (r .result) first-sheet second-sheet
 
 -- every row of a table holds
-unfoldable pub Every : List Row → Type 0
+unfoldable pub Every : List TableRow → Type 0
 Every [] = Unit
 Every (r ∷ rs) = Worked r × Every rs
 
@@ -69,12 +69,12 @@ abbrev counts : List ℕ
 counts = 20 ∷ 7 ∷ 23 ∷ 20 ∷ 1 ∷ 22 ∷ 0 ∷ 21 ∷ 20 ∷ 1 ∷ 19 ∷ 1 ∷ []
 
 -- a heading, the old and the new term, their sizes and the result
-abbrev row : List ℕ → List ℕ → List ℕ → ℕ → ℕ → Result → Row
+abbrev row : List ℕ → List ℕ → List ℕ → ℕ → ℕ → Result → TableRow
 row heading old new S T r =
     record { old = heading ++ old; new = heading ++ new; old-size = S; new-size = T; result = r }
 
 -- the rows, in the order of document 01
-abbrev pub table : List Row
+abbrev pub table : List TableRow
 table =
     -- old skip, new diverge
     row plain (16 ∷ []) (17 ∷ 0 ∷ []) 4 4 (apart 0 2) ∷

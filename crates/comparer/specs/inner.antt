@@ -3,5 +3,5 @@ pub mod Bytes
 pub mod Built
 pub mod Walk
 pub mod Spell
-pub mod Handed
+pub mod Causes
 pub mod Deciding

@@ -1,7 +1,17 @@
 // The service compare.
+use crate::BYTES_A_MOVE;
 use crate::Cause;
 use crate::Comparison;
+use crate::HEADINGS_DIFFER;
+use crate::NEW;
+use crate::NOT_REFUSED;
+use crate::OLD;
+use crate::SPACE_TOO_SHORT;
+use crate::TABLE_WORDS;
+use crate::TOO_FEW_WORDS;
+use crate::WORDS_A_STATE;
 use crate::build::build_two;
+use crate::causes::both_cause;
 use crate::causes::cause_of;
 use crate::heading::alike;
 use crate::play::write_play;
@@ -19,8 +29,9 @@ ghost use Prim.Native.Nat.{_+_, _*_, _<_, _≤_};
 ghost use lib.ListN.{length, getD, take, drop};
 ghost use Rattle.difference.specs.Spelled.{Trail, Spelling};
 ghost use Rattle.comparer.specs.declared.Comparison.the-variants.{Refused};
+ghost use Rattle.comparer.specs.Refusals.{pairRefusal};
 ghost use Rattle.comparer.specs.Promise.{ComparePromise};
-ghost use Rattle.comparer.specs.inner.Bytes.{withRecords};
+ghost use Rattle.comparer.specs.inner.Causes.{numberOf};
 ghost use Rattle.comparer.specs.inner.Deciding.{Deciding, Verdicts, Shown};
 
 // Writes the play of entry k: its number of moves, and which sheet has it. The old sheet has it where it ends at f.
@@ -32,9 +43,9 @@ fn show(words: &mut [u32], space: &mut [u8], n: usize, k: usize, f: usize) -> Co
     let moves = spell(words, n, k);
     write_play(words, 5 * n, moves, space);
     if last == f {
-        return Comparison::Apart { sheet: 0, moves };
+        return Comparison::Apart { sheet: OLD, moves };
     }
-    Comparison::Apart { sheet: 1, moves }
+    Comparison::Apart { sheet: NEW, moves }
 }
 
 // Compares the sheets of sizes `all` and `more` whose automata stand in the words.
@@ -58,6 +69,24 @@ fn decide(words: &mut [u32], space: &mut [u8], all: usize, more: usize) -> Compa
     }
 }
 
+// The number by which two accepted sheets are refused, whose sizes add up to `size`: 12, then 13, then 14; 0 where they
+// are not refused.
+fn pair_number(matching: bool, words: usize, space: usize, size: usize) -> u8
+    requires { ⌜ (0 < size) × (size ≤ 8194) ⌝ }
+    ensures { λ r. ⌜ r ≡ numberOf (pairRefusal matching words space size) ⌝ }
+{
+    if !matching {
+        return HEADINGS_DIFFER;
+    }
+    if words < WORDS_A_STATE * (size + 1) {
+        return TOO_FEW_WORDS;
+    }
+    if space < BYTES_A_MOVE * (size - 1) {
+        return SPACE_TOO_SHORT;
+    }
+    NOT_REFUSED
+}
+
 // A refusal.
 fn refuse(c: Cause) -> Comparison
     ensures { λ r. ⌜ r ≡ Refused (c .number) (c .sheet) (c .place) ⌝ }
@@ -74,7 +103,7 @@ pub fn compare(old: &[u8], new: &[u8], words: &mut [u32], space: &mut [u8]) -> C
     ensures { λ r. ⌜ ComparePromise (now (old .entry)) (now (new .entry)) (now (words .entry)) (now (space .entry)) r
         (now (words .exit)) (now (space .exit)) ⌝ }
 {
-    let mut t = [0u16; 36864];
+    let mut t = [0u16; TABLE_WORDS];
     let x = read_sheet(old, &mut t);
     let Reading::Sheet {
         root,
@@ -83,9 +112,9 @@ pub fn compare(old: &[u8], new: &[u8], words: &mut [u32], space: &mut [u8]) -> C
         next: _,
     } = x
     else {
-        return refuse(cause_of(x, 0));
+        return refuse(cause_of(x, OLD));
     };
-    let mut u = [0u16; 36864];
+    let mut u = [0u16; TABLE_WORDS];
     let y = read_sheet(new, &mut u);
     let Reading::Sheet {
         root: other,
@@ -94,31 +123,15 @@ pub fn compare(old: &[u8], new: &[u8], words: &mut [u32], space: &mut [u8]) -> C
         next: _,
     } = y
     else {
-        return refuse(cause_of(y, 1));
+        return refuse(cause_of(y, NEW));
     };
-    if !alike(old, new, root, other, ty, b) {
-        return refuse(Cause {
-            number: 12,
-            sheet: 2,
-            place: 0,
-        });
-    }
     let n = numbers_of(old);
     let all = size_of(n, ty, weight) as usize;
     let more = size_of(numbers_of(new), b, w) as usize;
-    if words.len() < 32 * (all + more + 1) {
-        return refuse(Cause {
-            number: 13,
-            sheet: 2,
-            place: 0,
-        });
-    }
-    if space.len() < 4 * (all + more - 1) {
-        return refuse(Cause {
-            number: 14,
-            sheet: 2,
-            place: 0,
-        });
+    let matching = alike(old, new, root, other, ty, b);
+    let number = pair_number(matching, words.len(), space.len(), all + more);
+    if number != NOT_REFUSED {
+        return refuse(both_cause(number));
     }
     build_two(&t, &u, n, root, other, all, more, words);
     let r = decide(words, space, all, more);

@@ -1,7 +1,12 @@
 // The service follow.
 use crate::Cause;
 use crate::Following;
+use crate::OLD;
+use crate::TABLE_WORDS;
+use crate::TOO_FEW_WORDS;
+use crate::WORDS_A_STATE;
 use crate::build::build_one;
+use crate::causes::both_cause;
 use crate::causes::cause_of;
 use crate::causes::play_cause;
 use crate::play::Parsed;
@@ -25,7 +30,7 @@ ghost use Rattle.dfa.specs.Graph.{Graph, rest};
 ghost use Rattle.comparer.specs.Records.{moves, parse};
 ghost use Rattle.comparer.specs.Promise.{FollowPromise};
 ghost use Rattle.comparer.specs.declared.Following.the-variants.{Refused};
-ghost use Rattle.comparer.specs.inner.Walk.{AtLeast, Told, Reached};
+ghost use Rattle.comparer.specs.inner.Walk.{AtLeast, Marked, Reached};
 
 // How many moves begin a complete play, and the state after the last move.
 pub struct Reach {
@@ -37,7 +42,7 @@ pub struct Reach {
 // marked.
 fn longest(words: &[u32], n: usize, play: &[u8], total: usize) -> Reach
     requires { ⌜ Graph (rest (5 * n) (now words)) n × AtLeast (now play) total ⌝ }
-    ensures { λ r. ⌜ ((f : ℕ) (T : Told n f (now (words .entry))) (rs : List (List ℕ))
+    ensures { λ r. ⌜ ((f : ℕ) (T : Marked n f (now (words .entry))) (rs : List (List ℕ))
         → parse 0 (now (play .entry)) ≡ moves rs → length rs ≡ total → Reached (T .automaton) n f rs r) ⌝ }
 {
     let mut p = 0;
@@ -72,7 +77,7 @@ pub fn follow(sheet: &[u8], play: &[u8], words: &mut [u32]) -> Following
     ensures { λ r. ⌜ FollowPromise (now (sheet .entry)) (now (play .entry)) (now (words .entry)) r
         (now (words .exit)) ⌝ }
 {
-    let mut t = [0u16; 36864];
+    let mut t = [0u16; TABLE_WORDS];
     let x = read_sheet(sheet, &mut t);
     let Reading::Sheet {
         root,
@@ -81,16 +86,12 @@ pub fn follow(sheet: &[u8], play: &[u8], words: &mut [u32]) -> Following
         next: _,
     } = x
     else {
-        return refuse(cause_of(x, 0));
+        return refuse(cause_of(x, OLD));
     };
     let n = numbers_of(sheet);
     let size = size_of(n, ty, weight) as usize;
-    if words.len() < 32 * (size + 1) {
-        return refuse(Cause {
-            number: 13,
-            sheet: 2,
-            place: 0,
-        });
+    if words.len() < WORDS_A_STATE * (size + 1) {
+        return refuse(both_cause(TOO_FEW_WORDS));
     }
     let parsed = count_moves(play);
     let Parsed::Moves(total) = parsed else {

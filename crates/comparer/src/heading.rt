@@ -1,7 +1,7 @@
 // Headings: all bytes of a sheet up to its term.
 use records::head::byte_at;
 ghost use mathlib.Core.Path.{_≡_};
-ghost use Rattle.comparer.specs.Refusals.{sameFirst, comparable};
+ghost use Rattle.comparer.specs.Refusals.{sameFirst, matching};
 
 // Whether the first n bytes are the same.
 pub(crate) fn same_first(a: &[u8], b: &[u8], n: usize) -> bool
@@ -19,7 +19,7 @@ pub(crate) fn same_first(a: &[u8], b: &[u8], n: usize) -> bool
 
 // Whether the headings, which end at the places of the terms, and the result types a and b are the same.
 pub fn alike(old: &[u8], new: &[u8], root: usize, other: usize, a: u8, b: u8) -> bool
-    ensures { λ r. ⌜ r ≡ comparable (now (old .entry)) (now (new .entry)) root other a b ⌝ }
+    ensures { λ r. ⌜ r ≡ matching (now (old .entry)) (now (new .entry)) root other a b ⌝ }
 {
     if root != other {
         return false;

@@ -13,7 +13,40 @@ pub mod follow;
 // The service compare.
 pub mod compare;
 
-// A refusal: its number, the sheet (0 old, 1 new, 2 both) and the place.
+// The number where nothing is refused. A sheet is refused by 1 to 11 (crate sheet).
+pub(crate) const NOT_REFUSED: u8 = 0;
+
+// The headings or the result types differ.
+pub(crate) const HEADINGS_DIFFER: u8 = 12;
+
+// There are too few working words.
+pub(crate) const TOO_FEW_WORDS: u8 = 13;
+
+// Play space is too short.
+pub(crate) const SPACE_TOO_SHORT: u8 = 14;
+
+// A play has a record of an unknown kind or one that is cut short.
+pub(crate) const BAD_PLAY: u8 = 15;
+
+// The sheet of a refusal or of a play: the old one.
+pub(crate) const OLD: u8 = 0;
+
+// The new one.
+pub(crate) const NEW: u8 = 1;
+
+// The sheet of a refusal: both.
+pub(crate) const BOTH: u8 = 2;
+
+// Words of a table of parts.
+pub(crate) const TABLE_WORDS: usize = 36864;
+
+// Working words for each state.
+pub(crate) const WORDS_A_STATE: usize = 32;
+
+// Bytes of play space for each move.
+pub(crate) const BYTES_A_MOVE: usize = 4;
+
+// A refusal: its number, the sheet and the place.
 pub struct Cause {
     pub number: u8,
     pub sheet: u8,

@@ -7,6 +7,33 @@ ghost use Rattle.comparer.specs.Records.{parse};
 ghost use Rattle.comparer.specs.inner.Bytes.{widthOf, counted, letterFrom, firstLetter, withRecord, afterRecord};
 ghost use Rattle.comparer.specs.inner.Bytes.{withRecords};
 
+// The first kind of move with a value.
+const VALUED: usize = 5;
+
+// The first number that is no kind of move.
+const KINDS: usize = 7;
+
+// Bytes of a record without a value.
+const SHORT: usize = 3;
+
+// Bytes of a record with a value.
+const LONG: usize = 4;
+
+// A letter has kind, id, argument and value in a byte each: the kind's place.
+const OF_KIND: usize = 16777216;
+
+// The id's place.
+const OF_ID: usize = 65536;
+
+// The argument's place.
+const OF_ARGUMENT: usize = 256;
+
+// What is added to a signed value.
+const SHIFT: usize = 128;
+
+// How many values a byte has.
+const BYTE: usize = 256;
+
 // What a play's bytes are: so many records, or the place of the first bad one.
 pub enum Parsed {
     Moves(usize),
@@ -17,11 +44,11 @@ pub enum Parsed {
 pub(crate) fn width_of(kind: usize) -> usize
     ensures { λ r. ⌜ r ≡ widthOf kind ⌝ }
 {
-    if kind < 5 {
-        return 3;
+    if kind < VALUED {
+        return SHORT;
     }
-    if kind < 7 {
-        return 4;
+    if kind < KINDS {
+        return LONG;
     }
     0
 }
@@ -50,11 +77,12 @@ pub(crate) fn count_moves(play: &[u8]) -> Parsed
 pub(crate) fn letter_from(kind: u8, id: u8, arg: u8, value: u8) -> usize
     ensures { λ r. ⌜ r ≡ letterFrom kind id arg value ⌝ }
 {
-    let place = kind as usize * 16777216 + id as usize * 65536 + arg as usize * 256;
-    if kind < 5 {
+    let k = kind as usize;
+    let place = k * OF_KIND + id as usize * OF_ID + arg as usize * OF_ARGUMENT;
+    if k < VALUED {
         return place;
     }
-    place + (value as usize + 128) % 256
+    place + (value as usize + SHIFT) % BYTE
 }
 
 // The letter of the record with which the bytes begin.
@@ -69,7 +97,7 @@ fn put(s: &mut [u8], i: usize, v: usize)
     ensures { λ r. ⌜ now (s .exit) ≡ set (now (s .entry)) i (v % 256) ⌝ }
 {
     if i < s.len() {
-        s[i] = (v % 256) as u8;
+        s[i] = (v % BYTE) as u8;
     }
 }
 
@@ -79,14 +107,14 @@ pub(crate) fn write_record(s: &mut [u8], at: usize, l: usize) -> usize
     ensures returned { λ r. ⌜ r ≡ afterRecord at l ⌝ }
     ensures written { λ r. ⌜ now (s .exit) ≡ withRecord (now (s .entry)) at l ⌝ }
 {
-    put(s, at, l / 16777216);
-    put(s, at + 1, l / 65536);
-    put(s, at + 2, l / 256);
-    if l / 16777216 < 5 {
-        return at + 3;
+    put(s, at, l / OF_KIND);
+    put(s, at + 1, l / OF_ID);
+    put(s, at + 2, l / OF_ARGUMENT);
+    if l / OF_KIND < VALUED {
+        return at + SHORT;
     }
-    put(s, at + 3, l % 256 + 128);
-    at + 4
+    put(s, at + 3, l % BYTE + SHIFT);
+    at + LONG
 }
 
 // Writes the records of the letters in the words from base on, len of them, from the start.

@@ -10,7 +10,7 @@ use lib.Dec.{ltb}
 use borrow.Author.Tests.{ltb-true, ltb-false}
 use Rattle.language.specs.Choice.{pick}
 use Rattle.sheet.specs.Reader.{Answer, got, refused, Whole, sheetOf, sizeOf, numbersAt}
-use Rattle.comparer.specs.Refusals.{Refusal, refusing, comparable, rootOf, onRead, compareRefusal}
+use Rattle.comparer.specs.Refusals.{Refusal, refusing, matching, rootOf, onRead, compareRefusal}
 use Rattle.comparer.proofs.FromCheck.{Caused, sheet-caused}
 use Rattle.report.specs.Program.{Never14}
 
@@ -40,7 +40,7 @@ unfolding compareRefusal
 not-14 old new =
     on-read (sheetOf old) 0 _ (sheet-caused old) (λ root ty w.
       on-read (sheetOf new) 1 _ (sheet-caused new) (λ other type-of-other v.
-        lent (comparable old new root other ty type-of-other) _ _
+        lent (matching old new root other ty type-of-other) _ _
           (sizeOf (numbersAt old) ty w + sizeOf (numbersAt new) type-of-other v) refl refl))
 
 -- for all old and new sheets

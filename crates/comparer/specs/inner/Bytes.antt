@@ -4,13 +4,13 @@ use mathlib.Core.List.{List, [], _∷_}
 use lib.ListN.{length, getD, set}
 use lib.Dec.{ltb}
 use Rattle.language.specs.Choice.{pick}
-use Rattle.comparer.specs.Records.{Given, moves, bad}
+use Rattle.comparer.specs.Records.{Given, moves, bad, width}
 use Rattle.comparer.specs.declared.play.Parsed.{Parsed}
 use Rattle.comparer.specs.declared.play.Parsed.the-variants.{Moves, Bad}
 
 -- how many bytes a record of a kind has, 0 where there is no such kind
 unfoldable pub widthOf : ℕ → ℕ
-widthOf kind = pick (ltb kind 5) 3 (pick (ltb kind 7) 4 0)
+widthOf kind = pick (ltb kind 7) (width kind) 0
 
 -- how many records there are, where c come before; or the place of the first bad one
 unfoldable pub counted : ℕ → Given → Parsed
@@ -35,7 +35,7 @@ withRecord s at l =
 
 -- the place after it
 unfoldable pub afterRecord : ℕ → ℕ → ℕ
-afterRecord at l = at + pick (ltb (l / 16777216) 5) 3 4
+afterRecord at l = at + width (l / 16777216)
 
 -- the records of letters, one after the other
 unfoldable pub withRecords : List ℕ → ℕ → List ℕ → List ℕ

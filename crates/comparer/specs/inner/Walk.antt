@@ -29,7 +29,7 @@ pub record Longest (G : List ℕ) (n f : ℕ) (rs : List (List ℕ)) (r : ℕ) :
   pub beyond : (k : ℕ) → r < k → k ≤ length rs → Live G n f (stateAfter G n rs k) → ⊥
 
 -- the words hold the edges of an automaton, and tell its live states
-pub record Told (n f : ℕ) (ws : List ℕ) : Type 0 where
+pub record Marked (n f : ℕ) (ws : List ℕ) : Type 0 where
   pub automaton : List ℕ
   pub graph : Graph automaton n
   pub same : SameEdges n automaton (rest (5 * n) ws)

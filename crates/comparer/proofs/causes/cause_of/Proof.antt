@@ -1,5 +1,5 @@
 use borrow.Author.Needs.{needs}
-use Rattle.comparer.specs.inner.Handed.{causeOf}
+use Rattle.comparer.specs.inner.Causes.{causeOf}
 use Rattle.comparer.proofs.causes.cause_of.Statement.{statement}
 use Rattle.comparer.proofs.causes.cause_of.Tie as tie
 

@@ -1,5 +1,5 @@
 use borrow.Author.Needs.{needs}
-use Rattle.comparer.specs.inner.Handed.{playCause}
+use Rattle.comparer.specs.inner.Causes.{playCause}
 use Rattle.comparer.proofs.causes.play_cause.Statement.{statement}
 use Rattle.comparer.proofs.causes.play_cause.Tie as tie
 

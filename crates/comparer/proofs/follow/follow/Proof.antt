@@ -3,8 +3,7 @@ use native.Mathlib.Omega.{arith}
 use Prim.Native.Nat.{ℕ}
 use mathlib.Core.Path.{refl, ap, _∙_}
 use lib.ListN.{replicate, length-replicate}
-use Rattle.comparer.proofs.FollowAnswers.{handed, handed-play, refuses-sheet, opened, opened-some,
-    refuses-words}
+use Rattle.comparer.proofs.FollowAnswers.{refuses-sheet, opened, opened-some, refuses-words}
 use Rattle.comparer.proofs.FollowAnswers.{refuses-play, counted-enough, one-ready, opened-markable, opened-graph}
 use Rattle.comparer.proofs.FollowAnswers.{followed}
 use Rattle.comparer.proofs.follow.follow.Statement.{statement}
@@ -23,7 +22,7 @@ enum-told : tie.Need-enum-told
 enum-told c = search needs
 
 cause-of-requires : tie.Need-cause-of-requires
-cause-of-requires c κs = handed (c .enum-told .given .1)
+cause-of-requires c κs = search needs
 
 refuse-requires : tie.Need-refuse-requires
 refuse-requires c κs = search needs
@@ -52,17 +51,17 @@ add-if1 c = search needs
 mul-if1 : tie.Need-mul-if1
 mul-if1 c = search needs
 
+both-cause-requires : tie.Need-both-cause-requires
+both-cause-requires c κs = search needs
+
 refuse-requires-2 : tie.Need-refuse-requires-2
 refuse-requires-2 c κs = search needs
 
 returns-2 : tie.Need-returns-2
 returns-2 c =
-    let d = c .before .before in
-    let a = d .before .before .before .before .before .before .before .before .before .before .before .args in
-    let x = d .before .before .before .before .before .before .read-sheet .ensures in
-    let O = opened (a .sheet .now) _ _ (x .0) (x .1) (length-replicate {A = ℕ} 36864 0) (d .before .before .before .x
-        .given .1) (d .before .numbers-of .ensures) (d .size-of .ensures) in
-    refuses-words O (a .play .now) (a .words .now) _ (c .before .if1 .taken) (c .refuse2 .ensures) refl
+    let O = opened (c .before .before .before .before .before .before .before .before .before .before .before .before .before .before .args .sheet .now) _ _ (c .before .before .before .before .before .before .before .before .before .read-sheet .ensures .0) (c .before .before .before .before .before .before .before .before .before .read-sheet .ensures .1)
+          (length-replicate {A = ℕ} 36864 0) (c .before .before .before .before .before .before .x .given .1) (c .before .before .before .before .numbers-of .ensures) (c .before .before .before .size-of .ensures) in
+    refuses-words O (c .before .before .before .before .before .before .before .before .before .before .before .before .before .before .args .play .now) (c .before .before .before .before .before .before .before .before .before .before .before .before .before .before .args .words .now) _ (c .before .before .if1 .taken) (c .before .both-cause .ensures) (c .refuse2 .ensures) refl
 
 count-moves-requires : tie.Need-count-moves-requires
 count-moves-requires c κs = search needs
@@ -74,7 +73,7 @@ enum-told-2 : tie.Need-enum-told-2
 enum-told-2 c = search needs
 
 play-cause-requires : tie.Need-play-cause-requires
-play-cause-requires c κs = handed-play (c .enum-told2 .given .1)
+play-cause-requires c κs = search needs
 
 refuse-requires-3 : tie.Need-refuse-requires-3
 refuse-requires-3 c κs = search needs
@@ -233,6 +232,7 @@ follow-spec =
     cast-size
     add-if1
     mul-if1
+    both-cause-requires
     refuse-requires-2
     returns-2
     count-moves-requires

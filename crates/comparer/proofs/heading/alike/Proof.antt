@@ -1,23 +1,23 @@
 use borrow.Author.Needs.{needs}
 use borrow.Author.Tests.{eq-eqb, ne-eqb, not-true, not-false}
-use Rattle.comparer.specs.Refusals.{comparable}
+use Rattle.comparer.specs.Refusals.{matching}
 use Rattle.comparer.proofs.heading.alike.Statement.{statement}
 use Rattle.comparer.proofs.heading.alike.Tie as tie
 
 returns : tie.Need-returns
-unfolding comparable
+unfolding matching
 returns c = simp (ne-eqb _ _ (c .if1 .taken))
 
 same-first-requires : tie.Need-same-first-requires
 same-first-requires c κs = search needs
 
 returns-2 : tie.Need-returns-2
-unfolding comparable
+unfolding matching
 returns-2 c = simp (← c .before .same-first .ensures, eq-eqb _ _ (c .before .before .if1 .left), not-true (c .before
     .same-first .result) (c .if2 .taken))
 
 returns-3 : tie.Need-returns-3
-unfolding comparable
+unfolding matching
 returns-3 c = simp (← c .before .same-first .ensures, eq-eqb _ _ (c .before .before .if1 .left), not-false (c .before
     .same-first .result) (c .if2 .left))
 

@@ -1,3 +1,4 @@
+use native.Mathlib.Omega.{arith}
 use borrow.Author.Tests.{lt-ltb, le-ltb}
 use Rattle.comparer.specs.inner.Bytes.{widthOf}
 use Rattle.comparer.proofs.play.width_of.Statement.{statement}
@@ -5,7 +6,7 @@ use Rattle.comparer.proofs.play.width_of.Tie as tie
 
 returns : tie.Need-returns
 unfolding widthOf
-returns c = simp (lt-ltb _ _ (c .if1 .taken))
+returns c = simp (lt-ltb _ _ (c .if1 .taken), lt-ltb (c .before .args .kind) 7 (omega (arith, c .if1 .taken)))
 
 returns-2 : tie.Need-returns-2
 unfolding widthOf
@@ -13,7 +14,7 @@ returns-2 c = simp (le-ltb _ _ (c .before .if1 .left), lt-ltb _ _ (c .if2 .taken
 
 returns-3 : tie.Need-returns-3
 unfolding widthOf
-returns-3 c = simp (le-ltb _ _ (c .before .if1 .left), le-ltb _ _ (c .if2 .left))
+returns-3 c = simp (le-ltb _ _ (c .if2 .left))
 
 pub width-of-spec : {M : Type 1} → statement M
 width-of-spec = tie.close (tie.spec returns returns-2 returns-3)
