@@ -46,13 +46,14 @@ int main(void) {
             double compared[RUNS], followed[RUNS];
             for (int k = 0; k < RUNS; k++) {
                 double start = now();
-                negyvosal_compare(old.bytes, old.length, new.bytes, new.length, words, 262208, space, sizeof space, out, 4);
+                negyvosal_compare(old.bytes, old.length, new.bytes, new.length, words, 262208, space, sizeof space, out,
+                                  NEGYVOSAL_WORDS);
                 compared[k] = now() - start;
                 if (out[0] != NEGYVOSAL_SAME) return 1;
                 start = now();
-                negyvosal_follow(old.bytes, old.length, play, sizeof play, words, 262208, out, 4);
+                negyvosal_follow(old.bytes, old.length, play, sizeof play, words, 262208, out, NEGYVOSAL_WORDS);
                 followed[k] = now() - start;
-                if (out[0] != NEGYVOSAL_FOLLOWS || out[1] != 7) return 1;
+                if (out[0] != NEGYVOSAL_FOLLOWS || NEGYVOSAL_WHOLE(out[2], out[3]) != 7) return 1;
             }
             double middle = median(compared);
             printf("Z %d size %4d  compare %7.3f ms", ranges[r], sizes[i], middle);

@@ -122,8 +122,8 @@ static double timed(const struct sheet *s, const struct play *p, size_t count, u
         negyvosal_follow(s->bytes, s->length, p->bytes, p->length, words, WORDS, out, NEGYVOSAL_WORDS);
         double time = now() - start;
         if (time < least) least = time;
-        if (out[0] != NEGYVOSAL_FOLLOWS || out[1] != count || out[2] != whole) {
-            fprintf(stderr, "follow answers %u %u %u\n", (unsigned)out[0], (unsigned)out[1], (unsigned)out[2]);
+        if (out[0] != NEGYVOSAL_FOLLOWS || out[1] != whole || NEGYVOSAL_WHOLE(out[2], out[3]) != count) {
+            fprintf(stderr, "follow answers %u %u %u %u\n", (unsigned)out[0], (unsigned)out[1], (unsigned)out[2], (unsigned)out[3]);
             exit(1);
         }
     }

@@ -8,7 +8,7 @@ use std::path::Path;
 use std::process::ExitCode;
 
 const RUNS: usize = 15;
-const WORDS: usize = 4;
+const WORDS: usize = 5;
 const ACCEPTED: u32 = 1;
 const SAME: u32 = 3;
 const APART: u32 = 4;
@@ -130,10 +130,10 @@ impl Pair {
     fn agrees(&self, words: [u32; WORDS], answer: &Option<Answer>) -> bool {
         match answer {
             None => false,
-            Some(Answer::Same) => words == [SAME, 0, 0, 0] && self.space.iter().all(|&b| b == UNTOUCHED),
+            Some(Answer::Same) => words == [SAME, 0, 0, 0, 0] && self.space.iter().all(|&b| b == UNTOUCHED),
             Some(Answer::Apart { in_old, moves, records }) => {
                 let (shown, rest) = self.space.split_at(records.len().min(self.space.len()));
-                words == [APART, if *in_old { IN_OLD } else { 1 }, *moves as u32, 0]
+                words == [APART, if *in_old { IN_OLD } else { 1 }, *moves as u32, 0, 0]
                     && shown == records
                     && rest.iter().all(|&b| b == UNTOUCHED)
             }

@@ -22,6 +22,6 @@ int main(void) {
 
     negyvosal_follow(new_sheet, sizeof new_sheet, space, bytes, words, 16384, out, NEGYVOSAL_WORDS);
     if (out[0] != NEGYVOSAL_FOLLOWS) return 1;
-    printf("new follows %u complete %s\n", (unsigned)out[1], out[2] ? "yes" : "no");
+    printf("new follows %llu complete %s\n", (unsigned long long)NEGYVOSAL_WHOLE(out[2], out[3]), out[1] ? "yes" : "no");
     return 0;
 }

@@ -1,5 +1,10 @@
 //! Compares two routines: c; c against c; then follows the play shown.
 
+/// The words of an answer, and the kinds that are met here.
+const WORDS: usize = 5;
+const FOLLOWS: u32 = 2;
+const APART: u32 = 4;
+
 extern "C" {
     fn negyvosal_follow(
         sheet: *const u8, sheet_length: usize, play: *const u8, play_length: usize, words: *mut u32, words_length: usize,
@@ -11,8 +16,8 @@ extern "C" {
     ) -> u32;
 }
 
-fn compare(old: &[u8], new: &[u8], words: &mut [u32], space: &mut [u8]) -> [u32; 4] {
-    let mut out = [0; 4];
+fn compare(old: &[u8], new: &[u8], words: &mut [u32], space: &mut [u8]) -> [u32; WORDS] {
+    let mut out = [0; WORDS];
     // SAFETY: every pointer comes with the length of its slice, and the slices do not overlap.
     unsafe {
         negyvosal_compare(
@@ -23,8 +28,8 @@ fn compare(old: &[u8], new: &[u8], words: &mut [u32], space: &mut [u8]) -> [u32;
     out
 }
 
-fn follow(sheet: &[u8], play: &[u8], words: &mut [u32]) -> [u32; 4] {
-    let mut out = [0; 4];
+fn follow(sheet: &[u8], play: &[u8], words: &mut [u32]) -> [u32; WORDS] {
+    let mut out = [0; WORDS];
     // SAFETY: as above.
     unsafe {
         negyvosal_follow(
@@ -35,17 +40,23 @@ fn follow(sheet: &[u8], play: &[u8], words: &mut [u32]) -> [u32; 4] {
     out
 }
 
+/// A number from its low and its high half.
+fn whole(low: u32, high: u32) -> u64 {
+    u64::from(high) << 32 | u64::from(low)
+}
+
 fn main() {
     // Z = 1, rule 0; name 8 is a command.
     let heading = [1, 0, 1, 8, 0, 0, 255, 255, 255, 255];
     let old = [&heading[..], &[24, 20, 8, 20, 8]].concat();
     let new = [&heading[..], &[20, 8]].concat();
     let (mut words, mut space) = (vec![0; 16384], [0; 2040]);
-    let [kind, sheet, moves, _] = compare(&old, &new, &mut words, &mut space);
-    assert_eq!(kind, 4, "the sheets are apart");
+    let [kind, sheet, low, high, _] = compare(&old, &new, &mut words, &mut space);
+    assert_eq!(kind, APART, "the sheets are apart");
+    let moves = whole(low, high);
     println!("apart in {} {moves}", ["old", "new"][sheet as usize]);
     let bytes = (0..moves).fold(0, |at, _| at + if space[at] < 5 { 3 } else { 4 });
-    let [kind, count, complete, _] = follow(&old, &space[..bytes], &mut words);
-    assert_eq!(kind, 2, "the play is followed");
-    println!("old follows {count} complete {}", if complete == 1 { "yes" } else { "no" });
+    let [kind, complete, low, high, _] = follow(&old, &space[..bytes], &mut words);
+    assert_eq!(kind, FOLLOWS, "the play is followed");
+    println!("old follows {} complete {}", whole(low, high), if complete == 1 { "yes" } else { "no" });
 }

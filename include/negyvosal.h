@@ -9,14 +9,14 @@
 extern "C" {
 #endif
 
-/* An answer is four words at the start of `out`. Word 0 is its kind; the others follow from it:
+/* An answer is five words at the start of `out`. Word 0 is its kind; the others follow from it:
  *
- *   word 0                     word 1     word 2     word 3
- *   NEGYVOSAL_REFUSED (0)      number     sheet      place
- *   NEGYVOSAL_ACCEPTED (1)     type       size       0            check
- *   NEGYVOSAL_FOLLOWS (2)      count      complete   0            follow
- *   NEGYVOSAL_SAME (3)         0          0          0            compare
- *   NEGYVOSAL_APART (4)        sheet      moves      0            compare
+ *   word 0                   word 1     word 2       word 3       word 4
+ *   NEGYVOSAL_REFUSED (0)    number     sheet        place low    place high
+ *   NEGYVOSAL_ACCEPTED (1)   type       size         0            0             check
+ *   NEGYVOSAL_FOLLOWS (2)    complete   count low    count high   0             follow
+ *   NEGYVOSAL_SAME (3)       0          0            0            0             compare
+ *   NEGYVOSAL_APART (4)      sheet      moves low    moves high   0             compare
  *
  * number:   the cause of the refusal, 1 to 15.
  * sheet:    which sheet: NEGYVOSAL_OLD, NEGYVOSAL_NEW or NEGYVOSAL_BOTH. A service on one sheet names it old.
@@ -27,9 +27,12 @@ extern "C" {
  * complete: 1 where the whole play is a complete play of the sheet, else 0.
  * moves:    how many moves the play has that one sheet has and the other has not.
  *
- * Of a count or a place that does not fit a word, in a play of 4 GiB and more, the low 32 bits are given.
+ * A place, a count and a number of moves are 64-bit: the low and the high half, in that order. NEGYVOSAL_WHOLE puts them
+ * together. A place in a sheet is at most 4,096 and a number of moves at most 8,191; in a play of 4 GiB and more a place and
+ * a count may need both.
  */
-#define NEGYVOSAL_WORDS 4
+#define NEGYVOSAL_WORDS 5
+#define NEGYVOSAL_WHOLE(low, high) ((uint64_t)(high) << 32 | (low))
 
 #define NEGYVOSAL_REFUSED 0
 #define NEGYVOSAL_ACCEPTED 1
@@ -47,8 +50,8 @@ extern "C" {
 #define NEGYVOSAL_COMPARE_WORDS(s, t) (32 * ((size_t)(s) + (t) + 1))
 #define NEGYVOSAL_COMPARE_SPACE(s, t) (4 * ((size_t)(s) + (t) - 1))
 
-/* Every service writes its answer into the first four words of `out` and returns 1. Words after the four stay as they
- * were. Where `out_length` is below four it changes nothing and returns 0.
+/* Every service writes its answer into the first five words of `out` and returns 1. Words after the five stay as they
+ * were. Where `out_length` is below five it changes nothing and returns 0.
  *
  * Any bytes and any lengths are fine. Sheets and plays are only read. No pointer may be null, even with a length of 0, and
  * what is written (`words`, `space`, `out`) may overlap nothing else that is lent. Calls keep nothing between them and may

@@ -30,6 +30,16 @@ extern "C" {
     ) -> u32;
 }
 
+/// How many words an answer has, and its kinds.
+pub const WORDS: usize = 5;
+const REFUSED: u32 = 0;
+const ACCEPTED: u32 = 1;
+const FOLLOWS: u32 = 2;
+const SAME: u32 = 3;
+const APART: u32 = 4;
+
+pub type Words = [u32; WORDS];
+
 const GUARD: usize = 16;
 
 /// Elements lent to a call, with guards of a known pattern before and after them.
@@ -89,12 +99,12 @@ fn lent_words(name: &'static str, length: usize) -> Lent<u32> {
     Lent::new(name, &values, |i| !pattern(i))
 }
 
-/// The four words of an answer, once it is sure that the call returned 1 and wrote no others.
-fn answer(told: u32, out: &Lent<u32>) -> Result<[u32; 4], String> {
+/// The words of an answer, once it is sure that the call returned 1 and wrote no others.
+fn answer(told: u32, out: &Lent<u32>) -> Result<Words, String> {
     if told != 1 {
         return Err(format!("it returns {told}"));
     }
-    let words = [0, 1, 2, 3].map(|i| out.now()[i]);
+    let words = std::array::from_fn(|i| out.now()[i]);
     out.expect(&words)?;
     Ok(words)
 }
@@ -104,8 +114,8 @@ fn expect_words(words: &Lent<u32>, accepted: bool) -> Result<(), String> {
     words.expect(&vec![0; if accepted { words.length() } else { 0 }])
 }
 
-/// What the library answers; `room` is how many words are lent for the answer, at least four.
-pub fn check(sheet: &[u8], room: usize) -> Result<[u32; 4], String> {
+/// What the library answers; `room` is how many words are lent for the answer, at least `WORDS`.
+pub fn check(sheet: &[u8], room: usize) -> Result<Words, String> {
     let sheet = lent_bytes("sheet", sheet);
     let mut out = lent_words("out", room);
     // SAFETY: every pointer is to as many elements as its length says, and none overlap.
@@ -114,7 +124,7 @@ pub fn check(sheet: &[u8], room: usize) -> Result<[u32; 4], String> {
     answer(told, &out)
 }
 
-pub fn follow(sheet: &[u8], play: &[u8], words: usize, room: usize) -> Result<[u32; 4], String> {
+pub fn follow(sheet: &[u8], play: &[u8], words: usize, room: usize) -> Result<Words, String> {
     let sheet = lent_bytes("sheet", sheet);
     let play = lent_bytes("play", play);
     let mut words = lent_words("words", words);
@@ -135,13 +145,13 @@ pub fn follow(sheet: &[u8], play: &[u8], words: usize, room: usize) -> Result<[u
     sheet.expect(&[])?;
     play.expect(&[])?;
     let got = answer(told, &out)?;
-    expect_words(&words, got[0] != 0)?;
+    expect_words(&words, got[0] != REFUSED)?;
     Ok(got)
 }
 
 /// What compare gives: the words of its answer, and play space.
 pub struct Compared {
-    pub words: [u32; 4],
+    pub words: Words,
     space: Lent<u8>,
 }
 
@@ -182,19 +192,33 @@ pub fn compare(old: &[u8], new: &[u8], words: usize, space: usize, room: usize) 
     old.expect(&[])?;
     new.expect(&[])?;
     let got = answer(told, &out)?;
-    expect_words(&words, got[0] != 0)?;
+    expect_words(&words, got[0] != REFUSED)?;
     Ok(Compared { words: got, space })
 }
 
-/// The four words that an answer should have.
-pub fn words_of(answer: &Answer) -> [u32; 4] {
+/// The low and the high half of a number.
+fn halves(number: usize) -> [u32; 2] {
+    [number as u32, (number as u64 >> 32) as u32]
+}
+
+/// The words that an answer should have.
+pub fn words_of(answer: &Answer) -> Words {
     match answer {
-        Answer::Refused { number, sheet, place } => [0, *number, sheet.word(), *place as u32],
-        Answer::Accepted { kind, size } => [1, *kind, *size as u32, 0],
-        Answer::Followed { count, complete } => [2, *count as u32, *complete as u32, 0],
-        Answer::Same => [3, 0, 0, 0],
-        Answer::Apart { sheet, play } => [4, sheet.word(), play.len() as u32, 0],
-        Answer::Unknown => [u32::MAX; 4],
+        Answer::Refused { number, sheet, place } => {
+            let [low, high] = halves(*place);
+            [REFUSED, *number, sheet.word(), low, high]
+        }
+        Answer::Accepted { kind, size } => [ACCEPTED, *kind, *size as u32, 0, 0],
+        Answer::Followed { count, complete } => {
+            let [low, high] = halves(*count);
+            [FOLLOWS, *complete as u32, low, high, 0]
+        }
+        Answer::Same => [SAME, 0, 0, 0, 0],
+        Answer::Apart { sheet, play } => {
+            let [low, high] = halves(play.len());
+            [APART, sheet.word(), low, high, 0]
+        }
+        Answer::Unknown => [u32::MAX; WORDS],
     }
 }
 

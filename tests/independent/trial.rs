@@ -1,7 +1,7 @@
 //! Runs random cases through the services here and through the library, and reports where they disagree.
 
 use crate::cases::{near, Case};
-use crate::library::{self, bytes_of, words_of, Compared};
+use crate::library::{self, bytes_of, words_of, Compared, Words, WORDS};
 use crate::machine::Machine;
 use crate::random::Random;
 use crate::reader::Sheet;
@@ -74,7 +74,7 @@ pub fn run(seed: u64, count: u64, make: fn(&mut Random) -> Case) -> bool {
     for i in 0..count {
         let mut random = Random::new(seed, i);
         let case = make(&mut random);
-        let room = 4 + random.below(4);
+        let room = WORDS + random.below(4);
         if let Err(what) = run_case(&case, room, &mut counts) {
             disagreements += 1;
             println!("case {i}: {}: {what}", shown(&case));
@@ -123,7 +123,7 @@ fn run_case(case: &Case, room: usize, counts: &mut Counts) -> Result<(), String>
     }
 }
 
-fn expect_words(answer: &Answer, got: [u32; 4]) -> Result<(), String> {
+fn expect_words(answer: &Answer, got: Words) -> Result<(), String> {
     let wanted = words_of(answer);
     if wanted == got {
         Ok(())

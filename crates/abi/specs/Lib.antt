@@ -1,3 +1,2 @@
 pub mod Words
-pub mod Handed
-pub mod Told
+pub mod Returned

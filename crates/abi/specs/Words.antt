@@ -1,6 +1,9 @@
--- The words of an answer. Document 01, "Three services": "Check takes a sheet and gives its type and size"; "A refusal carries its
--- number, which sheet, and the place".
-use Prim.Native.Nat.{ℕ, _%_}
+-- The words of an answer: its kind, then its values, and 0 for the rest of five words. Document 01, "Three services":
+-- "Check takes a sheet and gives its type and size"; follow gives "the greatest number of moves" and "whether the whole
+-- given play is complete"; compare gives ""same", or "apart" with the sheet that has the play, its number of moves"; "A
+-- refusal carries its number, which sheet, and the place".
+use Prim.Native.Nat.{ℕ, _+_, _*_, _/_, _%_}
+use mathlib.Core.Path.{_≡_}
 use mathlib.Core.List.{List, [], _∷_, _++_}
 use lib.ListN.{length, drop}
 use lib.Dec.{ltb}
@@ -11,31 +14,67 @@ use Rattle.comparer.specs.declared.Following.{Following}
 use Rattle.comparer.specs.declared.Following.the-variants.{Follows, Refused as NotFollowed}
 use Rattle.comparer.specs.declared.Comparison.{Comparison}
 use Rattle.comparer.specs.declared.Comparison.the-variants.{Same, Apart, Refused as NotCompared}
+use Rattle.abi.specs.declared.Refusal.{Refusal}
 
--- the kind of answer, 0 refused or 1 accepted; then number, sheet (0 old) and place, or type and size
-unfoldable pub wordsOf : Checked → List ℕ
-wordsOf (Accepted ty size) = 1 ∷ ty ∷ size ∷ 0 ∷ []
-wordsOf (Refused number sheet place) = 0 ∷ number ∷ sheet ∷ place ∷ []
+-- the kinds of answers
+abbrev pub kind-refused : ℕ
+kind-refused = 0
 
--- a number's low 32 bits: a play may be longer than a word can count
-abbrev pub low : ℕ → ℕ
-low v = v % 4294967296
+abbrev pub kind-accepted : ℕ
+kind-accepted = 1
 
--- 2 followed: how many moves, and 1 where the play is complete, else 0
+abbrev pub kind-follows : ℕ
+kind-follows = 2
+
+abbrev pub kind-same : ℕ
+kind-same = 3
+
+abbrev pub kind-apart : ℕ
+kind-apart = 4
+
+-- a number in two words: its low 32 bits, and the others
+abbrev pub lowHalf : ℕ → ℕ
+lowHalf v = v % 4294967296
+
+abbrev pub highHalf : ℕ → ℕ
+highHalf v = v / 4294967296
+
+-- nothing is lost by it
+abbrev pub GivenWhole : Type 0
+GivenWhole = (v : ℕ) → lowHalf v + 4294967296 * highHalf v ≡ v
+
+-- a refusal: number, sheet (0 old, 1 new, 2 both) and place
+unfoldable pub refusalWords : Refusal → List ℕ
+refusalWords x = kind-refused ∷ x .number ∷ x .sheet ∷ lowHalf (x .place) ∷ highHalf (x .place) ∷ []
+
+abbrev pub refusal : ℕ → ℕ → ℕ → Refusal
+refusal number sheet place = record { number = number; sheet = sheet; place = place }
+
+-- the refusal by check, if it is one
+unfoldable pub refusalOf : Checked → Refusal
+refusalOf (Accepted ty size) = refusal 0 0 0
+refusalOf (Refused number sheet place) = refusal number sheet place
+
+-- accepted: type and size
+unfoldable pub checkWords : Checked → List ℕ
+checkWords (Accepted ty size) = kind-accepted ∷ ty ∷ size ∷ 0 ∷ 0 ∷ []
+checkWords (Refused number sheet place) = refusalWords (refusal number sheet place)
+
+-- followed: 1 where the play is complete, else 0, and how many moves
 unfoldable pub followWords : Following → List ℕ
-followWords (Follows count complete) = 2 ∷ low count ∷ pick complete 1 0 ∷ 0 ∷ []
-followWords (NotFollowed number sheet place) = 0 ∷ number ∷ sheet ∷ low place ∷ []
+followWords (Follows count complete) = kind-follows ∷ pick complete 1 0 ∷ lowHalf count ∷ highHalf count ∷ 0 ∷ []
+followWords (NotFollowed number sheet place) = refusalWords (refusal number sheet place)
 
--- 3 same, or 4 apart: the sheet, 0 old or 1 new, and how many moves
+-- same; or apart: the sheet, 0 old or 1 new, and how many moves
 unfoldable pub compareWords : Comparison → List ℕ
-compareWords Same = 3 ∷ 0 ∷ 0 ∷ 0 ∷ []
-compareWords (Apart sheet moves) = 4 ∷ sheet ∷ low moves ∷ 0 ∷ []
-compareWords (NotCompared number sheet place) = 0 ∷ number ∷ sheet ∷ low place ∷ []
+compareWords Same = kind-same ∷ 0 ∷ 0 ∷ 0 ∷ 0 ∷ []
+compareWords (Apart sheet moves) = kind-apart ∷ sheet ∷ lowHalf moves ∷ highHalf moves ∷ 0 ∷ []
+compareWords (NotCompared number sheet place) = refusalWords (refusal number sheet place)
 
--- the words lent, with an answer in the first four; all as they were where there are fewer
+-- the words lent, with an answer in the first five; all as they were where there are fewer
 unfoldable pub answered : List ℕ → List ℕ → List ℕ
-answered words out = pick (ltb (length out) 4) out (words ++ drop 4 out)
+answered words out = pick (ltb (length out) 5) out (words ++ drop 5 out)
 
--- whether the answer was written: 1, or 0 where fewer than four words were lent
-unfoldable pub told : List ℕ → ℕ
-told out = pick (ltb (length out) 4) 0 1
+-- what the service returns: 1 where the answer is written, 0 where fewer than five words are lent for it
+unfoldable pub status : List ℕ → ℕ
+status out = pick (ltb (length out) 5) 0 1

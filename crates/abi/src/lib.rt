@@ -1,4 +1,5 @@
-// The services for callers in C and Rust. An answer is four words: its kind, then its values.
+// The services for callers in C and Rust. An answer is five words: its kind, then its values. A count or a place takes
+// two of them, its low and its high half, so that it is given whole.
 use comparer::Comparison;
 use comparer::Following;
 use comparer::compare::compare;
@@ -9,30 +10,87 @@ ghost use mathlib.Core.Path.{_≡_};
 ghost use mathlib.Core.List.{[], _∷_};
 ghost use Rattle.sheet.specs.Reader.{readSheet};
 ghost use Rattle.sheet.specs.Check.{checkedOf};
-ghost use Rattle.abi.specs.Words.{wordsOf, followWords, compareWords, answered, told};
-ghost use Rattle.abi.specs.Told.{FollowTold, CompareTold};
-ghost use Rattle.abi.specs.Handed.{Handed};
+ghost use Rattle.abi.specs.Words.{lowHalf, highHalf, refusalOf, refusalWords, checkWords, followWords};
+ghost use Rattle.abi.specs.Words.{compareWords, answered, status};
+ghost use Rattle.abi.specs.Returned.{FollowReturned, CompareReturned};
+
+// How many words an answer has.
+const WORDS: usize = 5;
+
+// What a service returns: whether there is room for an answer, which is then written.
+const NO_ROOM: u32 = 0;
+
+const WRITTEN: u32 = 1;
+
+// The kinds of answers.
+const REFUSED: u32 = 0;
+
+const ACCEPTED: u32 = 1;
+
+const FOLLOWS: u32 = 2;
+
+const SAME: u32 = 3;
+
+const APART: u32 = 4;
+
+// How many numbers a word holds.
+const WORD: usize = 4294967296;
+
+// A refusal: its number, the sheet (0 old, 1 new, 2 both) and the place.
+pub struct Refusal {
+    pub number: u8,
+    pub sheet: u8,
+    pub place: usize,
+}
+
+// The low 32 bits of a number.
+fn low_half(v: usize) -> u32
+    ensures { λ r. ⌜ r ≡ lowHalf v ⌝ }
+{
+    (v % WORD) as u32
+}
+
+// The high 32 bits of a number.
+fn high_half(v: usize) -> u32
+    ensures { λ r. ⌜ r ≡ highHalf v ⌝ }
+{
+    (v / WORD) as u32
+}
 
 // Writes an answer, if there is room for it.
-fn answer(out: &mut [u32], kind: u32, a: u32, b: u32, c: u32) -> u32
-    ensures returned { λ r. ⌜ r ≡ told (now (out .entry)) ⌝ }
-    ensures written { λ r. ⌜ now (out .exit) ≡ answered (kind ∷ a ∷ b ∷ c ∷ []) (now (out .entry)) ⌝ }
+fn answer(out: &mut [u32], kind: u32, a: u32, b: u32, c: u32, d: u32) -> u32
+    ensures returned { λ r. ⌜ r ≡ status (now (out .entry)) ⌝ }
+    ensures written { λ r. ⌜ now (out .exit) ≡ answered (kind ∷ a ∷ b ∷ c ∷ d ∷ []) (now (out .entry)) ⌝ }
 {
-    if out.len() < 4 {
-        return 0;
+    if out.len() < WORDS {
+        return NO_ROOM;
     }
     out[0] = kind;
     out[1] = a;
     out[2] = b;
     out[3] = c;
-    1
+    out[4] = d;
+    WRITTEN
 }
 
-// Hands a refusal by check on. What it requires rules the other answer out.
-fn refuse(out: &mut [u32], checked: Checked) -> u32
-    requires { ⌜ Handed checked ⌝ }
-    ensures returned { λ r. ⌜ r ≡ told (now (out .entry)) ⌝ }
-    ensures written { λ r. ⌜ now (out .exit) ≡ answered (wordsOf checked) (now (out .entry)) ⌝ }
+// Writes a refusal.
+fn refuse(out: &mut [u32], x: Refusal) -> u32
+    ensures returned { λ r. ⌜ r ≡ status (now (out .entry)) ⌝ }
+    ensures written { λ r. ⌜ now (out .exit) ≡ answered (refusalWords x) (now (out .entry)) ⌝ }
+{
+    answer(
+        out,
+        REFUSED,
+        x.number as u32,
+        x.sheet as u32,
+        low_half(x.place),
+        high_half(x.place),
+    )
+}
+
+// The refusal that check answers; all 0 where it accepts.
+fn refusal_of(checked: Checked) -> Refusal
+    ensures { λ r. ⌜ r ≡ refusalOf checked ⌝ }
 {
     let Checked::Refused {
         number,
@@ -40,83 +98,91 @@ fn refuse(out: &mut [u32], checked: Checked) -> u32
         place,
     } = checked
     else {
-        return 0;
+        return Refusal {
+            number: 0,
+            sheet: 0,
+            place: 0,
+        };
     };
-    answer(out, 0, number as u32, sheet as u32, place as u32)
-}
-
-// The service check: the answer in the first four words of out, and 1; or 0, with out as it was, where it has fewer.
-#[no_mangle]
-pub extern "C" fn negyvosal_check(sheet: &[u8], out: &mut [u32]) -> u32
-    ensures returned { λ r. ⌜ r ≡ told (now (out .entry)) ⌝ }
-    ensures written { λ r. ⌜ now (out .exit) ≡ answered (wordsOf (checkedOf (readSheet (now (sheet .entry))))) (now (out .entry)) ⌝ }
-{
-    let checked = check(sheet);
-    let Checked::Accepted { ty, size } = checked else {
-        return refuse(out, checked);
-    };
-    answer(out, 1, ty as u32, size, 0)
+    Refusal {
+        number,
+        sheet,
+        place,
+    }
 }
 
 // Writes the answer of follow.
 fn answer_follow(out: &mut [u32], r: Following) -> u32
-    ensures returned { λ x. ⌜ x ≡ told (now (out .entry)) ⌝ }
+    ensures returned { λ x. ⌜ x ≡ status (now (out .entry)) ⌝ }
     ensures written { λ x. ⌜ now (out .exit) ≡ answered (followWords r) (now (out .entry)) ⌝ }
 {
     match r {
         Following::Follows { count, complete } => {
             if complete {
-                return answer(out, 2, (count % 4294967296) as u32, 1, 0);
+                return answer(out, FOLLOWS, 1, low_half(count), high_half(count), 0);
             }
-            answer(out, 2, (count % 4294967296) as u32, 0, 0)
+            answer(out, FOLLOWS, 0, low_half(count), high_half(count), 0)
         }
         Following::Refused {
             number,
             sheet,
             place,
-        } => {
-            answer(
-                out,
-                0,
-                number as u32,
-                sheet as u32,
-                (place % 4294967296) as u32,
-            )
-        }
+        } => refuse(
+            out,
+            Refusal {
+                number,
+                sheet,
+                place,
+            },
+        ),
     }
 }
 
 // Writes the answer of compare.
 fn answer_compare(out: &mut [u32], r: Comparison) -> u32
-    ensures returned { λ x. ⌜ x ≡ told (now (out .entry)) ⌝ }
+    ensures returned { λ x. ⌜ x ≡ status (now (out .entry)) ⌝ }
     ensures written { λ x. ⌜ now (out .exit) ≡ answered (compareWords r) (now (out .entry)) ⌝ }
 {
     match r {
-        Comparison::Same => answer(out, 3, 0, 0, 0),
+        Comparison::Same => answer(out, SAME, 0, 0, 0, 0),
         Comparison::Apart { sheet, moves } => answer(
             out,
-            4,
+            APART,
             sheet as u32,
-            (moves % 4294967296) as u32,
+            low_half(moves),
+            high_half(moves),
             0,
         ),
         Comparison::Refused {
             number,
             sheet,
             place,
-        } => {
-            answer(
-                out,
-                0,
-                number as u32,
-                sheet as u32,
-                (place % 4294967296) as u32,
-            )
-        }
+        } => refuse(
+            out,
+            Refusal {
+                number,
+                sheet,
+                place,
+            },
+        ),
     }
 }
 
-// The service follow: the answer in the first four words of out, and 1; or 0, and nothing is changed, where out has
+// The service check: the answer in the first five words of out, and 1; or 0, with out as it was, where it has fewer.
+#[no_mangle]
+pub extern "C" fn negyvosal_check(sheet: &[u8], out: &mut [u32]) -> u32
+    ensures returned { λ r. ⌜ r ≡ status (now (out .entry)) ⌝ }
+    ensures written { λ r. ⌜ now (out .exit)
+        ≡ answered (checkWords (checkedOf (readSheet (now (sheet .entry))))) (now (out .entry)) ⌝ }
+{
+    let checked = check(sheet);
+    let Checked::Accepted { ty, size } = checked else {
+        return refuse(out, refusal_of(checked));
+    };
+    answer(out, ACCEPTED, ty as u32, size, 0, 0)
+}
+
+// The service follow: the answer in the first five words of out, and 1; or 0, and nothing is changed, where out has
 // fewer.
 #[no_mangle]
 pub extern "C" fn negyvosal_follow(
@@ -125,11 +191,11 @@ pub extern "C" fn negyvosal_follow(
     words: &mut [u32],
     out: &mut [u32],
 ) -> u32
-    ensures { λ r. ⌜ FollowTold (now (sheet .entry)) (now (play .entry)) (now (words .entry)) (now (out .entry)) r
+    ensures { λ r. ⌜ FollowReturned (now (sheet .entry)) (now (play .entry)) (now (words .entry)) (now (out .entry)) r
         (now (words .exit)) (now (out .exit)) ⌝ }
 {
-    if out.len() < 4 {
-        return 0;
+    if out.len() < WORDS {
+        return NO_ROOM;
     }
     let r = follow(sheet, play, words);
     answer_follow(out, r)
@@ -144,11 +210,11 @@ pub extern "C" fn negyvosal_compare(
     space: &mut [u8],
     out: &mut [u32],
 ) -> u32
-    ensures { λ r. ⌜ CompareTold (now (old .entry)) (now (new .entry)) (now (words .entry)) (now (space .entry))
+    ensures { λ r. ⌜ CompareReturned (now (old .entry)) (now (new .entry)) (now (words .entry)) (now (space .entry))
         (now (out .entry)) r (now (words .exit)) (now (space .exit)) (now (out .exit)) ⌝ }
 {
-    if out.len() < 4 {
-        return 0;
+    if out.len() < WORDS {
+        return NO_ROOM;
     }
     let r = compare(old, new, words, space);
     answer_compare(out, r)

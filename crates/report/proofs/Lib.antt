@@ -3,5 +3,7 @@ pub mod Decimals
 pub mod Printed
 pub mod Answers
 pub mod Fits
-pub mod Never
+pub mod Lent
+pub mod Short
+pub mod Holds
 pub mod Sample

@@ -1,11 +1,27 @@
--- What holds of the program, which lends 16,384 working words and 2,040 bytes of play space. Document 01, "A program reads
--- `old.sheet` and `new.sheet`".
+-- What holds of the program, which lends 16,384 working words, 2,040 bytes of play space and 8,192 bytes for the text.
+-- Document 01, "A program reads `old.sheet` and `new.sheet`".
 use mathlib.Core.Path.{_≡_}
 use mathlib.Core.List.{List}
 use mathlib.Core.Option.{some}
-use Prim.Native.Nat.{ℕ}
+use Prim.Native.Nat.{ℕ, _≤_}
+use lib.ListN.{length, take}
+use Rattle.comparer.specs.Promise.{ComparePromise}
 use Rattle.comparer.specs.Refusals.{Refusal, compareRefusal}
+use Rattle.comparer.specs.declared.Comparison.{Comparison}
+use Rattle.report.specs.Text.{textOf}
+use Rattle.report.specs.Reported.{Reported}
 
 -- no refusal that it prints has the number 14
 abbrev pub Never14 : Type 0
 Never14 = (old new : List ℕ) (x : Refusal) → compareRefusal old new 16384 2040 ≡ some x → x .number ≡ 14 → ⊥
+
+-- every text that it can print, of whatever two sheets, has room in 8,192 bytes
+abbrev pub BufferHolds : Type 0
+BufferHolds = (old new ws space : List ℕ) (r : Comparison) (ws′ space′ : List ℕ) → length ws ≡ 16384 →
+  length space ≡ 2040 → ComparePromise old new ws space r ws′ space′ → length (textOf old new r space′) ≤ 8192
+
+-- so the bytes that it prints are the whole text of the answer
+abbrev pub PrintsWhole : Type 0
+PrintsWhole = (old new ws space out : List ℕ) (count : ℕ) (ws′ space′ out′ : List ℕ) → length ws ≡ 16384 →
+  length space ≡ 2040 → length out ≡ 8192 → (R : Reported old new ws space out count ws′ space′ out′) →
+  take count out′ ≡ textOf old new (R .answer) space′

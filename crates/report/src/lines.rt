@@ -13,14 +13,32 @@ ghost use Rattle.report.specs.Page.{page, pushes};
 ghost use Rattle.report.specs.Text.{sheetName, refusedText, sizeIn, sizesText, apartText, signedDigits};
 ghost use Rattle.report.specs.Text.{valueText, moveText, firstMove, width, movesText};
 
-// The name of a sheet: 0 old, 1 new, else both.
+// The sheets that an answer names; any other number is both of them.
+const OLD: u8 = 0;
+
+const NEW: u8 = 1;
+
+// The first kind of move that has a value.
+const VALUE: u8 = 5;
+
+// The first byte that stands for a number below 0, in two's complement, and how many bytes there are.
+const NEGATIVE: u8 = 128;
+
+const BYTES: usize = 256;
+
+// How many bytes a record has, without and with a value.
+const PLAIN: usize = 3;
+
+const VALUED: usize = 4;
+
+// The name of a sheet.
 fn sheet_name(out: &mut [u8], at: usize, sheet: u8) -> usize
     ensures { λ r. ⌜ page (now (out .exit)) r ≡ pushes (sheetName sheet) (page (now (out .entry)) at) ⌝ }
 {
-    if sheet == 0 {
+    if sheet == OLD {
         return text(out, at, b"old");
     }
-    if sheet == 1 {
+    if sheet == NEW {
         return text(out, at, b"new");
     }
     text(out, at, b"both")
@@ -78,18 +96,18 @@ pub(crate) fn apart(out: &mut [u8], at: usize, sheet: u8, moves: usize) -> usize
 fn signed(out: &mut [u8], at: usize, b: u8) -> usize
     ensures { λ r. ⌜ page (now (out .exit)) r ≡ pushes (signedDigits (fromByte b)) (page (now (out .entry)) at) ⌝ }
 {
-    if b < 128 {
+    if b < NEGATIVE {
         return decimal(out, at, b as usize);
     }
     let next = text(out, at, b"-");
-    decimal(out, next, 256 - b as usize)
+    decimal(out, next, BYTES - b as usize)
 }
 
 // The value of a move, where its kind has one.
 fn value(out: &mut [u8], at: usize, kind: u8, b: u8) -> usize
     ensures { λ r. ⌜ page (now (out .exit)) r ≡ pushes (valueText kind b) (page (now (out .entry)) at) ⌝ }
 {
-    if kind < 5 {
+    if kind < VALUE {
         return at;
     }
     let next = text(out, at, b" ");
@@ -132,16 +150,16 @@ fn after(s: &[u8], place: usize) -> usize
         ≡ drop (width (drop place (now (s .entry)))) (drop place (now (s .entry))) ⌝ }
 {
     let left = s.len() - place;
-    if byte_at(s, place) < 5 {
-        if left < 3 {
+    if byte_at(s, place) < VALUE {
+        if left < PLAIN {
             return s.len();
         }
-        return place + 3;
+        return place + PLAIN;
     }
-    if left < 4 {
+    if left < VALUED {
         return s.len();
     }
-    place + 4
+    place + VALUED
 }
 
 // So many moves, whose records stand one after the other from the start.

@@ -1,5 +1,6 @@
 pub mod Core
 pub mod Bounds
+pub mod Places
 pub mod Bare
 pub mod Steps
 pub mod Whole

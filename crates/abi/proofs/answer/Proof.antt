@@ -19,15 +19,17 @@ slice-write-out-3 : tie.Need-slice-write-out-3
 slice-write-out-3 c = simp length-set (omega arith)
 
 slice-write-out-4 : tie.Need-slice-write-out-4
-slice-write-out-4 c = search needs
+slice-write-out-4 c = simp length-set (omega arith)
+
+slice-write-out-5 : tie.Need-slice-write-out-5
+slice-write-out-5 c = search needs
 
 same-length : tie.Need-same-length
 same-length c = search needs
 
 returns-2 : tie.Need-returns-2
-returns-2 c = long (now (c .before .args .out)) _ _ _ _ (omega arith)
+returns-2 c = long (now (c .before .args .out)) _ _ _ _ _ (omega arith)
 
 pub answer-spec : {M : Type 1} → statement M
-answer-spec =
-    tie.close
-    (tie.spec returns slice-write-out slice-write-out-2 slice-write-out-3 slice-write-out-4 same-length returns-2)
+answer-spec = tie.close (tie.spec returns slice-write-out slice-write-out-2 slice-write-out-3 slice-write-out-4
+    slice-write-out-5 same-length returns-2)

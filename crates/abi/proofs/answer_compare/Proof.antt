@@ -1,5 +1,5 @@
 use borrow.Author.Needs.{needs}
-use Rattle.abi.proofs.Telling.{told-as, words-same, words-apart, words-not-compared}
+use Rattle.abi.proofs.Returning.{returned-as, words-same, words-apart, words-not-compared}
 use Rattle.abi.proofs.answer_compare.Statement.{statement}
 use Rattle.abi.proofs.answer_compare.Tie as tie
 
@@ -15,8 +15,11 @@ enum-known-r c = search needs
 cast-answer : tie.Need-cast-answer
 cast-answer c = search needs
 
-cast-answer-2 : tie.Need-cast-answer-2
-cast-answer-2 c = search needs
+low-half-requires : tie.Need-low-half-requires
+low-half-requires c κs = search needs
+
+high-half-requires : tie.Need-high-half-requires
+high-half-requires c κs = search needs
 
 answer-requires-2 : tie.Need-answer-requires-2
 answer-requires-2 c κs = search needs
@@ -24,44 +27,35 @@ answer-requires-2 c κs = search needs
 enum-known-r-2 : tie.Need-enum-known-r-2
 enum-known-r-2 c = search needs
 
-cast-answer-3 : tie.Need-cast-answer-3
-cast-answer-3 c = search needs
-
-cast-answer-4 : tie.Need-cast-answer-4
-cast-answer-4 c = search needs
-
-cast-answer-5 : tie.Need-cast-answer-5
-cast-answer-5 c = search needs
-
-answer-requires-3 : tie.Need-answer-requires-3
-answer-requires-3 c κs = search needs
+refuse-requires : tie.Need-refuse-requires
+refuse-requires c κs = search needs
 
 same-length : tie.Need-same-length
 same-length c = search needs
 
 returns : tie.Need-returns
 returns c =
-    told-as _ _ _ _ _ (words-same _ (c .before .before .before .before .enum-told .given .1)) (c .before .before
-    .answer .ensures .0) (c .before .before .answer .ensures .1)
+    returned-as _ _ _ _ _ (words-same _ (c .before .before .before .before .enum-told .given .1)) (c .before .before
+        .answer .ensures .0) (c .before .before .answer .ensures .1)
 
 same-length-2 : tie.Need-same-length-2
 same-length-2 c = search needs
 
 returns-2 : tie.Need-returns-2
 returns-2 c =
-    told-as _ _ _ _ _ (words-apart _ _ _ (c .before .before .before .before .before .r .given .1)) (c .before .before
-    .answer2 .ensures .0) (c .before .before .answer2 .ensures .1)
+    returned-as _ _ _ _ _ (words-apart _ _ _ _ _ (c .before .before .before .before .before .before .before .r .given
+        .1) (c .before .before .before .before .low-half .ensures) (c .before .before .before .high-half .ensures)) (c
+        .before .before .answer2 .ensures .0) (c .before .before .answer2 .ensures .1)
 
 same-length-3 : tie.Need-same-length-3
 same-length-3 c = search needs
 
 returns-3 : tie.Need-returns-3
 returns-3 c =
-    told-as _ _ _ _ _ (words-not-compared _ _ _ _ (c .before .before .before .before .before .r2 .given .1)) (c
-    .before .before .answer3 .ensures .0) (c .before .before .answer3 .ensures .1)
+    returned-as _ _ _ _ _ (words-not-compared _ _ _ _ (c .before .before .before .before .before .r2 .given .1)) (c
+        .before .before .refuse .ensures .0) (c .before .before .refuse .ensures .1)
 
 pub answer-compare-spec : {M : Type 1} → statement M
-answer-compare-spec = tie.close
-    (tie.spec enum-told answer-requires enum-known-r cast-answer cast-answer-2 answer-requires-2 enum-known-r-2
-    cast-answer-3 cast-answer-4 cast-answer-5 answer-requires-3 same-length returns same-length-2 returns-2
+answer-compare-spec = tie.close (tie.spec enum-told answer-requires enum-known-r cast-answer low-half-requires
+    high-half-requires answer-requires-2 enum-known-r-2 refuse-requires same-length returns same-length-2 returns-2
     same-length-3 returns-3)

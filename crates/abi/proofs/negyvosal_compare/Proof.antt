@@ -1,7 +1,7 @@
 use borrow.Author.Needs.{needs}
 use mathlib.Core.Path.{refl}
-use Rattle.abi.specs.Told.{no-room}
-use Rattle.abi.proofs.Telling.{compare-told}
+use Rattle.abi.specs.Returned.{no-room}
+use Rattle.abi.proofs.Returning.{compare-returned}
 use Rattle.abi.proofs.negyvosal_compare.Statement.{statement}
 use Rattle.abi.proofs.negyvosal_compare.Tie as tie
 
@@ -25,7 +25,7 @@ same-length-3 c = search needs
 
 returns-2 : tie.Need-returns-2
 returns-2 c =
-    compare-told _ _ _ _ _ _ _ _ _ _ (c .before .before .before .before .before .before .before .before .before
+    compare-returned _ _ _ _ _ _ _ _ _ _ (c .before .before .before .before .before .before .before .before .before
     .before .before .if1 .left) (c .before .before .before .before .before .before .before .before .compare .ensures)
     (c .before .before .answer-compare .ensures .0) (c .before .before .answer-compare .ensures .1)
 

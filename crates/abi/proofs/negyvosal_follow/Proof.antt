@@ -1,7 +1,7 @@
 use borrow.Author.Needs.{needs}
 use mathlib.Core.Path.{refl}
-use Rattle.abi.specs.Told.{no-room}
-use Rattle.abi.proofs.Telling.{follow-told}
+use Rattle.abi.specs.Returned.{no-room}
+use Rattle.abi.proofs.Returning.{follow-returned}
 use Rattle.abi.proofs.negyvosal_follow.Statement.{statement}
 use Rattle.abi.proofs.negyvosal_follow.Tie as tie
 
@@ -22,7 +22,7 @@ same-length-2 c = search needs
 
 returns-2 : tie.Need-returns-2
 returns-2 c =
-    follow-told _ _ _ _ _ _ _ _ (c .before .before .before .before .before .before .before .before .if1 .left) (c
+    follow-returned _ _ _ _ _ _ _ _ (c .before .before .before .before .before .before .before .before .if1 .left) (c
     .before .before .before .before .before .before .follow .ensures) (c .before .before .answer-follow .ensures .0)
     (c .before .before .answer-follow .ensures .1)
 

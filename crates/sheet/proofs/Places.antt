@@ -1,7 +1,7 @@
 -- A refusal by check is at a place that the sheet has, or at its end; so no place is above 4,096.
 use Prim.Native.Nat.{ℕ, zero, suc, _+_, _≤_, _<_}
 use native.Mathlib.Omega.{arith}
-use mathlib.Core.Path.{_≡_, refl, sym, _∙_}
+use mathlib.Core.Path.{_≡_, refl}
 use mathlib.Core.Bool.{Bool, true, false}
 use mathlib.Core.List.{List, []}
 use lib.ListN.{length, getD, set}
@@ -26,19 +26,16 @@ use Rattle.records.specs.declared.head.Head.{Head}
 use Rattle.records.specs.declared.head.Head.the-variants.{Good, Bad}
 use Rattle.records.specs.declared.head.Byte.{Byte}
 use Rattle.records.proofs.HeadLaws.{head-good}
 use Rattle.sheet.specs.Written.{Name}
 use Rattle.sheet.specs.Heading.{both, below, unused, fresh, argument, declareOf, retireOf, declareAt, retireAt}
-use Rattle.sheet.specs.Reader.{Tree, Answer, got, refused, bind, onHead, onJudged, partsOf, recordOf, isNew, scopedOf}
+use Rattle.sheet.specs.Reader.{Tree, Answer, got, refused, bind, onHead, onJudged, partsOf, recordOf, isNew,
+    scopedOf}
 use Rattle.sheet.specs.Reader.{readPart}
-use Rattle.sheet.specs.Reader.{Whole, whole, onShape, nameOf, namesStep, namesOf, sizeOf, closed, numbersAt, nothing}
+use Rattle.sheet.specs.Reader.{Whole, whole, onShape, nameOf, namesStep, namesOf, sizeOf, closed, numbersAt,
+    nothing}
 use Rattle.sheet.specs.Reader.{sheetOf}
-use Rattle.sheet.specs.Reader.{checks, readSheet}
-use Rattle.sheet.specs.Check.{checkedOf}
 use Rattle.sheet.specs.declared.heading.Judged.{Judged}
 use Rattle.sheet.specs.declared.heading.Judged.the-variants.{Good as Fine, Bad as Wrong}
-use Rattle.sheet.specs.declared.check.Checked.{Checked}
-use Rattle.sheet.specs.declared.check.Checked.the-variants.{Refused}
-use Rattle.abi.specs.Handed.{Handed}
 
 -- a choice by a test, of which each side may use what the test says
 either : {X : Type 0} (P : X → Type 0) (t : Bool) {a b : X} → (t ≡ true → P a) → (t ≡ false → P b) → P (pick t a b)
@@ -286,12 +283,7 @@ module _ (s : List ℕ) where
         lower (closed (numbersAt s) s (namesOf 32 (numbersAt s) s nothing 2)) h
           (closed-in (numbersAt s) (namesOf 32 (numbersAt s) s nothing 2) (names-in 32 (numbersAt s) nothing 2))))))))
 
-handed-as : (N : Numbers) (A : Answer Whole) {a h p : ℕ} → In 4096 A → checkedOf (checks N A) ≡ Refused a h p →
-    Handed (Refused a h p)
-unfolding In checks checkedOf Handed
-handed-as N (got x ty w next) i e = let z : _≡_ {A = ℕ} 0 1 = cc in absurd (omega arith)
-handed-as N (refused a b) {p = p} i e = let q : b ≡ p = cc in rw q at i
-
-pub handed : (s : List ℕ) {x : Checked} {a h p : ℕ} → x ≡ checkedOf (readSheet s) → x ≡ Refused a h p → Handed x
-unfolding readSheet
-handed s d e = rw e (handed-as (numbersAt s) (sheetOf s) (sheet-in s) (sym d ∙ e))
+-- the place of a refusal
+pub place-small : (s : List ℕ) {number place : ℕ} → sheetOf s ≡ refused number place → place ≤ 4096
+unfolding In
+place-small s e = rw e at (sheet-in s)

@@ -1,0 +1,99 @@
+-- The words of the answers, and what the boundary then promises.
+use Prim.Native.Nat.{ℕ, _≤_}
+use mathlib.Core.Path.{_≡_, refl}
+use mathlib.Core.Bool.{Bool, true, false}
+use mathlib.Core.List.{List, [], _∷_}
+use lib.ListN.{length}
+use borrow.Author.Tests.{le-ltb}
+use Rattle.sheet.specs.declared.check.Checked.{Checked}
+use Rattle.sheet.specs.declared.check.Checked.the-variants.{Accepted, Refused}
+use Rattle.comparer.specs.Promise.{FollowPromise, ComparePromise}
+use Rattle.comparer.specs.declared.Following.{Following}
+use Rattle.comparer.specs.declared.Following.the-variants.{Follows, Refused as NotFollowed}
+use Rattle.comparer.specs.declared.Comparison.{Comparison}
+use Rattle.comparer.specs.declared.Comparison.the-variants.{Same, Apart, Refused as NotCompared}
+use Rattle.abi.specs.Words.{kind-refused, kind-accepted, kind-follows, kind-same, kind-apart, lowHalf, highHalf}
+use Rattle.abi.specs.Words.{refusal, refusalOf, refusalWords, checkWords, followWords, compareWords}
+use Rattle.abi.specs.Words.{answered, status}
+use Rattle.abi.specs.Returned.{FollowReturned, CompareReturned, answers}
+use Rattle.abi.specs.declared.Refusal.{Refusal}
+
+-- an answer by other words for the same
+pub returned-as : (out out′ ws ws₂ : List ℕ) (x : ℕ) → ws ≡ ws₂ → x ≡ status out → out′ ≡ answered ws out →
+  (x ≡ status out) × (out′ ≡ answered ws₂ out)
+returned-as out out′ ws ws₂ x e t w = rw (← e) (t, w)
+
+-- the words of each answer
+pub words-refused : (x : Refusal) (low high : ℕ) → low ≡ lowHalf (x .place) → high ≡ highHalf (x .place) →
+  (kind-refused ∷ x .number ∷ x .sheet ∷ low ∷ high ∷ []) ≡ refusalWords x
+unfolding refusalWords
+words-refused x low high p q = rw (p, q)
+
+pub refusal-found : (r : Checked) (number sheet place : ℕ) → r ≡ Refused number sheet place →
+  refusal number sheet place ≡ refusalOf r
+unfolding refusalOf
+refusal-found r number sheet place e = rw e
+
+pub no-refusal : (r : Checked) (ty size : ℕ) → r ≡ Accepted ty size → refusal 0 0 0 ≡ refusalOf r
+unfolding refusalOf
+no-refusal r ty size e = rw e
+
+pub words-complete : (r : Following) (count low high : ℕ) (complete : Bool) → r ≡ Follows count complete →
+  complete ≡ true → low ≡ lowHalf count → high ≡ highHalf count →
+  (kind-follows ∷ 1 ∷ low ∷ high ∷ 0 ∷ []) ≡ followWords r
+unfolding followWords
+words-complete r count low high complete e c p q = rw (e, c, p, q) refl
+
+pub words-begun : (r : Following) (count low high : ℕ) (complete : Bool) → r ≡ Follows count complete →
+  complete ≡ false → low ≡ lowHalf count → high ≡ highHalf count →
+  (kind-follows ∷ 0 ∷ low ∷ high ∷ 0 ∷ []) ≡ followWords r
+unfolding followWords
+words-begun r count low high complete e c p q = rw (e, c, p, q) refl
+
+pub words-not-followed : (r : Following) (number sheet place : ℕ) → r ≡ NotFollowed number sheet place →
+  refusalWords (refusal number sheet place) ≡ followWords r
+unfolding followWords
+words-not-followed r number sheet place e = rw e refl
+
+pub words-same : (r : Comparison) → r ≡ Same → (kind-same ∷ 0 ∷ 0 ∷ 0 ∷ 0 ∷ []) ≡ compareWords r
+unfolding compareWords
+words-same r e = rw e refl
+
+pub words-apart : (r : Comparison) (sheet moves low high : ℕ) → r ≡ Apart sheet moves → low ≡ lowHalf moves →
+  high ≡ highHalf moves → (kind-apart ∷ sheet ∷ low ∷ high ∷ 0 ∷ []) ≡ compareWords r
+unfolding compareWords
+words-apart r sheet moves low high e p q = rw (e, p, q) refl
+
+pub words-not-compared : (r : Comparison) (number sheet place : ℕ) → r ≡ NotCompared number sheet place →
+  refusalWords (refusal number sheet place) ≡ compareWords r
+unfolding compareWords
+words-not-compared r number sheet place e = rw e refl
+
+-- the answer of check
+module _ (out out′ : List ℕ) (y : Checked) (r : Checked) (x : ℕ) where
+  pub check-accepted : (ty size : ℕ) → r ≡ y → r ≡ Accepted ty size → x ≡ status out →
+    out′ ≡ answered (kind-accepted ∷ ty ∷ size ∷ 0 ∷ 0 ∷ []) out →
+    (x ≡ status out) × (out′ ≡ answered (checkWords y) out)
+  unfolding checkWords
+  check-accepted ty size d e t w = rw (← d, e) (t, w)
+
+  pub check-refused : (z : Refusal) (number sheet place : ℕ) → r ≡ y → r ≡ Refused number sheet place →
+    z ≡ refusalOf r → x ≡ status out → out′ ≡ answered (refusalWords z) out →
+    (x ≡ status out) × (out′ ≡ answered (checkWords y) out)
+  unfolding checkWords refusalOf
+  check-refused z number sheet place d e f t w = rw (← d, e) (t, rw (f, e) at w)
+
+-- with room for the answer
+pub follow-returned : (s play ws out ws′ out′ : List ℕ) (x : ℕ) (a : Following) → 5 ≤ length out →
+  FollowPromise s play ws a ws′ → x ≡ status out → out′ ≡ answered (followWords a) out →
+  FollowReturned s play ws out x ws′ out′
+unfolding status answered
+follow-returned s play ws out ws′ out′ x a h p t w =
+    answers a h (rw (le-ltb (length out) 5 h) at t) p (rw (le-ltb (length out) 5 h) at w)
+
+pub compare-returned : (old new ws space out ws′ space′ out′ : List ℕ) (x : ℕ) (a : Comparison) → 5 ≤ length out →
+  ComparePromise old new ws space a ws′ space′ → x ≡ status out → out′ ≡ answered (compareWords a) out →
+  CompareReturned old new ws space out x ws′ space′ out′
+unfolding status answered
+compare-returned old new ws space out ws′ space′ out′ x a h p t w =
+    answers a h (rw (le-ltb (length out) 5 h) at t) p (rw (le-ltb (length out) 5 h) at w)

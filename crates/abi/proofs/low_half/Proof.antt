@@ -1,0 +1,13 @@
+use borrow.Author.Needs.{needs}
+use mathlib.Core.Path.{refl}
+use Rattle.abi.proofs.low_half.Statement.{statement}
+use Rattle.abi.proofs.low_half.Tie as tie
+
+cast-result : tie.Need-cast-result
+cast-result c = search needs
+
+returns : tie.Need-returns
+returns c = refl
+
+pub low-half-spec : {M : Type 1} → statement M
+low-half-spec = tie.close (tie.spec cast-result returns)

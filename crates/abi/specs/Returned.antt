@@ -1,0 +1,21 @@
+-- What the boundary promises of follow and compare: where fewer than five words are lent for the answer, 0, and nothing
+-- changes; else 1, the answer in the first five words of `out`, and what the service promises of all else.
+use mathlib.Core.Path.{_≡_}
+use mathlib.Core.List.{List, _++_}
+use Prim.Native.Nat.{ℕ, _≤_, _<_}
+use lib.ListN.{length, drop}
+use Rattle.comparer.specs.Promise.{FollowPromise, ComparePromise}
+use Rattle.comparer.specs.declared.Following.{Following}
+use Rattle.comparer.specs.declared.Comparison.{Comparison}
+use Rattle.abi.specs.Words.{followWords, compareWords}
+
+pub data FollowReturned (s play ws out : List ℕ) (r : ℕ) (ws′ out′ : List ℕ) : Type 0 where
+  no-room : length out < 5 → r ≡ 0 → ws′ ≡ ws → out′ ≡ out → FollowReturned s play ws out r ws′ out′
+  answers : (a : Following) → 5 ≤ length out → r ≡ 1 → FollowPromise s play ws a ws′ →
+    out′ ≡ followWords a ++ drop 5 out → FollowReturned s play ws out r ws′ out′
+
+pub data CompareReturned (old new ws space out : List ℕ) (r : ℕ) (ws′ space′ out′ : List ℕ) : Type 0 where
+  no-room : length out < 5 → r ≡ 0 → ws′ ≡ ws → space′ ≡ space → out′ ≡ out →
+    CompareReturned old new ws space out r ws′ space′ out′
+  answers : (a : Comparison) → 5 ≤ length out → r ≡ 1 → ComparePromise old new ws space a ws′ space′ →
+    out′ ≡ compareWords a ++ drop 5 out → CompareReturned old new ws space out r ws′ space′ out′

@@ -1,0 +1,104 @@
+-- How many bytes a text has at most.
+use Prim.Native.Nat.{ℕ, zero, suc, _+_, _-_, _*_, _/_, _%_, _≤_, _<_}
+use native.Mathlib.Omega.{arith}
+use mathlib.Core.List.{List, [], _∷_, _++_}
+use lib.Dec.{ltb}
+use lib.ListN.{length, length-append}
+use borrow.Author.Tests.{lt-ltb, le-ltb, ltb-true, ltb-false}
+use Rattle.language.specs.Number.{fromByte}
+use Rattle.language.proofs.NumberLaws.{by-test}
+use Rattle.report.specs.Text.{ascii, digits, signedDigits, sheetName, refusedText, sizesText, apartText}
+use Rattle.report.specs.Text.{valueText, moveText}
+use Rattle.report.proofs.Decimals.{digits-one, digits-more, signed-low, signed-high}
+
+pub record AtMost (n : ℕ) (xs : List ℕ) : Type 0 where
+  pub holds : length xs ≤ n
+
+pub all : (xs : List ℕ) → AtMost (length xs) xs
+all xs = record { holds = omega arith }
+
+pub looser : {m : ℕ} {xs : List ℕ} (n : ℕ) → m ≤ n → AtMost m xs → AtMost n xs
+looser n h p = record { holds = omega (arith, p .holds) }
+
+-- one text after another
+pub both : {m n : ℕ} {xs ys : List ℕ} → AtMost m xs → AtMost n ys → AtMost (m + n) (xs ++ ys)
+both {m} {n} {xs} {ys} p q = record { holds = omega (arith, length-append xs ys, p .holds, q .holds) }
+
+-- numbers of one digit, and of one digit more than others
+one-digit : (v : ℕ) → v < 10 → AtMost 1 (digits v)
+one-digit v h = rw (digits-one v h) (all ((48 + v) ∷ []))
+
+digit-more : (k n : ℕ) → 1 ≤ k → ((w : ℕ) → w < n → AtMost k (digits w)) → (v : ℕ) → v < 10 * n →
+    AtMost (k + 1) (digits v)
+digit-more k n h f v l =
+    by-test (ltb v 10)
+    (λ t. looser (k + 1) (omega arith) (one-digit v (ltb-true v 10 t)))
+    (λ t. let q : v / 10 < n = omega arith in
+      let p = both (f (v / 10) q) (all ((48 + v % 10) ∷ [])) in
+      rw (digits-more v (ltb-false v 10 t)) p)
+
+two-digits : (v : ℕ) → v < 100 → AtMost 2 (digits v)
+two-digits v h = digit-more 1 10 (omega arith) one-digit v h
+
+three-digits : (v : ℕ) → v < 1000 → AtMost 3 (digits v)
+three-digits v h = digit-more 2 100 (omega arith) two-digits v h
+
+four-digits : (v : ℕ) → v < 10000 → AtMost 4 (digits v)
+four-digits v h = digit-more 3 1000 (omega arith) three-digits v h
+
+-- the number of a byte
+signed-short : (b : ℕ) → b < 256 → AtMost 4 (signedDigits (fromByte b))
+signed-short b h =
+    by-test (ltb b 128)
+    (λ t. rw (signed-low b (ltb-true b 128 t)) (looser 4 (omega arith) (three-digits b (omega arith))))
+    (λ t. let p = both (all (ascii "-")) (three-digits (256 - b) (omega arith)) in
+      rw (signed-high b (ltb-false b 128 t) h) p)
+
+-- the name of a sheet
+name-short : (sheet : ℕ) → AtMost 4 (sheetName sheet)
+unfolding sheetName
+name-short zero = looser 4 (omega arith) (all (ascii "old"))
+name-short (suc zero) = looser 4 (omega arith) (all (ascii "new"))
+name-short (suc (suc n)) = all (ascii "both")
+
+-- the lines
+pub refused-short : (number sheet place : ℕ) → number < 100 → place < 10000 →
+    AtMost 21 (refusedText number sheet place)
+unfolding refusedText
+refused-short number sheet place h l =
+    let p = both (both (both (both (both (both (all (ascii "refused ")) (two-digits number h)) (all (ascii " ")))
+          (name-short sheet)) (all (ascii " "))) (four-digits place l)) (all (ascii "\n")) in
+    p
+
+pub sizes-short : (old new : ℕ) → old < 10000 → new < 10000 → AtMost 18 (sizesText old new)
+unfolding sizesText
+sizes-short old new h l =
+    let p = both (both (both (both (all (ascii "old ")) (four-digits old h)) (all (ascii " new ")))
+          (four-digits new l)) (all (ascii "\n")) in
+    p
+
+pub apart-short : (sheet moves : ℕ) → moves < 10000 → AtMost 19 (apartText sheet moves)
+unfolding apartText
+apart-short sheet moves h =
+    let p = both (both (both (both (all (ascii "apart in ")) (name-short sheet)) (all (ascii " ")))
+          (four-digits moves h)) (all (ascii "\n")) in
+    p
+
+-- a move: its kind has one digit, its id and its argument have three at most
+line-short : (k i j b : ℕ) → k < 10 → i < 256 → j < 256 → AtMost 5 (valueText k b) → AtMost 15 (moveText k i j b)
+unfolding moveText
+line-short k i j b hk hi hj hv =
+    let p = both (both (both (both (both (both (one-digit k hk) (all (ascii " "))) (three-digits i (omega arith)))
+          (all (ascii " "))) (three-digits j (omega arith))) hv) (all (ascii "\n")) in
+    p
+
+pub plain-line : (k i j b : ℕ) → k < 5 → i < 256 → j < 256 → AtMost 15 (moveText k i j b)
+unfolding valueText
+plain-line k i j b hk hi hj =
+    line-short k i j b (omega arith) hi hj (rw (lt-ltb k 5 hk) (looser 5 (omega arith) (all [])))
+
+pub valued-line : (k i j b : ℕ) → 5 ≤ k → k < 7 → i < 256 → j < 256 → b < 256 → AtMost 15 (moveText k i j b)
+unfolding valueText
+valued-line k i j b gk hk hi hj hb =
+    let p = both (all (ascii " ")) (signed-short b hb) in
+    line-short k i j b (omega arith) hi hj (rw (le-ltb k 5 gk) p)
