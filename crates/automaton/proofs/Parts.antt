@@ -10,13 +10,13 @@ use Rattle.language.specs.declared.Numbers.{Numbers}
 use Rattle.machine.specs.Position.{entry}
 use Rattle.machine.specs.Numbered.{values}
 use Rattle.machine.specs.Numbering.{numbered}
-use Rattle.sheet.specs.table.Rep.{word, Row, Rep, r-skip, r-diverge, r-const, r-private, r-name, r-fetch, r-operate}
+use Rattle.sheet.specs.table.Rep.{word, Represented, Rep, r-skip, r-diverge, r-const, r-private, r-name, r-fetch, r-operate}
 use Rattle.sheet.specs.table.Rep.{r-assign, r-seq, r-cond, r-while, r-new}
 use Rattle.automaton.specs.walk.Row.{partWeight, partClass, partValues}
 use Rattle.automaton.proofs.TypeNumbers.{HasType, has-type}
 
 pub row-of : {K : Numbers} {t n : List ℕ} {left at : ℕ} {M : Term} {T : Ty} → Rep K t left at n M T →
-  (k : ℕ) × Row t at k M T
+  (k : ℕ) × Represented t at k M T
 row-of (r-skip r) = (16, r)
 row-of (r-diverge r) = (17, r)
 row-of (r-const r e h) = (18, r)

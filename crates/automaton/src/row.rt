@@ -1,24 +1,15 @@
 // Reading the table of parts, and sums and products that may be too large.
+use records::row::CLASS;
+use records::row::DETAIL;
+use records::row::PARTS;
+use records::row::VALUES;
+use records::row::WEIGHT;
+use records::row::WORDS;
 ghost use mathlib.Core.Path.{_≡_};
 ghost use Prim.Native.Nat.{_+_};
 ghost use Rattle.sheet.specs.table.Rep.{word};
 ghost use Rattle.automaton.specs.walk.Row.{partWeight, partClass, partValues, nameId, nameCount, sumOf, mulAddOf};
 
-// The words of a row: the kind of the part, its weight, the class of its type and the number of values of its data, a
-// detail by its kind, and the places of its parts.
-pub const KIND: usize = 0;
-
-pub const WEIGHT: usize = 1;
-
-pub const CLASS: usize = 2;
-
-pub const VALUES: usize = 3;
-
-pub const DETAIL: usize = 4;
-
-pub(crate) const PARTS: usize = 5;
-// How many they are.
-const WORDS: usize = 9;
 // The detail of a name is its id and this many times the number of its arguments.
 const IDS: usize = 256;
 // Numbers below this are added without becoming too large, and those below its root are multiplied.

@@ -16,6 +16,7 @@ use Rattle.language.specs.Move.{Word}
 use Rattle.language.specs.Play.{Complete}
 use Rattle.automaton.specs.walk.Shows.{Words}
 use Rattle.explicit.specs.inner.Ready.{Ready}
+use Rattle.records.specs.Refusal.{refusal}
 use Rattle.sheet.specs.Written.{Sheet}
 use Rattle.sheet.specs.Meaning.{tyOf, termOf, typeOf}
 use Rattle.sheet.specs.Reader.{refused, sizeOf, numbersAt, sheetOf}
@@ -43,21 +44,21 @@ unfolding ComparedBy
 refuses old new ws space number sheet place e f = rw e (f, (refl, refl))
 
 -- the refusal of a sheet, handed on
-handed-on : {x : Reading} {number place sheet : ℕ} {q : Cause} {r : Comparison} → x ≡ reading.Refusal number place →
+handed-on : {x : Reading} {number place sheet : ℕ} {q : Cause} {r : Comparison} → x ≡ reading.Refused (refusal number place) →
     q ≡ causeOf x sheet → r ≡ Refused (q .number) (q .sheet) (q .place) → r ≡ Refused number sheet place
 unfolding causeOf
 handed-on e f g = g ∙ rw (f, e)
 
 -- the old sheet is refused
 pub refused-old : (old new ws space : List ℕ) {x : Reading} {number place : ℕ} {q : Cause} {r : Comparison} →
-    sheetOf old ≡ refused number place → x ≡ reading.Refusal number place → q ≡ causeOf x 0 →
+    sheetOf old ≡ refused number place → x ≡ reading.Refused (refusal number place) → q ≡ causeOf x 0 →
     r ≡ Refused (q .number) (q .sheet) (q .place) → ComparePromise old new ws space r ws space
 unfolding compareRefusal onRead
 refused-old old new ws space h e f g = refuses old new ws space _ 0 _ (rw h) (handed-on e f g)
 
 -- the old sheet is read, and the new one refused
 pub refused-new : (old new ws space : List ℕ) {root ty w : ℕ} {y : Reading} {number place : ℕ} {q : Cause}
-    {r : Comparison} → Taken old root ty w → sheetOf new ≡ refused number place → y ≡ reading.Refusal number place →
+    {r : Comparison} → Taken old root ty w → sheetOf new ≡ refused number place → y ≡ reading.Refused (refusal number place) →
     q ≡ causeOf y 1 → r ≡ Refused (q .number) (q .sheet) (q .place) → ComparePromise old new ws space r ws space
 unfolding compareRefusal onRead
 refused-new old new ws space A h e f g = refuses old new ws space _ 1 _ (rw (A .reads, h)) (handed-on e f g)

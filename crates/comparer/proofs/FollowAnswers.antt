@@ -17,13 +17,15 @@ use Rattle.dfa.specs.Live.{Single}
 use Rattle.live.specs.Marks.{Markable, Marks}
 use Rattle.dfa.proofs.laws.SameEdges.{same-graph}
 use Rattle.explicit.proofs.Ranges.{type-in, sheet-range}
+use Rattle.records.specs.Refusal.{refusal}
+use Rattle.records.specs.declared.refusal.Refusal.{Refusal as Wrong}
 use Rattle.sheet.specs.Meaning.{tyOf, termOf, typeOf}
 use Rattle.sheet.specs.Fine.{Accepted}
 use Rattle.sheet.specs.Reader.{Answer, got, refused, Whole, whole, sheetOf, sizeOf, numbersAt}
 use Rattle.sheet.specs.table.Fill.{eraseSheet, ReadsSheet}
 use Rattle.sheet.specs.table.Tabled.{Tabled, TabledBy}
 use Rattle.sheet.specs.declared.names.Reading.{Reading}
-use Rattle.sheet.specs.declared.names.Reading.the-variants.{Sheet, Refusal}
+use Rattle.sheet.specs.declared.names.Reading.the-variants.{Sheet, Refused as Unread}
 use Rattle.sheet.proofs.Right.{gives}
 use Rattle.sheet.proofs.Small.{weight-small}
 use Rattle.sheet.proofs.WellTyped.{accepted-typed}
@@ -51,18 +53,19 @@ unfolding FollowedBy
 refuses s play ws ws′ a b p r e f k = rw e (f, k)
 
 -- a sheet that is refused
-read-refused : (A : Answer Whole) {n p : ℕ} → Refusal n p ≡ eraseSheet A →
+read-refused : (A : Answer Whole) {n p : ℕ} → Unread (refusal n p) ≡ eraseSheet A →
     (k : ℕ → ℕ → ℕ → Option Cause′) → onRead A 0 k ≡ refusing n 0 p
 unfolding eraseSheet onRead
 read-refused (got (whole ns root t) ty w next) e k = let z : _≡_ {A = ℕ} 0 1 = cc in absurd (omega arith)
 read-refused (refused m q) {n} {p} e k =
-    let a : m ≡ n = cc in
-    let b : q ≡ p = cc in
+    let h : refusal m q ≡ refusal n p = cc in
+    let a : m ≡ n = ap (λ (x : Wrong). x .number) h in
+    let b : q ≡ p = ap (λ (x : Wrong). x .place) h in
     rw (a, b)
 
 -- the answer to it
 pub refuses-sheet : (s play ws ws′ t u : List ℕ) {x : Reading} {n p : ℕ} {q : Cause} {r : Following} →
-    ReadsSheet (numbersAt s) (sheetOf s) x t u → x ≡ Refusal n p → q ≡ causeOf x 0 →
+    ReadsSheet (numbersAt s) (sheetOf s) x t u → x ≡ Unread (refusal n p) → q ≡ causeOf x 0 →
     r ≡ Refused (q .number) (q .sheet) (q .place) → ws′ ≡ ws → FollowPromise s play ws r ws′
 unfolding followRefusal causeOf
 refuses-sheet s play ws ws′ t u {n = n} {p} R e c f k =

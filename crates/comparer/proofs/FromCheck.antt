@@ -11,8 +11,8 @@ use Rattle.language.specs.declared.Numbers.{Numbers}
 use Rattle.records.specs.Kind.{shapeOf}
 use Rattle.records.specs.Standing.{isVariable, declaredStanding}
 use Rattle.records.specs.Head.{byteOf, onByte, limited, constant, useOf, dataByte, newOf, bodyOf, headOf}
-use Rattle.records.specs.Head.{onShape as onPart}
-use Rattle.records.specs.Rule.{accepts}
+use Rattle.records.specs.Head.{headOfShape as onPart}
+use Rattle.records.specs.Rule.{acceptsPart}
 use Rattle.records.specs.Scope.{entered}
 use Rattle.records.specs.declared.kind.Rule.{Rule}
 use Rattle.records.specs.declared.kind.Rule.the-variants.{Skip, Diverge, Truth, Number, Use, Fetch}
@@ -21,15 +21,15 @@ use Rattle.records.specs.declared.kind.Shape.{Shape}
 use Rattle.records.specs.declared.kind.Shape.the-variants.{Part, Declare, Retire, Unknown}
 use Rattle.records.specs.declared.head.Record.{Record}
 use Rattle.records.specs.declared.head.Head.{Head}
-use Rattle.records.specs.declared.head.Head.the-variants.{Good, Bad}
+use Rattle.records.specs.declared.head.Head.the-variants.{Good, Refused as Bad}
 use Rattle.records.specs.declared.head.Byte.{Byte}
 use Rattle.sheet.specs.Written.{Name}
-use Rattle.sheet.specs.Heading.{both, below, unused, fresh, argument, declareOf, retireOf, declareAt, retireAt}
-use Rattle.sheet.specs.Reader.{Tree, Answer, got, refused, bind, onHead, onJudged, partsOf, recordOf, isNew, scopedOf}
-use Rattle.sheet.specs.Reader.{readPart, Whole, whole, onShape, nameOf, namesStep, namesOf, sizeOf, closed, numbersAt}
+use Rattle.sheet.specs.Heading.{andThen, below, unused, fresh, argument, declareOf, retireOf, declareAt, retireAt}
+use Rattle.sheet.specs.Reader.{Tree, Answer, got, refused, bind, onHead, onJudged, partsOf, readRecord, isNew, scopedOf}
+use Rattle.sheet.specs.Reader.{readPart, Whole, whole, wholeOfShape, nameOf, namesStep, namesOf, sizeOf, closed, numbersAt}
 use Rattle.sheet.specs.Reader.{nothing, sheetOf}
 use Rattle.sheet.specs.declared.heading.Judged.{Judged}
-use Rattle.sheet.specs.declared.heading.Judged.the-variants.{Good as Fine, Bad as Wrong}
+use Rattle.sheet.specs.declared.heading.Judged.the-variants.{Good as Fine, Refused as Wrong}
 
 -- the numbers of check
 abbrev pub FromCheck : ℕ → Type 0
@@ -43,11 +43,11 @@ either P false p q = q
 -- a head, a judgement or something read whose refusal has such a number
 unfoldable Headed : Head → Type 0
 Headed (Good r) = Unit
-Headed (Bad k p) = FromCheck k
+Headed (Bad x) = FromCheck (x .number)
 
 unfoldable Told : Judged → Type 0
 Told Fine = Unit
-Told (Wrong k p) = FromCheck k
+Told (Wrong x) = FromCheck (x .number)
 
 unfoldable pub Caused : {X : Type 0} → Answer X → Type 0
 Caused (got x ty w next) = Unit
@@ -63,17 +63,17 @@ on-head : {X : Type 0} (h : Head) (k : Record → Answer X) → Headed h → ((r
     Caused (onHead h k)
 unfolding Caused Headed onHead
 on-head (Good r) k p f = f r
-on-head (Bad a b) k p f = p
+on-head (Bad x) k p f = p
 
 on-judged : {X : Type 0} (j : Judged) (A : Answer X) → Told j → Caused A → Caused (onJudged j A)
 unfolding Caused Told onJudged
 on-judged Fine A p q = q
-on-judged (Wrong a b) A p q = p
+on-judged (Wrong x) A p q = p
 
-on-both : (j k : Judged) → Told j → Told k → Told (both j k)
-unfolding Told both
+on-both : (j k : Judged) → Told j → Told k → Told (andThen j k)
+unfolding Told andThen
 on-both Fine k p q = q
-on-both (Wrong a b) k p q = p
+on-both (Wrong x) k p q = p
 
 -- the kind byte and the body of a part
 module _ (s : List ℕ) where
@@ -145,14 +145,14 @@ module _ (s : List ℕ) where
   parts-caused N rec f r zero j prev at = tt
   parts-caused N rec f r (suc count) j prev at =
       on-bind (rec at) _ (f at) (λ t ty w next.
-        either Caused (accepts (r .rule) s r j prev ty)
+        either Caused (acceptsPart (r .rule) s r j prev ty)
           (on-bind (partsOf rec N s r count (j + 1) ty next) _ (parts-caused N rec f r count (j + 1) ty next)
             (λ ts last v end. tt))
           (omega arith, omega arith))
 
   record-caused : (N : Numbers) (rec : ℕ → Answer Tree) → ((at : ℕ) → Caused (rec at)) → (r : Record) →
-      Caused (recordOf rec N s r)
-  unfolding recordOf Caused
+      Caused (readRecord rec N s r)
+  unfolding readRecord Caused
   record-caused N rec f r =
       on-bind (partsOf rec N s r (r .parts) 0 0 (r .next)) _ (parts-caused N rec f r (r .parts) 0 0 (r .next))
         (λ ts last v end. tt)
@@ -206,10 +206,10 @@ module _ (s : List ℕ) where
 
   step-caused : (rec : List ℕ → ℕ → Answer Whole) (left : ℕ) (N : Numbers) (st : List ℕ) (at : ℕ) →
       ((st : List ℕ) (at : ℕ) → Caused (rec st at)) → Caused (namesStep rec left N s st at)
-  unfolding namesStep onShape retireOf Caused
+  unfolding namesStep wholeOfShape retireOf Caused
   step-caused rec left N st at f = either Caused (leb (length s) at) (omega arith, omega arith) (go (shapeOf (getD s at 0)))
     where
-      go : (x : Shape) → Caused (onShape x
+      go : (x : Shape) → Caused (wholeOfShape x
         (λ body. nameOf rec left s st at body (declaredStanding at) (declareOf s st at) (declareAt s at))
         (λ body. nameOf rec left s st at body 1 (retireOf s st at) (retireAt s at))
         (bind (readPart 32 N s st 0 at) (λ t ty w end. got (whole [] at t) ty w end))

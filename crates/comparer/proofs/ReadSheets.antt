@@ -9,6 +9,8 @@ use Rattle.language.specs.declared.Numbers.{Numbers}
 use Rattle.language.specs.Typing.{Typed}
 use Rattle.language.specs.Weight.{size}
 use Rattle.machine.specs.Range.{TyIn, InRange}
+use Rattle.records.specs.Refusal.{refusal}
+use Rattle.records.specs.declared.refusal.Refusal.{Refusal}
 use Rattle.sheet.specs.Written.{Sheet}
 use Rattle.sheet.specs.Encoding.{encodeNames}
 use Rattle.sheet.specs.Meaning.{tyOf, termOf, typeOf}
@@ -30,14 +32,16 @@ use Rattle.comparer.specs.Refusals.{rootOf}
 
 -- a reading that is refused is that of a refused sheet
 refused-answer : {x : Reading} {number place : ℕ} (A : Answer Whole) → x ≡ eraseSheet A →
-    x ≡ reading.Refusal number place → A ≡ refused number place
+    x ≡ reading.Refused (refusal number place) → A ≡ refused number place
 unfolding eraseSheet
 refused-answer (got (whole ns root t) ty w end) e f = let z : _≡_ {A = ℕ} 0 1 = cc in absurd (omega arith)
-refused-answer (refused n p) e f = cc
+refused-answer {number = number} {place} (refused n p) e f =
+    let h : refusal n p ≡ refusal number place = cc in
+    ap (λ (x : Refusal). refused (x .number) (x .place)) h
 
 -- the same of the sheet's bytes
 pub refused-sheet : {N : Numbers} (s : List ℕ) {x : Reading} {number place : ℕ} {t u : List ℕ} →
-    ReadsSheet N (sheetOf s) x t u → x ≡ reading.Refusal number place → sheetOf s ≡ refused number place
+    ReadsSheet N (sheetOf s) x t u → x ≡ reading.Refused (refusal number place) → sheetOf s ≡ refused number place
 refused-sheet s R f = refused-answer (sheetOf s) (R .answer) f
 
 -- the sheet s is read, with its type and weight, and its term begins at the root

@@ -8,19 +8,19 @@ use Rattle.language.specs.Typing.{operands}
 use Rattle.language.specs.Operator.{fit, truth, operate}
 use Rattle.language.specs.Move.{kind, valueOf}
 use Rattle.records.specs.Kind.{shapeOf}
-use Rattle.records.specs.Standing.{isVariable, variableStanding, dataOf, declaredStanding, recordOf}
+use Rattle.records.specs.Standing.{isVariable, variableStanding, dataOf, declaredStanding, declaredAt}
 use Rattle.records.specs.Head as head
 use Rattle.records.specs.Head.{byteOf, onByte, withBody, limited, constant, used, useOf, dataByte, newOf, bodyOf}
 use Rattle.records.specs.Head.{blank, headOf}
-use Rattle.records.specs.Rule.{values, questions, answers, operandType, resultType, accepts, typeOf, factor, extra}
+use Rattle.records.specs.Rule.{values, questions, answers, operandType, resultType, acceptsPart, partType, factor, extra}
 use Rattle.records.specs.Rule.{own}
 use Rattle.records.specs.Scope.{entered}
 use Rattle.sheet.specs.Heading as heading
-use Rattle.sheet.specs.Heading.{both, unused, fresh, argument, declareOf, declareAt}
+use Rattle.sheet.specs.Heading.{andThen, unused, fresh, argument, declareOf, declareAt}
 use Rattle.sheet.specs.Meaning as meaning
 use Rattle.sheet.specs.Meaning.{outward, declared, tyOf, useType, typed, byMeaning, resolve, termOf}
 use Rattle.sheet.specs.Reader as reader
-use Rattle.sheet.specs.Reader.{bind, onHead, onJudged, partsOf, isNew, scopedOf, readPart, withName, onShape, nameOf}
+use Rattle.sheet.specs.Reader.{bind, onHead, onJudged, partsOf, isNew, scopedOf, readPart, withName, wholeOfShape, nameOf}
 use Rattle.sheet.specs.Reader.{namesStep, namesOf, sizeOf, sheetOf, rest, build, written, checks, sheetIn, readSheet}
 use Rattle.machine.specs.Action.{who, heard, mapNext, mapAction}
 use Rattle.machine.specs.Decide.{when, map-dec, fits?, answers-to, answers?, fits-at?, hears?, same-move?}
@@ -42,11 +42,11 @@ use Rattle.comparer.proofs.Worked.{firstFound, decided, rowRead, rowChe
 
 -- the rows of the table are checked
 table-checked : all rowChecked table ≡ true
-unfolding readSheet checks sheetOf reader.closed bind namesOf namesStep onShape nameOf onJudged declareOf both
-  heading.below unused fresh argument declareAt withName readPart scopedOf isNew reader.recordOf partsOf
-  onHead sizeOf sheetIn values questions answers operandType resultType accepts typeOf factor extra own
-  entered shapeOf isVariable variableStanding dataOf declaredStanding recordOf byteOf onByte withBody limited
-  constant used useOf dataByte newOf bodyOf blank headOf head.onShape numbers inRange reader.first rest build
+unfolding readSheet checks sheetOf reader.closed bind namesOf namesStep wholeOfShape nameOf onJudged declareOf andThen
+  heading.below unused fresh argument declareAt withName readPart scopedOf isNew reader.readRecord partsOf
+  onHead sizeOf sheetIn values questions answers operandType resultType acceptsPart partType factor extra own
+  entered shapeOf isVariable variableStanding dataOf declaredStanding declaredAt byteOf onByte withBody limited
+  constant used useOf dataByte newOf bodyOf blank headOf head.headOfShape numbers inRange reader.first rest build
   written modulo code signed fromByte apply operands fit truth operate kind valueOf outward declared
   meaning.meaning tyOf useType typed byMeaning resolve termOf meaning.typeOf who heard mapNext mapAction when
   map-dec fits? answers-to answers? fits-at? hears? same-move? entry onDone onOk onValue onTruth onSome askVariable

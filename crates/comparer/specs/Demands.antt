@@ -1,5 +1,5 @@
 -- The demands (docs/DEMANDS.md), each a type: of the numbers of refusals and of what a promise leaves open (1), of the answer
--- (2), and the length rules (3), for all bytes and for all sheets in order.
+-- (2), and the length rules (3), for all bytes and for all sheets in order. SHEETS 8.
 use mathlib.Core.Path.{_≡_}
 use mathlib.Core.Logic.{_↔_, _⊎_}
 use mathlib.Core.List.{List}

@@ -1,4 +1,4 @@
--- What follow and compare promise, for all slices lent. Document 01, "Three services".
+-- What follow and compare promise, for all slices lent. Document 01, "Three services". SHEETS 8.3 and 8.4.
 use mathlib.Core.Path.{_≡_}
 use mathlib.Core.Logic.{_↔_, _⊎_}
 use mathlib.Core.Bool.{Bool, true}

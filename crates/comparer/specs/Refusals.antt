@@ -1,6 +1,6 @@
 -- The refusals of follow and compare: number, sheet and place. Document 01, "Three services": "Compare finishes the
 -- old sheet before the new one, then 12, 13, 14. Follow: the sheet, 13, 15. A service on one sheet names it "old"; 13
--- and 14 are always "both"."
+-- and 14 are always "both"." SHEETS 9.1 and 9.3.
 use Prim.Native.Nat.{ℕ, zero, suc, _+_, _*_, _-_}
 use mathlib.Core.Bool.{Bool, true, false}
 use mathlib.Core.List.{List}

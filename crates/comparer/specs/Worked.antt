@@ -1,5 +1,5 @@
 -- The sheets worked through: document 01, "Sheets worked through", the rows marked • as one table, with a single
--- claim over all its rows.
+-- claim over all its rows. SHEETS 12.
 use mathlib.Core.Path.{_≡_}
 use mathlib.Core.List.{List, [], _∷_, _++_}
 use Prim.Native.Nat.{ℕ}

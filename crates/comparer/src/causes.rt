@@ -13,7 +13,7 @@ ghost use Rattle.comparer.specs.inner.Causes.{causeOf, bothCause, playCa
 pub(crate) fn cause_of(x: Reading, sheet: u8) -> Cause
     ensures { λ r. ⌜ r ≡ causeOf x sheet ⌝ }
 {
-    let Reading::Refusal { number, place } = x else {
+    let Reading::Refused(refusal) = x else {
         return Cause {
             number: NOT_REFUSED,
             sheet,
@@ -21,9 +21,9 @@ pub(crate) fn cause_of(x: Reading, sheet: u8) -> Cause
         };
     };
     Cause {
-        number,
+        number: refusal.number,
         sheet,
-        place,
+        place: refusal.place,
     }
 }
 

@@ -1,5 +1,5 @@
 // Headings: all bytes of a sheet up to its term.
-use records::head::byte_at;
+use records::read::byte_at;
 ghost use mathlib.Core.Path.{_≡_};
 ghost use Rattle.comparer.specs.Refusals.{sameFirst, matching};
 

@@ -1,5 +1,5 @@
 // The records of a play, and the letters of their moves.
-use records::head::byte_at;
+use records::read::byte_at;
 ghost use mathlib.Core.Path.{_≡_};
 ghost use Prim.Native.Nat.{_+_, _≤_, _%_};
 ghost use lib.ListN.{length, set, take, drop};

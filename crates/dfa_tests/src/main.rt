@@ -166,18 +166,31 @@ fn reached() {
     tell(live_checked(&mut short, 5, 0, 3));
 }
 
-// A chain of 120 steps by 7 from state 0 to state 120.
+// The steps of the chain.
+const STEPS: usize = 120;
+
+// Its states, 0 to 120, and the dead one.
+const STATES: usize = 122;
+
+// Where its graph stands, and in it the first letter and the first target.
+const GRAPH: usize = 610;
+
+const LETTER: usize = 733;
+
+const TARGET: usize = 734;
+
+// A chain of steps by 7 from the state 0 to the state 120.
 fn chain(words: &mut [u32]) {
     let mut i: usize = 0;
-    while i < 120 {
-        store(words, 610, i, i as u32);
-        store(words, 733, 2 * i, 7);
-        store(words, 734, 2 * i, (i + 1) as u32);
+    while i < STEPS {
+        store(words, GRAPH, i, i as u32);
+        store(words, LETTER, 2 * i, 7);
+        store(words, TARGET, 2 * i, (i + 1) as u32);
         i += 1;
     }
-    store(words, 610, 120, 120);
-    store(words, 610, 121, 120);
-    store(words, 610, 122, 120);
+    store(words, GRAPH, 120, 120);
+    store(words, GRAPH, 121, 120);
+    store(words, GRAPH, 122, 120);
 }
 
 // 120 accepts, and 121 is dead: 0 is told from 1 by 119 letters.
@@ -188,14 +201,14 @@ fn long() {
     let a = compare_checked(
         &mut w,
         Task {
-            n: 122,
+            n: STATES,
             p: 0,
             q: 1,
-            f: 120,
-            g: 120,
+            f: STEPS,
+            g: STEPS,
         },
     );
-    show(&w, 610, a);
+    show(&w, GRAPH, a);
 }
 
 // An edge that leads to no state.

@@ -1,5 +1,5 @@
 -- A move as one number, so that the order of numbers is document 01's order of moves ("Move records and their order").
--- Automata read these letters.
+-- Automata read these letters. SHEETS 6.2.
 use Prim.Native.Nat.{ℕ, _+_, _-_, _*_, _<_}
 use mathlib.Core.Bool.{Bool}
 use mathlib.Core.List.{List, [], _∷_}

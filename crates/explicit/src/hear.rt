@@ -1,6 +1,6 @@
 // The edges of a waiting state: the moves that it takes, in the order of their letters, and where they lead.
-use crate::Wait;
 use crate::Site;
+use crate::Wait;
 use crate::exits::exit;
 use crate::exits::reach;
 use crate::letters::answer_kind;
@@ -15,7 +15,6 @@ use automaton::moves::OPENING;
 use automaton::moves::RUN;
 use automaton::moves::WRITE;
 use automaton::name::waiting;
-use automaton::row::CLASS;
 use automaton::row::cell;
 use automaton::row::name_count;
 use automaton::row::part_class;
@@ -23,6 +22,7 @@ use automaton::row::part_values;
 use automaton::row::sum;
 use automaton::types::question_limit;
 use language::Numbers;
+use records::row::CLASS;
 ghost use mathlib.Core.Path.{_≡_};
 ghost use Prim.Native.Nat.{_-_, _≤_};
 ghost use Rattle.language.specs.Number.{numbers};
@@ -82,7 +82,13 @@ fn hear_value(
         arg,
         value,
     };
-    write_edge(words, s.n, e, letter_of(n, m), heard(t, n, s, p, c, wait, m));
+    write_edge(
+        words,
+        s.n,
+        e,
+        letter_of(n, m),
+        heard(t, n, s, p, c, wait, m),
+    );
     sum(e, 1)
 }
 

@@ -1,4 +1,4 @@
--- Moves, their records and their order. Document 01, "Plays" and "Move records and their order".
+-- Moves, their records and their order. Document 01, "Plays" and "Move records and their order". SHEETS 4.2 and 6.
 use mathlib.Core.Path.{_≡_}
 use mathlib.Core.Logic.{_⊎_}
 use mathlib.Core.List.{List, [], _∷_, _++_}

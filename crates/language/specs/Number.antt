@@ -1,5 +1,5 @@
 -- Whole numbers from -Z to Z, and their codes. Document 01, "The sheet, byte by byte": "Byte 0 is Z .. the whole
--- numbers are -Z to Z. Byte 1 is the overflow rule".
+-- numbers are -Z to Z. Byte 1 is the overflow rule". SHEETS 2.1 and 5.1.
 --
 -- Inside, a value is a code. A truth is its own code, 0 or 1. A number v has the code v modulo 2Z + 1: 0 to Z are
 -- themselves, then come -Z to -1. So false and 0 have the code 0, and a truth's code is also that of a number.

@@ -1,4 +1,4 @@
--- The nine operators on codes. Document 01, "Plays" (overflow and remainder).
+-- The nine operators on codes. Document 01, "Plays" (overflow and remainder). SHEETS 5.
 use Prim.Native.Nat.{ℕ}
 use mathlib.Core.Bool.{Bool, true, false}
 use mathlib.Core.Option.{Option, none, some}

@@ -1,6 +1,6 @@
 -- The operators by their numbers. Document 01, "The sheet, byte by byte": "Operators: 0 plus, 1 minus, 2 times,
 -- 3 remainder, 4 equal, 5 less (these six on numbers), 6 and, 7 or, 8 equal on truths. 0 to 3 give a number, the others
--- a truth."
+-- a truth." SHEETS 2.5.
 use Prim.Native.Nat.{ℕ}
 use mathlib.Core.Bool.{Bool}
 use lib.Dec.{ltb}

@@ -1,5 +1,5 @@
 -- The plays of a term. Document 001, definitions 12 to 18 and 22. On assign, fetch and new, document 01 ("Plays")
--- decides and not definitions 24 to 26.
+-- decides and not definitions 24 to 26. SHEETS 4.4 and 4.5.
 use mathlib.Core.Path.{_≡_}
 use mathlib.Core.Logic.{_⊎_}
 use mathlib.Core.List.{List, [], _∷_, _++_}

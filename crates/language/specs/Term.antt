@@ -1,5 +1,5 @@
 -- Terms, with every use resolved: a private variable by its block, a name by its id and type. Document 001, figure 1;
--- document 01, "The sheet, byte by byte".
+-- document 01, "The sheet, byte by byte". SHEETS 2.4.
 use mathlib.Core.Option.{Option}
 use Prim.Native.Nat.{ℕ, _<_}
 use Rattle.language.specs.declared.Numbers.{Numbers}

@@ -1,4 +1,4 @@
--- Weight and size. Document 01, "Reckoned size".
+-- Weight and size. Document 01, "Reckoned size". SHEETS 7.
 use Prim.Native.Nat.{ℕ, _+_, _*_}
 use Rattle.language.specs.Ty.{Ty, questions, answers}
 use Rattle.language.specs.Term.{Term, skip, diverge, const, private, name, fetch, operate, assign, seq, while}

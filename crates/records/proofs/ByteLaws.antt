@@ -9,10 +9,12 @@ use lib.Dec.{leb}
 use borrow.Author.Tests.{leb-false, lt-leb}
 use Rattle.language.specs.Choice.{pick}
 use Rattle.records.specs.Head.{byteOf, onByte}
+use Rattle.records.specs.Refusal.{refusal}
+use Rattle.records.specs.declared.refusal.Refusal.{Refusal}
 use Rattle.records.specs.declared.head.Record.{Record}
 use Rattle.records.specs.declared.head.Head.{Head}
-use Rattle.records.specs.declared.head.Head.the-variants.{Good, Bad}
-use Rattle.records.specs.declared.head.Byte.the-variants.{Is, Not}
+use Rattle.records.specs.declared.head.Head.the-variants.{Good, Refused}
+use Rattle.records.specs.declared.head.Byte.the-variants.{Is, Refused as Unread}
 
 -- a test whose one answer is no result
 pub pick-false : {A : Type 0} (t : Bool) {x y z : A} → (x ≡ z → ⊥) → pick t x y ≡ z → (t ≡ false) × (y ≡ z)
@@ -23,10 +25,10 @@ pub pick-true : {A : Type 0} (t : Bool) {x y z : A} → (y ≡ z → ⊥) → pi
 pick-true true n h = (refl, h)
 pick-true false n h = absurd (n h)
 
-pub bad-good : {n p : ℕ} {r : Record} → Bad n p ≡ Good r → ⊥
+pub bad-good : {x : Refusal} {r : Record} → Refused x ≡ Good r → ⊥
 bad-good h = let z : _≡_ {A = ℕ} 0 1 = cc in omega arith
 
-pub not-is : {n p b : ℕ} → Not n p ≡ Is b → ⊥
+pub not-is : {x : Refusal} {b : ℕ} → Unread x ≡ Is b → ⊥
 not-is h = let z : _≡_ {A = ℕ} 0 1 = cc in omega arith
 
 pub good-same : {r r′ : Record} → Good r ≡ Good r′ → r ≡ r′
@@ -56,7 +58,7 @@ unfolding byteOf onByte
 byte-good s at limit k r = go (leb (length s) at) (leb limit (getD s at 0)) refl refl
   where
     go : (t u : Bool) → leb (length s) at ≡ t → leb limit (getD s at 0) ≡ u →
-        onByte (pick t (Not 2 (length s)) (pick u (Not 3 at) (Is (getD s at 0)))) k ≡ Good r →
+        onByte (pick t (Unread (refusal 2 (length s))) (pick u (Unread (refusal 3 at)) (Is (getD s at 0)))) k ≡ Good r →
         (at < length s) × (getD s at 0 < limit) × (k (getD s at 0) ≡ Good r)
     go true u e f h = absurd (bad-good h)
     go false true e f h = absurd (bad-good h)

@@ -8,7 +8,7 @@ use lib.Dec.{leb, eqb}
 use borrow.Author.Tests.{leb-false, eqb-false}
 use Rattle.language.specs.declared.Numbers.{Numbers}
 use Rattle.records.specs.Kind.{shapeOf}
-use Rattle.records.specs.Head.{onShape, bodyOf, blank, headOf}
+use Rattle.records.specs.Head.{headOfShape, bodyOf, blank, headOf}
 use Rattle.records.specs.declared.kind.Rule.{Rule}
 use Rattle.records.specs.declared.kind.Shape.{Shape}
 use Rattle.records.specs.declared.kind.Shape.the-variants.{Part, Declare, Retire, Unknown}
@@ -30,8 +30,8 @@ record Shaped (x : Shape) (k : ℕ → ℕ → Rule → Head) (r : Record) : Typ
   shape : x ≡ Part body parts rule
   rest : k body parts rule ≡ Good r
 
-shaped : (x : Shape) (at : ℕ) (k : ℕ → ℕ → Rule → Head) (r : Record) → onShape x at k ≡ Good r → Shaped x k r
-unfolding onShape
+shaped : (x : Shape) (at : ℕ) (k : ℕ → ℕ → Rule → Head) (r : Record) → headOfShape x at k ≡ Good r → Shaped x k r
+unfolding headOfShape
 shaped (Part body parts R) at k r h = record { body = body; parts = parts; rule = R; shape = refl; rest = h }
 shaped (Declare body) at k r h = absurd (bad-good h)
 shaped (Retire body) at k r h = absurd (bad-good h)

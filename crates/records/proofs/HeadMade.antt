@@ -10,7 +10,7 @@ use Rattle.language.specs.Number.{inRange}
 use Rattle.language.specs.declared.Numbers.{Numbers}
 use Rattle.records.specs.Standing.{isVariable}
 use Rattle.records.specs.Head.{withBody, limited, constant, used, useOf, dataByte, newOf}
-use Rattle.records.specs.Head.{onShape, bodyOf, blank, headOf}
+use Rattle.records.specs.Head.{headOfShape, bodyOf, blank, headOf}
 use Rattle.records.specs.declared.kind.Rule.{Rule}
 use Rattle.records.specs.declared.kind.Rule.the-variants.{Skip, Diverge, Truth, Number, Use, Fetch}
 use Rattle.records.specs.declared.kind.Rule.the-variants.{Operate, Assign, Sequence, If, While, New}
@@ -23,7 +23,7 @@ module _ (s st : List ℕ) (N : Numbers) (left at : ℕ) (d : left ≡ 0 → ⊥
   -- the body is what is left to judge
   pub made : (R : Rule) → at < length s → getD s at 0 ≡ kindOf R → headOf s st N left at ≡ bodyOf R s st N
     (start at R)
-  unfolding headOf onShape
+  unfolding headOf headOfShape
   made R i k = rw (lt-leb (length s) at i, k, shape-of-kind R, ne-eqb left 0 d)
 
   pub made-plain :

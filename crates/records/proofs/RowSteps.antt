@@ -6,7 +6,7 @@ use mathlib.Core.List.{List}
 use lib.ListN.{set}
 use Rattle.language.specs.declared.Numbers.{Numbers}
 use Rattle.records.specs.Rule.{values}
-use Rattle.records.specs.Row.{cell, rowKind, classOf, detail, fiveFrom, five, written}
+use Rattle.records.specs.Row.{cell, rowKind, classOf, detail, fiveFrom, five, rowWritten}
 use Rattle.records.specs.declared.head.Record.{Record}
 
 -- the words of a row follow each other
@@ -27,8 +27,8 @@ five-words place t k h c v d p q s u w =
 pub five-written :
     (N : Numbers) (r : Record) (ty w : ℕ) (t : List ℕ) {k h c v d : ℕ} {u : List ℕ} →
     k ≡ rowKind (r .rule) r → h ≡ min w 4097 → c ≡ classOf ty → v ≡ values N ty → d ≡ detail (r .rule) N r →
-    u ≡ five (r .place) k h c v d t → u ≡ written N r ty w t
-unfolding written fiveFrom
+    u ≡ five (r .place) k h c v d t → u ≡ rowWritten N r ty w t
+unfolding rowWritten fiveFrom
 five-written N r ty w t a b c d e p =
     p ∙ rw (a, b, c, d, e)
       (rw (cell-next (r .place) 1, cell-next (r .place) 2, cell-next (r .place) 3, cell-next (r .place) 4))

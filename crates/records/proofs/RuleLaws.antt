@@ -8,7 +8,7 @@ use lib.ListN.{length, getD}
 use Rattle.language.specs.Choice.{pick}
 use Rattle.language.specs.Number.{inRange}
 use Rattle.language.specs.declared.Numbers.{Numbers}
-use Rattle.records.specs.Standing.{isVariable, recordOf}
+use Rattle.records.specs.Standing.{isVariable, declaredAt}
 use Rattle.records.specs.Head.{withBody, limited, used, bodyOf, blank, headOf}
 use Rattle.records.specs.declared.kind.Rule.{Rule}
 use Rattle.records.specs.declared.kind.Rule.the-variants.{Skip, Diverge, Truth, Number, Use, Fetch}
@@ -49,7 +49,7 @@ pub record UseGood (s st : List ℕ) (at : ℕ) (r : Record) : Type 0 where
   pub b : r .b ≡ getD st (r .a) 0
   pub not-free : r .b ≡ 0 → ⊥
   pub not-retired : r .b ≡ 1 → ⊥
-  pub parts : r .parts ≡ pick (isVariable (r .b)) 0 (getD s (recordOf (r .b) + 3) 0)
+  pub parts : r .parts ≡ pick (isVariable (r .b)) 0 (getD s (declaredAt (r .b) + 3) 0)
   pub next : r .next ≡ at + 2
   pub same : r ≡ used s (start at Use) (r .a) (r .b)
 

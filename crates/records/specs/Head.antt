@@ -1,5 +1,6 @@
 -- The kind byte and the body of a part of a term, or their refusal. Document 01, "Three services": "bytes left to right, each
 -- byte judged before the next is looked for. At one byte range comes first, then depth or the count of records, then 4, 5 or 6".
+-- SHEETS 2.4 and 9.2.
 use Prim.Native.Nat.{ℕ, _+_, _-_}
 use mathlib.Core.Bool.{Bool, true, false}
 use mathlib.Core.List.{List}
@@ -9,7 +10,8 @@ use Rattle.language.specs.Choice.{pick}
 use Rattle.language.specs.Number.{inRange}
 use Rattle.language.specs.declared.Numbers.{Numbers}
 use Rattle.records.specs.Kind.{shapeOf}
-use Rattle.records.specs.Standing.{isVariable, recordOf}
+use Rattle.records.specs.Standing.{free, retired, isVariable, declaredAt}
+use Rattle.records.specs.Refusal.{refusal, cut-short, out-of-range, id-taken, id-unknown, id-retired, too-deep}
 use Rattle.records.specs.declared.kind.Rule.{Rule}
 use Rattle.records.specs.declared.kind.Rule.the-variants.{Skip, Diverge, Truth, Number, Use, Fetch, Operate}
 use Rattle.records.specs.declared.kind.Rule.the-variants.{Assign, Sequence, If, While, New}
@@ -17,19 +19,19 @@ use Rattle.records.specs.declared.kind.Shape.{Shape}
 use Rattle.records.specs.declared.kind.Shape.the-variants.{Part, Declare, Retire, Unknown}
 use Rattle.records.specs.declared.head.Record.{Record}
 use Rattle.records.specs.declared.head.Head.{Head}
-use Rattle.records.specs.declared.head.Head.the-variants.{Good, Bad}
+use Rattle.records.specs.declared.head.Head.the-variants.{Good, Refused}
 use Rattle.records.specs.declared.head.Byte.{Byte}
-use Rattle.records.specs.declared.head.Byte.the-variants.{Is, Not}
+use Rattle.records.specs.declared.head.Byte.the-variants.{Is, Refused as Unread}
 
 -- the byte at a place, which must be below a limit
 unfoldable pub byteOf : List ℕ → ℕ → ℕ → Byte
 byteOf s at limit =
-    pick (leb (length s) at) (Not 2 (length s))
-    (pick (leb limit (getD s at 0)) (Not 3 at) (Is (getD s at 0)))
+    pick (leb (length s) at) (Unread (refusal cut-short (length s)))
+    (pick (leb limit (getD s at 0)) (Unread (refusal out-of-range at)) (Is (getD s at 0)))
 
 unfoldable pub onByte : Byte → (ℕ → Head) → Head
 onByte (Is b) k = k b
-onByte (Not n p) k = Bad n p
+onByte (Unread x) k = Refused x
 
 -- the same record with other body bytes
 unfoldable pub withBody : Record → ℕ → ℕ → Record
@@ -44,32 +46,34 @@ limited s r limit = onByte (byteOf s (r .place + 1) limit) (λ a. Good (withBody
 unfoldable pub constant : List ℕ → Numbers → Record → Head
 constant s N r =
     onByte (byteOf s (r .place + 1) 256) (λ a.
-      pick (inRange N a) (Good (withBody r a 0)) (Bad 3 (r .place + 1)))
+      pick (inRange N a) (Good (withBody r a 0)) (Refused (refusal out-of-range (r .place + 1))))
 
 -- a use, whose id has the standing c: its parts are as many as its name declares
 unfoldable pub used : List ℕ → Record → ℕ → ℕ → Record
 used s r id c =
     record { place = r .place; kind = r .kind; rule = r .rule;
-      parts = pick (isVariable c) 0 (getD s (recordOf c + 3) 0); a = id; b = c; next = r .next }
+      parts = pick (isVariable c) 0 (getD s (declaredAt c + 3) 0); a = id; b = c; next = r .next }
 
 -- "use of an id neither enclosing, declared nor retired: 5", "use of a retired id: 6"
 unfoldable pub useOf : List ℕ → List ℕ → Record → Head
 useOf s st r =
     onByte (byteOf s (r .place + 1) 255) (λ id.
-      pick (eqb (getD st id 0) 0) (Bad 5 (r .place + 1))
-      (pick (eqb (getD st id 0) 1) (Bad 6 (r .place + 1)) (Good (used s r id (getD st id 0)))))
+      pick (eqb (getD st id 0) free) (Refused (refusal id-unknown (r .place + 1)))
+      (pick (eqb (getD st id 0) retired) (Refused (refusal id-retired (r .place + 1)))
+      (Good (used s r id (getD st id 0)))))
 
 -- the data of a new: 1 truth, 2 number
 unfoldable pub dataByte : List ℕ → Record → ℕ → Head
 dataByte s r id =
-    onByte (byteOf s (r .place + 2) 3) (λ d. pick (eqb d 0) (Bad 3 (r .place + 2)) (Good (withBody r id d)))
+    onByte (byteOf s (r .place + 2) 3) (λ d.
+      pick (eqb d 0) (Refused (refusal out-of-range (r .place + 2))) (Good (withBody r id d)))
 
 -- "id declared or retired before, or a new on such an id: 4"
 unfoldable pub newOf : List ℕ → List ℕ → Record → Head
 newOf s st r =
     onByte (byteOf s (r .place + 1) 255) (λ id.
-      pick (eqb (getD st id 0) 1) (Bad 4 (r .place + 1))
-      (pick (isVariable (getD st id 0)) (dataByte s r id) (Bad 4 (r .place + 1))))
+      pick (eqb (getD st id 0) retired) (Refused (refusal id-taken (r .place + 1)))
+      (pick (isVariable (getD st id 0)) (dataByte s r id) (Refused (refusal id-taken (r .place + 1)))))
 
 -- the body of a record
 unfoldable pub bodyOf : Rule → List ℕ → List ℕ → Numbers → Record → Head
@@ -92,15 +96,16 @@ blank at kind body parts rule =
     record { place = at; kind = kind; rule = rule; parts = parts; a = 0; b = 0; next = at + 1 + body }
 
 -- "A name record's kind met inside the term is an unknown kind"
-unfoldable pub onShape : Shape → ℕ → (ℕ → ℕ → Rule → Head) → Head
-onShape (Part body parts rule) at k = k body parts rule
-onShape (Declare body) at k = Bad 3 at
-onShape (Retire body) at k = Bad 3 at
-onShape Unknown at k = Bad 3 at
+unfoldable pub headOfShape : Shape → ℕ → (ℕ → ℕ → Rule → Head) → Head
+headOfShape (Part body parts rule) at k = k body parts rule
+headOfShape (Declare body) at k = Refused (refusal out-of-range at)
+headOfShape (Retire body) at k = Refused (refusal out-of-range at)
+headOfShape Unknown at k = Refused (refusal out-of-range at)
 
 -- the record of the part at a place, with `left` levels of depth left
 unfoldable pub headOf : List ℕ → List ℕ → Numbers → ℕ → ℕ → Head
 headOf s st N left at =
-    pick (leb (length s) at) (Bad 2 (length s))
-    (onShape (shapeOf (getD s at 0)) at (λ body parts rule.
-      pick (eqb left 0) (Bad 8 at) (bodyOf rule s st N (blank at (getD s at 0) body parts rule))))
+    pick (leb (length s) at) (Refused (refusal cut-short (length s)))
+    (headOfShape (shapeOf (getD s at 0)) at (λ body parts rule.
+      pick (eqb left 0) (Refused (refusal too-deep at))
+      (bodyOf rule s st N (blank at (getD s at 0) body parts rule))))

@@ -1,5 +1,5 @@
 -- The kinds of records. Document 01, "The sheet, byte by byte", the table: "Each record is one byte of kind and a body whose
--- length the kind fixes".
+-- length the kind fixes". SHEETS 2.2 to 2.4.
 use Prim.Native.Nat.{ℕ}
 use mathlib.Core.Bool.{Bool, true, false}
 use lib.Dec.{eqb}

@@ -1,7 +1,9 @@
 pub mod Kind
 pub mod Standing
+pub mod Refusal
 pub mod Head
 pub mod Bare
+pub mod Types
 pub mod Rule
 pub mod Scope
 pub mod Row

@@ -68,8 +68,8 @@ abbrev pub five : ℕ → ℕ → ℕ → ℕ → ℕ → ℕ → List ℕ → L
 five place kind held class values detail t = fiveFrom (cell place 0) kind held class values detail t
 
 -- the table with the first five words of a record's row written; the record has type ty and weight w
-unfoldable pub written : Numbers → Record → ℕ → ℕ → List ℕ → List ℕ
-written N r ty w t =
+unfoldable pub rowWritten : Numbers → Record → ℕ → ℕ → List ℕ → List ℕ
+rowWritten N r ty w t =
     set (set (set (set (set t (cell (r .place) 0) (rowKind (r .rule) r))
       (cell (r .place) 1) (min w 4097))
       (cell (r .place) 2) (classOf ty))

@@ -1,5 +1,5 @@
 -- How the parts of a record are typed and weighed. Document 01, "The sheet, byte by byte" (types, after figure 1 of document 001)
--- and "Reckoned size". Types are 0 command, 1 truth expression, 2 number expression, 3 truth variable, 4 number variable.
+-- and "Reckoned size". SHEETS 3.2 and 7.2.
 use Prim.Native.Nat.{ℕ, _+_, _-_, _*_}
 use mathlib.Core.Bool.{Bool, true, false}
 use mathlib.Core.List.{List}
@@ -8,7 +8,8 @@ use lib.Dec.{eqb, ltb, leb}
 use Rattle.language.specs.Choice.{pick}
 use Rattle.language.specs.Number.{numbers}
 use Rattle.language.specs.declared.Numbers.{Numbers}
-use Rattle.records.specs.Standing.{isVariable, dataOf, recordOf}
+use Rattle.records.specs.Standing.{isVariable, dataOf, declaredAt}
+use Rattle.records.specs.Types.{command, truth, number, truth-variable}
 use Rattle.records.specs.declared.kind.Rule.{Rule}
 use Rattle.records.specs.declared.kind.Rule.the-variants.{Skip, Diverge, Truth, Number, Use, Fetch, Operate}
 use Rattle.records.specs.declared.kind.Rule.the-variants.{Assign, Sequence, If, While, New}
@@ -16,51 +17,51 @@ use Rattle.records.specs.declared.head.Record.{Record}
 
 -- K: the number of values of a type's data; of a command it is not used
 unfoldable pub values : Numbers → ℕ → ℕ
-values N ty = pick (eqb ty 1) 2 (pick (eqb ty 3) 2 (numbers N))
+values N ty = pick (eqb ty truth) 2 (pick (eqb ty truth-variable) 2 (numbers N))
 
 -- how many questions a type has, and how many answers they have in all
 unfoldable pub questions : Numbers → ℕ → ℕ
-questions N ty = pick (ltb ty 3) 1 (1 + values N ty)
+questions N ty = pick (ltb ty truth-variable) 1 (1 + values N ty)
 
 unfoldable pub answers : Numbers → ℕ → ℕ
-answers N ty = pick (eqb ty 0) 1 (pick (ltb ty 3) (values N ty) (2 * values N ty))
+answers N ty = pick (eqb ty command) 1 (pick (ltb ty truth-variable) (values N ty) (2 * values N ty))
 
 -- operators 0 to 5 take numbers, the others truths; 0 to 3 give a number, the others a truth
 unfoldable pub operandType : ℕ → ℕ
-operandType op = pick (ltb op 6) 2 1
+operandType op = pick (ltb op 6) number truth
 
 unfoldable pub resultType : ℕ → ℕ
-resultType op = pick (ltb op 4) 2 1
+resultType op = pick (ltb op 4) number truth
 
 -- whether part j of a record may have type ty, where the part before it has type prev
-unfoldable pub accepts : Rule → List ℕ → Record → ℕ → ℕ → ℕ → Bool
-accepts Skip s r j prev ty = false
-accepts Diverge s r j prev ty = false
-accepts Truth s r j prev ty = false
-accepts Number s r j prev ty = false
-accepts Use s r j prev ty = eqb ty (getD s (recordOf (r .b) + 4 + j) 0)
-accepts Fetch s r j prev ty = leb 3 ty
-accepts Operate s r j prev ty = eqb ty (operandType (r .a))
-accepts Assign s r j prev ty = pick (eqb j 0) (leb 3 ty) (eqb (ty + 2) prev)
-accepts Sequence s r j prev ty = pick (eqb j 0) (eqb ty 0) true
-accepts If s r j prev ty = pick (eqb j 0) (eqb ty 1) (pick (eqb j 1) true (eqb ty prev))
-accepts While s r j prev ty = pick (eqb j 0) (eqb ty 1) (eqb ty 0)
-accepts New s r j prev ty = eqb ty 0
+unfoldable pub acceptsPart : Rule → List ℕ → Record → ℕ → ℕ → ℕ → Bool
+acceptsPart Skip s r j prev ty = false
+acceptsPart Diverge s r j prev ty = false
+acceptsPart Truth s r j prev ty = false
+acceptsPart Number s r j prev ty = false
+acceptsPart Use s r j prev ty = eqb ty (getD s (declaredAt (r .b) + 4 + j) 0)
+acceptsPart Fetch s r j prev ty = leb truth-variable ty
+acceptsPart Operate s r j prev ty = eqb ty (operandType (r .a))
+acceptsPart Assign s r j prev ty = pick (eqb j 0) (leb truth-variable ty) (eqb (ty + 2) prev)
+acceptsPart Sequence s r j prev ty = pick (eqb j 0) (eqb ty command) true
+acceptsPart If s r j prev ty = pick (eqb j 0) (eqb ty truth) (pick (eqb j 1) true (eqb ty prev))
+acceptsPart While s r j prev ty = pick (eqb j 0) (eqb ty truth) (eqb ty command)
+acceptsPart New s r j prev ty = eqb ty command
 
 -- the type of a record whose last part has type last
-unfoldable pub typeOf : Rule → List ℕ → Record → ℕ → ℕ
-typeOf Skip s r last = 0
-typeOf Diverge s r last = r .a
-typeOf Truth s r last = 1
-typeOf Number s r last = 2
-typeOf Use s r last = pick (isVariable (r .b)) (2 + dataOf (r .b)) (getD s (recordOf (r .b) + 2) 0)
-typeOf Fetch s r last = last - 2
-typeOf Operate s r last = resultType (r .a)
-typeOf Assign s r last = 0
-typeOf Sequence s r last = last
-typeOf If s r last = last
-typeOf While s r last = 0
-typeOf New s r last = 0
+unfoldable pub partType : Rule → List ℕ → Record → ℕ → ℕ
+partType Skip s r last = command
+partType Diverge s r last = r .a
+partType Truth s r last = truth
+partType Number s r last = number
+partType Use s r last = pick (isVariable (r .b)) (2 + dataOf (r .b)) (getD s (declaredAt (r .b) + 2) 0)
+partType Fetch s r last = last - 2
+partType Operate s r last = resultType (r .a)
+partType Assign s r last = command
+partType Sequence s r last = last
+partType If s r last = last
+partType While s r last = command
+partType New s r last = command
 
 -- by what the weight of part j is multiplied, where the part has type ty and the one before it prev
 unfoldable pub factor : Rule → Numbers → Record → ℕ → ℕ → ℕ → ℕ

@@ -1,4 +1,5 @@
 -- The scope of a new. Document 01, "The sheet, byte by byte": "A use means the innermost enclosing new with that id".
+-- SHEETS 2.6.
 use Prim.Native.Nat.{ℕ}
 use mathlib.Core.List.{List}
 use lib.ListN.{set}

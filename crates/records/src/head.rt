@@ -2,6 +2,18 @@
 use crate::kind::Rule;
 use crate::kind::Shape;
 use crate::kind::shape_of;
+use crate::read::byte_at;
+use crate::read::standing_of;
+use crate::refusal::CUT_SHORT;
+use crate::refusal::ID_RETIRED;
+use crate::refusal::ID_TAKEN;
+use crate::refusal::ID_UNKNOWN;
+use crate::refusal::OUT_OF_RANGE;
+use crate::refusal::Refusal;
+use crate::refusal::TOO_DEEP;
+use crate::refusal::refuse;
+use crate::standing::FREE;
+use crate::standing::RETIRED;
 use language::Numbers;
 ghost use mathlib.Core.Path.{_≡_};
 ghost use mathlib.Core.List.{List};
@@ -9,8 +21,9 @@ ghost use Prim.Native.Nat.{ℕ, _+_, _≤_, _<_};
 ghost use lib.ListN.{getD, length};
 ghost use Rattle.language.specs.declared.Numbers.{Numbers};
 ghost use Rattle.records.specs.Head.{byteOf, withBody, limited, constant, used, useOf, dataByte, newOf, bodyOf};
-ghost use Rattle.records.specs.Head.{blank, onShape, headOf};
+ghost use Rattle.records.specs.Head.{blank, headOfShape, headOf};
 ghost use Rattle.records.specs.Bare.{bare};
+ghost use Rattle.records.specs.Refusal.{refusal, too-deep};
 
 // A record of a part: its place and kind, the rule and the number of parts that the kind gives, its body and the place after
 // it. Of a use, `a` is the id, `b` its standing, and the parts are its arguments; of a new, `a` is the id and `b` the data; of
@@ -27,34 +40,26 @@ pub struct Record {
 
 pub enum Head {
     Good { record: Record },
-    Bad { number: u8, place: usize },
+    Refused(Refusal),
 }
+
+// Where the ranges of bytes end: types, truths, operators, ids, any bytes, the data of a new.
+const TYPES: u16 = 5;
+
+const TRUTHS: u16 = 2;
+
+const OPERATORS: u16 = 9;
+
+const IDS: u16 = 255;
+
+const BYTES: u16 = 256;
+
+const DATA: u16 = 3;
 
 // A byte in its range, or a refusal.
 pub enum Byte {
     Is { byte: u8 },
-    Not { number: u8, place: usize },
-}
-
-// The byte at a place, 0 past the end.
-pub fn byte_at(s: &[u8], at: usize) -> u8
-    ensures { λ r. ⌜ r ≡ getD (now (s .entry)) at 0 ⌝ }
-{
-    if at < s.len() { s[at] } else { 0 }
-}
-
-// The word at a place, 0 past the end.
-pub(crate) fn word_at(t: &[u16], at: usize) -> u16
-    ensures { λ r. ⌜ r ≡ getD (now (t .entry)) at 0 ⌝ }
-{
-    if at < t.len() { t[at] } else { 0 }
-}
-
-// The standing of an id, 0 for 255.
-pub fn standing_of(st: &[u16; 255], id: u8) -> u16
-    ensures { λ r. ⌜ r ≡ getD (now (st .entry)) id 0 ⌝ }
-{
-    word_at(st, id as usize)
+    Refused(Refusal),
 }
 
 // The byte at `at`, which must be below `limit`.
@@ -62,17 +67,11 @@ pub(crate) fn byte_below(s: &[u8], at: usize, limit: u16) -> Byte
     ensures { λ r. ⌜ r ≡ byteOf (now (s .entry)) at limit ⌝ }
 {
     if s.len() <= at {
-        return Byte::Not {
-            number: 2,
-            place: s.len(),
-        };
+        return Byte::Refused(refuse(CUT_SHORT, s.len()));
     }
     let b = s[at];
     if limit <= b as u16 {
-        return Byte::Not {
-            number: 3,
-            place: at,
-        };
+        return Byte::Refused(refuse(OUT_OF_RANGE, at));
     }
     Byte::Is { byte: b }
 }
@@ -101,7 +100,7 @@ pub(crate) fn limited_body(s: &[u8], r: Record, limit: u16) -> Head
     let at = r.place + 1;
     let found = byte_below(s, at, limit);
     match found {
-        Byte::Not { number, place } => Head::Bad { number, place },
+        Byte::Refused(refusal) => Head::Refused(refusal),
         Byte::Is { byte } => Head::Good {
             record: with_body(r, byte, 0),
         },
@@ -114,19 +113,16 @@ pub(crate) fn constant_body(s: &[u8], n: Numbers, r: Record) -> Head
     ensures { λ x. ⌜ x ≡ constant (now (s .entry)) n r ⌝ }
 {
     let at = r.place + 1;
-    let found = byte_below(s, at, 256);
+    let found = byte_below(s, at, BYTES);
     match found {
-        Byte::Not { number, place } => Head::Bad { number, place },
+        Byte::Refused(refusal) => Head::Refused(refusal),
         Byte::Is { byte } => {
             if language::number::in_range(n, byte) {
                 return Head::Good {
                     record: with_body(r, byte, 0),
                 };
             }
-            Head::Bad {
-                number: 3,
-                place: at,
-            }
+            Head::Refused(refuse(OUT_OF_RANGE, at))
         }
     }
 }
@@ -165,22 +161,16 @@ pub(crate) fn use_body(s: &[u8], st: &[u16; 255], r: Record) -> Head
     ensures { λ x. ⌜ x ≡ useOf (now (s .entry)) (now (st .entry)) r ⌝ }
 {
     let at = r.place + 1;
-    let found = byte_below(s, at, 255);
+    let found = byte_below(s, at, IDS);
     match found {
-        Byte::Not { number, place } => Head::Bad { number, place },
+        Byte::Refused(refusal) => Head::Refused(refusal),
         Byte::Is { byte } => {
             let c = standing_of(st, byte);
-            if c == 0 {
-                return Head::Bad {
-                    number: 5,
-                    place: at,
-                };
+            if c == FREE {
+                return Head::Refused(refuse(ID_UNKNOWN, at));
             }
-            if c == 1 {
-                return Head::Bad {
-                    number: 6,
-                    place: at,
-                };
+            if c == RETIRED {
+                return Head::Refused(refuse(ID_RETIRED, at));
             }
             Head::Good {
                 record: used_record(s, r, byte, c),
@@ -195,15 +185,12 @@ pub(crate) fn data_body(s: &[u8], r: Record, id: u8) -> Head
     ensures { λ x. ⌜ x ≡ dataByte (now (s .entry)) r id ⌝ }
 {
     let data_at = r.place + 2;
-    let found = byte_below(s, data_at, 3);
+    let found = byte_below(s, data_at, DATA);
     match found {
-        Byte::Not { number, place } => Head::Bad { number, place },
+        Byte::Refused(refusal) => Head::Refused(refusal),
         Byte::Is { byte } => {
             if byte == 0 {
-                return Head::Bad {
-                    number: 3,
-                    place: data_at,
-                };
+                return Head::Refused(refuse(OUT_OF_RANGE, data_at));
             }
             Head::Good {
                 record: with_body(r, id, byte as u16),
@@ -218,24 +205,18 @@ pub(crate) fn new_body(s: &[u8], st: &[u16; 255], r: Record) -> Head
     ensures { λ x. ⌜ x ≡ newOf (now (s .entry)) (now (st .entry)) r ⌝ }
 {
     let id_at = r.place + 1;
-    let found = byte_below(s, id_at, 255);
+    let found = byte_below(s, id_at, IDS);
     match found {
-        Byte::Not { number, place } => Head::Bad { number, place },
+        Byte::Refused(refusal) => Head::Refused(refusal),
         Byte::Is { byte } => {
             let standing = standing_of(st, byte);
-            if standing == 1 {
-                return Head::Bad {
-                    number: 4,
-                    place: id_at,
-                };
+            if standing == RETIRED {
+                return Head::Refused(refuse(ID_TAKEN, id_at));
             }
             if crate::standing::is_variable(standing) {
                 return data_body(s, r, byte);
             }
-            Head::Bad {
-                number: 4,
-                place: id_at,
-            }
+            Head::Refused(refuse(ID_TAKEN, id_at))
         }
     }
 }
@@ -247,12 +228,12 @@ pub(crate) fn body_at(rule: Rule, s: &[u8], st: &[u16; 255], n: Numbers, r: Reco
 {
     match rule {
         Rule::Skip => Head::Good { record: r },
-        Rule::Diverge => limited_body(s, r, 5),
-        Rule::Truth => limited_body(s, r, 2),
+        Rule::Diverge => limited_body(s, r, TYPES),
+        Rule::Truth => limited_body(s, r, TRUTHS),
         Rule::Number => constant_body(s, n, r),
         Rule::Use => use_body(s, st, r),
         Rule::Fetch => Head::Good { record: r },
-        Rule::Operate => limited_body(s, r, 9),
+        Rule::Operate => limited_body(s, r, OPERATORS),
         Rule::Assign => Head::Good { record: r },
         Rule::Sequence => Head::Good { record: r },
         Rule::If => Head::Good { record: r },
@@ -294,17 +275,18 @@ pub fn bare_record(place: usize, rule: Rule, a: u8, b: u16) -> Record
 
 // The number of the refusal of a kind where no depth is left: range comes before depth.
 fn deep_number(shape: Shape) -> u8
-    ensures { λ r. ⌜ ((at : ℕ) → Head.Bad r at ≡ onShape shape at (λ body parts rule. Head.Bad 8 at)) ⌝ }
+    ensures { λ r. ⌜ ((at : ℕ) → Head.Refused (refusal r at)
+        ≡ headOfShape shape at (λ body parts rule. Head.Refused (refusal too-deep at))) ⌝ }
 {
     match shape {
-        Shape::Unknown => 3,
-        Shape::Declare { body: _ } => 3,
-        Shape::Retire { body: _ } => 3,
+        Shape::Unknown => OUT_OF_RANGE,
+        Shape::Declare { body: _ } => OUT_OF_RANGE,
+        Shape::Retire { body: _ } => OUT_OF_RANGE,
         Shape::Part {
             body: _,
             parts: _,
             rule: _,
-        } => 8,
+        } => TOO_DEEP,
     }
 }
 
@@ -313,16 +295,10 @@ fn too_deep(s: &[u8], at: usize) -> Head
     ensures { λ x. ⌜ ((st : List ℕ) (N : Numbers) → x ≡ headOf (now (s .entry)) st N 0 at) ⌝ }
 {
     if s.len() <= at {
-        return Head::Bad {
-            number: 2,
-            place: s.len(),
-        };
+        return Head::Refused(refuse(CUT_SHORT, s.len()));
     }
     let shape = shape_of(s[at]);
-    Head::Bad {
-        number: deep_number(shape),
-        place: at,
-    }
+    Head::Refused(refuse(deep_number(shape), at))
 }
 
 // The record of the part at a place, with `left` levels of depth left. No depth is a case of its own, so that nothing is
@@ -335,26 +311,14 @@ pub fn head_at(s: &[u8], st: &[u16; 255], n: Numbers, left: u8, at: usize) -> He
         return too_deep(s, at);
     }
     if s.len() <= at {
-        return Head::Bad {
-            number: 2,
-            place: s.len(),
-        };
+        return Head::Refused(refuse(CUT_SHORT, s.len()));
     }
     let kind = s[at];
     let shape = shape_of(kind);
     match shape {
-        Shape::Unknown => Head::Bad {
-            number: 3,
-            place: at,
-        },
-        Shape::Declare { body: _ } => Head::Bad {
-            number: 3,
-            place: at,
-        },
-        Shape::Retire { body: _ } => Head::Bad {
-            number: 3,
-            place: at,
-        },
+        Shape::Unknown => Head::Refused(refuse(OUT_OF_RANGE, at)),
+        Shape::Declare { body: _ } => Head::Refused(refuse(OUT_OF_RANGE, at)),
+        Shape::Retire { body: _ } => Head::Refused(refuse(OUT_OF_RANGE, at)),
         Shape::Part { body, parts, rule } => body_at(
             rule,
             s,

@@ -2,6 +2,35 @@
 ghost use mathlib.Core.Path.{_≡_};
 ghost use Rattle.records.specs.Kind.{shapeOf};
 
+// The kinds of records.
+pub const DECLARE: u8 = 1;
+
+pub const RETIRE: u8 = 2;
+
+pub const SKIP: u8 = 16;
+
+pub const DIVERGE: u8 = 17;
+
+pub const TRUTH: u8 = 18;
+
+pub const NUMBER: u8 = 19;
+
+pub const USE: u8 = 20;
+
+pub const FETCH: u8 = 21;
+
+pub const OPERATE: u8 = 22;
+
+pub const ASSIGN: u8 = 23;
+
+pub const SEQUENCE: u8 = 24;
+
+pub const IF: u8 = 25;
+
+pub const WHILE: u8 = 26;
+
+pub const NEW: u8 = 27;
+
 // What a part of a term is: how its body is judged, its parts typed and its weight reckoned.
 pub enum Rule {
     Skip,
@@ -26,72 +55,32 @@ pub enum Shape {
     Unknown,
 }
 
+// The shape of a part of a term.
+fn part(body: u8, parts: u8, rule: Rule) -> Shape
+    ensures { λ r. ⌜ r ≡ Shape.Part body parts rule ⌝ }
+{
+    Shape::Part { body, parts, rule }
+}
+
+// The decision over the kind byte.
 pub fn shape_of(kind: u8) -> Shape
     ensures { λ r. ⌜ r ≡ shapeOf kind ⌝ }
 {
     match kind {
         0 | 3..=15 | 28..=255 => Shape::Unknown,
-        1 => Shape::Declare { body: 7 },
-        2 => Shape::Retire { body: 1 },
-        16 => Shape::Part {
-            body: 0,
-            parts: 0,
-            rule: Rule::Skip,
-        },
-        17 => Shape::Part {
-            body: 1,
-            parts: 0,
-            rule: Rule::Diverge,
-        },
-        18 => Shape::Part {
-            body: 1,
-            parts: 0,
-            rule: Rule::Truth,
-        },
-        19 => Shape::Part {
-            body: 1,
-            parts: 0,
-            rule: Rule::Number,
-        },
-        20 => Shape::Part {
-            body: 1,
-            parts: 0,
-            rule: Rule::Use,
-        },
-        21 => Shape::Part {
-            body: 0,
-            parts: 1,
-            rule: Rule::Fetch,
-        },
-        22 => Shape::Part {
-            body: 1,
-            parts: 2,
-            rule: Rule::Operate,
-        },
-        23 => Shape::Part {
-            body: 0,
-            parts: 2,
-            rule: Rule::Assign,
-        },
-        24 => Shape::Part {
-            body: 0,
-            parts: 2,
-            rule: Rule::Sequence,
-        },
-        25 => Shape::Part {
-            body: 0,
-            parts: 3,
-            rule: Rule::If,
-        },
-        26 => Shape::Part {
-            body: 0,
-            parts: 2,
-            rule: Rule::While,
-        },
-        27 => Shape::Part {
-            body: 2,
-            parts: 1,
-            rule: Rule::New,
-        },
+        DECLARE => Shape::Declare { body: 7 },
+        RETIRE => Shape::Retire { body: 1 },
+        SKIP => part(0, 0, Rule::Skip),
+        DIVERGE => part(1, 0, Rule::Diverge),
+        TRUTH => part(1, 0, Rule::Truth),
+        NUMBER => part(1, 0, Rule::Number),
+        USE => part(1, 0, Rule::Use),
+        FETCH => part(0, 1, Rule::Fetch),
+        OPERATE => part(1, 2, Rule::Operate),
+        ASSIGN => part(0, 2, Rule::Assign),
+        SEQUENCE => part(0, 2, Rule::Sequence),
+        IF => part(0, 3, Rule::If),
+        WHILE => part(0, 2, Rule::While),
+        NEW => part(2, 1, Rule::New),
     }
 }

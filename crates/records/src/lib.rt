@@ -2,6 +2,8 @@
 // they leave in the table of parts.
 pub mod head;
 pub mod kind;
+pub mod read;
+pub mod refusal;
 pub mod row;
 pub mod scope;
 pub mod standing;

@@ -3,12 +3,47 @@ use crate::head::Record;
 use crate::kind::Rule;
 use crate::standing::is_variable;
 use crate::standing::level_of;
+use crate::typing::COMMAND;
+use crate::typing::TRUTH_VARIABLE;
+use crate::weight::HELD;
 use crate::weight::values_of;
 use language::Numbers;
 ghost use mathlib.Core.Path.{_≡_};
 ghost use Prim.Native.Nat.{_+_, _≤_, _<_, min};
 ghost use lib.ListN.{set, length};
-ghost use Rattle.records.specs.Row.{cell, rowKind, classOf, useDetail, detail, fiveFrom, five, written, linked};
+ghost use Rattle.records.specs.Row.{cell, rowKind, classOf, useDetail, detail, fiveFrom, five, rowWritten, linked};
+
+// The words of a row: the kind of the part, its weight, the class of its type and the number of values of its data, a
+// detail by its kind, and the places of its parts.
+pub const KIND: usize = 0;
+
+pub const WEIGHT: usize = 1;
+
+pub const CLASS: usize = 2;
+
+pub const VALUES: usize = 3;
+
+pub const DETAIL: usize = 4;
+
+pub const PARTS: usize = 5;
+
+// How many they are.
+pub const WORDS: usize = 9;
+
+// The kinds of rows that are no kinds of records: of every constant, and of the use of a private variable.
+const CONSTANT: u16 = 18;
+
+const PRIVATE: u16 = 128;
+
+// The classes of types.
+const COMMANDS: u16 = 0;
+
+const EXPRESSIONS: u16 = 1;
+
+const VARIABLES: u16 = 2;
+
+// Where a weight is held, as a word.
+const HELD_WORD: u16 = 4097;
 
 // Stores v at i, if the table reaches that far.
 pub fn put(t: &mut [u16], i: usize, v: u16)
@@ -24,7 +59,7 @@ pub(crate) fn cell_at(place: usize, i: usize) -> usize
     requires { ⌜ (place < 65536) × (i < 65536) ⌝ }
     ensures { λ r. ⌜ r ≡ cell place i ⌝ }
 {
-    9 * place + i
+    WORDS * place + i
 }
 
 // Stores v in word i of the row at a place, if the table reaches that far.
@@ -45,8 +80,8 @@ pub(crate) fn row_kind(rule: Rule, r: Record) -> u16
         Rule::Skip => kind,
         Rule::Diverge => kind,
         Rule::Truth => kind,
-        Rule::Number => 18,
-        Rule::Use => if is_variable(r.b) { 128 } else { kind },
+        Rule::Number => CONSTANT,
+        Rule::Use => if is_variable(r.b) { PRIVATE } else { kind },
         Rule::Fetch => kind,
         Rule::Operate => kind,
         Rule::Assign => kind,
@@ -57,14 +92,18 @@ pub(crate) fn row_kind(rule: Rule, r: Record) -> u16
     }
 }
 
-// The class of a type: 0 command, 1 expression, 2 variable.
+// The class of a type.
 pub(crate) fn class_of(ty: u8) -> u16
     ensures { λ r. ⌜ r ≡ classOf ty ⌝ }
 {
-    if ty == 0 {
-        return 0;
+    if ty == COMMAND {
+        return COMMANDS;
     }
-    if ty < 3 { 1 } else { 2 }
+    if ty < TRUTH_VARIABLE {
+        EXPRESSIONS
+    } else {
+        VARIABLES
+    }
 }
 
 // The detail of a use: of a private variable its level, of a name its id and 256 times the number of its arguments.
@@ -102,8 +141,8 @@ pub(crate) fn detail_of(rule: Rule, n: Numbers, r: Record) -> u16
 pub(crate) fn held(weight: u32) -> u16
     ensures { λ r. ⌜ r ≡ min weight 4097 ⌝ }
 {
-    if 4097 <= weight {
-        return 4097;
+    if HELD <= weight {
+        return HELD_WORD;
     }
     weight as u16
 }
@@ -114,10 +153,10 @@ fn put_words(t: &mut [u16], at: usize, kind: u16, held: u16, class: u16, values:
     ensures { λ x. ⌜ now (t .exit) ≡ fiveFrom at kind held class values detail (now (t .entry)) ⌝ }
 {
     t[at] = kind;
-    t[at + 1] = held;
-    t[at + 2] = class;
-    t[at + 3] = values;
-    t[at + 4] = detail;
+    t[at + WEIGHT] = held;
+    t[at + CLASS] = class;
+    t[at + VALUES] = values;
+    t[at + DETAIL] = detail;
 }
 
 // Stores those of the five words that the table reaches.
@@ -125,11 +164,11 @@ fn put_each(t: &mut [u16], place: usize, kind: u16, held: u16, class: u16, value
     requires { ⌜ place < 65536 ⌝ }
     ensures { λ x. ⌜ now (t .exit) ≡ five place kind held class values detail (now (t .entry)) ⌝ }
 {
-    put_cell(t, place, 0, kind);
-    put_cell(t, place, 1, held);
-    put_cell(t, place, 2, class);
-    put_cell(t, place, 3, values);
-    put_cell(t, place, 4, detail);
+    put_cell(t, place, KIND, kind);
+    put_cell(t, place, WEIGHT, held);
+    put_cell(t, place, CLASS, class);
+    put_cell(t, place, VALUES, values);
+    put_cell(t, place, DETAIL, detail);
 }
 
 // Stores the first five words of the row at a place: with one test where the table has them all.
@@ -137,8 +176,8 @@ fn put_five(t: &mut [u16], place: usize, kind: u16, held: u16, class: u16, value
     requires { ⌜ place < 65536 ⌝ }
     ensures { λ x. ⌜ now (t .exit) ≡ five place kind held class values detail (now (t .entry)) ⌝ }
 {
-    if cell_at(place, 4) < t.len() {
-        put_words(t, cell_at(place, 0), kind, held, class, values, detail);
+    if cell_at(place, DETAIL) < t.len() {
+        put_words(t, cell_at(place, KIND), kind, held, class, values, detail);
         return;
     }
     put_each(t, place, kind, held, class, values, detail);
@@ -147,7 +186,7 @@ fn put_five(t: &mut [u16], place: usize, kind: u16, held: u16, class: u16, value
 // Writes the row of a record of type ty and the given weight, but for the places of its parts.
 pub fn write_row(t: &mut [u16], n: Numbers, r: Record, ty: u8, weight: u32)
     requires { ⌜ r .place < 65536 ⌝ }
-    ensures { λ x. ⌜ now (t .exit) ≡ written n r ty weight (now (t .entry)) ⌝ }
+    ensures { λ x. ⌜ now (t .exit) ≡ rowWritten n r ty weight (now (t .entry)) ⌝ }
 {
     let rule = r.rule;
     let place = r.place;
@@ -164,5 +203,5 @@ pub fn link(t: &mut [u16], place: usize, j: u8, part: usize)
     requires { ⌜ (place < 65536) × (part < 65536) ⌝ }
     ensures { λ x. ⌜ now (t .exit) ≡ linked place j part (now (t .entry)) ⌝ }
 {
-    put_cell(t, place, 5 + j as usize, part as u16);
+    put_cell(t, place, PARTS + j as usize, part as u16);
 }

@@ -1,13 +1,20 @@
-// The standing of an id: 0 free, 1 retired, below 256 the variable of an enclosing new, else declared.
+// The standing of an id: free, retired, the variable of an enclosing new, or declared.
 ghost use mathlib.Core.Path.{_≡_};
 ghost use Prim.Native.Nat.{_+_, _≤_, _<_};
-ghost use Rattle.records.specs.Standing.{isVariable, variableStanding, levelOf, dataOf, declaredStanding, recordOf};
+ghost use Rattle.records.specs.Standing.{isVariable, variableStanding, levelOf, dataOf, declaredStanding, declaredAt};
+
+pub const FREE: u16 = 0;
+
+pub const RETIRED: u16 = 1;
+
+// The first standing of a declared id; those below are of variables.
+pub const DECLARED: u16 = 256;
 
 // Of an id that is neither free nor retired: whether it is an enclosing variable.
 pub(crate) fn is_variable(c: u16) -> bool
     ensures { λ r. ⌜ r ≡ isVariable c ⌝ }
 {
-    if c < 256 { true } else { false }
+    c < DECLARED
 }
 
 // The variable of a new that `level` news enclose; it holds truths, 1, or numbers, 2.
@@ -38,15 +45,15 @@ pub fn declared_standing(p: usize) -> u16
     requires { ⌜ p ≤ 4096 ⌝ }
     ensures { λ r. ⌜ r ≡ declaredStanding p ⌝ }
 {
-    256 + p as u16
+    DECLARED + p as u16
 }
 
 // The place of the record that declares the id.
 pub(crate) fn record_of(c: u16) -> usize
-    ensures { λ r. ⌜ (r ≡ recordOf c) × (r < 65536) ⌝ }
+    ensures { λ r. ⌜ (r ≡ declaredAt c) × (r < 65536) ⌝ }
 {
-    if c < 256 {
+    if c < DECLARED {
         return 0;
     }
-    (c - 256) as usize
+    (c - DECLARED) as usize
 }

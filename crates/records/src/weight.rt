@@ -1,23 +1,30 @@
 // Numbers of values, questions and answers, and weights held at 4,097, so that no sum or product wraps.
 use crate::head::Record;
 use crate::kind::Rule;
+use crate::typing::COMMAND;
+use crate::typing::TRUTH_VARIABLE;
 use language::Numbers;
 ghost use mathlib.Core.Path.{_≡_};
 ghost use Prim.Native.Nat.{_+_, _*_, _≤_, _<_, min};
 ghost use Rattle.records.specs.Rule.{values, questions, answers, factor, extra, own};
 
+// The greatest size of a sheet, and where weights and sizes are held.
+pub const LIMIT: u32 = 4096;
+
+pub const HELD: u32 = 4097;
+
 // a + b, held at 4,097.
 pub fn sat_add(a: u32, b: u32) -> u32
     ensures { λ r. ⌜ r ≡ min (a + b) 4097 ⌝ }
 {
-    if 4097 <= a {
-        return 4097;
+    if HELD <= a {
+        return HELD;
     }
-    if 4097 <= b {
-        return 4097;
+    if HELD <= b {
+        return HELD;
     }
     let c = a + b;
-    if 4097 <= c { 4097 } else { c }
+    if HELD <= c { HELD } else { c }
 }
 
 // a * b, held at 4,097.
@@ -30,14 +37,14 @@ pub fn sat_mul(a: u32, b: u32) -> u32
     if b == 0 {
         return 0;
     }
-    if 4096 < a {
-        return 4097;
+    if LIMIT < a {
+        return HELD;
     }
-    if 4096 < b {
-        return 4097;
+    if LIMIT < b {
+        return HELD;
     }
     let c = a * b;
-    if 4097 <= c { 4097 } else { c }
+    if HELD <= c { HELD } else { c }
 }
 
 // The number of values of a type's data.
@@ -55,7 +62,7 @@ pub(crate) fn values_of(n: Numbers, ty: u16) -> u16
 pub fn questions_of(n: Numbers, ty: u8) -> u32
     ensures { λ r. ⌜ r ≡ questions n ty ⌝ }
 {
-    if ty < 3 {
+    if ty < TRUTH_VARIABLE {
         return 1;
     }
     1 + values_of(n, ty as u16) as u32
@@ -65,10 +72,10 @@ pub fn questions_of(n: Numbers, ty: u8) -> u32
 pub fn answers_of(n: Numbers, ty: u8) -> u32
     ensures { λ r. ⌜ r ≡ answers n ty ⌝ }
 {
-    if ty == 0 {
+    if ty == COMMAND {
         return 1;
     }
-    if ty < 3 {
+    if ty < TRUTH_VARIABLE {
         return values_of(n, ty as u16) as u32;
     }
     2 * (values_of(n, ty as u16) as u32)

@@ -3,6 +3,26 @@ use libc::STDOUT_FILENO;
 use sheet::check::Checked;
 use sheet::check::check;
 
+// Which sheet an answer names; any other number stands for both.
+const OLD: u8 = 0;
+
+const NEW: u8 = 1;
+
+// Writes the name of the sheet that an answer names.
+fn name(sheet: u8) {
+    match sheet {
+        OLD => {
+            io::write_all(STDOUT_FILENO, b" old ");
+        }
+        NEW => {
+            io::write_all(STDOUT_FILENO, b" new ");
+        }
+        _ => {
+            io::write_all(STDOUT_FILENO, b" both ");
+        }
+    }
+}
+
 // Writes the answer to a sheet as one line.
 fn show(s: &[u8]) {
     let r = check(s);
@@ -15,12 +35,12 @@ fn show(s: &[u8]) {
         }
         Checked::Refused {
             number,
-            sheet: _,
+            sheet,
             place,
         } => {
             io::write_all(STDOUT_FILENO, b"refused ");
             io::print_decimal(STDOUT_FILENO, number as u64);
-            io::write_all(STDOUT_FILENO, b" old ");
+            name(sheet);
             io::print_decimal(STDOUT_FILENO, place as u64);
         }
     }

@@ -1,7 +1,7 @@
 // The lines, written at a cursor: each function answers the place after what it has written.
 use crate::write::decimal;
 use crate::write::text;
-use records::head::byte_at;
+use records::read::byte_at;
 use sheet::check::Checked;
 use sheet::check::check;
 ghost use mathlib.Core.Path.{_≡_};

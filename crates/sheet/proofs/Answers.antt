@@ -5,11 +5,11 @@ use mathlib.Core.Bool.{Bool, true, false}
 use mathlib.Core.List.{List}
 use Rattle.language.specs.Choice.{pick}
 use Rattle.language.specs.declared.Numbers.{Numbers}
-use Rattle.records.specs.Rule.{accepts, typeOf, factor, extra, own}
+use Rattle.records.specs.Rule.{acceptsPart, partType, factor, extra, own}
 use Rattle.records.specs.declared.head.Record.{Record}
 use Rattle.records.specs.declared.head.Head.{Head}
-use Rattle.records.specs.declared.head.Head.the-variants.{Good as Headed, Bad as Unheaded}
-use Rattle.sheet.specs.Reader.{Tree, node, Trees, branch, Answer, got, refused, bind, onHead, partsOf, recordOf}
+use Rattle.records.specs.declared.head.Head.the-variants.{Good as Headed, Refused as Unheaded}
+use Rattle.sheet.specs.Reader.{Tree, node, Trees, branch, Answer, got, refused, bind, onHead, partsOf, readRecord}
 
 -- P of what was read, nothing of a refusal
 pub data All {X : Type 0} (P : X → ℕ → ℕ → ℕ → Type 0) : Answer X → Type 0 where
@@ -53,26 +53,26 @@ bind-all P Q x k none′ f = none′
 -- the same of a head
 unfoldable pub HeadAll : (Record → Type 0) → Head → Type 0
 HeadAll P (Headed r) = P r
-HeadAll P (Unheaded n p) = Unit
+HeadAll P (Unheaded x) = Unit
 
 pub head-all :
     {X : Type 0} (P : Record → Type 0) (Q : X → ℕ → ℕ → ℕ → Type 0) (h : Head) (k : Record → Answer X) →
     HeadAll P h → ((r : Record) → P r → All Q (k r)) → All Q (onHead h k)
 unfolding onHead HeadAll
 head-all P Q (Headed r) k p f = f r p
-head-all P Q (Unheaded n q) k p f = none′
+head-all P Q (Unheaded x) k p f = none′
 
 pub head-refused :
     {X : Type 0} (Q : X → ℕ → ℕ → ℕ → Type 0) (h : Head) (n p : ℕ) → All Q (onHead h (λ r. refused n p))
 unfolding onHead
 head-refused Q (Headed r) n p = none′
-head-refused Q (Unheaded a b) n p = none′
+head-refused Q (Unheaded x) n p = none′
 
 -- the parts of a record: each of them has R of its place
 module _ (R : ℕ → Tree → ℕ → ℕ → ℕ → Type 0) (rec : ℕ → Answer Tree) (N : Numbers) (s : List ℕ) (r : Record) where
   pub parts-more :
       (Q : Trees → ℕ → ℕ → ℕ → Type 0) (n j prev at : ℕ) → All (R at) (rec at) →
-      ((t : Tree) (ty w next : ℕ) → R at t ty w next → accepts (r .rule) s r j prev ty ≡ true →
+      ((t : Tree) (ty w next : ℕ) → R at t ty w next → acceptsPart (r .rule) s r j prev ty ≡ true →
         All (λ ts last v end. Q (branch at t ts) last
           (factor (r .rule) N r j prev ty * w + extra (r .rule) N ty + v) end)
           (partsOf rec N s r n (j + 1) ty next)) →
@@ -80,15 +80,15 @@ module _ (R : ℕ → Tree → ℕ → ℕ → ℕ → Type 0) (rec : ℕ → An
   unfolding partsOf
   parts-more Q n j prev at a f =
       bind-all (R at) Q (rec at) _ a (λ t ty w next p.
-        pick-all (All Q) (accepts (r .rule) s r j prev ty)
+        pick-all (All Q) (acceptsPart (r .rule) s r j prev ty)
         (λ e. bind-all _ Q (partsOf rec N s r n (j + 1) ty next) _ (f t ty w next p e) (λ ts last v end q. one q))
         (λ e. none′))
 
   pub record-all :
       (Q : Tree → ℕ → ℕ → ℕ → Type 0) →
-      All (λ ts last v end. Q (node r (typeOf (r .rule) s r last) (own (r .rule) + v) ts) (typeOf (r .rule) s r last)
-        (own (r .rule) + v) end)
+      All (λ ts last v end. Q (node r (partType (r .rule) s r last) (own (r .rule) + v) ts)
+        (partType (r .rule) s r last) (own (r .rule) + v) end)
         (partsOf rec N s r (r .parts) 0 0 (r .next)) →
-      All Q (recordOf rec N s r)
-  unfolding recordOf
+      All Q (readRecord rec N s r)
+  unfolding readRecord
   record-all Q a = bind-all _ Q (partsOf rec N s r (r .parts) 0 0 (r .next)) _ a (λ ts last v end q. one q)

@@ -5,7 +5,7 @@ use mathlib.Core.List.{List}
 use Rattle.language.specs.Choice.{pick}
 use Rattle.language.specs.declared.Numbers.{Numbers}
 use Rattle.records.specs.Bare.{bare}
-use Rattle.records.specs.Rule.{accepts, factor, extra}
+use Rattle.records.specs.Rule.{acceptsPart, factor, extra}
 use Rattle.records.specs.declared.kind.Rule.{Rule}
 use Rattle.records.specs.declared.kind.Rule.the-variants.{Skip, Diverge, Truth, Number, Use, Fetch, Operate, Assign}
 use Rattle.records.specs.declared.kind.Rule.the-variants.{Sequence, If, While, New}
@@ -17,8 +17,9 @@ abbrev pub core : Record → Record
 core r = bare (r .place) (r .rule) (r .a) (r .b)
 
 accepts-core :
-    (R : Rule) (s : List ℕ) (r : Record) (j prev ty : ℕ) → accepts R s (core r) j prev ty ≡ accepts R s r j prev ty
-unfolding accepts bare
+    (R : Rule) (s : List ℕ) (r : Record) (j prev ty : ℕ) →
+    acceptsPart R s (core r) j prev ty ≡ acceptsPart R s r j prev ty
+unfolding acceptsPart bare
 accepts-core Skip s r j prev ty = refl
 accepts-core Diverge s r j prev ty = refl
 accepts-core Truth s r j prev ty = refl

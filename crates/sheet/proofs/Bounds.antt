@@ -8,13 +8,13 @@ use lib.ListN.{length}
 use Rattle.language.specs.Choice.{pick}
 use Rattle.language.specs.declared.Numbers.{Numbers}
 use Rattle.records.specs.Head.{headOf}
-use Rattle.records.specs.Rule.{accepts}
+use Rattle.records.specs.Rule.{acceptsPart}
 use Rattle.records.specs.Scope.{entered}
 use Rattle.records.specs.declared.head.Record.{Record}
 use Rattle.records.specs.declared.head.Head.{Head}
-use Rattle.records.specs.declared.head.Head.the-variants.{Good, Bad}
+use Rattle.records.specs.declared.head.Head.the-variants.{Good, Refused as Unheaded}
 use Rattle.records.proofs.HeadLaws.{head-good}
-use Rattle.sheet.specs.Reader.{Tree, Trees, Answer, got, refused, bind, onHead, partsOf, recordOf, isNew}
+use Rattle.sheet.specs.Reader.{Tree, Trees, Answer, got, refused, bind, onHead, partsOf, readRecord, isNew}
 use Rattle.sheet.specs.Reader.{scopedOf, readPart}
 use Rattle.sheet.specs.table.Fill.{erase, Beyond}
 use Rattle.sheet.specs.declared.part.Part.{Part}
@@ -52,15 +52,15 @@ module _ (N : Numbers) (s : List ℕ) where
   parts-next rec f r zero j prev at h = (omega arith, h)
   parts-next rec f r (suc n) j prev at h =
       next-bind (After at (length s)) (From at (length s)) (rec at) _ (f at) (λ t ty w next p.
-        next-pick (From at (length s)) (accepts (r .rule) s r j prev ty) _ _
+        next-pick (From at (length s)) (acceptsPart (r .rule) s r j prev ty) _ _
         (next-bind (From next (length s)) (From at (length s)) (partsOf rec N s r n (j + 1) ty next) _
           (parts-next rec f r n (j + 1) ty next (p .1)) (λ ts last v end q. (omega arith, q .1)))
         tt)
 
   record-next :
       (rec : ℕ → Answer Tree) → ((at : ℕ) → Next (After at (length s)) (rec at)) →
-      (r : Record) → r .next ≤ length s → Next (From (r .next) (length s)) (recordOf rec N s r)
-  unfolding recordOf Next
+      (r : Record) → r .next ≤ length s → Next (From (r .next) (length s)) (readRecord rec N s r)
+  unfolding readRecord Next
   record-next rec f r h =
       next-bind (From (r .next) (length s)) (From (r .next) (length s)) (partsOf rec N s r (r .parts) 0 0 (r .next)) _
         (parts-next rec f r (r .parts) 0 0 (r .next) h) (λ ts last v end q. q)
@@ -78,7 +78,7 @@ module _ (N : Numbers) (s : List ℕ) where
         (onHead h k)
   unfolding onHead Next
   headed at (Good r) k f = f r refl
-  headed at (Bad n p) k f = tt
+  headed at (Unheaded x) k f = tt
 
   scoped-next :
       (rec : List ℕ → ℕ → ℕ → Answer Tree) → ((st : List ℕ) (level at : ℕ) → Whole at (rec st level at)) →
@@ -87,9 +87,9 @@ module _ (N : Numbers) (s : List ℕ) where
   unfolding scopedOf
   scoped-next rec f st level at r h k =
       next-pick (After at (length s)) (isNew (r .rule)) _ _
-      (later at (r .next) h (recordOf (rec (entered st r level) (level + 1)) N s r)
+      (later at (r .next) h (readRecord (rec (entered st r level) (level + 1)) N s r)
         (record-next _ (f (entered st r level) (level + 1)) r k))
-      (later at (r .next) h (recordOf (rec st level) N s r) (record-next _ (f st level) r k))
+      (later at (r .next) h (readRecord (rec st level) N s r) (record-next _ (f st level) r k))
 
   part-next : (left : ℕ) (st : List ℕ) (level at : ℕ) → Whole at (readPart left N s st level at)
   unfolding readPart Next

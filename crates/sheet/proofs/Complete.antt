@@ -15,7 +15,7 @@ use Rattle.language.specs.declared.Numbers.{Numbers}
 use Rattle.records.specs.Standing.{variableStanding, declaredStanding}
 use Rattle.records.specs.Standing as standing
 use Rattle.records.specs.Scope.{entered}
-use Rattle.records.specs.Rule.{values, questions, answers, operandType, accepts, typeOf, factor, extra, own}
+use Rattle.records.specs.Rule.{values, questions, answers, operandType, acceptsPart, partType, factor, extra, own}
 use Rattle.records.specs.declared.kind.Rule.the-variants.{Use, Fetch, Operate, Assign, Sequence, If, While, New}
 use Rattle.records.specs.declared.head.Record.{Record}
 use Rattle.sheet.specs.Written.{Written, Writtens, none, more, skip, diverge, truth, number, call, fetch}
@@ -26,7 +26,7 @@ use Rattle.sheet.specs.Meaning.{Block, Meaning, private, named, retired,
 use Rattle.sheet.specs.Meaning.{typed}
 use Rattle.sheet.specs.Meaning.{byMeaning, resolve, resolveArgs}
 use Rattle.sheet.specs.Fine.{depth, depths, FineUse, Fine, FineArgs}
-use Rattle.sheet.specs.Reader.{Tree, node, Trees, leaf, branch, Answer, got, bind, onHead, partsOf, recordOf}
+use Rattle.sheet.specs.Reader.{Tree, node, Trees, leaf, branch, Answer, got, bind, onHead, partsOf, readRecord}
 use Rattle.sheet.specs.Reader.{isNew, scopedOf, readPart, build, first, rest, written, writtens}
 use Rattle.sheet.proofs.Parsed.{Byte}
 use Rattle.sheet.proofs.Standings.{Variable, Naming, Agrees, Matches, matches-entered, new-standing}
@@ -52,7 +52,7 @@ pub record ReadArgs (A : Answer Trees) (ws : Writtens) (v next : ℕ) : Type 0 w
 module _ (rec : ℕ → Answer Tree) (N : Numbers) (s : List ℕ) (r : Record) where
   part-step :
       (n j prev p : ℕ) {t : Tree} {ts : Trees} {ty w next last v end : ℕ} → rec p ≡ got t ty w next →
-      accepts (r .rule) s r j prev ty ≡ true → partsOf rec N s r n (j + 1) ty next ≡ got ts last v end →
+      acceptsPart (r .rule) s r j prev ty ≡ true → partsOf rec N s r n (j + 1) ty next ≡ got ts last v end →
       partsOf rec N s r (suc n) j prev p
         ≡ got (branch p t ts) last (factor (r .rule) N r j prev ty * w + extra (r .rule) N ty + v) end
   unfolding partsOf bind
@@ -60,10 +60,10 @@ module _ (rec : ℕ → Answer Tree) (N : Numbers) (s : List ℕ) (r : Record) w
 
   record-step :
       {ts : Trees} {last v end : ℕ} → partsOf rec N s r (r .parts) 0 0 (r .next) ≡ got ts last v end →
-      recordOf rec N s r
-        ≡ got (node r (typeOf (r .rule) s r last) (own (r .rule) + v) ts) (typeOf (r .rule) s r last)
+      readRecord rec N s r
+        ≡ got (node r (partType (r .rule) s r last) (own (r .rule) + v) ts) (partType (r .rule) s r last)
           (own (r .rule) + v) end
-  unfolding recordOf bind
+  unfolding readRecord bind
   record-step e = rw e refl
 
 reading :
@@ -87,18 +87,18 @@ module _ (N : Numbers) (s : List ℕ) (ns : List Name) (left : ℕ) (bs : List B
 
   record-read :
       {r : Record} → Heads s st N at r → isNew (r .rule) ≡ false →
-      readPart (suc left) N s st (length bs) at ≡ recordOf rec N s r
+      readPart (suc left) N s st (length bs) at ≡ readRecord rec N s r
   unfolding readPart onHead scopedOf
   record-read {r} h e = rw (head-is s st N at left r h, e) refl
 
   complete-skip : Byte s at 16 → Whole skip
-  unfolding isNew partsOf typeOf own encode typed weight resolve written writtens build
+  unfolding isNew partsOf partType own encode typed weight resolve written writtens build
   complete-skip b =
       let h = h-skip b in
       reading (record-read h refl ∙ record-step rec N s _ refl) refl refl refl (omega arith)
 
   complete-fetch : (v : Written) → Byte s at 21 → Fine N ns bs (fetch v) → Part (at + 1 + 0) v → Whole (fetch v)
-  unfolding Fine isNew partsOf accepts factor extra typeOf own encode typed weight resolve written writtens build
+  unfolding Fine isNew partsOf acceptsPart factor extra partType own encode typed weight resolve written writtens build
     first
   complete-fetch v b f p =
       let r = made s at Fetch 1 0 0 (at + 1 + 0) in
@@ -107,17 +107,17 @@ module _ (N : Numbers) (s : List ℕ) (ns : List Name) (left : ℕ) (bs : List B
       (ap (λ (x : Written). fetch x) (p .writes)) refl (omega arith) (omega arith)
 
   complete-diverge : (a : ℕ) → Byte s at 17 → Byte s (at + 1) a → a < 5 → Whole (diverge a)
-  unfolding isNew partsOf typeOf own encode typed weight resolve written writtens build
+  unfolding isNew partsOf partType own encode typed weight resolve written writtens build
   complete-diverge a b c l =
       reading (record-read (h-diverge b c l) refl ∙ record-step rec N s _ refl) refl refl refl (omega arith)
 
   complete-truth : (a : ℕ) → Byte s at 18 → Byte s (at + 1) a → a < 2 → Whole (truth a)
-  unfolding isNew partsOf typeOf own encode typed weight resolve written writtens build
+  unfolding isNew partsOf partType own encode typed weight resolve written writtens build
   complete-truth a b c l =
       reading (record-read (h-truth b c l) refl ∙ record-step rec N s _ refl) refl refl refl (omega arith)
 
   complete-number : (a : ℕ) → Byte s at 19 → Byte s (at + 1) a → a < 256 → inRange N a ≡ true → Whole (number a)
-  unfolding isNew partsOf typeOf own encode typed weight resolve written writtens build
+  unfolding isNew partsOf partType own encode typed weight resolve written writtens build
   complete-number a b c l e =
       reading (record-read (h-number b c l e) refl ∙ record-step rec N s _ refl) refl refl refl (omega arith)
 
@@ -125,7 +125,7 @@ module _ (N : Numbers) (s : List ℕ) (ns : List Name) (left : ℕ) (bs : List B
       (op : ℕ) (l r : Written) → Byte s at 22 → Byte s (at + 1) op → Fine N ns bs (operate op l r) →
       Part (at + 1 + 1) l →
       Part (at + 1 + 1 + length (encode l)) r → Whole (operate op l r)
-  unfolding Fine isNew partsOf accepts factor extra typeOf own encode typed weight resolve written writtens build
+  unfolding Fine isNew partsOf acceptsPart factor extra partType own encode typed weight resolve written writtens build
     first
     rest
   complete-operate op l r b c f p q =
@@ -142,7 +142,7 @@ module _ (N : Numbers) (s : List ℕ) (ns : List Name) (left : ℕ) (bs : List B
   complete-assign :
       (l r : Written) → Byte s at 23 → Fine N ns bs (assign l r) → Part (at + 1 + 0) l →
       Part (at + 1 + 0 + length (encode l)) r → Whole (assign l r)
-  unfolding Fine isNew partsOf accepts factor extra typeOf own encode typed weight resolve written writtens build
+  unfolding Fine isNew partsOf acceptsPart factor extra partType own encode typed weight resolve written writtens build
     first
     rest
   complete-assign l r b f p q =
@@ -157,7 +157,7 @@ module _ (N : Numbers) (s : List ℕ) (ns : List Name) (left : ℕ) (bs : List B
   complete-sequence :
       (l r : Written) → Byte s at 24 → Fine N ns bs (sequence l r) → Part (at + 1 + 0) l →
       Part (at + 1 + 0 + length (encode l)) r → Whole (sequence l r)
-  unfolding Fine isNew partsOf accepts factor extra typeOf own encode typed weight resolve written writtens build
+  unfolding Fine isNew partsOf acceptsPart factor extra partType own encode typed weight resolve written writtens build
     first
     rest
   complete-sequence l r b f p q =
@@ -172,7 +172,7 @@ module _ (N : Numbers) (s : List ℕ) (ns : List Name) (left : ℕ) (bs : List B
       (b m n : Written) → Byte s at 25 → Fine N ns bs (choose b m n) → Part (at + 1 + 0) b →
       Part (at + 1 + 0 + length (encode b)) m → Part (at + 1 + 0 + length (encode b) + length (encode m)) n →
       Whole (choose b m n)
-  unfolding Fine isNew partsOf accepts factor extra typeOf own encode typed weight resolve written writtens build
+  unfolding Fine isNew partsOf acceptsPart factor extra partType own encode typed weight resolve written writtens build
     first
     rest
   complete-choose b m n k f p q o =
@@ -190,7 +190,7 @@ module _ (N : Numbers) (s : List ℕ) (ns : List Name) (left : ℕ) (bs : List B
   complete-while :
       (l r : Written) → Byte s at 26 → Fine N ns bs (while l r) → Part (at + 1 + 0) l →
       Part (at + 1 + 0 + length (encode l)) r → Whole (while l r)
-  unfolding Fine isNew partsOf accepts factor extra typeOf own encode typed weight resolve written writtens build
+  unfolding Fine isNew partsOf acceptsPart factor extra partType own encode typed weight resolve written writtens build
     first
     rest
   complete-while l r b f p q =
@@ -209,14 +209,14 @@ module _ (N : Numbers) (s : List ℕ) (ns : List Name) (left : ℕ) (bs : List B
         (at + 1 + 2)) c
         (typed ns (record { id = a; holds = d } ∷ bs) c) (weight (resolve N ns (record { id = a; holds = d } ∷ bs) c))
         (at + 1 + 2 + length (encode c)) → Whole (new a d c)
-  unfolding Fine isNew partsOf accepts factor extra typeOf own encode typed weight resolve written writtens build
+  unfolding Fine isNew partsOf acceptsPart factor extra partType own encode typed weight resolve written writtens build
     first
     rest readPart scopedOf onHead
   complete-new a d c b b′ b″ M f p =
       let x = made s at New 1 a d (at + 1 + 2) in
       let k = new-standing M a (f .0) (f .1) in
       let rec′ = readPart left N s (entered st x (length bs)) (length bs + 1) in
-      let e : readPart (suc left) N s st (length bs) at ≡ recordOf rec′ N s x =
+      let e : readPart (suc left) N s st (length bs) at ≡ readRecord rec′ N s x =
           rw (head-is s st N at left x (h-new b b′ (f .0) (k .0) (k .1) b″ (f .2) (f .3))) refl in
       reading (e ∙ record-step rec′ N s x
         (part-step rec′ N s x 0 0 0 (at + 1 + 2) (rw (← add-one (length bs)) at (p .reads)) (eq-eqb _ 0 (f .5)) refl))
@@ -237,10 +237,10 @@ module _ (N : Numbers) (s : List ℕ) (ns : List Name) (left : ℕ) (bs : List B
 
     complete-more :
         (w : Written) (ws : Writtens) (ty : ℕ) (tys : List ℕ) (j prev p : ℕ) → typed ns bs w ≡ ty →
-        getD s (standing.recordOf c + 4 + j) 0 ≡ ty → Part p w →
+        getD s (standing.declaredAt c + 4 + j) 0 ≡ ty → Part p w →
         Args ws tys (j + 1) (typed ns bs w) (p + length (encode w)) →
         Args (more w ws) (ty ∷ tys) j prev p
-    unfolding accepts factor extra weightArgs resolveArgs encodes writtens
+    unfolding acceptsPart factor extra weightArgs resolveArgs encodes writtens
     complete-more w ws ty tys j prev p e e′ P A =
         let x = made s at Use m a c (at + 1 + 1) in
         let d = typed ns bs w in
@@ -259,7 +259,7 @@ module _ (N : Numbers) (s : List ℕ) (ns : List Name) (left : ℕ) (bs : List B
       (a : ℕ) {i h : ℕ} → Byte s at 20 → Byte s (at + 1) a → a < 255 → length bs ≤ 32 → meaning ns bs a ≡ private i h
         →
       Variable (length bs) (declared ns a) i h (getD st a 0) → Whole (call a none)
-  unfolding isNew partsOf typeOf own encode encodes typed useType weight resolve byMeaning written writtens build
+  unfolding isNew partsOf partType own encode encodes typed useType weight resolve byMeaning written writtens build
     variableStanding
   complete-private a {i} {h} b b′ l n e v =
       let d = variable-private v n in
@@ -272,7 +272,7 @@ module _ (N : Numbers) (s : List ℕ) (ns : List Name) (left : ℕ) (bs : List B
       (a : ℕ) (ws : Writtens) {ty : ℕ} {tys : List ℕ} → Byte s at 20 → Byte s (at + 1) a → a < 255 →
       meaning ns bs a ≡ named ty tys → Naming s ty tys (getD st a 0) →
       Args (length tys) a (getD st a 0) ws tys 0 0 (at + 1 + 1) → Whole (call a ws)
-  unfolding isNew partsOf typeOf own encode typed useType weight resolve byMeaning written build declaredStanding
+  unfolding isNew partsOf partType own encode typed useType weight resolve byMeaning written build declaredStanding
   complete-name a ws {ty} {tys} b b′ l e v A =
       let d = naming-declared v in
       let o = naming-place v in
@@ -311,7 +311,7 @@ module _ (N : Numbers) (s : List ℕ) (ns : List Name) where
       length bs + left ≤ 32 →
       (ws : Writtens) (tys : List ℕ) (j prev p : ℕ) (rest : List ℕ) → FineArgs N ns bs ws tys → depths ws ≤ left →
       drop p s ≡ encodes ws ++ rest →
-      ((k : ℕ) → k < length tys → getD s (standing.recordOf c + 4 + (j + k)) 0 ≡ getD tys k 0) →
+      ((k : ℕ) → k < length tys → getD s (standing.declaredAt c + 4 + (j + k)) 0 ≡ getD tys k 0) →
       Args N s ns left bs st at m a c ws tys j prev p
   unfolding FineArgs depths encodes
   complete-args left bs st at m a c R M l none [] j prev p rest f d e g =
@@ -321,12 +321,12 @@ module _ (N : Numbers) (s : List ℕ) (ns : List Name) where
   complete-args left bs st at m a c R M l (more w ws) (ty ∷ tys) j prev p rest f d e g =
       let e′ : drop p s ≡ encode w ++ (encodes ws ++ rest) = e ∙ append-assoc (encode w) (encodes ws) rest in
       complete-more N s ns left bs st at m a c w ws ty tys j prev p (f .1)
-        (ap (λ (x : ℕ). getD s (standing.recordOf c + 4 + x) 0) (sym (add-zero j)) ∙ g 0 (omega arith))
+        (ap (λ (x : ℕ). getD s (standing.declaredAt c + 4 + x) 0) (sym (add-zero j)) ∙ g 0 (omega arith))
         (R w bs st p (encodes ws ++ rest) (f .0) (omega arith) e′ M l)
         (complete-args left bs st at m a c R M l ws tys (j + 1) (typed ns bs w) (p + length (encode w)) rest (f .2)
           (omega arith)
           (past s p (encode w) (encodes ws ++ rest) e′)
-          (λ k u. ap (λ (x : ℕ). getD s (standing.recordOf c + 4 + x) 0) (shift j k) ∙ g (suc k) (omega arith)))
+          (λ k u. ap (λ (x : ℕ). getD s (standing.declaredAt c + 4 + x) 0) (shift j k) ∙ g (suc k) (omega arith)))
     where
       shift : (j k : ℕ) → j + 1 + k ≡ j + suc k
       shift j k = omega arith

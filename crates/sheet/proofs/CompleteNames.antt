@@ -20,7 +20,7 @@ use Rattle.sheet.specs.Encoding.{encode, padded, encodeName, encodeNames
 use Rattle.sheet.specs.Meaning.{typed, resolve}
 use Rattle.sheet.specs.Fine.{depth, Fine, FineNames}
 use Rattle.sheet.specs.Heading.{retireAt}
-use Rattle.sheet.specs.Reader.{Tree, Answer, got, bind, onJudged, Whole, whole, withName, onShape, nameOf}
+use Rattle.sheet.specs.Reader.{Tree, Answer, got, bind, onJudged, Whole, whole, withName, wholeOfShape, nameOf}
 use Rattle.sheet.specs.Reader.{namesStep, namesOf, written}
 use Rattle.sheet.proofs.Parsed.{Byte}
 use Rattle.sheet.proofs.Standings.{Matches, matches-declare, matches-retire}
@@ -77,7 +77,7 @@ module _ (N : Numbers) (s : List ℕ) (names : List Name) (W : Written) (fine : 
       (rec : List ℕ → ℕ → Answer Whole) (n : ℕ) (st : List ℕ) (at : ℕ) → Matches s names [] st → drop at s ≡ encode W
         →
       Rest [] (namesStep rec n N s st at) at
-  unfolding namesStep onShape bind encodeNames
+  unfolding namesStep wholeOfShape bind encodeNames
   complete-term rec n st at M e =
       let R =
           complete-part N s names 32 W [] st at [] fine shallow (e ∙ sym (append-nil (encode W))) M (omega arith) in
@@ -93,7 +93,7 @@ module _ (N : Numbers) (s : List ℕ) (names : List Name) (W : Written) (fine : 
       Declared s at id ty tys (encodeNames ns ++ encode W) → Declaration s st at → length tys < 5 →
       Rest ns (rec (set st id (declaredStanding at)) (at + 1 + 7)) (at + 1 + 7) →
       Rest (declare id ty tys ∷ ns) (namesStep rec (suc n) N s st at) at
-  unfolding namesStep onShape shapeOf nameOf onJudged bind withName encodeNames encodeName
+  unfolding namesStep wholeOfShape shapeOf nameOf onJudged bind withName encodeNames encodeName
   complete-declare rec n st at id ty tys ns D G c R =
       let ty′ = typed names [] W in
       let w = weight (resolve N names [] W) in
@@ -113,7 +113,7 @@ module _ (N : Numbers) (s : List ℕ) (names : List Name) (W : Written) (fine : 
       Byte s at 2 → Byte s (at + 1) id → id < 255 → getD st id 0 ≡ 0 →
       Rest ns (rec (set st id 1) (at + 1 + 1)) (at + 1 + 1) →
       Rest (retire id ∷ ns) (namesStep rec (suc n) N s st at) at
-  unfolding namesStep onShape shapeOf nameOf onJudged bind withName encodeNames encodeName retireAt
+  unfolding namesStep wholeOfShape shapeOf nameOf onJudged bind withName encodeNames encodeName retireAt
   complete-retire rec n st at id ns b b′ l f R =
       let ty′ = typed names [] W in
       let w = weight (resolve N names [] W) in

@@ -11,8 +11,9 @@ use lib.ListN.{length}
 use lib.Dec.{eqb, eqb·suc-zero}
 use Rattle.language.specs.Choice.{pick}
 use Rattle.language.specs.declared.Numbers.{Numbers}
+use Rattle.records.specs.declared.refusal.Refusal.{Refusal}
 use Rattle.records.specs.Head.{headOf}
-use Rattle.records.specs.Rule.{accepts, factor, extra, typeOf, own}
+use Rattle.records.specs.Rule.{acceptsPart, factor, extra, partType, own}
 use Rattle.records.specs.Row as row
 use Rattle.records.specs.declared.kind.Rule.{Rule}
 use Rattle.records.specs.declared.kind.Rule.the-variants.{Skip, Diverge, Truth, Number, Use, Fetch, Operate, Assign}
@@ -21,7 +22,7 @@ use Rattle.records.specs.declared.head.Record.{Record}
 use Rattle.records.specs.declared.head.Head.the-variants.{Good}
 use Rattle.records.proofs.RuleLaws.{new-good}
 use Rattle.sheet.specs.Reader.{Tree, node, Trees, leaf, branch, Answer, got, refused, bind, onHead, partsOf}
-use Rattle.sheet.specs.Reader.{recordOf, isNew, scopedOf, readPart}
+use Rattle.sheet.specs.Reader.{readRecord, isNew, scopedOf, readPart}
 use Rattle.sheet.specs.table.Fill.{fill, fills, erase, Leaves, Reads, Beyond, closedAnswer, closedTable}
 use Rattle.sheet.specs.declared.part.Part.{Part}
 use Rattle.sheet.specs.declared.part.Part.the-variants.{Read, Refused}
@@ -57,7 +58,7 @@ sat-part f e v u {w = w} {o} p q g r =
 -- a refusal is handed on
 pub reads-hand :
     {X Y : Type 0} {f : X → List ℕ → List ℕ} {g : Y → List ℕ → List ℕ} (A : Answer X) (k : X → ℕ → ℕ → ℕ → Answer Y)
-    {p : Part} {a b : ℕ} {t u v : List ℕ} → Reads f A p t u → p ≡ Refused a b → Reads g (bind A k) p v u
+    {p : Part} {x : Refusal} {t u v : List ℕ} → Reads f A p t u → p ≡ Refused x → Reads g (bind A k) p v u
 unfolding erase bind Leaves
 reads-hand (got x ty w next) k R e = let z : _≡_ {A = ℕ} 0 1 = cc (R .answer) in absurd (omega arith)
 reads-hand (refused n q) k R e = record { answer = R .answer; table = tt }
@@ -87,7 +88,7 @@ part-step (suc left) N s st level at = simp (sub-one, eqb·suc-zero)
 pub parts-step :
     (rec : ℕ → Answer Tree) (N : Numbers) (s : List ℕ) (r : Record) (n j prev at : ℕ) → (n ≡ 0 → ⊥) →
     partsOf rec N s r n j prev at ≡ bind (rec at) (λ t ty w next.
-      pick (accepts (r .rule) s r j prev ty)
+      pick (acceptsPart (r .rule) s r j prev ty)
       (bind (partsOf rec N s r (n - 1) (j + 1) ty next) (λ ts last v end.
         got (branch at t ts) last (factor (r .rule) N r j prev ty * w + extra (r .rule) N ty + v) end))
       (refused 7 at))
@@ -96,17 +97,17 @@ parts-step rec N s r zero j prev at h = absurd (h refl)
 parts-step rec N s r (suc n) j prev at h = simp sub-one
 
 -- the row does not change where the weight is held
-written-held : (N : Numbers) (r : Record) (ty a v : ℕ) (t : List ℕ) → row.written N r ty (a + min v 4097) t ≡
-  row.written N r ty (a + v) t
-unfolding row.written
+written-held : (N : Numbers) (r : Record) (ty a v : ℕ) (t : List ℕ) → row.rowWritten N r ty (a + min v 4097) t ≡
+  row.rowWritten N r ty (a + v) t
+unfolding row.rowWritten
 written-held N r ty a v t = rw sat-plus
 
 -- the row that is written where the answer of the parts is known
 pub closed-table :
     (N : Numbers) (s : List ℕ) (r : Record) (t : List ℕ) {parts : Part} {last w next ty sum : ℕ} {u : List ℕ} →
-    parts ≡ Read last w next → ty ≡ typeOf (r .rule) s r last → sum ≡ min (own (r .rule) + w) 4097 →
-    u ≡ row.written N r ty sum t → u ≡ closedTable N s r parts t
-unfolding closedTable row.written
+    parts ≡ Read last w next → ty ≡ partType (r .rule) s r last → sum ≡ min (own (r .rule) + w) 4097 →
+    u ≡ row.rowWritten N r ty sum t → u ≡ closedTable N s r parts t
+unfolding closedTable row.rowWritten
 closed-table N s r t {w = w} e f g h =
     let z : min (min (own (r .rule) + w) 4097) 4097 ≡ min (own (r .rule) + w) 4097 = omega arith in
     h ∙ rw (e, f, g, z)
@@ -117,7 +118,7 @@ pub closes :
     Reads (λ ts. fills N ts (r .place) 0) A parts t u → x ≡ closedAnswer s r parts → v ≡ closedTable N s r parts u →
     Reads (fill N)
       (bind A (λ ts last w end.
-        got (node r (typeOf (r .rule) s r last) (own (r .rule) + w) ts) (typeOf (r .rule) s r last)
+        got (node r (partType (r .rule) s r last) (own (r .rule) + w) ts) (partType (r .rule) s r last)
           (own (r .rule) + w) end))
       x t v
 unfolding erase bind Leaves closedAnswer closedTable fill

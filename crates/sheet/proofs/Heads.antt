@@ -11,10 +11,10 @@ use Rattle.language.specs.Choice.{pick}
 use Rattle.language.specs.Number.{inRange}
 use Rattle.language.specs.declared.Numbers.{Numbers}
 use Rattle.records.specs.Kind.{shapeOf}
-use Rattle.records.specs.Standing.{isVariable, recordOf}
+use Rattle.records.specs.Standing.{isVariable, declaredAt}
 use Rattle.records.specs.Head.{byteOf, onByte, withBody, limited, constant, used, useOf, dataByte, newOf, bodyOf}
 use Rattle.records.specs.Head.{blank}
-use Rattle.records.specs.Head.{onShape, headOf}
+use Rattle.records.specs.Head.{headOfShape, headOf}
 use Rattle.records.specs.declared.kind.Rule.{Rule}
 use Rattle.records.specs.declared.kind.Rule.the-variants.{Skip, Diverge, Truth, Number, Use, Fetch, Operate, Assign}
 use Rattle.records.specs.declared.kind.Rule.the-variants.{Sequence, If, While, New}
@@ -70,7 +70,7 @@ pub data Heads (s st : List ℕ) (N : Numbers) (at : ℕ) : Record → Type 0 wh
     Heads s st N at (made s at Number 0 a 0 (at + 1 + 1))
   h-use : {a : ℕ} → Byte s at 20 → Byte s (at + 1) a → a < 255 → (getD st a 0 ≡ 0 → ⊥) → (getD st a 0 ≡ 1 → ⊥) →
     Heads s st N at
-      (made s at Use (pick (isVariable (getD st a 0)) 0 (getD s (recordOf (getD st a 0) + 3) 0)) a (getD st a 0)
+      (made s at Use (pick (isVariable (getD st a 0)) 0 (getD s (declaredAt (getD st a 0) + 3) 0)) a (getD st a 0)
         (at + 1 + 1))
   h-fetch : Byte s at 21 → Heads s st N at (made s at Fetch 1 0 0 (at + 1 + 0))
   h-operate : {a : ℕ} → Byte s at 22 → Byte s (at + 1) a → a < 9 →
@@ -127,8 +127,8 @@ module _ (s st : List ℕ) (N : Numbers) (at : ℕ) where
   -- the body, by the kind
   body-fit :
       (x : Shape) → at < length s → Shaped (getD s at 0) x →
-      Fit (onShape x at (λ body parts rule. bodyOf rule s st N (blank at (getD s at 0) body parts rule)))
-  unfolding HeadAll onShape bodyOf limited blank withBody
+      Fit (headOfShape x at (λ body parts rule. bodyOf rule s st N (blank at (getD s at 0) body parts rule)))
+  unfolding HeadAll headOfShape bodyOf limited blank withBody
   body-fit x l (s-declare e) = tt
   body-fit x l (s-retire e) = tt
   body-fit x l (s-skip e) = h-skip (l, e)
@@ -161,7 +161,7 @@ byte-is s p limit {a} (l, e) h = rw (lt-leb (length s) p l, e, lt-leb limit a h)
 pub head-is :
     (s st : List ℕ) (N : Numbers) (at left : ℕ) (r : Record) → Heads s st N at r → headOf s st N (suc left) at ≡ Good
       r
-unfolding headOf shapeOf onShape bodyOf limited constant useOf newOf dataByte onByte withBody used blank
+unfolding headOf shapeOf headOfShape bodyOf limited constant useOf newOf dataByte onByte withBody used blank
 head-is s st N at left r (h-skip (l, e)) = rw (lt-leb (length s) at l, e, eqb·suc-zero left) refl
 head-is s st N at left r (h-diverge (l, e) b h) =
     rw (lt-leb (length s) at l, e, eqb·suc-zero left, byte-is s (at + 1) 5 b h) refl

@@ -6,22 +6,23 @@ use mathlib.Core.List.{List}
 use lib.ListN.{length, getD}
 use lib.Dec.{eqb, leb, ltb}
 use borrow.Author.Tests.{eqb-true, leb-false, ltb-true, ltb-false, lt-leb, eq-eqb}
-use Rattle.sheet.specs.Heading.{both, below, unused, fresh, argument, declareOf, retireOf}
+use Rattle.records.specs.declared.refusal.Refusal.{Refusal}
+use Rattle.sheet.specs.Heading.{andThen, below, unused, fresh, argument, declareOf, retireOf}
 use Rattle.sheet.specs.declared.heading.Judged.{Judged}
-use Rattle.sheet.specs.declared.heading.Judged.the-variants.{Good, Bad}
+use Rattle.sheet.specs.declared.heading.Judged.the-variants.{Good, Refused}
 use Rattle.sheet.proofs.Answers.{pick-all}
 
 -- P of a good judgement, nothing of a bad one
 pub data JudgedAll (P : Type 0) : Judged → Type 0 where
   good : P → JudgedAll P Good
-  bad : {n p : ℕ} → JudgedAll P (Bad n p)
+  bad : {x : Refusal} → JudgedAll P (Refused x)
 
 judged-map : {P Q : Type 0} {j : Judged} → (P → Q) → JudgedAll P j → JudgedAll Q j
 judged-map f (good p) = good (f p)
 judged-map f bad = bad
 
-both-all : {P Q : Type 0} {a b : Judged} → JudgedAll P a → (P → JudgedAll Q b) → JudgedAll Q (both a b)
-unfolding both
+both-all : {P Q : Type 0} {a b : Judged} → JudgedAll P a → (P → JudgedAll Q b) → JudgedAll Q (andThen a b)
+unfolding andThen
 both-all (good p) f = f p
 both-all bad f = bad
 
@@ -107,7 +108,7 @@ unfolding below
 below-is s p limit l h = rw (lt-leb (length s) p l, lt-leb limit (getD s p 0) h) refl
 
 fresh-is : (s st : List ℕ) (p : ℕ) → Fresh s st p → fresh s st p ≡ Good
-unfolding fresh both
+unfolding fresh andThen
 fresh-is s st p F =
     rw (below-is s p 255 (F .inside) (F .below), eq-eqb (getD st (getD s p 0) 0) 0 (F .free)) refl
 
@@ -120,7 +121,7 @@ argument-is s at j A =
       eq-eqb (getD s (at + 4 + j) 0) 255 (A .padding (ltb-false j (getD s (at + 3) 0) e))) refl)
 
 pub declare-is : (s st : List ℕ) (at : ℕ) → Declaration s st at → declareOf s st at ≡ Good
-unfolding declareOf both
+unfolding declareOf andThen
 declare-is s st at D =
     rw (fresh-is s st (at + 1) (D .id), below-is s (at + 2) 5 (D .type-inside) (D .type-known),
       below-is s (at + 3) 5 (D .count-inside) (D .few), argument-is s at 0 (D .arguments 0 (omega arith)),

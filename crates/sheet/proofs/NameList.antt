@@ -17,7 +17,7 @@ use Rattle.sheet.specs.Meaning.{Meaning, private, named, retired, free, 
 use Rattle.sheet.specs.Fine.{FineNames}
 use Rattle.sheet.specs.Heading.{declareOf, retireOf, declareAt, retireAt}
 use Rattle.sheet.specs.Reader.{Tree, Answer, got, refused, bind, onJudged, readPart, Whole, whole, withName}
-use Rattle.sheet.specs.Reader.{onShape, nameOf, namesStep, namesOf}
+use Rattle.sheet.specs.Reader.{wholeOfShape, nameOf, namesStep, namesOf}
 use Rattle.sheet.specs.declared.heading.Judged.{Judged}
 use Rattle.sheet.proofs.Parsed.{Byte, Parsed}
 use Rattle.sheet.proofs.Standings.{by-test, Agrees, Matches, matches-declare, matches-retire}
@@ -186,12 +186,12 @@ module _ (N : Numbers) (s : List ℕ) where
           (λ t ty w end p. one (names-read {ns = []} (omega arith) tt refl (λ names E. p (names, E))))
 
     reads-step : All Here (namesStep rec n N s st at)
-    unfolding namesStep onShape
+    unfolding namesStep wholeOfShape
     reads-step =
         pick-all (All Here) (leb (length s) at) (λ e. none′)
         (λ e. go (shapeOf (getD s at 0)) (leb-false (length s) at e) (shaped (getD s at 0)))
       where
-        go : (x : Shape) → at < length s → Shaped (getD s at 0) x → All Here (onShape x
+        go : (x : Shape) → at < length s → Shaped (getD s at 0) x → All Here (wholeOfShape x
           (λ body. nameOf rec n s st at body (declaredStanding at) (declareOf s st at) (declareAt s at))
           (λ body. nameOf rec n s st at body 1 (retireOf s st at) (retireAt s at))
           (bind (readPart 32 N s st 0 at) (λ t ty w end. got (whole [] at t) ty w end))

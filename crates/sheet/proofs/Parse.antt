@@ -12,7 +12,7 @@ use Rattle.language.specs.Number.{inRange}
 use Rattle.language.specs.declared.Numbers.{Numbers}
 use Rattle.records.specs.Standing.{isVariable, dataOf}
 use Rattle.records.specs.Standing as standing
-use Rattle.records.specs.Rule.{operandType, accepts, typeOf, factor, extra, own}
+use Rattle.records.specs.Rule.{operandType, acceptsPart, partType, factor, extra, own}
 use Rattle.records.specs.Head.{headOf}
 use Rattle.records.specs.declared.kind.Rule.{Rule}
 use Rattle.records.specs.declared.kind.Rule.the-variants.{Skip, Diverge, Truth, Number, Use, Fetch, Operate, Assign}
@@ -20,7 +20,7 @@ use Rattle.records.specs.declared.kind.Rule.the-variants.{Sequence, If, While, 
 use Rattle.records.specs.declared.head.Record.{Record}
 use Rattle.sheet.specs.Written.{Name}
 use Rattle.sheet.specs.Meaning.{Block, Meaning, private, named, free, declared, meaning}
-use Rattle.sheet.specs.Reader.{Tree, Trees, branch, Answer, got, partsOf, recordOf, isNew, scopedOf, readPart}
+use Rattle.sheet.specs.Reader.{Tree, Trees, branch, Answer, got, partsOf, readRecord, isNew, scopedOf, readPart}
 use Rattle.sheet.proofs.Parsed.{Byte, Stands, Parsed, p-skip, p-diverge, p-truth, p-number, p-private, p-name}
 use Rattle.sheet.proofs.Parsed.{p-fetch, p-operate, p-assign, p-sequence, p-if, p-while, p-new, ParsedArgs}
 use Rattle.sheet.proofs.Parsed.{p-none, p-more}
@@ -57,15 +57,15 @@ module _ (N : Numbers) (s : List ℕ) (ns : List Name) (left : ℕ) (bs : List B
   module _ (rec : ℕ → Answer Tree) (sub : (p : ℕ) → All (Part p) (rec p)) where
     part :
         (r : Record) (Q : Trees → ℕ → ℕ → ℕ → Type 0) (n j prev p : ℕ) →
-        ((t : Tree) (ty w next : ℕ) → Part p t ty w next → accepts (r .rule) s r j prev ty ≡ true →
+        ((t : Tree) (ty w next : ℕ) → Part p t ty w next → acceptsPart (r .rule) s r j prev ty ≡ true →
           All (λ ts last v end. Q (branch p t ts) last
             (factor (r .rule) N r j prev ty * w + extra (r .rule) N ty + v) end)
             (partsOf rec N s r n (j + 1) ty next)) →
         All Q (partsOf rec N s r (suc n) j prev p)
     part r Q n j prev p f = parts-more Part rec N s r Q n j prev p (sub p) f
 
-    reads-fetch : Byte s at 21 → All Whole (recordOf rec N s (made s at Fetch 1 0 0 (at + 1 + 0)))
-    unfolding accepts typeOf factor extra own partsOf
+    reads-fetch : Byte s at 21 → All Whole (readRecord rec N s (made s at Fetch 1 0 0 (at + 1 + 0)))
+    unfolding acceptsPart partType factor extra own partsOf
     reads-fetch h =
         let r = made s at Fetch 1 0 0 (at + 1) in
         rw (after-none at) (record-all Part rec N s r Whole
@@ -74,8 +74,8 @@ module _ (N : Numbers) (s : List ℕ) (ns : List Name) (left : ℕ) (bs : List B
 
     reads-operate :
         {a : ℕ} → Byte s at 22 → Byte s (at + 1) a → a < 9 →
-        All Whole (recordOf rec N s (made s at Operate 2 a 0 (at + 1 + 1)))
-    unfolding accepts typeOf factor extra own partsOf
+        All Whole (readRecord rec N s (made s at Operate 2 a 0 (at + 1 + 1)))
+    unfolding acceptsPart partType factor extra own partsOf
     reads-operate {a} h b l =
         let r = made s at Operate 2 a 0 (at + 2) in
         rw (after-one at) (record-all Part rec N s r Whole
@@ -84,8 +84,8 @@ module _ (N : Numbers) (s : List ℕ) (ns : List Name) (left : ℕ) (bs : List B
             let k′ = eqb-true ty′ (operandType a) e′ in
             one (p-operate (stands 1 h (omega arith)) b l (rw k at p) (rw k′ at q) (rw k (omega arith)))))))
 
-    reads-assign : Byte s at 23 → All Whole (recordOf rec N s (made s at Assign 2 0 0 (at + 1 + 0)))
-    unfolding accepts typeOf factor extra own partsOf
+    reads-assign : Byte s at 23 → All Whole (readRecord rec N s (made s at Assign 2 0 0 (at + 1 + 0)))
+    unfolding acceptsPart partType factor extra own partsOf
     reads-assign h =
         let r = made s at Assign 2 0 0 (at + 1) in
         rw (after-none at) (record-all Part rec N s r Whole
@@ -94,8 +94,8 @@ module _ (N : Numbers) (s : List ℕ) (ns : List Name) (left : ℕ) (bs : List B
             one (p-assign (stands 0 h (omega arith)) (rw k at p) (omega (arith, leb-true 3 ty e)) q
               (rw k (omega arith)))))))
 
-    reads-sequence : Byte s at 24 → All Whole (recordOf rec N s (made s at Sequence 2 0 0 (at + 1 + 0)))
-    unfolding accepts typeOf factor extra own partsOf
+    reads-sequence : Byte s at 24 → All Whole (readRecord rec N s (made s at Sequence 2 0 0 (at + 1 + 0)))
+    unfolding acceptsPart partType factor extra own partsOf
     reads-sequence h =
         let r = made s at Sequence 2 0 0 (at + 1) in
         rw (after-none at) (record-all Part rec N s r Whole
@@ -103,8 +103,8 @@ module _ (N : Numbers) (s : List ℕ) (ns : List Name) (left : ℕ) (bs : List B
             let k = eqb-true ty 0 e in
             one (p-sequence (stands 0 h (omega arith)) (rw k at p) q (omega arith))))))
 
-    reads-if : Byte s at 25 → All Whole (recordOf rec N s (made s at If 3 0 0 (at + 1 + 0)))
-    unfolding accepts typeOf factor extra own partsOf
+    reads-if : Byte s at 25 → All Whole (readRecord rec N s (made s at If 3 0 0 (at + 1 + 0)))
+    unfolding acceptsPart partType factor extra own partsOf
     reads-if h =
         let r = made s at If 3 0 0 (at + 1) in
         rw (after-none at) (record-all Part rec N s r Whole
@@ -114,8 +114,8 @@ module _ (N : Numbers) (s : List ℕ) (ns : List Name) (left : ℕ) (bs : List B
               let k′ = sym (eqb-true ty″ ty′ e″) in
               one (p-if (stands 0 h (omega arith)) (rw k at p) (rw k′ at q) o (omega arith)))))))
 
-    reads-while : Byte s at 26 → All Whole (recordOf rec N s (made s at While 2 0 0 (at + 1 + 0)))
-    unfolding accepts typeOf factor extra own partsOf
+    reads-while : Byte s at 26 → All Whole (readRecord rec N s (made s at While 2 0 0 (at + 1 + 0)))
+    unfolding acceptsPart partType factor extra own partsOf
     reads-while h =
         let r = made s at While 2 0 0 (at + 1) in
         rw (after-none at) (record-all Part rec N s r Whole
@@ -127,16 +127,16 @@ module _ (N : Numbers) (s : List ℕ) (ns : List Name) (left : ℕ) (bs : List B
     -- arguments j, j + 1, .. of types tys
     reads-args :
         (m a c n : ℕ) (tys : List ℕ) (j prev p : ℕ) →
-        ((k : ℕ) → k < length tys → getD s (standing.recordOf c + 4 + (j + k)) 0 ≡ getD tys k 0) →
+        ((k : ℕ) → k < length tys → getD s (standing.declaredAt c + 4 + (j + k)) 0 ≡ getD tys k 0) →
         All (λ ts last v n. ParsedArgs N s ns left bs p ts tys v n)
           (partsOf rec N s (made s at Use m a c n) (length tys) j prev p)
-    unfolding accepts factor extra partsOf
+    unfolding acceptsPart factor extra partsOf
     reads-args m a c n [] j prev p f = one p-none
     reads-args m a c n (ty ∷ tys) j prev p f =
         let sub′ : (ty′ mid : ℕ) → _ = λ ty′ mid. reads-args m a c n tys (j + 1) ty′ mid
-          (λ k l. ap (λ (x : ℕ). getD s (standing.recordOf c + 4 + x) 0) (omega arith) ∙ f (suc k) (omega arith)) in
+          (λ k l. ap (λ (x : ℕ). getD s (standing.declaredAt c + 4 + x) 0) (omega arith) ∙ f (suc k) (omega arith)) in
         part (made s at Use m a c n) _ (length tys) j prev p (λ t ty′ w mid q e.
-          let k : ty′ ≡ ty = eqb-true ty′ _ e ∙ ap (λ (x : ℕ). getD s (standing.recordOf c + 4 + x) 0) (omega arith)
+          let k : ty′ ≡ ty = eqb-true ty′ _ e ∙ ap (λ (x : ℕ). getD s (standing.declaredAt c + 4 + x) 0) (omega arith)
             ∙ f 0 (omega arith) in
           all-map _ _ _ (λ ts last v end o. p-more (rw k at q) o (rw k (omega arith))) (sub′ ty′ mid))
 
@@ -144,15 +144,15 @@ module _ (N : Numbers) (s : List ℕ) (ns : List Name) (left : ℕ) (bs : List B
         (c a : ℕ) {ty : ℕ} {tys : List ℕ} → Byte s at 20 → Byte s (at + 1) a → a < 255 →
         meaning ns bs a ≡ named ty tys →
         Naming s ty tys c →
-        All Whole (recordOf rec N s
-          (made s at Use (pick (isVariable c) 0 (getD s (standing.recordOf c + 3) 0)) a c (at + 1 + 1)))
-    unfolding typeOf own
+        All Whole (readRecord rec N s
+          (made s at Use (pick (isVariable c) 0 (getD s (standing.declaredAt c + 3) 0)) a c (at + 1 + 1)))
+    unfolding partType own
     reads-name c a {ty} {tys} h b l e v =
         let r = made s at Use (length tys) a c (at + 2) in
         let S : Stands s r at 20 1 Use = stands 1 h (omega arith) in
         let o = naming-place v in
         let d = naming-declared v in
-        let k : pick (isVariable c) (2 + dataOf c) (getD s (standing.recordOf c + 2) 0) ≡ ty =
+        let k : pick (isVariable c) (2 + dataOf c) (getD s (standing.declaredAt c + 2) 0) ≡ ty =
           rw (d, o) (v .bytes .result) in
         rw (d, o, v .bytes .count, after-one at) (record-all Part rec N s r Whole
           (all-map _ _ _
@@ -164,45 +164,45 @@ module _ (N : Numbers) (s : List ℕ) (ns : List Name) (left : ℕ) (bs : List B
         (c a : ℕ) {i h : ℕ} → Byte s at 20 → Byte s (at + 1) a → a < 255 → length bs ≤ 32 →
         meaning ns bs a ≡ private i h →
         Variable (length bs) (declared ns a) i h c →
-        All Whole (recordOf rec N s
-          (made s at Use (pick (isVariable c) 0 (getD s (standing.recordOf c + 3) 0)) a c (at + 1 + 1)))
-    unfolding typeOf own partsOf
+        All Whole (readRecord rec N s
+          (made s at Use (pick (isVariable c) 0 (getD s (standing.declaredAt c + 3) 0)) a c (at + 1 + 1)))
+    unfolding partType own partsOf
     reads-private c a {i} {h} z b l n e v =
         let r = made s at Use 0 a c (at + 2) in
         let S : Stands s r at 20 1 Use = stands 1 z (omega arith) in
         let d = variable-private v n in
-        let k : pick (isVariable c) (2 + dataOf c) (getD s (standing.recordOf c + 2) 0) ≡ 2 + h =
+        let k : pick (isVariable c) (2 + dataOf c) (getD s (standing.declaredAt c + 2) 0) ≡ 2 + h =
           rw (d, variable-data v) refl in
         rw (d, after-one at) (record-all Part rec N s r Whole (one (rw k
           (p-private S b l e (v .above) (v .below) (v .depth) (omega (arith, v .depth)) (v .stands)))))
 
     -- records without parts
-    reads-skip : Byte s at 16 → All Whole (recordOf rec N s (made s at Skip 0 0 0 (at + 1 + 0)))
-    unfolding typeOf own partsOf
+    reads-skip : Byte s at 16 → All Whole (readRecord rec N s (made s at Skip 0 0 0 (at + 1 + 0)))
+    unfolding partType own partsOf
     reads-skip h =
         rw (after-none at) (record-all Part rec N s (made s at Skip 0 0 0 (at + 1)) Whole
           (one (p-skip (stands 0 h (sym (after-none at))))))
 
     reads-diverge :
         (a : ℕ) → Byte s at 17 → Byte s (at + 1) a → a < 5 →
-        All Whole (recordOf rec N s (made s at Diverge 0 a 0 (at + 1 + 1)))
-    unfolding typeOf own partsOf
+        All Whole (readRecord rec N s (made s at Diverge 0 a 0 (at + 1 + 1)))
+    unfolding partType own partsOf
     reads-diverge a h b l =
         rw (after-one at) (record-all Part rec N s (made s at Diverge 0 a 0 (at + 2)) Whole
           (one (p-diverge (stands 1 h (sym (after-one at))) b l)))
 
     reads-truth :
         (a : ℕ) → Byte s at 18 → Byte s (at + 1) a → a < 2 →
-        All Whole (recordOf rec N s (made s at Truth 0 a 0 (at + 1 + 1)))
-    unfolding typeOf own partsOf
+        All Whole (readRecord rec N s (made s at Truth 0 a 0 (at + 1 + 1)))
+    unfolding partType own partsOf
     reads-truth a h b l =
         rw (after-one at) (record-all Part rec N s (made s at Truth 0 a 0 (at + 2)) Whole
           (one (p-truth (stands 1 h (sym (after-one at))) b l)))
 
     reads-number :
         (a : ℕ) → Byte s at 19 → Byte s (at + 1) a → a < 256 → inRange N a ≡ true →
-        All Whole (recordOf rec N s (made s at Number 0 a 0 (at + 1 + 1)))
-    unfolding typeOf own partsOf
+        All Whole (readRecord rec N s (made s at Number 0 a 0 (at + 1 + 1)))
+    unfolding partType own partsOf
     reads-number a h b l e =
         rw (after-one at) (record-all Part rec N s (made s at Number 0 a 0 (at + 2)) Whole
           (one (p-number (stands 1 h (sym (after-one at))) b l e)))
@@ -212,8 +212,8 @@ module _ (N : Numbers) (s : List ℕ) (ns : List Name) (left : ℕ) (bs : List B
       (a d : ℕ) (rec : ℕ → Answer Tree) →
       ((p : ℕ) → All (λ t ty w n. Parsed N s ns left (record { id = a; holds = d } ∷ bs) p t ty w n) (rec p)) →
       Byte s at 27 → Byte s (at + 1) a → a < 255 → declared ns a ≡ free → Byte s (at + 2) d → 0 < d → d < 3 →
-      All Whole (recordOf rec N s (made s at New 1 a d (at + 1 + 2)))
-  unfolding accepts typeOf factor extra own partsOf
+      All Whole (readRecord rec N s (made s at New 1 a d (at + 1 + 2)))
+  unfolding acceptsPart partType factor extra own partsOf
   reads-new a d rec sub h b l e b′ l′ l″ =
       let r = made s at New 1 a d (at + 3) in
       let inner : List Block = record { id = a; holds = d } ∷ bs in
@@ -240,8 +240,8 @@ module _ (N : Numbers) (s : List ℕ) (ns : List Name) (left : ℕ) (bs : List B
         (used-id s (length bs) (declared ns a) (meaning ns bs a) (getD st a 0) (M .standing a l) f g)
     where
       go : (m : Meaning) → meaning ns bs a ≡ m → Used s (length bs) (declared ns a) (getD st a 0) m →
-        All Whole (recordOf (rec st (length bs)) N s (made s at Use
-          (pick (isVariable (getD st a 0)) 0 (getD s (standing.recordOf (getD st a 0) + 3) 0)) a (getD st a 0)
+        All Whole (readRecord (rec st (length bs)) N s (made s at Use
+          (pick (isVariable (getD st a 0)) 0 (getD s (standing.declaredAt (getD st a 0) + 3) 0)) a (getD st a 0)
             (at + 1 + 1)))
       go m e (used-private v) =
           reads-private (rec st (length bs)) (sub bs st M (omega arith)) (getD st a 0) a h b l (M .nested) e v

@@ -13,8 +13,8 @@ use Rattle.language.specs.declared.Numbers.{Numbers}
 use Rattle.records.specs.Kind.{shapeOf}
 use Rattle.records.specs.Standing.{isVariable, declaredStanding}
 use Rattle.records.specs.Head.{byteOf, onByte, limited, constant, useOf, dataByte, newOf, bodyOf, headOf}
-use Rattle.records.specs.Head.{onShape as onPart}
-use Rattle.records.specs.Rule.{accepts}
+use Rattle.records.specs.Head.{headOfShape as onPart}
+use Rattle.records.specs.Rule.{acceptsPart}
 use Rattle.records.specs.Scope.{entered}
 use Rattle.records.specs.declared.kind.Rule.{Rule}
 use Rattle.records.specs.declared.kind.Rule.the-variants.{Skip, Diverge, Truth, Number, Use, Fetch}
@@ -23,19 +23,17 @@ use Rattle.records.specs.declared.kind.Shape.{Shape}
 use Rattle.records.specs.declared.kind.Shape.the-variants.{Part, Declare, Retire, Unknown}
 use Rattle.records.specs.declared.head.Record.{Record}
 use Rattle.records.specs.declared.head.Head.{Head}
-use Rattle.records.specs.declared.head.Head.the-variants.{Good, Bad}
+use Rattle.records.specs.declared.head.Head.the-variants.{Good, Refused as Bad}
 use Rattle.records.specs.declared.head.Byte.{Byte}
 use Rattle.records.proofs.HeadLaws.{head-good}
 use Rattle.sheet.specs.Written.{Name}
-use Rattle.sheet.specs.Heading.{both, below, unused, fresh, argument, declareOf, retireOf, declareAt, retireAt}
-use Rattle.sheet.specs.Reader.{Tree, Answer, got, refused, bind, onHead, onJudged, partsOf, recordOf, isNew,
-    scopedOf}
-use Rattle.sheet.specs.Reader.{readPart}
-use Rattle.sheet.specs.Reader.{Whole, whole, onShape, nameOf, namesStep, namesOf, sizeOf, closed, numbersAt,
-    nothing}
-use Rattle.sheet.specs.Reader.{sheetOf}
+use Rattle.sheet.specs.Heading.{andThen, below, unused, fresh, argument, declareOf, retireOf, declareAt, retireAt}
+use Rattle.sheet.specs.Reader.{Tree, Answer, got, refused, bind, onHead, onJudged, partsOf, readRecord, isNew}
+use Rattle.sheet.specs.Reader.{scopedOf, readPart}
+use Rattle.sheet.specs.Reader.{Whole, whole, wholeOfShape, nameOf, namesStep, namesOf, sizeOf, closed, numbersAt}
+use Rattle.sheet.specs.Reader.{nothing, sheetOf}
 use Rattle.sheet.specs.declared.heading.Judged.{Judged}
-use Rattle.sheet.specs.declared.heading.Judged.the-variants.{Good as Fine, Bad as Wrong}
+use Rattle.sheet.specs.declared.heading.Judged.the-variants.{Good as Fine, Refused as Wrong}
 
 -- a choice by a test, of which each side may use what the test says
 either : {X : Type 0} (P : X → Type 0) (t : Bool) {a b : X} → (t ≡ true → P a) → (t ≡ false → P b) → P (pick t a b)
@@ -46,11 +44,11 @@ module _ (n : ℕ) where
   -- a head whose refusal is within n
   unfoldable HeadIn : Head → Type 0
   HeadIn (Good r) = Unit
-  HeadIn (Bad k p) = p ≤ n
+  HeadIn (Bad x) = x .place ≤ n
 
   unfoldable JudgedIn : Judged → Type 0
   JudgedIn Fine = Unit
-  JudgedIn (Wrong k p) = p ≤ n
+  JudgedIn (Wrong x) = x .place ≤ n
 
   -- what was read ends within n, or its refusal is there
   unfoldable In : {X : Type 0} → Answer X → Type 0
@@ -67,17 +65,17 @@ module _ (n : ℕ) where
       In (onHead h k)
   unfolding In HeadIn onHead
   in-head (Good r) k p f = f r refl
-  in-head (Bad a b) k p f = p
+  in-head (Bad x) k p f = p
 
   in-judged : {X : Type 0} (j : Judged) (A : Answer X) → JudgedIn j → In A → In (onJudged j A)
   unfolding In JudgedIn onJudged
   in-judged Fine A p q = q
-  in-judged (Wrong a b) A p q = p
+  in-judged (Wrong x) A p q = p
 
-  both-in : (j k : Judged) → JudgedIn j → JudgedIn k → JudgedIn (both j k)
-  unfolding JudgedIn both
+  both-in : (j k : Judged) → JudgedIn j → JudgedIn k → JudgedIn (andThen j k)
+  unfolding JudgedIn andThen
   both-in Fine k p q = q
-  both-in (Wrong a b) k p q = p
+  both-in (Wrong x) k p q = p
 
 module _ (s : List ℕ) where
   abbrev n : ℕ
@@ -162,14 +160,14 @@ module _ (s : List ℕ) where
   parts-in N rec f r zero j prev at h = h
   parts-in N rec f r (suc count) j prev at h =
       in-bind n (rec at) _ (f at) (λ t ty w next p.
-        either Within (accepts (r .rule) s r j prev ty)
+        either Within (acceptsPart (r .rule) s r j prev ty)
           (λ e. in-bind n (partsOf rec N s r count (j + 1) ty next) _ (parts-in N rec f r count (j + 1) ty next p)
             (λ ts last v end q. q))
           (λ e. h))
 
   record-in : (N : Numbers) (rec : ℕ → Answer Tree) → ((at : ℕ) → Within (rec at)) → (r : Record) → r .next ≤ n →
-      Within (recordOf rec N s r)
-  unfolding recordOf In
+      Within (readRecord rec N s r)
+  unfolding readRecord In
   record-in N rec f r h =
       in-bind n (partsOf rec N s r (r .parts) 0 0 (r .next)) _ (parts-in N rec f r (r .parts) 0 0 (r .next) h)
         (λ ts last v end q. q)
@@ -231,11 +229,11 @@ module _ (s : List ℕ) where
 
   step-in : (rec : List ℕ → ℕ → Answer Whole) (left : ℕ) (N : Numbers) (st : List ℕ) (at : ℕ) →
       (at < n → (st : List ℕ) (at : ℕ) → Within (rec st at)) → Within (namesStep rec left N s st at)
-  unfolding namesStep onShape retireOf In
+  unfolding namesStep wholeOfShape retireOf In
   step-in rec left N st at f =
       either Within (leb n at) (λ e. omega arith) (λ e. go (leb-false n at e) (shapeOf (getD s at 0)))
     where
-      go : at < n → (x : Shape) → Within (onShape x
+      go : at < n → (x : Shape) → Within (wholeOfShape x
         (λ body. nameOf rec left s st at body (declaredStanding at) (declareOf s st at) (declareAt s at))
         (λ body. nameOf rec left s st at body 1 (retireOf s st at) (retireAt s at))
         (bind (readPart 32 N s st 0 at) (λ t ty w end. got (whole [] at t) ty w end))

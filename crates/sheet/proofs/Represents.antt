@@ -23,7 +23,7 @@ use Rattle.sheet.specs.Written.{Name}
 use Rattle.sheet.specs.Meaning.{Block, typed, tyOf, resolve, resolveArgs, byMeaning, some-value}
 use Rattle.sheet.specs.Reader.{Tree, Trees, written, writtens, build, first, rest}
 use Rattle.sheet.specs.table.Fill.{fill, fills}
-use Rattle.sheet.specs.table.Rep.{word, TyRow, Row, count}
+use Rattle.sheet.specs.table.Rep.{word, TyRow, Represented, count}
 use Rattle.sheet.specs.table.Rep.{Rep, r-skip, r-diverge, r-const, r-private, r-name, r-fetch}
 use Rattle.sheet.specs.table.Rep.{r-operate, r-assign, r-seq, r-cond, r-while, r-new, RepArgs, r-none, r-arg}
 use Rattle.sheet.proofs.Parsed.{Stands, Parsed, p-skip, p-diverge, p-truth, p-number, p-private, p-name}
@@ -55,7 +55,7 @@ ty-row N U at ty e f = go (class ty)
 -- the row of a record is the row of its term
 row-of : {N : Numbers} {U s : List ℕ} {r : Record} {at kinded body ty w : ℕ} {rule : Rule} {T : Ty} →
     (kind : ℕ) (M : Term) → length s ≤ 4096 → Stands s r at kinded body rule → Holds N r ty w U at →
-    rowKind rule r ≡ kind → weight M ≡ w → w ≤ 4096 → tyOf N ty ≡ T → Row U at kind M T
+    rowKind rule r ≡ kind → weight M ≡ w → w ≤ 4096 → tyOf N ty ≡ T → Represented U at kind M T
 row-of {N} {U} {s} {r} {at} {kinded} {body} {ty} {w} {rule} {T} kind M short st h k e small y = record {
     inside = omega arith;
     kinded = h .kind ∙ (ap (λ u. rowKind u r) (st .ruled) ∙ k);

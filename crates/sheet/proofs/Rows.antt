@@ -1,4 +1,4 @@
--- The table word by word: what a row holds after `written` and `linked`, and that all other words stay.
+-- The table word by word: what a row holds after `rowWritten` and `linked`, and that all other words stay.
 use Prim.Native.Nat.{ℕ, _+_, _*_, _≤_, _<_, min}
 use native.Mathlib.Omega.{arith}
 use mathlib.Core.Path.{_≡_, refl, _∙_}
@@ -8,7 +8,7 @@ use lib.Seq.{getD-set-same, getD-set-other}
 use Rattle.language.specs.declared.Numbers.{Numbers}
 use Rattle.records.specs.Rule as rule
 use Rattle.records.specs.Row as row
-use Rattle.records.specs.Row.{cell, rowKind, classOf, written, linked}
+use Rattle.records.specs.Row.{cell, rowKind, classOf, rowWritten, linked}
 use Rattle.records.specs.declared.head.Record.{Record}
 use Rattle.sheet.specs.table.Rep.{word}
 
@@ -31,8 +31,8 @@ pub record Holds (N : Numbers) (r : Record) (ty w : ℕ) (U : List ℕ) (at : �
   pub values : word U at 3 ≡ rule.values N ty
   pub detail : word U at 4 ≡ row.detail (r .rule) N r
 
-pub length-written : (N : Numbers) (r : Record) (ty w : ℕ) (t : List ℕ) → length (written N r ty w t) ≡ length t
-unfolding written
+pub length-written : (N : Numbers) (r : Record) (ty w : ℕ) (t : List ℕ) → length (rowWritten N r ty w t) ≡ length t
+unfolding rowWritten
 length-written N r ty w t = simp length-set
 
 pub length-linked : (p j part : ℕ) (t : List ℕ) → length (linked p j part t) ≡ length t
@@ -40,8 +40,8 @@ unfolding linked
 length-linked p j part t = simp length-set
 
 pub written-row : (N : Numbers) (r : Record) (ty w : ℕ) (t : List ℕ) → 9 * r .place + 9 ≤ length t →
-    Holds N r ty w (written N r ty w t) (r .place)
-unfolding written
+    Holds N r ty w (rowWritten N r ty w t) (r .place)
+unfolding rowWritten
 written-row N r ty w t h =
     let q : ℕ = r .place in
     let x₀ : ℕ = rowKind (r .rule) r in
@@ -69,8 +69,8 @@ written-row N r ty w t h =
 
 -- every other word: of another row, or the place of a part
 pub written-else : (N : Numbers) (r : Record) (ty w : ℕ) (t : List ℕ) (p i : ℕ) → i < 9 → (p ≡ r .place → 5 ≤ i) →
-    word (written N r ty w t) p i ≡ word t p i
-unfolding written
+    word (rowWritten N r ty w t) p i ≡ word t p i
+unfolding rowWritten
 written-else N r ty w t p i h n =
     let q : ℕ = r .place in
     let x₀ : ℕ = rowKind (r .rule) r in

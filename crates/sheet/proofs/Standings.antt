@@ -216,8 +216,8 @@ new-standing {s} {st} {ns} {bs} M id b e =
 
 -- the standings of names and of variables
 module _ {s : List ℕ} {c ty : ℕ} {tys : List ℕ} (v : Naming s ty tys c) where
-  pub naming-place : standing.recordOf c ≡ v .place
-  unfolding standing.recordOf declaredStanding
+  pub naming-place : standing.declaredAt c ≡ v .place
+  unfolding standing.declaredAt declaredStanding
   naming-place = omega (arith, v .stands)
 
   pub naming-declared : isVariable c ≡ false

@@ -7,16 +7,18 @@ use mathlib.Core.List.{List}
 use borrow.Author.Tests.{eq-eqb, ne-eqb}
 use Rattle.language.specs.Choice.{pick}
 use Rattle.language.specs.declared.Numbers.{Numbers}
+use Rattle.records.specs.Refusal.{refusal}
+use Rattle.records.specs.declared.refusal.Refusal.{Refusal}
 use Rattle.records.specs.Head.{headOf}
 use Rattle.records.specs.Bare.{bare}
-use Rattle.records.specs.Rule.{accepts, factor, extra}
+use Rattle.records.specs.Rule.{acceptsPart, factor, extra}
 use Rattle.records.specs.Row.{linked}
 use Rattle.records.specs.Scope.{entered}
 use Rattle.records.specs.declared.kind.Rule.the-variants.{Sequence}
 use Rattle.records.specs.declared.head.Record.{Record}
-use Rattle.records.specs.declared.head.Head.the-variants.{Good, Bad}
+use Rattle.records.specs.declared.head.Head.the-variants.{Good, Refused as Unheaded}
 use Rattle.sheet.specs.Reader.{Tree, Trees, leaf, branch, Answer, got, refused, bind, onHead, isNew, partsOf}
-use Rattle.sheet.specs.Reader.{recordOf, scopedOf, readPart}
+use Rattle.sheet.specs.Reader.{readRecord, scopedOf, readPart}
 use Rattle.sheet.specs.table.Fill.{fill, fills, fillsNext, erase, Leaves, Reads, closedAnswer, closedTable}
 use Rattle.sheet.specs.table.Fill.{scopeParts}
 use Rattle.sheet.specs.declared.part.Part.{Part}
@@ -26,13 +28,13 @@ use Rattle.sheet.proofs.Core.{reads-hand, reads-then, part-step, parts-
 
 module _ (left : ℕ) (N : Numbers) (s st : List ℕ) (level at : ℕ) where
   -- read_part
-  pub part-bad : {n p : ℕ} {t : List ℕ} → headOf s st N left at ≡ Bad n p →
-      Reads (fill N) (readPart left N s st level at) (Refused n p) t t
+  pub part-bad : {x : Refusal} {t : List ℕ} → headOf s st N left at ≡ Unheaded x →
+      Reads (fill N) (readPart left N s st level at) (Refused x) t t
   unfolding onHead erase Leaves
   part-bad e = rw part-step (rw e (record { answer = refl; table = tt }))
 
   pub part-deep : {r : Record} {t : List ℕ} → headOf s st N left at ≡ Good r → left ≡ 0 →
-      Reads (fill N) (readPart left N s st level at) (Refused 8 at) t t
+      Reads (fill N) (readPart left N s st level at) (Refused (refusal 8 at)) t t
   unfolding onHead erase Leaves
   part-deep e z = rw part-step (rw (e, eq-eqb left 0 z) (record { answer = refl; table = tt }))
 
@@ -70,7 +72,7 @@ module _ (rec : List ℕ → ℕ → ℕ → Answer Tree) (N : Numbers) (s st : 
   -- read_record
   pub record-closes : {parts x : Part} {t u v : List ℕ} → Scope parts t u → x ≡ closedAnswer s r parts →
       v ≡ closedTable N s r parts u → Reads (fill N) (scopedOf rec N s st level r) x t v
-  unfolding scopedOf scopeParts recordOf
+  unfolding scopedOf scopeParts readRecord
   record-closes R e d = rw (pick-bind (isNew (r .rule))) (closes N s r (scopeParts rec N s st level r) R e d)
 
 -- the parts of a record, the first of which is A
@@ -122,30 +124,31 @@ module _ (rec : ℕ → Answer Tree) (N : Numbers) (s : List ℕ) (r : Record) (
   pub parts-linked : {p : Part} {t y u : List ℕ} → (n ≡ 0 → ⊥) → y ≡ linked (r .place) j at t → Next p y u → Here p t u
   parts-linked z l R =
       rw (parts-step rec N s r n j prev at z)
-        (linked-first N (r .place) j at (rec at) (λ ty. accepts (r .rule) s r j prev ty)
+        (linked-first N (r .place) j at (rec at) (λ ty. acceptsPart (r .rule) s r j prev ty)
           (λ ty next. partsOf rec N s r (n - 1) (j + 1) ty next)
           (λ ty w v. factor (r .rule) N r j prev ty * w + extra (r .rule) N ty + v) l
           (rw (parts-step rec N s r n j prev at z) at R))
 
-  pub next-refused : {p : Part} {a b : ℕ} {t u v : List ℕ} → (n ≡ 0 → ⊥) → Reads (fill N) (rec at) p t u →
-      p ≡ Refused a b → Next p v u
+  pub next-refused : {p : Part} {x : Refusal} {t u v : List ℕ} → (n ≡ 0 → ⊥) → Reads (fill N) (rec at) p t u →
+      p ≡ Refused x → Next p v u
   next-refused z R e = rw (parts-step rec N s r n j prev at z) (reads-hand (rec at) _ R e)
 
   pub next-wrong : {p : Part} {ty w next : ℕ} {t u v : List ℕ} → (n ≡ 0 → ⊥) → Reads (fill N) (rec at) p t u →
-      p ≡ Read ty w next → accepts (r .rule) s r j prev ty ≡ false → Next (Refused 7 at) v u
+      p ≡ Read ty w next → acceptsPart (r .rule) s r j prev ty ≡ false → Next (Refused (refusal 7 at)) v u
   unfolding erase Leaves
   next-wrong z R e f =
       rw (parts-step rec N s r n j prev at z)
         (reads-then (rec at) _ R e (λ x o h k. rw f (record { answer = refl; table = tt })))
 
-  pub next-later : {p q : Part} {ty w next a b : ℕ} {t u v y : List ℕ} → (n ≡ 0 → ⊥) → Reads (fill N) (rec at) p t u →
-      p ≡ Read ty w next → accepts (r .rule) s r j prev ty ≡ true → Later ty next q u v → q ≡ Refused a b → Next q y v
+  pub next-later : {p q : Part} {ty w next : ℕ} {x : Refusal} {t u v y : List ℕ} → (n ≡ 0 → ⊥) →
+      Reads (fill N) (rec at) p t u → p ≡ Read ty w next → acceptsPart (r .rule) s r j prev ty ≡ true →
+      Later ty next q u v → q ≡ Refused x → Next q y v
   next-later z R e f Q d =
       rw (parts-step rec N s r n j prev at z)
         (reads-then (rec at) _ R e (λ x o h k. rw f (reads-hand (partsOf rec N s r (n - 1) (j + 1) _ _) _ Q d)))
 
   pub next-more : {p q : Part} {ty w next last o end x y : ℕ} {t u v : List ℕ} → (n ≡ 0 → ⊥) →
-      Reads (fill N) (rec at) p t u → p ≡ Read ty w next → accepts (r .rule) s r j prev ty ≡ true →
+      Reads (fill N) (rec at) p t u → p ≡ Read ty w next → acceptsPart (r .rule) s r j prev ty ≡ true →
       Later ty next q u v → q ≡ Read last o end →
       y ≡ min (factor (r .rule) N r j prev ty * w + extra (r .rule) N ty) 4097 → x ≡ min (y + o) 4097 →
       Next (Read last x end) t v
@@ -165,14 +168,14 @@ module _ (N : Numbers) (s : List ℕ) (at : ℕ) where
   root-of : (A : Answer Tree) {p : Part} {t u : List ℕ} →
       Reads (λ ts. fillsNext N ts 0 1)
         (bind A (λ x ty w next.
-          pick (accepts Sequence s (bare 0 Sequence 0 0) 1 0 ty)
+          pick (acceptsPart Sequence s (bare 0 Sequence 0 0) 1 0 ty)
           (bind (got leaf ty 0 next) (λ ts last v end.
             got (branch at x ts) last
               (factor Sequence N (bare 0 Sequence 0 0) 1 0 ty * w + extra Sequence N ty + v) end))
           (refused 7 at)))
         p t u →
       Reads (fill N) A p t u
-  unfolding bind erase Leaves fills fillsNext accepts factor extra
+  unfolding bind erase Leaves fills fillsNext acceptsPart factor extra
   root-of (got x ty w next) R =
       let h : 1 * w + 0 + 0 ≡ w = omega arith in
       record { answer = R .answer ∙ rw h; table = R .table }

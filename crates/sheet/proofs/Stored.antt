@@ -5,7 +5,7 @@ use mathlib.Core.Path.{_≡_, subst, _∙_}
 use mathlib.Core.List.{List}
 use lib.ListN.{length}
 use Rattle.language.specs.declared.Numbers.{Numbers}
-use Rattle.records.specs.Row.{written, linked}
+use Rattle.records.specs.Row.{rowWritten, linked}
 use Rattle.records.specs.declared.head.Record.{Record}
 use Rattle.sheet.specs.Reader.{Tree, node, Trees, leaf, branch}
 use Rattle.sheet.specs.table.Fill.{fill, fills}
@@ -48,9 +48,9 @@ module _ (N : Numbers) (U : List ℕ) where
         let le : from ≤ next = onward ps in
         let u : List ℕ = fills N ts (r .place) 0 t in
         let long : length u ≡ 36864 = length-fills N ts (r .place) 0 t ∙ l in
-        let row : Holds N r ty w (written N r ty w u) (r .place) = written-row N r ty w u (omega arith) in
+        let row : Holds N r ty w (rowWritten N r ty w u) (r .place) = written-row N r ty w u (omega arith) in
         let mine : Holds N r ty w U at =
-              holds-in (subst (λ (p : ℕ). Holds N r ty w (written N r ty w u) p) e row)
+              holds-in (subst (λ (p : ℕ). Holds N r ty w (rowWritten N r ty w u) p) e row)
                 (λ i g. same at i (omega arith) (omega arith) g) in
         let rest = stores-parts ps (r .place) t l h (omega arith)
           (λ i g k. same (r .place) i (omega arith) (omega arith) k ∙ written-else N r ty w u (r .place) i k (λ f. g))

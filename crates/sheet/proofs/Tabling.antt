@@ -5,19 +5,21 @@ use mathlib.Core.Path.{_≡_, refl, sym, _∙_}
 use mathlib.Core.List.{List, []}
 use lib.ListN.{length}
 use Rattle.language.proofs.NumberLaws.{code-below}
+use Rattle.records.specs.Refusal.{refusal}
 use Rattle.sheet.specs.Meaning.{termOf}
 use Rattle.sheet.specs.Reader.{Answer, got, refused, Whole, whole, numbersAt, sheetOf, sheetIn, checks}
 use Rattle.sheet.specs.Reader.{readSheet, sizeOf}
 use Rattle.sheet.specs.table.Fill.{eraseSheet, LeavesSheet, ReadsSheet}
 use Rattle.sheet.specs.table.Tabled.{Tabled, TabledBy}
 use Rattle.sheet.specs.declared.names.Reading.{Reading}
-use Rattle.sheet.specs.declared.names.Reading.the-variants.{Sheet, Refusal}
+use Rattle.sheet.specs.declared.names.Reading.the-variants.{Sheet, Refused}
 use Rattle.sheet.proofs.Answers.{All, one, none′}
 use Rattle.sheet.proofs.NameList.{NamesRead, names-read, extends-first}
 use Rattle.sheet.proofs.Right.{SheetRead, sheet-all}
 use Rattle.sheet.proofs.Sound.{sound}
 use Rattle.sheet.proofs.Small.{weight-small}
 use Rattle.sheet.proofs.Represents.{represents-whole}
+use Rattle.sheet.proofs.Whole.{sheet-refused}
 
 module _ (s t u : List ℕ) (room : length t ≡ 36864) where
   tabled-whole :
@@ -45,3 +47,12 @@ module _ (s t u : List ℕ) (room : length t ≡ 36864) where
   -- THEOREM: where a sheet is read, the table represents its term
   pub tabled : {x : Reading} → ReadsSheet (numbersAt s) (sheetOf s) x t u → TabledBy s x u
   tabled R = rw (R .answer) (tabled-by (sheetOf s) refl (sheet-all s) (R .table))
+
+-- a sheet that is refused: nothing is said of the table
+pub sheet-told :
+    (s t : List ℕ) {n p : ℕ} → sheetOf s ≡ refused n p →
+    ReadsSheet (numbersAt s) (sheetOf s) (Refused (refusal n p)) t t
+    × (length t ≡ 36864 → TabledBy s (Refused (refusal n p)) t)
+sheet-told s t e =
+    let R = sheet-refused (numbersAt s) s e in
+    (R, λ h. tabled s t t h R)

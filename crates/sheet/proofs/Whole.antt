@@ -10,6 +10,8 @@ use lib.Dec.{eqb, leb, ltb}
 use borrow.Author.Tests.{le-leb, lt-leb, lt-ltb, le-ltb, ltb-true, ltb-false, eq-eqb, ne-eqb}
 use Rattle.language.specs.Choice.{pick}
 use Rattle.language.specs.declared.Numbers.{Numbers}
+use Rattle.records.specs.Refusal.{refusal}
+use Rattle.records.specs.declared.refusal.Refusal.{Refusal}
 use Rattle.records.specs.Kind.{shapeOf}
 use Rattle.records.specs.Rule.{questions, answers}
 use Rattle.records.specs.Standing.{declaredStanding}
@@ -17,18 +19,18 @@ use Rattle.records.specs.declared.kind.Rule.{Rule}
 use Rattle.records.specs.declared.kind.Shape.the-variants.{Part as PartShape, Declare, Retire, Unknown}
 use Rattle.sheet.specs.Written.{Name}
 use Rattle.sheet.specs.Heading.{fresh, declareOf, retireOf, declareAt, retireAt}
-use Rattle.sheet.specs.Reader.{Tree, Answer, got, refused, bind, onJudged, Whole, whole, withName, onShape}
+use Rattle.sheet.specs.Reader.{Tree, Answer, got, refused, bind, onJudged, Whole, whole, withName, wholeOfShape}
 use Rattle.sheet.specs.Reader.{nameOf, namesStep, namesOf, sizeOf, closed, numbersAt, nothing, sheetOf, checks}
 use Rattle.sheet.specs.Reader.{readSheet, readPart}
 use Rattle.sheet.specs.Check.{checkedOf}
 use Rattle.sheet.specs.table.Fill.{fill, erase, Leaves, Reads, termAt, eraseSheet, LeavesSheet, ReadsSheet}
 use Rattle.sheet.specs.table.Fill.{closedReading}
 use Rattle.sheet.specs.declared.heading.Judged.{Judged}
-use Rattle.sheet.specs.declared.heading.Judged.the-variants.{Good, Bad}
+use Rattle.sheet.specs.declared.heading.Judged.the-variants.{Good, Refused as Bad}
 use Rattle.sheet.specs.declared.part.Part.{Part}
 use Rattle.sheet.specs.declared.part.Part.the-variants.{Read, Refused}
 use Rattle.sheet.specs.declared.names.Reading.{Reading}
-use Rattle.sheet.specs.declared.names.Reading.the-variants.{Sheet, Refusal}
+use Rattle.sheet.specs.declared.names.Reading.the-variants.{Sheet, Refused as Unread}
 use Rattle.sheet.specs.declared.check.Checked.the-variants.{Accepted, Refused as Turned}
 use Rattle.sheet.proofs.Core.{sat-times}
 use Rattle.sheet.proofs.Small.{weight-small}
@@ -47,14 +49,14 @@ module _ (N : Numbers) (at : ℕ) where
   term-read (refused n p) R e = let z : _≡_ {A = ℕ} 0 1 = cc (R .answer) in absurd (omega arith)
 
   pub term-refused :
-      (A : Answer Tree) {p : Part} {a b : ℕ} {t u : List ℕ} → Reads (fill N) A p t u → p ≡ Refused a b →
-      ReadsSheet N (Term A) (Refusal a b) t u
+      (A : Answer Tree) {p : Part} {x : Refusal} {t u : List ℕ} → Reads (fill N) A p t u → p ≡ Refused x →
+      ReadsSheet N (Term A) (Unread x) t u
   unfolding erase Leaves bind eraseSheet LeavesSheet
   term-refused (got x ty w next) R e = let z : _≡_ {A = ℕ} 0 1 = cc (R .answer) in absurd (omega arith)
   term-refused (refused n p) R e = let h = sym (R .answer) ∙ e in record { answer = cc; table = tt }
 
 -- a refusal
-refuses : (N : Numbers) (n p : ℕ) {t u : List ℕ} → ReadsSheet N (refused n p) (Refusal n p) t u
+refuses : (N : Numbers) (n p : ℕ) {t u : List ℕ} → ReadsSheet N (refused n p) (Unread (refusal n p)) t u
 unfolding eraseSheet LeavesSheet
 refuses N n p = record { answer = refl; table = tt }
 
@@ -73,29 +75,29 @@ module _ (N : Numbers) (n : ℕ) (s st : List ℕ) (at : ℕ) where
   abbrev After : ℕ → ℕ → Judged → Name → Answer Whole
   After body c judged name = nameOf (namesOf (n - 1) N s) n s st at body c judged name
 
-  pub names-short : {t : List ℕ} → length s ≤ at → Names (Refusal 2 (length s)) t t
+  pub names-short : {t : List ℕ} → length s ≤ at → Names (Unread (refusal 2 (length s))) t t
   unfolding namesStep
   names-short h = rw (names-step, le-leb _ _ h) (refuses N 2 (length s))
 
-  pub names-unknown : {t : List ℕ} → at < length s → shapeOf (getD s at 0) ≡ Unknown → Names (Refusal 3 at) t t
-  unfolding namesStep onShape
+  pub names-unknown : {t : List ℕ} → at < length s → shapeOf (getD s at 0) ≡ Unknown → Names (Unread (refusal 3 at)) t t
+  unfolding namesStep wholeOfShape
   names-unknown h e = rw (names-step, lt-leb _ _ h, e) (refuses N 3 at)
 
   pub names-term : {body parts : ℕ} {rule : Rule} {x : Reading} {t u : List ℕ} → at < length s →
       shapeOf (getD s at 0) ≡ PartShape body parts rule → ReadsSheet N (termAt N s st at) x t u → Names x t u
-  unfolding namesStep onShape
+  unfolding namesStep wholeOfShape
   names-term h e R = rw (names-step, lt-leb _ _ h, e) R
 
   pub names-declare : {body c : ℕ} {judged : Judged} {x : Reading} {t u : List ℕ} → at < length s →
       shapeOf (getD s at 0) ≡ Declare body → judged ≡ declareOf s st at → c ≡ declaredStanding at →
       ((name : Name) → ReadsSheet N (After body c judged name) x t u) → Names x t u
-  unfolding namesStep onShape
+  unfolding namesStep wholeOfShape
   names-declare h e j k R = rw (names-step, lt-leb _ _ h, e) (rw (j, k) at (R (declareAt s at)))
 
   pub names-retire : {body : ℕ} {judged : Judged} {x : Reading} {t u : List ℕ} → at < length s →
       shapeOf (getD s at 0) ≡ Retire body → judged ≡ fresh s st (at + 1) →
       ((name : Name) → ReadsSheet N (After body 1 judged name) x t u) → Names x t u
-  unfolding namesStep onShape retireOf
+  unfolding namesStep wholeOfShape retireOf
   names-retire h e j R = rw (names-step, lt-leb _ _ h, e) (rw j at (R (retireAt s at)))
 
 named : (N : Numbers) (name : Name) (A : Answer Whole) {x : Reading} {t u : List ℕ} → ReadsSheet N A x t u →
@@ -109,13 +111,13 @@ module _ (N : Numbers) (rec : List ℕ → ℕ → Answer Whole) (n : ℕ) (s st
   abbrev Record : Reading → List ℕ → List ℕ → Type 0
   Record = ReadsSheet N (nameOf rec n s st at body c judged name)
 
-  pub after-full : {t : List ℕ} → n ≡ 0 → Record (Refusal 9 at) t t
+  pub after-full : {t : List ℕ} → n ≡ 0 → Record (Unread (refusal 9 at)) t t
   unfolding nameOf
   after-full e = rw (eq-eqb _ _ e) (refuses N 9 at)
 
-  pub after-bad : {a b : ℕ} {t : List ℕ} → (n ≡ 0 → ⊥) → judged ≡ Bad a b → Record (Refusal a b) t t
+  pub after-bad : {x : Refusal} {t : List ℕ} → (n ≡ 0 → ⊥) → judged ≡ Bad x → Record (Unread x) t t
   unfolding nameOf onJudged
-  after-bad {a} {b} z e = rw (ne-eqb _ _ z, e) (refuses N a b)
+  after-bad {x} z e = rw (ne-eqb _ _ z, e) (refuses N (x .number) (x .place))
 
   pub after-good : {x : Reading} {t u : List ℕ} → (n ≡ 0 → ⊥) → judged ≡ Good →
       ReadsSheet N (rec (set st (getD s (at + 1) 0) c) (at + 1 + body)) x t u → Record x t u
@@ -154,7 +156,7 @@ closes-sheet N s (got (whole ns root x) ty w end) R e =
       (R .table)
   where
     split : (a b : Bool) →
-        pick a (Refusal 10 end) (pick b (Refusal 11 0) (Sheet root ty (min w 4097) end)) ≡
+        pick a (Unread (refusal 10 end)) (pick b (Unread (refusal 11 0)) (Sheet root ty (min w 4097) end)) ≡
         eraseSheet (pick a (refused 10 end) (pick b (refused 11 0) (got (whole ns root x) ty w end)))
     split true b = refl
     split false true = refl
@@ -163,7 +165,7 @@ closes-sheet N s (refused n p) R e = record { answer = e ∙ rw (R .answer); tab
 
 -- the whole sheet
 pub sheet-refused : (N : Numbers) (s : List ℕ) {n p : ℕ} {t : List ℕ} → sheetOf s ≡ refused n p →
-    ReadsSheet N (sheetOf s) (Refusal n p) t t
+    ReadsSheet N (sheetOf s) (Unread (refusal n p)) t t
 sheet-refused N s {n} {p} e = rw e (refuses N n p)
 
 pub sheet-closed : (N : Numbers) (s : List ℕ) (A : Answer Whole) {x : Reading} {t u : List ℕ} → sheetOf s ≡ A →
@@ -210,11 +212,11 @@ small-sheet s {x} {ty} {w} {end} e =
     go false false false false false false h = small-closed (numbersAt s) s (namesOf 32 (numbersAt s) s nothing 2) h
 
 -- the answer of check
-refused-as : (N : Numbers) (A : Answer Whole) {n p : ℕ} → Refusal n p ≡ eraseSheet A → Turned n 0 p ≡ checkedOf
-  (checks N A)
+refused-as : (N : Numbers) (A : Answer Whole) {x : Refusal} → Unread x ≡ eraseSheet A →
+    Turned (x .number) 0 (x .place) ≡ checkedOf (checks N A)
 unfolding eraseSheet checks checkedOf
 refused-as N (got (whole ns root x) ty w end) e = let z : _≡_ {A = ℕ} 0 1 = cc in absurd (omega arith)
-refused-as N (refused n p) e = cc
+refused-as N (refused n p) {x} e = let h : x ≡ refusal n p = cc in rw h
 
 accepted-as :
     (N : Numbers) (A : Answer Whole) {root ty w next size : ℕ} →
@@ -230,8 +232,8 @@ accepted-as N (got (whole ns root x) ty v end) {ty = ty′} {w} {size = size} sm
     rw (p, m)
 accepted-as N (refused n p) small e f = let z : _≡_ {A = ℕ} 0 1 = cc in absurd (omega arith)
 
-pub checks-refused : (s : List ℕ) {n p : ℕ} → Refusal n p ≡ eraseSheet (sheetOf s) → Turned n 0 p ≡ checkedOf
-  (readSheet s)
+pub checks-refused : (s : List ℕ) {x : Refusal} → Unread x ≡ eraseSheet (sheetOf s) →
+    Turned (x .number) 0 (x .place) ≡ checkedOf (readSheet s)
 unfolding readSheet
 checks-refused s e = refused-as (numbersAt s) (sheetOf s) e
 

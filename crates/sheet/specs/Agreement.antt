@@ -1,4 +1,4 @@
--- That the reader and what a sheet in order is agree, each way (docs/DEMANDS.md, clause 1.4).
+-- That the reader and what a sheet in order is agree, each way (docs/DEMANDS.md, clause 1.4). SHEETS 2 and 9.
 use mathlib.Core.Path.{_≡_}
 use mathlib.Core.List.{List}
 use Prim.Native.Nat.{ℕ}

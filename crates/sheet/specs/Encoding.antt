@@ -1,4 +1,4 @@
--- The bytes of a sheet. Document 01, "The sheet, byte by byte", the table.
+-- The bytes of a sheet. Document 01, "The sheet, byte by byte", the table. SHEETS 2.
 use Prim.Native.Nat.{ℕ, zero, suc}
 use mathlib.Core.List.{List, [], _∷_, _++_}
 use lib.ListN.{length}

@@ -1,5 +1,5 @@
 -- Which sheets are in order: ranges, scope, types and limits. Document 01, "The sheet, byte by byte" (types after figure 1 of
--- document 001) and "Reckoned size".
+-- document 001) and "Reckoned size". SHEETS 2, 3.2 and 7.3.
 use Prim.Native.Nat.{ℕ, suc, _+_, _≤_, _<_, max}
 use mathlib.Core.Path.{_≡_}
 use mathlib.Core.Bool.{true}

@@ -1,5 +1,5 @@
 -- What an id means, the type of a term as written, and the term that it stands for. Document 01, "The sheet, byte by byte": "A use
--- means the innermost enclosing new with that id, which has no arguments; else the declared name".
+-- means the innermost enclosing new with that id, which has no arguments; else the declared name". SHEETS 2.6 and 3.2.
 use Prim.Native.Nat.{ℕ, suc, _+_, _-_, _<_}
 use mathlib.Core.List.{List, [], _∷_}
 use mathlib.Core.Bool.{Bool, true, false}

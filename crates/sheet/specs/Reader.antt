@@ -1,5 +1,5 @@
 -- The reader: for any list of bytes the sheet as written with its type and size, or the refusal with its number and place.
--- Document 01, "Three services", causes 1 to 11 and their order.
+-- Document 01, "Three services", causes 1 to 11 and their order. SHEETS 9.1 and 9.2.
 use Prim.Native.Nat.{ℕ, zero, suc, _+_, _*_}
 use mathlib.Core.Bool.{Bool, true, false}
 use mathlib.Core.List.{List, [], _∷_}
@@ -7,10 +7,12 @@ use lib.ListN.{length, getD, set, replicate}
 use lib.Dec.{eqb, ltb, leb}
 use Rattle.language.specs.Choice.{pick}
 use Rattle.language.specs.declared.Numbers.{Numbers}
+use Rattle.records.specs.Refusal.{too-long, cut-short, out-of-range, wrong-type, too-deep, too-many-names}
+use Rattle.records.specs.Refusal.{left-over, too-large}
 use Rattle.records.specs.Kind.{shapeOf}
-use Rattle.records.specs.Standing.{declaredStanding}
+use Rattle.records.specs.Standing.{retired, declaredStanding}
 use Rattle.records.specs.Head.{headOf}
-use Rattle.records.specs.Rule.{questions, answers, accepts, typeOf, factor, extra, own}
+use Rattle.records.specs.Rule.{questions, answers, acceptsPart, partType, factor, extra, own}
 use Rattle.records.specs.Scope.{entered}
 use Rattle.records.specs.declared.kind.Rule.{Rule}
 use Rattle.records.specs.declared.kind.Rule.the-variants.{Skip, Diverge, Truth, Number, Use, Fetch, Operate, Assign}
@@ -19,12 +21,12 @@ use Rattle.records.specs.declared.kind.Shape.{Shape}
 use Rattle.records.specs.declared.kind.Shape.the-variants.{Part, Declare, Retire, Unknown}
 use Rattle.records.specs.declared.head.Record.{Record}
 use Rattle.records.specs.declared.head.Head.{Head}
-use Rattle.records.specs.declared.head.Head.the-variants.{Good as Headed, Bad as Unheaded}
+use Rattle.records.specs.declared.head.Head.the-variants.{Good as Headed, Refused as Unheaded}
 use Rattle.sheet.specs.Written.{Written, skip, diverge, truth, number, call, fetch, operate, assign, sequence}
 use Rattle.sheet.specs.Written.{while, choose, new, Writtens, none, more, Name, Sheet}
 use Rattle.sheet.specs.Heading.{declareOf, retireOf, declareAt, retireAt}
 use Rattle.sheet.specs.declared.heading.Judged.{Judged}
-use Rattle.sheet.specs.declared.heading.Judged.the-variants.{Good, Bad}
+use Rattle.sheet.specs.declared.heading.Judged.the-variants.{Good, Refused}
 
 -- a part as it was read: its record, its type and weight, and its parts with their places
 mutual
@@ -45,11 +47,11 @@ bind (refused n p) k = refused n p
 
 unfoldable pub onHead : {X : Type 0} → Head → (Record → Answer X) → Answer X
 onHead (Headed r) k = k r
-onHead (Unheaded n p) k = refused n p
+onHead (Unheaded x) k = refused (x .number) (x .place)
 
 unfoldable pub onJudged : {X : Type 0} → Judged → Answer X → Answer X
 onJudged Good k = k
-onJudged (Bad n p) k = refused n p
+onJudged (Refused x) k = refused (x .number) (x .place)
 
 -- the parts of record r from part j on, n of them, the part before them of type prev: "A part's type is judged when its last byte
 -- is read"
@@ -57,17 +59,17 @@ unfoldable pub partsOf : (ℕ → Answer Tree) → Numbers → List ℕ → Reco
 partsOf rec N s r zero j prev at = got leaf prev 0 at
 partsOf rec N s r (suc n) j prev at =
     bind (rec at) (λ t ty w next.
-      pick (accepts (r .rule) s r j prev ty)
+      pick (acceptsPart (r .rule) s r j prev ty)
       (bind (partsOf rec N s r n (j + 1) ty next) (λ ts last v end.
         got (branch at t ts) last (factor (r .rule) N r j prev ty * w + extra (r .rule) N ty + v) end))
-      (refused 7 at))
+      (refused wrong-type at))
 
 -- a record with its parts
-unfoldable pub recordOf : (ℕ → Answer Tree) → Numbers → List ℕ → Record → Answer Tree
-recordOf rec N s r =
+unfoldable pub readRecord : (ℕ → Answer Tree) → Numbers → List ℕ → Record → Answer Tree
+readRecord rec N s r =
     bind (partsOf rec N s r (r .parts) 0 0 (r .next)) (λ ts last v end.
-      got (node r (typeOf (r .rule) s r last) (own (r .rule) + v) ts) (typeOf (r .rule) s r last) (own (r .rule) + v)
-        end)
+      got (node r (partType (r .rule) s r last) (own (r .rule) + v) ts)
+        (partType (r .rule) s r last) (own (r .rule) + v) end)
 
 unfoldable pub isNew : Rule → Bool
 isNew New = true
@@ -87,12 +89,12 @@ isNew While = false
 unfoldable pub scopedOf : (List ℕ → ℕ → ℕ → Answer Tree) → Numbers → List ℕ → List ℕ → ℕ → Record → Answer Tree
 scopedOf rec N s st level r =
     pick (isNew (r .rule))
-    (recordOf (rec (entered st r level) (level + 1)) N s r)
-    (recordOf (rec st level) N s r)
+    (readRecord (rec (entered st r level) (level + 1)) N s r)
+    (readRecord (rec st level) N s r)
 
 -- the part at a place, with `left` levels of depth left, in standings st, inside `level` news
 unfoldable pub readPart : ℕ → Numbers → List ℕ → List ℕ → ℕ → ℕ → Answer Tree
-readPart zero N s st level at = onHead (headOf s st N 0 at) (λ r. refused 8 at)
+readPart zero N s st level at = onHead (headOf s st N 0 at) (λ r. refused too-deep at)
 readPart (suc left) N s st level at =
     onHead (headOf s st N (suc left) at) (λ r. scopedOf (readPart left N s) N s st level r)
 
@@ -103,31 +105,32 @@ pub data Whole : Type 0 where
 unfoldable pub withName : Name → Whole → Whole
 withName n (whole ns root t) = whole (n ∷ ns) root t
 
-unfoldable pub onShape : Shape → (ℕ → Answer Whole) → (ℕ → Answer Whole) → Answer Whole → Answer Whole → Answer Whole
-onShape (Declare body) d r p u = d body
-onShape (Retire body) d r p u = r body
-onShape (Part body parts rule) d r p u = p
-onShape Unknown d r p u = u
+unfoldable pub wholeOfShape :
+    Shape → (ℕ → Answer Whole) → (ℕ → Answer Whole) → Answer Whole → Answer Whole → Answer Whole
+wholeOfShape (Declare body) d r p u = d body
+wholeOfShape (Retire body) d r p u = r body
+wholeOfShape (Part body parts rule) d r p u = p
+wholeOfShape Unknown d r p u = u
 
 -- a name record, n of them still allowed, that is judged; then what follows it, in standings where its id has standing c
 unfoldable pub nameOf : (List ℕ → ℕ → Answer Whole) → ℕ → List ℕ → List ℕ → ℕ → ℕ → ℕ → Judged → Name → Answer Whole
 nameOf rec n s st at body c judged name =
-    pick (eqb n 0) (refused 9 at)
+    pick (eqb n 0) (refused too-many-names at)
     (onJudged judged
     (bind (rec (set st (getD s (at + 1) 0) c) (at + 1 + body)) (λ x ty w end. got (withName name x) ty w end)))
 
 -- the rest of a sheet: name records, n of them still allowed, and the term
 unfoldable pub namesStep : (List ℕ → ℕ → Answer Whole) → ℕ → Numbers → List ℕ → List ℕ → ℕ → Answer Whole
 namesStep rec n N s st at =
-    pick (leb (length s) at) (refused 2 (length s))
-    (onShape (shapeOf (getD s at 0))
+    pick (leb (length s) at) (refused cut-short (length s))
+    (wholeOfShape (shapeOf (getD s at 0))
       (λ body. nameOf rec n s st at body (declaredStanding at) (declareOf s st at) (declareAt s at))
-      (λ body. nameOf rec n s st at body 1 (retireOf s st at) (retireAt s at))
+      (λ body. nameOf rec n s st at body retired (retireOf s st at) (retireAt s at))
       (bind (readPart 32 N s st 0 at) (λ t ty w end. got (whole [] at t) ty w end))
-      (refused 3 at))
+      (refused out-of-range at))
 
 unfoldable pub namesOf : ℕ → Numbers → List ℕ → List ℕ → ℕ → Answer Whole
-namesOf zero N s st at = namesStep (λ st′ at′. refused 9 at) 0 N s st at
+namesOf zero N s st at = namesStep (λ st′ at′. refused too-many-names at) 0 N s st at
 namesOf (suc n) N s st at = namesStep (namesOf n N s) (suc n) N s st at
 
 -- "Size = 2 + questions times w + answers, of the whole term"
@@ -138,8 +141,8 @@ sizeOf N ty w = 2 + questions N ty * w + answers N ty
 unfoldable pub closed : Numbers → List ℕ → Answer Whole → Answer Whole
 closed N s x =
     bind x (λ t ty w end.
-      pick (ltb end (length s)) (refused 10 end)
-      (pick (ltb 4096 (sizeOf N ty w)) (refused 11 0) (got t ty w end)))
+      pick (ltb end (length s)) (refused left-over end)
+      (pick (ltb 4096 (sizeOf N ty w)) (refused too-large 0) (got t ty w end)))
 
 abbrev pub numbersAt : List ℕ → Numbers
 numbersAt s = record { z = getD s 0 0; rule = getD s 1 0 }
@@ -151,12 +154,12 @@ nothing = replicate 255 0
 -- a whole sheet, judged left to right
 unfoldable pub sheetOf : List ℕ → Answer Whole
 sheetOf s =
-    pick (ltb 4096 (length s)) (refused 1 4096)
-    (pick (leb (length s) 0) (refused 2 (length s))
-    (pick (eqb (getD s 0 0) 0) (refused 3 0)
-    (pick (ltb 7 (getD s 0 0)) (refused 3 0)
-    (pick (leb (length s) 1) (refused 2 (length s))
-    (pick (ltb 1 (getD s 1 0)) (refused 3 1)
+    pick (ltb 4096 (length s)) (refused too-long 4096)
+    (pick (leb (length s) 0) (refused cut-short (length s))
+    (pick (eqb (getD s 0 0) 0) (refused out-of-range 0)
+    (pick (ltb 7 (getD s 0 0)) (refused out-of-range 0)
+    (pick (leb (length s) 1) (refused cut-short (length s))
+    (pick (ltb 1 (getD s 1 0)) (refused out-of-range 1)
     (closed (numbersAt s) s (namesOf 32 (numbersAt s) s nothing 2)))))))
 
 -- the records that were read

@@ -1,4 +1,4 @@
--- The sheet as written: its records. Document 01, "The sheet, byte by byte".
+-- The sheet as written: its records. Document 01, "The sheet, byte by byte". SHEETS 2.
 use Prim.Native.Nat.{ℕ}
 use mathlib.Core.List.{List}
 use Rattle.language.specs.declared.Numbers.{Numbers}

@@ -1,16 +1,32 @@
 // The judgement of name records.
-use records::head::byte_at;
-use records::head::standing_of;
+use records::read::byte_at;
+use records::read::standing_of;
+use records::refusal::CUT_SHORT;
+use records::refusal::ID_TAKEN;
+use records::refusal::OUT_OF_RANGE;
+use records::refusal::Refusal;
+use records::refusal::refuse;
 use records::scope::with_standing;
+use records::standing::FREE;
 ghost use mathlib.Core.Path.{_≡_};
 ghost use Prim.Native.Nat.{_+_, _≤_, _<_};
 ghost use lib.ListN.{getD, set};
-ghost use Rattle.sheet.specs.Heading.{both, below, unused, fresh, argument, arguments, declareOf};
+ghost use Rattle.sheet.specs.Heading.{andThen, below, unused, fresh, argument, arguments, declareOf};
+
+// Where the ranges of bytes end: ids, types, numbers of arguments.
+const IDS: u8 = 255;
+
+const TYPES: u8 = 5;
+
+const COUNTS: u8 = 5;
+
+// The type of an argument that is not there.
+const UNUSED: u8 = 255;
 
 // A judgement of bytes: good, or the refusal's number and place.
 pub enum Judged {
     Good,
-    Bad { number: u8, place: usize },
+    Refused(Refusal),
 }
 
 // A byte below a limit.
@@ -18,16 +34,10 @@ fn judge_below(s: &[u8], at: usize, limit: u8) -> Judged
     ensures { λ r. ⌜ r ≡ below (now (s .entry)) at limit ⌝ }
 {
     if s.len() <= at {
-        return Judged::Bad {
-            number: 2,
-            place: s.len(),
-        };
+        return Judged::Refused(refuse(CUT_SHORT, s.len()));
     }
     if limit <= s[at] {
-        return Judged::Bad {
-            number: 3,
-            place: at,
-        };
+        return Judged::Refused(refuse(OUT_OF_RANGE, at));
     }
     Judged::Good
 }
@@ -37,36 +47,27 @@ fn judge_unused(s: &[u8], at: usize) -> Judged
     ensures { λ r. ⌜ r ≡ unused (now (s .entry)) at ⌝ }
 {
     if s.len() <= at {
-        return Judged::Bad {
-            number: 2,
-            place: s.len(),
-        };
+        return Judged::Refused(refuse(CUT_SHORT, s.len()));
     }
-    if s[at] == 255 {
+    if s[at] == UNUSED {
         return Judged::Good;
     }
-    Judged::Bad {
-        number: 3,
-        place: at,
-    }
+    Judged::Refused(refuse(OUT_OF_RANGE, at))
 }
 
 // An id that is neither declared nor retired.
 pub(crate) fn judge_fresh(s: &[u8], st: &[u16; 255], at: usize) -> Judged
     ensures { λ r. ⌜ r ≡ fresh (now (s .entry)) (now (st .entry)) at ⌝ }
 {
-    let range = judge_below(s, at, 255);
+    let range = judge_below(s, at, IDS);
     match range {
-        Judged::Bad { number, place } => Judged::Bad { number, place },
+        Judged::Refused(refusal) => Judged::Refused(refusal),
         Judged::Good => {
             let id = byte_at(s, at);
-            if standing_of(st, id) == 0 {
+            if standing_of(st, id) == FREE {
                 return Judged::Good;
             }
-            Judged::Bad {
-                number: 4,
-                place: at,
-            }
+            Judged::Refused(refuse(ID_TAKEN, at))
         }
     }
 }
@@ -78,18 +79,18 @@ fn judge_argument(s: &[u8], at: usize, j: u8) -> Judged
 {
     let place = at + 4 + j as usize;
     if j < byte_at(s, at + 3) {
-        return judge_below(s, place, 5);
+        return judge_below(s, place, TYPES);
     }
     judge_unused(s, place)
 }
 
 // A judgement, then another.
 fn judge_both(first: Judged, then: Judged) -> Judged
-    ensures { λ r. ⌜ r ≡ both first then ⌝ }
+    ensures { λ r. ⌜ r ≡ andThen first then ⌝ }
 {
     match first {
         Judged::Good => then,
-        Judged::Bad { number, place } => Judged::Bad { number, place },
+        Judged::Refused(refusal) => Judged::Refused(refusal),
     }
 }
 
@@ -110,10 +111,10 @@ pub(crate) fn judge_declare(s: &[u8], st: &[u16; 255], at: usize) -> Judged
     requires { ⌜ at < 65536 ⌝ }
     ensures { λ r. ⌜ r ≡ declareOf (now (s .entry)) (now (st .entry)) at ⌝ }
 {
-    let counted = judge_both(judge_below(s, at + 3, 5), judge_arguments(s, at));
+    let counted = judge_both(judge_below(s, at + 3, COUNTS), judge_arguments(s, at));
     judge_both(
         judge_fresh(s, st, at + 1),
-        judge_both(judge_below(s, at + 2, 5), counted),
+        judge_both(judge_below(s, at + 2, TYPES), counted),
     )
 }
 

@@ -3,3 +3,5 @@ pub mod check;
 pub mod heading;
 pub mod names;
 pub mod part;
+pub mod reading;
+pub mod size;

@@ -8,6 +8,12 @@ use crate::part::read_root;
 use language::Numbers;
 use records::kind::Shape;
 use records::kind::shape_of;
+use records::refusal::CUT_SHORT;
+use records::refusal::OUT_OF_RANGE;
+use records::refusal::Refusal;
+use records::refusal::TOO_MANY_NAMES;
+use records::refusal::refuse;
+use records::standing::RETIRED;
 use records::standing::declared_standing;
 ghost use mathlib.Core.Path.{_≡_};
 ghost use Prim.Native.Nat.{_+_, _-_, _≤_, _<_};
@@ -24,10 +30,7 @@ pub enum Reading {
         weight: u32,
         next: usize,
     },
-    Refusal {
-        number: u8,
-        place: usize,
-    },
+    Refused(Refusal),
 }
 
 // Reads the term.
@@ -37,7 +40,7 @@ fn read_term(s: &[u8], st: &[u16; 255], t: &mut [u16], n: Numbers, at: usize) ->
 {
     let p = read_root(s, st, t, n, at);
     match p {
-        Part::Refused { number, place } => Reading::Refusal { number, place },
+        Part::Refused(refusal) => Reading::Refused(refusal),
         Part::Read { ty, weight, next } => Reading::Sheet {
             root: at,
             ty,
@@ -60,18 +63,12 @@ pub(crate) fn read_names(
     ensures { λ x. ⌜ ReadsSheet n (namesOf left n (now (s .entry)) (now (st .entry)) at) x (now (t .entry)) (now (t .exit)) ⌝ }
 {
     if s.len() <= at {
-        return Reading::Refusal {
-            number: 2,
-            place: s.len(),
-        };
+        return Reading::Refused(refuse(CUT_SHORT, s.len()));
     }
     let kind = s[at];
     let shape = shape_of(kind);
     match shape {
-        Shape::Unknown => Reading::Refusal {
-            number: 3,
-            place: at,
-        },
+        Shape::Unknown => Reading::Refused(refuse(OUT_OF_RANGE, at)),
         Shape::Part {
             body: _,
             parts: _,
@@ -83,7 +80,7 @@ pub(crate) fn read_names(
         }
         Shape::Retire { body } => {
             let judged = judge_fresh(s, st, at + 1);
-            read_after(s, st, t, n, left, at, body, 1, judged)
+            read_after(s, st, t, n, left, at, body, RETIRED, judged)
         }
     }
 }
@@ -106,13 +103,10 @@ fn read_after(
         (now (t .entry)) (now (t .exit))) ⌝ }
 {
     if left == 0 {
-        return Reading::Refusal {
-            number: 9,
-            place: at,
-        };
+        return Reading::Refused(refuse(TOO_MANY_NAMES, at));
     }
     match judged {
-        Judged::Bad { number, place } => Reading::Refusal { number, place },
+        Judged::Refused(refusal) => Reading::Refused(refusal),
         Judged::Good => {
             let next = registered(s, st, at, c);
             read_names(s, &next, t, n, left - 1, at + 1 + body as usize)

@@ -7,6 +7,10 @@ use records::head::Record;
 use records::head::bare_record;
 use records::head::head_at;
 use records::kind::Rule;
+use records::refusal::Refusal;
+use records::refusal::TOO_DEEP;
+use records::refusal::WRONG_TYPE;
+use records::refusal::refuse;
 use records::row::link;
 use records::row::write_row;
 use records::scope::enter;
@@ -33,7 +37,7 @@ const SECOND: u8 = 1;
 // What reading gives: the type, the weight held at 4,097, and the place after; or the refusal.
 pub enum Part {
     Read { ty: u8, weight: u32, next: usize },
-    Refused { number: u8, place: usize },
+    Refused(Refusal),
 }
 
 // Whether a record opens a scope.
@@ -98,13 +102,10 @@ fn read_part(
 {
     let h = head_at(s, st, n, left, at);
     match h {
-        Head::Bad { number, place } => Part::Refused { number, place },
+        Head::Refused(refusal) => Part::Refused(refusal),
         Head::Good { record } => {
             if left == 0 {
-                return Part::Refused {
-                    number: 8,
-                    place: at,
-                };
+                return Part::Refused(refuse(TOO_DEEP, at));
             }
             read_record(s, st, t, n, level, left - 1, record)
         }
@@ -266,10 +267,7 @@ fn read_next(
         return p;
     };
     if !accepts_part(rule, s, r, j, prev, ty) {
-        return Part::Refused {
-            number: 7,
-            place: at,
-        };
+        return Part::Refused(refuse(WRONG_TYPE, at));
     }
     let own = part_weight(n, r, j, prev, ty, weight);
     let q = read_parts(

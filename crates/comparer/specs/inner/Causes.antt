@@ -3,7 +3,7 @@
 use mathlib.Core.Option.{Option, none, some}
 use Prim.Native.Nat.{ℕ}
 use Rattle.sheet.specs.declared.names.Reading.{Reading}
-use Rattle.sheet.specs.declared.names.Reading.the-variants.{Sheet, Refusal}
+use Rattle.sheet.specs.declared.names.Reading.the-variants.{Sheet, Refused}
 use Rattle.comparer.specs.Refusals as refusals
 use Rattle.comparer.specs.declared.Cause.{Cause}
 use Rattle.comparer.specs.declared.play.Parsed.{Parsed}
@@ -12,7 +12,7 @@ use Rattle.comparer.specs.declared.play.Parsed.the-variants.{Moves, Bad}
 -- of a sheet: its number and place, and the sheet
 unfoldable pub causeOf : Reading → ℕ → Cause
 causeOf (Sheet root ty w next) sheet = record { number = 0; sheet = sheet; place = 0 }
-causeOf (Refusal number place) sheet = record { number = number; sheet = sheet; place = place }
+causeOf (Refused x) sheet = record { number = x .number; sheet = sheet; place = x .place }
 
 -- of both sheets together
 abbrev pub bothCause : ℕ → Cause

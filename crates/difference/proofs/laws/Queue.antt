@@ -66,19 +66,19 @@ module _ (n : ℕ) (ws : List ℕ) (k p q f l : ℕ) (room : n + 4 * k + 4 ≤ l
   at-3 = getD-set-same w₃ (n + 4 * k + 3) l 0 (simp length-set (omega arith))
 
   abbrev pub entry : (ℕ → Entry) → Entry
-  entry E = record { pp = p; qq = q; wd = l ∷ E f .wd }
+  entry E = record { left = p; right = q; word = l ∷ E f .word }
 
-  pub pushed-queue : (E : ℕ → Entry) → Queue n ws k E → f < k → Queue n new (suc k) (snoc E k (record { pp = p;
-    qq = q; wd = l ∷ E f .wd }))
+  pub pushed-queue : (E : ℕ → Entry) → Queue n ws k E → f < k → Queue n new (suc k) (snoc E k (record { left = p;
+    right = q; word = l ∷ E f .word }))
   pushed-queue E u h = record
-    { first = snoc-all E k (entry E) (λ j c. getD new (n + 4 * j) 0 ≡ c .pp) (λ j g. pushed-below (n + 4 * j)
+    { first = snoc-all E k (entry E) (λ j c. getD new (n + 4 * j) 0 ≡ c .left) (λ j g. pushed-below (n + 4 * j)
       (omega arith) ∙ u .first j g) at-0
-    ; second = snoc-all E k (entry E) (λ j c. getD new (n + 4 * j + 1) 0 ≡ c .qq) (λ j g. pushed-below (n + 4 * j + 1)
-      (omega arith) ∙ u .second j g) at-1
+    ; second = snoc-all E k (entry E) (λ j c. getD new (n + 4 * j + 1) 0 ≡ c .right)
+      (λ j g. pushed-below (n + 4 * j + 1) (omega arith) ∙ u .second j g) at-1
     ; from = snoc-all E k (entry E) (λ j c. 0 < j → getD new (n + 4 * j + 2) 0 < j)
       (λ j g z. rw (pushed-below (n + 4 * j + 2) (omega arith)) (u .from j g z)) (λ z. rw at-2 h)
-    ; word = snoc-all E k (entry E) (λ j c. 0 < j → c .wd ≡ getD new (n + 4 * j + 3) 0 ∷ snoc E k (entry E)
-      (getD new (n + 4 * j + 2) 0) .wd)
+    ; word = snoc-all E k (entry E) (λ j c. 0 < j → c .word ≡ getD new (n + 4 * j + 3) 0 ∷ snoc E k (entry E)
+      (getD new (n + 4 * j + 2) 0) .word)
         (λ j g z. rw (pushed-below (n + 4 * j + 3) (omega arith), pushed-below (n + 4 * j + 2) (omega arith),
           snoc-old E k (entry E) (getD ws (n + 4 * j + 2) 0) (omega (arith, u .from j g z))) (u .word j g z))
         (λ z. rw (at-3, at-2, snoc-old E k (entry E) f h)) }

@@ -47,10 +47,10 @@ module _ (G : List ℕ) (t : Task) (s : Setting G t) (ws : List ℕ) (head tail 
 
   module _ (h : head < tail) (p q : ℕ) (ep : p ≡ getD ws (t .n + 4 * head) 0)
     (eq : q ≡ getD ws (t .n + 4 * head + 1) 0) where
-    p-is : p ≡ u .E head .pp
+    p-is : p ≡ u .E head .left
     p-is = ep ∙ u .queue .first head h
 
-    q-is : q ≡ u .E head .qq
+    q-is : q ≡ u .E head .right
     q-is = eq ∙ u .queue .second head h
 
     pub run-on : accepting (t .f) (t .g) p ≡ accepting (t .f) (t .g) q → Half G t ws head tail 0
@@ -59,9 +59,9 @@ module _ (G : List ℕ) (t : Task) (s : Setting G t) (ws : List ℕ) (head tail 
       ; mid = begin _ _ _ _ _ (u .E) head tail (u .rep) (u .top) h (ap (accepting (t .f) (t .g)) (sym p-is) ∙ e
         ∙ ap (accepting (t .f) (t .g)) q-is) }
 
-    spell : (b k : ℕ) → k < b → k < tail → Spelled (t .n) ws k (u .E k .wd)
+    spell : (b k : ℕ) → k < b → k < tail → Spelled (t .n) ws k (u .E k .word)
     spell zero k l w = absurd (omega arith)
-    spell (suc b) zero l w = rw (ap (λ (e : Entry). e .wd) (u .top .inv .start)) none
+    spell (suc b) zero l w = rw (ap (λ (e : Entry). e .word) (u .top .inv .start)) none
     spell (suc b) (suc k) l w =
       let f = u .queue .from (suc k) w (omega arith) in
       rw (u .queue .word (suc k) w (omega arith))
@@ -69,7 +69,7 @@ module _ (G : List ℕ) (t : Task) (s : Setting G t) (ws : List ℕ) (head tail 
 
     pub run-told : accepting (t .f) (t .g) p ≢ accepting (t .f) (t .g) q → ToldApart G t ws head
     run-told e = record
-      { word = u .E head .wd
+      { word = u .E head .word
       ; first = told _ _ _ _ _ (u .E) head tail (u .rep) (u .top) (s .p-lt) h
         (λ z. e (ap (accepting (t .f) (t .g)) p-is ∙ z ∙ ap (accepting (t .f) (t .g)) (sym q-is)))
       ; spelled = spell (suc head) head (omega arith) h
@@ -117,7 +117,7 @@ module _ (G : List ℕ) (t : Task) (s : Setting G t) (ne : t .p ≢ t .q) (w₁ 
     one : (a b : ℕ) → ((a ≡ t .p) × (b ≡ t .q)) ⊎ ((a ≡ t .q) × (b ≡ t .p)) → a ≢ b
       → Rep (t .n) w₂ (merge (λ x. x) a b) → State G t (pushed w₂ (t .n + 4 * 0) (t .p) (t .q) 0 0) 0 1
     one a b ab n′ r = record
-      { E = λ k. record { pp = t .p; qq = t .q; wd = [] }
+      { E = λ k. record { left = t .p; right = t .q; word = [] }
       ; rep = merge (λ x. x) a b
       ; low = low-frame (t .n) w₂ _ below₂ (pushed-length (t .n) w₂ 0 (t .p) (t .q) 0 0 room₂) low₂
       ; queue = record

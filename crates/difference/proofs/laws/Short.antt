@@ -37,26 +37,26 @@ module _ (n : ℕ) (δ : ℕ → ℕ → ℕ) (fin : ℕ → Bool) (p q L : ℕ)
     rep : ℕ → ℕ
     mid : Mid n δ fin p q E head tail lo rep
 
-  low-p : (head lo : ℕ) (d : Done head lo) → d .E head .pp < n
-  low-p head lo d = rw (d .mid .inv .reach head (d .mid .here) .0) (after-low p p-lt (d .E head .wd))
+  low-p : (head lo : ℕ) (d : Done head lo) → d .E head .left < n
+  low-p head lo d = rw (d .mid .inv .reach head (d .mid .here) .0) (after-low p p-lt (d .E head .word))
 
-  low-q : (head lo : ℕ) (d : Done head lo) → d .E head .qq < n
-  low-q head lo d = rw (d .mid .inv .reach head (d .mid .here) .1) (after-low q q-lt (d .E head .wd))
+  low-q : (head lo : ℕ) (d : Done head lo) → d .E head .right < n
+  low-q head lo d = rw (d .mid .inv .reach head (d .mid .here) .1) (after-low q q-lt (d .E head .word))
 
   letter-more : (head lo : ℕ) → Done head lo → Done head (suc lo)
   letter-more head lo d = go (ℕ-discrete (d .rep a) (d .rep b))
     where
       a : ℕ
-      a = δ (d .E head .pp) lo
+      a = δ (d .E head .left) lo
 
       b : ℕ
-      b = δ (d .E head .qq) lo
+      b = δ (d .E head .right) lo
 
       a-lt : a < n
-      a-lt = closed (d .E head .pp) lo (low-p head lo d)
+      a-lt = closed (d .E head .left) lo (low-p head lo d)
 
       b-lt : b < n
-      b-lt = closed (d .E head .qq) lo (low-q head lo d)
+      b-lt = closed (d .E head .right) lo (low-q head lo d)
 
       go : Dec (d .rep a ≡ d .rep b) → Done head (suc lo)
       go (yes e) = record { E = d .E; tail = d .tail; rep = d .rep
@@ -87,15 +87,15 @@ module _ (n : ℕ) (δ : ℕ → ℕ → ℕ) (fin : ℕ → Bool) (p q L : ℕ)
         → Dec (head < tail) → Either
       go rec (no l) = inl (all-same n δ fin p q E tail rep (subst (λ j. Top n δ fin p q E j tail rep) {x = head}
         {y = tail} (omega (arith, t .within)) t))
-      go rec (yes l) = pick (same-or-not (fin (E head .pp)) (fin (E head .qq)))
+      go rec (yes l) = pick (same-or-not (fin (E head .left)) (fin (E head .right)))
         where
-          pick : (fin (E head .pp) ≡ fin (E head .qq)) ⊎ (fin (E head .pp) ≢ fin (E head .qq)) → Either
+          pick : (fin (E head .left) ≡ fin (E head .right)) ⊎ (fin (E head .left) ≢ fin (E head .right)) → Either
           pick (inl e) =
             let d = letters L head (record { E = E; tail = tail; rep = rep;
               mid = begin n δ fin p q E head tail rep t l e }) in
             rec (d .tail) (d .E) (d .rep) (finish n δ fin p q (d .E) head (d .tail) L (d .rep) (d .mid)
               (λ m z. high _ _ m (low-p head L d) (low-q head L d) z))
-          pick (inr e) = inr (E head .wd, told n δ fin p q E head tail rep t p-lt l e)
+          pick (inr e) = inr (E head .word, told n δ fin p q E head tail rep t p-lt l e)
 
   pub compared : Either
   compared = go (ℕ-discrete p q)

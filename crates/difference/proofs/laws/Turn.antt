@@ -21,22 +21,22 @@ use Rattle.difference.proofs.laws.Merge.{snoc-old}
 -- the states of an entry are states
 module _ (G : List ℕ) (t : Task) (s : Setting G t) (ws : List ℕ) (head last lo : ℕ) (h : Half G t ws head last lo)
   where
-  pub p-low : h .E head .pp < t .n
+  pub p-low : h .E head .left < t .n
   p-low =
-      rw (h .mid .inv .reach head (h .mid .here) .0) (after-lt G (t .n) (t .p) (s .graph) (s .p-lt) (h .E head .wd))
+      rw (h .mid .inv .reach head (h .mid .here) .0) (after-lt G (t .n) (t .p) (s .graph) (s .p-lt) (h .E head .word))
 
-  pub q-low : h .E head .qq < t .n
+  pub q-low : h .E head .right < t .n
   q-low =
-      rw (h .mid .inv .reach head (h .mid .here) .1) (after-lt G (t .n) (t .q) (s .graph) (s .q-lt) (h .E head .wd))
+      rw (h .mid .inv .reach head (h .mid .here) .1) (after-lt G (t .n) (t .q) (s .graph) (s .q-lt) (h .E head .word))
 
   pub last-low : last < t .n
   last-low = omega (arith, h .mid .inv .count, roots-1 _ _ _ _ _ (h .E) (suc head) last (h .rep)
     (h .mid .inv) (s .p-lt))
 
-  pub first-is : getD ws (t .n + 4 * head) 0 ≡ h .E head .pp
+  pub first-is : getD ws (t .n + 4 * head) 0 ≡ h .E head .left
   first-is = h .queue .first head (h .mid .here)
 
-  pub second-is : getD ws (t .n + 4 * head + 1) 0 ≡ h .E head .qq
+  pub second-is : getD ws (t .n + 4 * head + 1) 0 ≡ h .E head .right
   second-is = h .queue .second head (h .mid .here)
 
 pub record Ranges (n head tail : ℕ) (G ws : List ℕ) : Type 0 where
@@ -67,12 +67,12 @@ pub turn-first : (G : List ℕ) (t : Task) (s : Setting G t) (ws : List ℕ) (he
     → j ≡ getD G q 0 → je ≡ getD G (q + 1) 0
   → Turn G t head ws i ie j je tail
 turn-first G t s ws head tail p q i ie j je h ep eq ei eie ej eje =
-  let hp : p ≡ h .E head .pp = ep ∙ first-is G t s ws head tail 0 h in
-  let hq : q ≡ h .E head .qq = eq ∙ second-is G t s ws head tail 0 h in
+  let hp : p ≡ h .E head .left = ep ∙ first-is G t s ws head tail 0 h in
+  let hq : q ≡ h .E head .right = eq ∙ second-is G t s ws head tail 0 h in
   rw (ei, eie, ej, eje, hp, hq) (record
     { lo = 0; half = h
-    ; ei = s .graph .edges (h .E head .pp) (p-low G t s ws head tail 0 h)
-    ; ej = s .graph .edges (h .E head .qq) (q-low G t s ws head tail 0 h)
+    ; ei = s .graph .edges (h .E head .left) (p-low G t s ws head tail 0 h)
+    ; ej = s .graph .edges (h .E head .right) (q-low G t s ws head tail 0 h)
     ; li = λ u. omega arith; lj = λ u. omega arith; ti = λ m u. refl; tj = λ m u. refl })
 
 pub turn-less : (G : List ℕ) (n i ie j je m i′ j′ : ℕ) → Next G n i ie j je m → Past G n i ie m i′
@@ -98,21 +98,21 @@ module _ (G : List ℕ) (t : Task) (s : Setting G t) (head : ℕ) (ws : List ℕ
       go (inl h) = omega (arith, u .li (h .0), h .1)
       go (inr h) = omega (arith, u .lj (h .0), h .1)
 
-  gap : (o : ℕ) → u .lo ≤ o → o < m → D (E head .pp) o ≡ D (E head .qq) o
+  gap : (o : ℕ) → u .lo ≤ o → o < m → D (E head .left) o ≡ D (E head .right) o
   gap o h l = u .ti o h ∙ look-before G (t .n) o i ie (u .ei) (λ v. omega (arith, x .lowi v))
     ∙ sym (u .tj o h ∙ look-before G (t .n) o j je (u .ej) (λ v. omega (arith, x .lowj v)))
 
-  pub a-is : (a : ℕ) → a ≡ look G (t .n) m (ie - i) i → a ≡ D (E head .pp) m
+  pub a-is : (a : ℕ) → a ≡ look G (t .n) m (ie - i) i → a ≡ D (E head .left) m
   a-is a e = e ∙ sym (u .ti m lo-m)
 
-  pub b-is : (b : ℕ) → b ≡ look G (t .n) m (je - j) j → b ≡ D (E head .qq) m
+  pub b-is : (b : ℕ) → b ≡ look G (t .n) m (je - j) j → b ≡ D (E head .right) m
   b-is b e = e ∙ sym (u .tj m lo-m)
 
-  a-lt : D (E head .pp) m < t .n
-  a-lt = δ-lt G (t .n) (E head .pp) m (s .graph) (p-low G t s ws head last (u .lo) (u .half))
+  a-lt : D (E head .left) m < t .n
+  a-lt = δ-lt G (t .n) (E head .left) m (s .graph) (p-low G t s ws head last (u .lo) (u .half))
 
-  b-lt : D (E head .qq) m < t .n
-  b-lt = δ-lt G (t .n) (E head .qq) m (s .graph) (q-low G t s ws head last (u .lo) (u .half))
+  b-lt : D (E head .right) m < t .n
+  b-lt = δ-lt G (t .n) (E head .right) m (s .graph) (q-low G t s ws head last (u .lo) (u .half))
 
   pub visit-pre : (a b : ℕ) → a ≡ look G (t .n) m (ie - i) i → b ≡ look G (t .n) m (je - j) j
     → Low (t .n) ws × ((last < t .n) × ((head < last) × ((m < 2 ^ 32) × ((a < t .n) × (b < t .n)))))
@@ -125,40 +125,40 @@ module _ (G : List ℕ) (t : Task) (s : Setting G t) (head : ℕ) (ws : List ℕ
     on : (last′ : ℕ) (h : Half G t ws′ head last′ (suc m)) → h .E head ≡ E head → Turn G t head ws′ i′ ie j′ je last′
     on last′ h e = record
       { lo = suc m; half = h; ei = pi .edges; ej = pj .edges; li = pi .above; lj = pj .above
-      ; ti = λ o l. ap (λ (c : Entry). D (c .pp) o) e ∙ u .ti o (omega (arith, lo-m)) ∙ pi .rest o l
-      ; tj = λ o l. ap (λ (c : Entry). D (c .qq) o) e ∙ u .tj o (omega (arith, lo-m)) ∙ pj .rest o l }
+      ; ti = λ o l. ap (λ (c : Entry). D (c .left) o) e ∙ u .ti o (omega (arith, lo-m)) ∙ pi .rest o l
+      ; tj = λ o l. ap (λ (c : Entry). D (c .right) o) e ∙ u .tj o (omega (arith, lo-m)) ∙ pj .rest o l }
 
     abbrev new : Entry
-    new = entryOf (D (E head .pp) m) (D (E head .qq) m) head m E
+    new = entryOf (D (E head .left) m) (D (E head .right) m) head m E
 
-    on-visit : (last′ : ℕ) → Visited (t .n) last head m (D (E head .pp) m) (D (E head .qq) m) last′ ws ws′
+    on-visit : (last′ : ℕ) → Visited (t .n) last head m (D (E head .left) m) (D (E head .right) m) last′ ws ws′
       → Turn G t head ws′ i′ ie j′ je last′
     on-visit last′ v = go (v .cases E (u .half .rep) (u .half .mid .inv .idem) (u .half .queue) (u .half .reps))
       where
-        go : Kept (t .n) last (D (E head .pp) m) (D (E head .qq) m) last′ ws′ E (u .half .rep)
-          ⊎ (Joined (t .n) last last′ new (D (E head .pp) m) (D (E head .qq) m) ws′ E (u .half .rep)
-          ⊎ Joined (t .n) last last′ new (D (E head .qq) m) (D (E head .pp) m) ws′ E (u .half .rep))
+        go : Kept (t .n) last (D (E head .left) m) (D (E head .right) m) last′ ws′ E (u .half .rep)
+          ⊎ (Joined (t .n) last last′ new (D (E head .left) m) (D (E head .right) m) ws′ E (u .half .rep)
+          ⊎ Joined (t .n) last last′ new (D (E head .right) m) (D (E head .left) m) ws′ E (u .half .rep))
             → Turn G t head ws′ i′ ie j′ je last′
         go (inl k) = subst (λ l. Turn G t head ws′ i′ ie j′ je l) (sym (k .stays)) (on last
           (record { E = E; rep = u .half .rep; low = v .low; queue = k .queue; reps = k .reps
             ; mid = skip _ _ _ _ _ E head last (u .lo) (u .half .rep) (u .half .mid) m lo-m gap (k .one) }) refl)
         go (inr (inl k)) = subst (λ l. Turn G t head ws′ i′ ie j′ je l) (sym (k .grows)) (on (suc last)
-          (record { E = snoc E last new; rep = merge (u .half .rep) (D (E head .pp) m) (D (E head .qq) m);
+          (record { E = snoc E last new; rep = merge (u .half .rep) (D (E head .left) m) (D (E head .right) m);
             low = v .low; queue = k .queue; reps = k .reps
-            ; mid = push _ _ _ _ _ E head last (u .lo) (u .half .rep) (u .half .mid) m lo-m gap (D (E head .pp) m)
-              (D (E head .qq) m) (inl (refl, refl)) a-lt b-lt (k .two) })
+            ; mid = push _ _ _ _ _ E head last (u .lo) (u .half .rep) (u .half .mid) m lo-m gap (D (E head .left) m)
+              (D (E head .right) m) (inl (refl, refl)) a-lt b-lt (k .two) })
           (snoc-old E last new head (u .half .mid .here)))
         go (inr (inr k)) = subst (λ l. Turn G t head ws′ i′ ie j′ je l) (sym (k .grows)) (on (suc last)
-          (record { E = snoc E last new; rep = merge (u .half .rep) (D (E head .qq) m) (D (E head .pp) m);
+          (record { E = snoc E last new; rep = merge (u .half .rep) (D (E head .right) m) (D (E head .left) m);
             low = v .low; queue = k .queue; reps = k .reps
-            ; mid = push _ _ _ _ _ E head last (u .lo) (u .half .rep) (u .half .mid) m lo-m gap (D (E head .qq) m)
-              (D (E head .pp) m) (inr (refl, refl)) b-lt a-lt (k .two) })
+            ; mid = push _ _ _ _ _ E head last (u .lo) (u .half .rep) (u .half .mid) m lo-m gap (D (E head .right) m)
+              (D (E head .left) m) (inr (refl, refl)) b-lt a-lt (k .two) })
           (snoc-old E last new head (u .half .mid .here)))
 
     pub turn-again : (a b last′ : ℕ) → a ≡ look G (t .n) m (ie - i) i → b ≡ look G (t .n) m (je - j) j
       → Visited (t .n) last head m a b last′ ws ws′ → Turn G t head ws′ i′ ie j′ je last′
     turn-again a b last′ ea eb v = on-visit last′
-      (subst (λ z. Visited (t .n) last head m (D (E head .pp) m) z last′ ws ws′) (b-is b eb)
+      (subst (λ z. Visited (t .n) last head m (D (E head .left) m) z last′ ws ws′) (b-is b eb)
         (subst (λ z. Visited (t .n) last head m z b last′ ws ws′) (a-is a ea) v))
 
 pub turn-last : (G : List ℕ) (t : Task) (head : ℕ) (ws : List ℕ) (i ie j je last : ℕ) → Turn G t head ws i ie j je

@@ -9,10 +9,10 @@ use Rattle.difference.specs.inner.Comparison.{Entry, merge, snoc}
 
 -- the words from n on are the entries E
 pub record Queue (n : ℕ) (ws : List ℕ) (tail : ℕ) (E : ℕ → Entry) : Type 0 where
-  pub first : (k : ℕ) → k < tail → getD ws (n + 4 * k) 0 ≡ E k .pp
-  pub second : (k : ℕ) → k < tail → getD ws (n + 4 * k + 1) 0 ≡ E k .qq
+  pub first : (k : ℕ) → k < tail → getD ws (n + 4 * k) 0 ≡ E k .left
+  pub second : (k : ℕ) → k < tail → getD ws (n + 4 * k + 1) 0 ≡ E k .right
   pub from : (k : ℕ) → k < tail → 0 < k → getD ws (n + 4 * k + 2) 0 < k
-  pub word : (k : ℕ) → k < tail → 0 < k → E k .wd ≡ getD ws (n + 4 * k + 3) 0 ∷ E (getD ws (n + 4 * k + 2) 0) .wd
+  pub word : (k : ℕ) → k < tail → 0 < k → E k .word ≡ getD ws (n + 4 * k + 3) 0 ∷ E (getD ws (n + 4 * k + 2) 0) .word
 
 -- an entry is put at base
 abbrev pub pushed : List ℕ → ℕ → ℕ → ℕ → ℕ → ℕ → List ℕ
@@ -32,7 +32,7 @@ pub record Joined (n tail r : ℕ) (e : Entry) (a b : ℕ) (ws′ : List ℕ) (E
   pub reps : Rep n ws′ (merge rep a b)
 
 abbrev pub entryOf : ℕ → ℕ → ℕ → ℕ → (ℕ → Entry) → Entry
-entryOf p q from letter E = record { pp = p; qq = q; wd = letter ∷ E from .wd }
+entryOf p q from letter E = record { left = p; right = q; word = letter ∷ E from .word }
 
 pub record Visited (n tail from letter p q r : ℕ) (ws ws′ : List ℕ) : Type 0 where
   pub low : Low n ws′

@@ -37,8 +37,8 @@ pub record Turn (G : List ℕ) (t : Task) (head : ℕ) (ws : List ℕ) (i ie j j
   pub ej : Edges G (t .n) j je
   pub li : i < ie → lo ≤ letter G (t .n) i
   pub lj : j < je → lo ≤ letter G (t .n) j
-  pub ti : (m : ℕ) → lo ≤ m → δ G (t .n) (half .E head .pp) m ≡ look G (t .n) m (ie - i) i
-  pub tj : (m : ℕ) → lo ≤ m → δ G (t .n) (half .E head .qq) m ≡ look G (t .n) m (je - j) j
+  pub ti : (m : ℕ) → lo ≤ m → δ G (t .n) (half .E head .left) m ≡ look G (t .n) m (ie - i) i
+  pub tj : (m : ℕ) → lo ≤ m → δ G (t .n) (half .E head .right) m ≡ look G (t .n) m (je - j) j
 
 -- expand's loop
 pub record Expanding (t : Task) (head : ℕ) (ws₀ ws : List ℕ) (i ie j je last : ℕ) : Type 0 where

@@ -7,7 +7,8 @@ use lib.ListN.{length}
 use lib.Dec.{ltb}
 use Rattle.language.specs.Choice.{pick}
 use Rattle.language.specs.declared.Numbers.{Numbers}
-use Rattle.records.specs.Rule.{typeOf, own}
+use Rattle.records.specs.Refusal.{refusal, left-over, too-large}
+use Rattle.records.specs.Rule.{partType, own}
 use Rattle.records.specs.Scope.{entered}
 use Rattle.records.specs.Row as row
 use Rattle.records.specs.Row.{linked}
@@ -17,12 +18,12 @@ use Rattle.sheet.specs.Reader.{whole, sizeOf, isNew, partsOf}
 use Rattle.sheet.specs.declared.part.Part.{Part}
 use Rattle.sheet.specs.declared.part.Part.the-variants.{Read, Refused}
 use Rattle.sheet.specs.declared.names.Reading.{Reading}
-use Rattle.sheet.specs.declared.names.Reading.the-variants.{Sheet, Refusal}
+use Rattle.sheet.specs.declared.names.Reading.the-variants.{Sheet, Refused as Unread}
 
 -- the rows of a part and of its parts, and of parts j, j + 1, .. of the record at p
 unfoldable mutual
   pub fill : Numbers → Tree → List ℕ → List ℕ
-  fill N (node r ty w ts) t = row.written N r ty w (fills N ts (r .place) 0 t)
+  fill N (node r ty w ts) t = row.rowWritten N r ty w (fills N ts (r .place) 0 t)
 
   pub fills : Numbers → Trees → ℕ → ℕ → List ℕ → List ℕ
   fills N leaf p j t = t
@@ -36,7 +37,7 @@ fillsNext N (branch at x xs) p j t = fills N xs p (j + 1) (fill N x t)
 -- the answer as the code gives it: the weight held at 4,097
 unfoldable pub erase : {X : Type 0} → Answer X → Part
 erase (got x ty w next) = Read ty (min w 4097) next
-erase (refused n p) = Refused n p
+erase (refused n p) = Refused (refusal n p)
 
 -- the table after reading, by f from the one before; after a refusal nothing is said of it
 unfoldable pub Leaves : {X : Type 0} → (X → List ℕ → List ℕ) → Answer X → List ℕ → List ℕ → Type 0
@@ -50,16 +51,16 @@ pub record Reads {X : Type 0} (f : X → List ℕ → List ℕ) (A : Answer X) (
 -- the place after a part is beyond its own and within the sheet
 unfoldable pub Beyond : ℕ → ℕ → Part → Type 0
 Beyond at n (Read ty w next) = (at < next) × (next ≤ n)
-Beyond at n (Refused number place) = Unit
+Beyond at n (Refused x) = Unit
 
 -- a record closed after its parts: the answer and the table
 unfoldable pub closedAnswer : List ℕ → Record → Part → Part
-closedAnswer s r (Read last w next) = Read (typeOf (r .rule) s r last) (min (own (r .rule) + w) 4097) next
-closedAnswer s r (Refused n p) = Refused n p
+closedAnswer s r (Read last w next) = Read (partType (r .rule) s r last) (min (own (r .rule) + w) 4097) next
+closedAnswer s r (Refused x) = Refused x
 
 unfoldable pub closedTable : Numbers → List ℕ → Record → Part → List ℕ → List ℕ
-closedTable N s r (Read last w next) t = row.written N r (typeOf (r .rule) s r last) (own (r .rule) + w) t
-closedTable N s r (Refused n p) t = t
+closedTable N s r (Read last w next) t = row.rowWritten N r (partType (r .rule) s r last) (own (r .rule) + w) t
+closedTable N s r (Refused x) t = t
 
 -- the parts of a record, rec reading in given standings and at a given level: those of a new in the scope that it opens
 unfoldable pub scopeParts : (List ℕ → ℕ → ℕ → Answer Tree) → Numbers → List ℕ → List ℕ → ℕ → Record → Answer Trees
@@ -75,7 +76,7 @@ termAt N s st at = bind (readPart 32 N s st 0 at) (λ t ty w end. got (whole [] 
 -- a whole sheet: the answer and the table
 unfoldable pub eraseSheet : Answer Whole → Reading
 eraseSheet (got (whole ns root x) ty w next) = Sheet root ty (min w 4097) next
-eraseSheet (refused n p) = Refusal n p
+eraseSheet (refused n p) = Unread (refusal n p)
 
 unfoldable pub LeavesSheet : Numbers → Answer Whole → List ℕ → List ℕ → Type 0
 LeavesSheet N (got (whole ns root x) ty w next) t u = u ≡ fill N x t
@@ -88,6 +89,6 @@ pub record ReadsSheet (N : Numbers) (A : Answer Whole) (r : Reading) (t u : List
 -- the end of a sheet judged
 unfoldable pub closedReading : Numbers → List ℕ → Reading → Reading
 closedReading N s (Sheet root ty w next) =
-    pick (ltb next (length s)) (Refusal 10 next)
-    (pick (ltb 4096 (min (sizeOf N ty w) 4097)) (Refusal 11 0) (Sheet root ty w next))
-closedReading N s (Refusal n p) = Refusal n p
+    pick (ltb next (length s)) (Unread (refusal left-over next))
+    (pick (ltb 4096 (min (sizeOf N ty w) 4097)) (Unread (refusal too-large 0)) (Sheet root ty w next))
+closedReading N s (Unread x) = Unread x

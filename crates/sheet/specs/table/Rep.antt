@@ -27,7 +27,7 @@ pub data Level : List ℕ → ℕ → ℕ → ℕ → Type 0 where
   there : {m k i l : ℕ} {n : List ℕ} → Level n i m l → Level (k ∷ n) (suc i) m l
 
 -- the row of a term M of type T
-pub record Row (t : List ℕ) (at kind : ℕ) (M : Term) (T : Ty) : Type 0 where
+pub record Represented (t : List ℕ) (at kind : ℕ) (M : Term) (T : Ty) : Type 0 where
   pub inside : at < 4096
   pub kinded : word t at 0 ≡ kind
   pub weighed : word t at 1 ≡ weight M
@@ -43,36 +43,35 @@ count (arg T M args) = suc (count args)
 module _ (N : Numbers) (t : List ℕ) where
   mutual
     pub data Rep : ℕ → ℕ → List ℕ → Term → Ty → Type 0 where
-      r-skip : {left at : ℕ} {n : List ℕ} → Row t at 16 skip command → Rep (suc left) at n skip command
-      r-diverge : {left at : ℕ} {n : List ℕ} {T : Ty} → Row t at 17 diverge T → Rep (suc left) at n diverge T
-      r-const : {left at m v : ℕ} {n : List ℕ} → Row t at 18 (const v) (expression m) → word t at 4 ≡ v → v < m →
-        Rep (suc left) at n (const v) (expression m)
-      r-private : {left at i m l : ℕ} {n : List ℕ} → Row t at 128 (private i) (variable m) → word t at 4 ≡ l →
+      r-skip : {left at : ℕ} {n : List ℕ} → Represented t at 16 skip command → Rep (suc left) at n skip command
+      r-diverge : {left at : ℕ} {n : List ℕ} {T : Ty} → Represented t at 17 diverge T → Rep (suc left) at n diverge T
+      r-const : {left at m v : ℕ} {n : List ℕ} → Represented t at 18 (const v) (expression m) →
+        word t at 4 ≡ v → v < m → Rep (suc left) at n (const v) (expression m)
+      r-private : {left at i m l : ℕ} {n : List ℕ} → Represented t at 128 (private i) (variable m) → word t at 4 ≡ l →
         Level n i m l → l < 32 → Rep (suc left) at n (private i) (variable m)
-      r-name : {left at i : ℕ} {n : List ℕ} {T : Ty} {args : Args} → Row t at 20 (name i T args) T → i < 256 →
+      r-name : {left at i : ℕ} {n : List ℕ} {T : Ty} {args : Args} → Represented t at 20 (name i T args) T → i < 256 →
         word t at 4 ≡ i + 256 * count args → count args ≤ 4 → RepArgs left at 0 n args →
         Rep (suc left) at n (name i T args) T
-      r-fetch : {left at m : ℕ} {n : List ℕ} {X : Term} → Row t at 21 (fetch X) (expression m) →
+      r-fetch : {left at m : ℕ} {n : List ℕ} {X : Term} → Represented t at 21 (fetch X) (expression m) →
         Rep left (word t at 5) n X (variable m) → Rep (suc left) at n (fetch X) (expression m)
       r-operate : {left at : ℕ} {n : List ℕ} {o : Operation} {L R : Term} → o .over ≡ N →
-        Row t at 22 (operate (operands o) o L R) (expression (results o)) → word t at 4 ≡ o .operator → o .operator <
-          9 →
+        Represented t at 22 (operate (operands o) o L R) (expression (results o)) →
+        word t at 4 ≡ o .operator → o .operator < 9 →
         Rep left (word t at 5) n L (expression (operands o)) → Rep left (word t at 6) n R (expression (operands o)) →
         Rep (suc left) at n (operate (operands o) o L R) (expression (results o))
-      r-assign : {left at m : ℕ} {n : List ℕ} {X E : Term} → Row t at 23 (assign m X E) command →
+      r-assign : {left at m : ℕ} {n : List ℕ} {X E : Term} → Represented t at 23 (assign m X E) command →
         Rep left (word t at 5) n X (variable m) → Rep left (word t at 6) n E (expression m) →
         Rep (suc left) at n (assign m X E) command
-      r-seq : {left at : ℕ} {n : List ℕ} {C M : Term} {T : Ty} → Row t at 24 (seq C M) T →
+      r-seq : {left at : ℕ} {n : List ℕ} {C M : Term} {T : Ty} → Represented t at 24 (seq C M) T →
         Rep left (word t at 5) n C command → Rep left (word t at 6) n M T → Rep (suc left) at n (seq C M) T
-      r-cond : {left at : ℕ} {n : List ℕ} {B C M : Term} {T : Ty} → Row t at 25 (cond B C M) T →
+      r-cond : {left at : ℕ} {n : List ℕ} {B C M : Term} {T : Ty} → Represented t at 25 (cond B C M) T →
         Rep left (word t at 5) n B (expression 2) → Rep left (word t at 6) n C T → Rep left (word t at 7) n M T →
         Rep (suc left) at n (cond B C M) T
-      r-while : {left at : ℕ} {n : List ℕ} {B C : Term} → Row t at 26 (while B C) command →
+      r-while : {left at : ℕ} {n : List ℕ} {B C : Term} → Represented t at 26 (while B C) command →
         Rep left (word t at 5) n B (expression 2) → Rep left (word t at 6) n C command →
         Rep (suc left) at n (while B C) command
-      r-new : {left at m : ℕ} {n : List ℕ} {h : 0 < m} {C : Term} → Row t at 27 (new m h C) command → word t at 4 ≡ m
-        →
-        Rep left (word t at 5) (m ∷ n) C command → Rep (suc left) at n (new m h C) command
+      r-new : {left at m : ℕ} {n : List ℕ} {h : 0 < m} {C : Term} → Represented t at 27 (new m h C) command →
+        word t at 4 ≡ m → Rep left (word t at 5) (m ∷ n) C command → Rep (suc left) at n (new m h C) command
 
     -- arguments j, j + 1, .. of the name at a place
     pub data RepArgs : ℕ → ℕ → ℕ → List ℕ → Args → Type 0 where

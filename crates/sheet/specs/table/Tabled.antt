@@ -8,7 +8,7 @@ use Rattle.sheet.specs.Meaning.{tyOf, termOf}
 use Rattle.sheet.specs.Reader.{numbersAt, sizeOf, readSheet, accepted}
 use Rattle.sheet.specs.table.Rep.{Rep}
 use Rattle.sheet.specs.declared.names.Reading.{Reading}
-use Rattle.sheet.specs.declared.names.Reading.the-variants.{Sheet, Refusal}
+use Rattle.sheet.specs.declared.names.Reading.the-variants.{Sheet, Refused}
 
 -- the sheet S is accepted with type ty; its term weighs w, and the table u represents it at root
 pub record Tabled (s : List ℕ) (root ty w : ℕ) (u : List ℕ) : Type 0 where
@@ -20,4 +20,4 @@ pub record Tabled (s : List ℕ) (root ty w : ℕ) (u : List ℕ) : Type 0 where
 
 unfoldable pub TabledBy : List ℕ → Reading → List ℕ → Type 0
 TabledBy s (Sheet root ty w next) u = Tabled s root ty w u
-TabledBy s (Refusal n p) u = Unit
+TabledBy s (Refused x) u = Unit

@@ -28,8 +28,11 @@ refuse-requires c κs = search needs
 
 returns : tie.Need-returns
 returns c =
-    refused-old _ _ (c .before .before .before .before .before .before .before .before .before .before .before .args .words .now) (c .before .before .before .before .before .before .before .before .before .before .before .args .space .now)
-      (refused-sheet _ (c .before .before .before .before .before .read-sheet .ensures .0) (c .before .before .enum-told .given .1)) (c .before .before .enum-told .given .1)
+    refused-old _ _ (c .before .before .before .before .before .before .before .before .before .before .before .args
+      .words .now) (c .before .before .before .before .before .before .before .before .before .before .before .args
+      .space .now)
+      (refused-sheet _ (c .before .before .before .before .before .read-sheet .ensures .0) (c .before .before
+        .enum-told .given .1)) (c .before .before .enum-told .given .1)
       (c .before .cause-of .ensures) (c .refuse .ensures)
 
 slice-aggregate-read-sheet-2 : tie.Need-slice-aggregate-read-sheet-2
@@ -52,8 +55,13 @@ refuse-requires-2 c κs = search needs
 
 returns-2 : tie.Need-returns-2
 returns-2 c =
-    refused-new _ _ (c .before .before .before .before .before .before .before .before .before .before .before .before .before .before .before .before .before .args .words .now) (c .before .before .before .before .before .before .before .before .before .before .before .before .before .before .before .before .before .args .space .now) (taken (c .before .before .before .before .before .before .before .before .before .before .before .read-sheet .ensures .0) (c .before .before .before .before .before .before .before .before .x .given .1))
-      (refused-sheet _ (c .before .before .before .before .before .read-sheet2 .ensures .0) (c .before .before .enum-told2 .given .1)) (c .before .before .enum-told2 .given .1)
+    refused-new _ _ (c .before .before .before .before .before .before .before .before .before .before .before .before
+      .before .before .before .before .before .args .words .now) (c .before .before .before .before .before .before
+      .before .before .before .before .before .before .before .before .before .before .before .args .space .now)
+      (taken (c .before .before .before .before .before .before .before .before .before .before .before .read-sheet
+      .ensures .0) (c .before .before .before .before .before .before .before .before .x .given .1))
+      (refused-sheet _ (c .before .before .before .before .before .read-sheet2 .ensures .0) (c .before .before
+        .enum-told2 .given .1)) (c .before .before .enum-told2 .given .1)
       (c .before .cause-of2 .ensures) (c .refuse2 .ensures)
 
 numbers-of-requires : tie.Need-numbers-of-requires
@@ -82,7 +90,8 @@ add-pair-number c = omega (arith, c .before .before .before .size-of .ensures, c
 
 pair-number-requires : tie.Need-pair-number-requires
 pair-number-requires c κs =
-    (omega (arith, size-some _ _ _ (c .before .before .before .size-of .ensures)), omega (arith, c .before .before .before .size-of .ensures, c .before .size-of2 .ensures))
+    (omega (arith, size-some _ _ _ (c .before .before .before .size-of .ensures)), omega (arith, c .before .before
+      .before .size-of .ensures, c .before .size-of2 .ensures))
 
 both-cause-requires : tie.Need-both-cause-requires
 both-cause-requires c κs = search needs
@@ -92,11 +101,23 @@ refuse-requires-3 c κs = search needs
 
 returns-3 : tie.Need-returns-3
 returns-3 c =
-    let A = taken (c .before .before .before .before .before .before .before .before .before .before .before .before .before .before .before .before .before .before .before .read-sheet .ensures .0) (c .before .before .before .before .before .before .before .before .before .before .before .before .before .before .before .before .x .given .1) in
-    let B = taken (c .before .before .before .before .before .before .before .before .before .before .before .before .before .read-sheet2 .ensures .0) (c .before .before .before .before .before .before .before .before .before .before .y .given .1) in
-    refused-pair _ _ (c .before .before .before .before .before .before .before .before .before .before .before .before .before .before .before .before .before .before .before .before .before .before .before .before .before .args .words .now) (c .before .before .before .before .before .before .before .before .before .before .before .before .before .before .before .before .before .before .before .before .before .before .before .before .before .args .space .now) A B (c .before .before .before .before .alike .ensures)
-      (held-size A (c .before .before .before .before .before .before .before .before .numbers-of .ensures) (c .before .before .before .before .before .before .before .size-of .ensures))
-      (held-size B (c .before .before .before .before .before .before .numbers-of2 .ensures) (c .before .before .before .before .before .size-of2 .ensures)) (c .before .before .before .pair-number .ensures) (c .before .before .if1 .taken)
+    let A = taken (c .before .before .before .before .before .before .before .before .before .before .before .before
+      .before .before .before .before .before .before .before .read-sheet .ensures .0) (c .before .before .before
+      .before .before .before .before .before .before .before .before .before .before .before .before .before .x
+      .given .1) in
+    let B = taken (c .before .before .before .before .before .before .before .before .before .before .before .before
+      .before .read-sheet2 .ensures .0) (c .before .before .before .before .before .before .before .before .before
+      .before .y .given .1) in
+    refused-pair _ _ (c .before .before .before .before .before .before .before .before .before .before .before
+      .before .before .before .before .before .before .before .before .before .before .before .before .before .before
+      .args .words .now) (c .before .before .before .before .before .before .before .before .before .before .before
+      .before .before .before .before .before .before .before .before .before .before .before .before .before .before
+      .args .space .now) A B (c .before .before .before .before .alike .ensures)
+      (held-size A (c .before .before .before .before .before .before .before .before .numbers-of .ensures) (c .before
+        .before .before .before .before .before .before .size-of .ensures))
+      (held-size B (c .before .before .before .before .before .before .numbers-of2 .ensures) (c .before .before
+        .before .before .before .size-of2 .ensures)) (c .before .before .before .pair-number .ensures) (c .before
+        .before .if1 .taken)
       (c .before .both-cause .ensures) (c .refuse3 .ensures)
 
 slice-aggregate-build-two : tie.Need-slice-aggregate-build-two
@@ -107,27 +128,88 @@ slice-aggregate-build-two-2 c = search needs
 
 build-two-requires : tie.Need-build-two-requires
 build-two-requires c κs =
-    let A = taken (c .before .before .before .before .before .before .before .before .before .before .before .before .before .before .before .before .before .before .before .before .read-sheet .ensures .0) (c .before .before .before .before .before .before .before .before .before .before .before .before .before .before .before .before .before .x .given .1) in
-    let B = taken (c .before .before .before .before .before .before .before .before .before .before .before .before .before .before .read-sheet2 .ensures .0) (c .before .before .before .before .before .before .before .before .before .before .before .y .given .1) in
-    let P = passed _ _ (c .before .before .before .before .before .before .before .before .before .before .before .before .before .before .before .before .before .before .before .before .before .before .before .before .before .before .args .words .now) (c .before .before .before .before .before .before .before .before .before .before .before .before .before .before .before .before .before .before .before .before .before .before .before .before .before .before .args .space .now) A B (c .before .before .before .before .before .alike .ensures)
-          (held-size A (c .before .before .before .before .before .before .before .before .before .numbers-of .ensures) (c .before .before .before .before .before .before .before .before .size-of .ensures))
-          (held-size B (c .before .before .before .before .before .before .before .numbers-of2 .ensures) (c .before .before .before .before .before .before .size-of2 .ensures)) (c .before .before .before .before .pair-number .ensures) (c .before .before .before .if1 .left) in
-    two-ready (both _ _ (c .before .before .before .before .before .before .before .before .before .before .before .before .before .before .before .before .before .before .before .before .read-sheet .ensures .0) (c .before .before .before .before .before .before .before .before .before .before .before .before .before .before .before .before .before .before .before .before .read-sheet .ensures .1) (length-replicate {A = ℕ} 36864 0) (c .before .before .before .before .before .before .before .before .before .before .before .before .before .before .before .before .before .x .given .1)
-        (c .before .before .before .before .before .before .before .before .before .before .before .before .before .before .read-sheet2 .ensures .0) (c .before .before .before .before .before .before .before .before .before .before .before .before .before .before .read-sheet2 .ensures .1) (length-replicate {A = ℕ} 36864 0) (c .before .before .before .before .before .before .before .before .before .before .before .y .given .1)
-        (c .before .before .before .before .before .alike .ensures) (P .matched) (c .before .before .before .before .before .before .before .before .before .numbers-of .ensures) (c .before .before .before .before .before .before .before .numbers-of2 .ensures) (c .before .before .before .before .before .before .before .before .size-of .ensures)
-        (c .before .before .before .before .before .before .size-of2 .ensures)) (c .before .before .before .before .before .before .before .before .before .before .before .before .before .before .before .before .before .before .before .before .before .before .before .before .before .before .args .words .now) (P .words-enough)
+    let A = taken (c .before .before .before .before .before .before .before .before .before .before .before .before
+      .before .before .before .before .before .before .before .before .read-sheet .ensures .0) (c .before .before
+      .before .before .before .before .before .before .before .before .before .before .before .before .before .before
+      .before .x .given .1) in
+    let B = taken (c .before .before .before .before .before .before .before .before .before .before .before .before
+      .before .before .read-sheet2 .ensures .0) (c .before .before .before .before .before .before .before .before
+      .before .before .before .y .given .1) in
+    let P = passed _ _ (c .before .before .before .before .before .before .before .before .before .before .before
+      .before .before .before .before .before .before .before .before .before .before .before .before .before .before
+      .before .args .words .now) (c .before .before .before .before .before .before .before .before .before .before
+      .before .before .before .before .before .before .before .before .before .before .before .before .before .before
+      .before .before .args .space .now) A B (c .before .before .before .before .before .alike .ensures)
+          (held-size A (c .before .before .before .before .before .before .before .before .before .numbers-of
+            .ensures) (c .before .before .before .before .before .before .before .before .size-of .ensures))
+          (held-size B (c .before .before .before .before .before .before .before .numbers-of2 .ensures) (c .before
+            .before .before .before .before .before .size-of2 .ensures)) (c .before .before .before .before
+            .pair-number .ensures) (c .before .before .before .if1 .left) in
+    two-ready (both _ _ (c .before .before .before .before .before .before .before .before .before .before .before
+      .before .before .before .before .before .before .before .before .before .read-sheet .ensures .0) (c .before
+      .before .before .before .before .before .before .before .before .before .before .before .before .before .before
+      .before .before .before .before .before .read-sheet .ensures .1) (length-replicate {A = ℕ} 36864 0) (c .before
+      .before .before .before .before .before .before .before .before .before .before .before .before .before .before
+      .before .before .x .given .1)
+        (c .before .before .before .before .before .before .before .before .before .before .before .before .before
+          .before .read-sheet2 .ensures .0) (c .before .before .before .before .before .before .before .before .before
+          .before .before .before .before .before .read-sheet2 .ensures .1) (length-replicate {A = ℕ} 36864 0) (c
+          .before .before .before .before .before .before .before .before .before .before .before .y .given .1)
+        (c .before .before .before .before .before .alike .ensures) (P .matched) (c .before .before .before .before
+          .before .before .before .before .before .numbers-of .ensures) (c .before .before .before .before .before
+          .before .before .numbers-of2 .ensures) (c .before .before .before .before .before .before .before .before
+          .size-of .ensures)
+        (c .before .before .before .before .before .before .size-of2 .ensures)) (c .before .before .before .before
+          .before .before .before .before .before .before .before .before .before .before .before .before .before
+          .before .before .before .before .before .before .before .before .before .args .words .now) (P .words-enough)
 
 decide-requires : tie.Need-decide-requires
 decide-requires c κs =
-    let A = taken (c .before .before .before .before .before .before .before .before .before .before .before .before .before .before .before .before .before .before .before .before .before .before .before .before .before .read-sheet .ensures .0) (c .before .before .before .before .before .before .before .before .before .before .before .before .before .before .before .before .before .before .before .before .before .before .x .given .1) in
-    let B = taken (c .before .before .before .before .before .before .before .before .before .before .before .before .before .before .before .before .before .before .before .read-sheet2 .ensures .0) (c .before .before .before .before .before .before .before .before .before .before .before .before .before .before .before .before .y .given .1) in
-    let P = passed _ _ (c .before .before .before .before .before .before .before .before .before .before .before .before .before .before .before .before .before .before .before .before .before .before .before .before .before .before .before .before .before .before .before .args .words .now) (c .before .before .before .before .before .before .before .before .before .before .before .before .before .before .before .before .before .before .before .before .before .before .before .before .before .before .before .before .before .before .before .args .space .now) A B (c .before .before .before .before .before .before .before .before .before .before .alike .ensures)
-          (held-size A (c .before .before .before .before .before .before .before .before .before .before .before .before .before .before .numbers-of .ensures) (c .before .before .before .before .before .before .before .before .before .before .before .before .before .size-of .ensures))
-          (held-size B (c .before .before .before .before .before .before .before .before .before .before .before .before .numbers-of2 .ensures) (c .before .before .before .before .before .before .before .before .before .before .before .size-of2 .ensures)) (c .before .before .before .before .before .before .before .before .before .pair-number .ensures) (c .before .before .before .before .before .before .before .before .if1 .left) in
-    deciding (both _ _ (c .before .before .before .before .before .before .before .before .before .before .before .before .before .before .before .before .before .before .before .before .before .before .before .before .before .read-sheet .ensures .0) (c .before .before .before .before .before .before .before .before .before .before .before .before .before .before .before .before .before .before .before .before .before .before .before .before .before .read-sheet .ensures .1) (length-replicate {A = ℕ} 36864 0) (c .before .before .before .before .before .before .before .before .before .before .before .before .before .before .before .before .before .before .before .before .before .before .x .given .1)
-        (c .before .before .before .before .before .before .before .before .before .before .before .before .before .before .before .before .before .before .before .read-sheet2 .ensures .0) (c .before .before .before .before .before .before .before .before .before .before .before .before .before .before .before .before .before .before .before .read-sheet2 .ensures .1) (length-replicate {A = ℕ} 36864 0) (c .before .before .before .before .before .before .before .before .before .before .before .before .before .before .before .before .y .given .1)
-        (c .before .before .before .before .before .before .before .before .before .before .alike .ensures) (P .matched) (c .before .before .before .before .before .before .before .before .before .before .before .before .before .before .numbers-of .ensures) (c .before .before .before .before .before .before .before .before .before .before .before .before .numbers-of2 .ensures) (c .before .before .before .before .before .before .before .before .before .before .before .before .before .size-of .ensures)
-        (c .before .before .before .before .before .before .before .before .before .before .before .size-of2 .ensures)) (c .before .before .before .before .before .before .before .before .before .before .before .before .before .before .before .before .before .before .before .before .before .before .before .before .before .before .before .before .before .before .before .args .words .now) _ _ (P .words-enough) (c .before .before .before .before .build-two .kept .1 .1 .1 .1 .1 .1 .1 .0)
+    let A = taken (c .before .before .before .before .before .before .before .before .before .before .before .before
+      .before .before .before .before .before .before .before .before .before .before .before .before .before
+      .read-sheet .ensures .0) (c .before .before .before .before .before .before .before .before .before .before
+      .before .before .before .before .before .before .before .before .before .before .before .before .x .given .1) in
+    let B = taken (c .before .before .before .before .before .before .before .before .before .before .before .before
+      .before .before .before .before .before .before .before .read-sheet2 .ensures .0) (c .before .before .before
+      .before .before .before .before .before .before .before .before .before .before .before .before .before .y
+      .given .1) in
+    let P = passed _ _ (c .before .before .before .before .before .before .before .before .before .before .before
+      .before .before .before .before .before .before .before .before .before .before .before .before .before .before
+      .before .before .before .before .before .before .args .words .now) (c .before .before .before .before .before
+      .before .before .before .before .before .before .before .before .before .before .before .before .before .before
+      .before .before .before .before .before .before .before .before .before .before .before .before .args .space
+      .now) A B (c .before .before .before .before .before .before .before .before .before .before .alike .ensures)
+          (held-size A (c .before .before .before .before .before .before .before .before .before .before .before
+            .before .before .before .numbers-of .ensures) (c .before .before .before .before .before .before .before
+            .before .before .before .before .before .before .size-of .ensures))
+          (held-size B (c .before .before .before .before .before .before .before .before .before .before .before
+            .before .numbers-of2 .ensures) (c .before .before .before .before .before .before .before .before .before
+            .before .before .size-of2 .ensures)) (c .before .before .before .before .before .before .before .before
+            .before .pair-number .ensures) (c .before .before .before .before .before .before .before .before .if1
+            .left) in
+    deciding (both _ _ (c .before .before .before .before .before .before .before .before .before .before .before
+      .before .before .before .before .before .before .before .before .before .before .before .before .before .before
+      .read-sheet .ensures .0) (c .before .before .before .before .before .before .before .before .before .before
+      .before .before .before .before .before .before .before .before .before .before .before .before .before .before
+      .before .read-sheet .ensures .1) (length-replicate {A = ℕ} 36864 0) (c .before .before .before .before .before
+      .before .before .before .before .before .before .before .before .before .before .before .before .before .before
+      .before .before .before .x .given .1)
+        (c .before .before .before .before .before .before .before .before .before .before .before .before .before
+          .before .before .before .before .before .before .read-sheet2 .ensures .0) (c .before .before .before .before
+          .before .before .before .before .before .before .before .before .before .before .before .before .before
+          .before .before .read-sheet2 .ensures .1) (length-replicate {A = ℕ} 36864 0) (c .before .before .before
+          .before .before .before .before .before .before .before .before .before .before .before .before .before .y
+          .given .1)
+        (c .before .before .before .before .before .before .before .before .before .before .alike .ensures) (P
+          .matched) (c .before .before .before .before .before .before .before .before .before .before .before .before
+          .before .before .numbers-of .ensures) (c .before .before .before .before .before .before .before .before
+          .before .before .before .before .numbers-of2 .ensures) (c .before .before .before .before .before .before
+          .before .before .before .before .before .before .before .size-of .ensures)
+        (c .before .before .before .before .before .before .before .before .before .before .before .size-of2
+          .ensures)) (c .before .before .before .before .before .before .before .before .before .before .before
+          .before .before .before .before .before .before .before .before .before .before .before .before .before
+          .before .before .before .before .before .before .before .args .words .now) _ _ (P .words-enough) (c .before
+          .before .before .before .build-two .kept .1 .1 .1 .1 .1 .1 .1 .0)
       (P .space-enough) (c .before .before .before .before .build-two .ensures)
 
 clear-requires : tie.Need-clear-requires
@@ -141,20 +223,95 @@ same-length-2 c = search needs
 
 returns-4 : tie.Need-returns-4
 returns-4 c =
-    let A = taken (c .before .before .before .before .before .before .before .before .before .before .before .before .before .before .before .before .before .before .before .before .before .before .before .before .before .before .before .before .before .before .before .before .before .before .read-sheet .ensures .0) (c .before .before .before .before .before .before .before .before .before .before .before .before .before .before .before .before .before .before .before .before .before .before .before .before .before .before .before .before .before .before .before .x .given .1) in
-    let B = taken (c .before .before .before .before .before .before .before .before .before .before .before .before .before .before .before .before .before .before .before .before .before .before .before .before .before .before .before .before .read-sheet2 .ensures .0) (c .before .before .before .before .before .before .before .before .before .before .before .before .before .before .before .before .before .before .before .before .before .before .before .before .before .y .given .1) in
-    let P = passed _ _ (c .before .before .before .before .before .before .before .before .before .before .before .before .before .before .before .before .before .before .before .before .before .before .before .before .before .before .before .before .before .before .before .before .before .before .before .before .before .before .before .before .args .words .now) (c .before .before .before .before .before .before .before .before .before .before .before .before .before .before .before .before .before .before .before .before .before .before .before .before .before .before .before .before .before .before .before .before .before .before .before .before .before .before .before .before .args .space .now) A B (c .before .before .before .before .before .before .before .before .before .before .before .before .before .before .before .before .before .before .before .alike .ensures)
-          (held-size A (c .before .before .before .before .before .before .before .before .before .before .before .before .before .before .before .before .before .before .before .before .before .before .before .numbers-of .ensures) (c .before .before .before .before .before .before .before .before .before .before .before .before .before .before .before .before .before .before .before .before .before .before .size-of .ensures))
-          (held-size B (c .before .before .before .before .before .before .before .before .before .before .before .before .before .before .before .before .before .before .before .before .before .numbers-of2 .ensures) (c .before .before .before .before .before .before .before .before .before .before .before .before .before .before .before .before .before .before .before .before .size-of2 .ensures)) (c .before .before .before .before .before .before .before .before .before .before .before .before .before .before .before .before .before .before .pair-number .ensures) (c .before .before .before .before .before .before .before .before .before .before .before .before .before .before .before .before .before .if1 .left) in
-    compared (both _ _ (c .before .before .before .before .before .before .before .before .before .before .before .before .before .before .before .before .before .before .before .before .before .before .before .before .before .before .before .before .before .before .before .before .before .before .read-sheet .ensures .0) (c .before .before .before .before .before .before .before .before .before .before .before .before .before .before .before .before .before .before .before .before .before .before .before .before .before .before .before .before .before .before .before .before .before .before .read-sheet .ensures .1) (length-replicate {A = ℕ} 36864 0) (c .before .before .before .before .before .before .before .before .before .before .before .before .before .before .before .before .before .before .before .before .before .before .before .before .before .before .before .before .before .before .before .x .given .1)
-        (c .before .before .before .before .before .before .before .before .before .before .before .before .before .before .before .before .before .before .before .before .before .before .before .before .before .before .before .before .read-sheet2 .ensures .0) (c .before .before .before .before .before .before .before .before .before .before .before .before .before .before .before .before .before .before .before .before .before .before .before .before .before .before .before .before .read-sheet2 .ensures .1) (length-replicate {A = ℕ} 36864 0) (c .before .before .before .before .before .before .before .before .before .before .before .before .before .before .before .before .before .before .before .before .before .before .before .before .before .y .given .1)
-        (c .before .before .before .before .before .before .before .before .before .before .before .before .before .before .before .before .before .before .before .alike .ensures) (P .matched) (c .before .before .before .before .before .before .before .before .before .before .before .before .before .before .before .before .before .before .before .before .before .before .before .numbers-of .ensures) (c .before .before .before .before .before .before .before .before .before .before .before .before .before .before .before .before .before .before .before .before .before .numbers-of2 .ensures) (c .before .before .before .before .before .before .before .before .before .before .before .before .before .before .before .before .before .before .before .before .before .before .size-of .ensures)
-        (c .before .before .before .before .before .before .before .before .before .before .before .before .before .before .before .before .before .before .before .before .size-of2 .ensures)) (c .before .before .before .before .before .before .before .before .before .before .before .before .before .before .before .before .before .before .before .before .before .before .before .before .before .before .before .before .before .before .before .before .before .before .before .before .before .before .before .before .args .words .now) _ (c .before .before .before .before .before .before .before .before .decide .last .0) _ _ _ _ (P .words-enough)
-      (c .before .before .before .before .before .before .before .before .before .before .before .before .before .build-two .kept .1 .1 .1 .1 .1 .1 .1 .0) (P .space-enough) (c .before .before .before .before .before .before .before .before .before .before .before .before .before .build-two .ensures) (c .before .before .before .before .before .before .before .before .decide .ensures)
-      (c .before .before .before .before .before .before .before .before .decide .kept .0) (c .before .before .clear .ensures)
-      (accepted-call _ _ (c .before .before .before .before .before .before .before .before .before .before .before .before .before .before .before .before .before .before .before .before .before .before .before .before .before .before .before .before .before .before .before .before .before .before .before .before .before .before .before .before .args .words .now) (c .before .before .before .before .before .before .before .before .before .before .before .before .before .before .before .before .before .before .before .before .before .before .before .before .before .before .before .before .before .before .before .before .before .before .before .before .before .before .before .before .args .space .now) A B (c .before .before .before .before .before .before .before .before .before .before .before .before .before .before .before .before .before .before .before .alike .ensures)
-        (held-size A (c .before .before .before .before .before .before .before .before .before .before .before .before .before .before .before .before .before .before .before .before .before .before .before .numbers-of .ensures) (c .before .before .before .before .before .before .before .before .before .before .before .before .before .before .before .before .before .before .before .before .before .before .size-of .ensures))
-        (held-size B (c .before .before .before .before .before .before .before .before .before .before .before .before .before .before .before .before .before .before .before .before .before .numbers-of2 .ensures) (c .before .before .before .before .before .before .before .before .before .before .before .before .before .before .before .before .before .before .before .before .size-of2 .ensures)) (c .before .before .before .before .before .before .before .before .before .before .before .before .before .before .before .before .before .before .pair-number .ensures) (c .before .before .before .before .before .before .before .before .before .before .before .before .before .before .before .before .before .if1 .left))
+    let A = taken (c .before .before .before .before .before .before .before .before .before .before .before .before
+      .before .before .before .before .before .before .before .before .before .before .before .before .before .before
+      .before .before .before .before .before .before .before .before .read-sheet .ensures .0) (c .before .before
+      .before .before .before .before .before .before .before .before .before .before .before .before .before .before
+      .before .before .before .before .before .before .before .before .before .before .before .before .before .before
+      .before .x .given .1) in
+    let B = taken (c .before .before .before .before .before .before .before .before .before .before .before .before
+      .before .before .before .before .before .before .before .before .before .before .before .before .before .before
+      .before .before .read-sheet2 .ensures .0) (c .before .before .before .before .before .before .before .before
+      .before .before .before .before .before .before .before .before .before .before .before .before .before .before
+      .before .before .before .y .given .1) in
+    let P = passed _ _ (c .before .before .before .before .before .before .before .before .before .before .before
+      .before .before .before .before .before .before .before .before .before .before .before .before .before .before
+      .before .before .before .before .before .before .before .before .before .before .before .before .before .before
+      .before .args .words .now) (c .before .before .before .before .before .before .before .before .before .before
+      .before .before .before .before .before .before .before .before .before .before .before .before .before .before
+      .before .before .before .before .before .before .before .before .before .before .before .before .before .before
+      .before .before .args .space .now) A B (c .before .before .before .before .before .before .before .before
+      .before .before .before .before .before .before .before .before .before .before .before .alike .ensures)
+          (held-size A (c .before .before .before .before .before .before .before .before .before .before .before
+            .before .before .before .before .before .before .before .before .before .before .before .before
+            .numbers-of .ensures) (c .before .before .before .before .before .before .before .before .before .before
+            .before .before .before .before .before .before .before .before .before .before .before .before .size-of
+            .ensures))
+          (held-size B (c .before .before .before .before .before .before .before .before .before .before .before
+            .before .before .before .before .before .before .before .before .before .before .numbers-of2 .ensures) (c
+            .before .before .before .before .before .before .before .before .before .before .before .before .before
+            .before .before .before .before .before .before .before .size-of2 .ensures)) (c .before .before .before
+            .before .before .before .before .before .before .before .before .before .before .before .before .before
+            .before .before .pair-number .ensures) (c .before .before .before .before .before .before .before .before
+            .before .before .before .before .before .before .before .before .before .if1 .left) in
+    compared (both _ _ (c .before .before .before .before .before .before .before .before .before .before .before
+      .before .before .before .before .before .before .before .before .before .before .before .before .before .before
+      .before .before .before .before .before .before .before .before .before .read-sheet .ensures .0) (c .before
+      .before .before .before .before .before .before .before .before .before .before .before .before .before .before
+      .before .before .before .before .before .before .before .before .before .before .before .before .before .before
+      .before .before .before .before .before .read-sheet .ensures .1) (length-replicate {A = ℕ} 36864 0) (c .before
+      .before .before .before .before .before .before .before .before .before .before .before .before .before .before
+      .before .before .before .before .before .before .before .before .before .before .before .before .before .before
+      .before .before .x .given .1)
+        (c .before .before .before .before .before .before .before .before .before .before .before .before .before
+          .before .before .before .before .before .before .before .before .before .before .before .before .before
+          .before .before .read-sheet2 .ensures .0) (c .before .before .before .before .before .before .before .before
+          .before .before .before .before .before .before .before .before .before .before .before .before .before
+          .before .before .before .before .before .before .before .read-sheet2 .ensures .1) (length-replicate {A = ℕ}
+          36864 0) (c .before .before .before .before .before .before .before .before .before .before .before .before
+          .before .before .before .before .before .before .before .before .before .before .before .before .before .y
+          .given .1)
+        (c .before .before .before .before .before .before .before .before .before .before .before .before .before
+          .before .before .before .before .before .before .alike .ensures) (P .matched) (c .before .before .before
+          .before .before .before .before .before .before .before .before .before .before .before .before .before
+          .before .before .before .before .before .before .before .numbers-of .ensures) (c .before .before .before
+          .before .before .before .before .before .before .before .before .before .before .before .before .before
+          .before .before .before .before .before .numbers-of2 .ensures) (c .before .before .before .before .before
+          .before .before .before .before .before .before .before .before .before .before .before .before .before
+          .before .before .before .before .size-of .ensures)
+        (c .before .before .before .before .before .before .before .before .before .before .before .before .before
+          .before .before .before .before .before .before .before .size-of2 .ensures)) (c .before .before .before
+          .before .before .before .before .before .before .before .before .before .before .before .before .before
+          .before .before .before .before .before .before .before .before .before .before .before .before .before
+          .before .before .before .before .before .before .before .before .before .before .before .args .words .now) _
+          (c .before .before .before .before .before .before .before .before .decide .last .0) _ _ _ _ (P
+          .words-enough)
+      (c .before .before .before .before .before .before .before .before .before .before .before .before .before
+        .build-two .kept .1 .1 .1 .1 .1 .1 .1 .0) (P .space-enough) (c .before .before .before .before .before .before
+        .before .before .before .before .before .before .before .build-two .ensures) (c .before .before .before
+        .before .before .before .before .before .decide .ensures)
+      (c .before .before .before .before .before .before .before .before .decide .kept .0) (c .before .before .clear
+        .ensures)
+      (accepted-call _ _ (c .before .before .before .before .before .before .before .before .before .before .before
+        .before .before .before .before .before .before .before .before .before .before .before .before .before
+        .before .before .before .before .before .before .before .before .before .before .before .before .before
+        .before .before .before .args .words .now) (c .before .before .before .before .before .before .before .before
+        .before .before .before .before .before .before .before .before .before .before .before .before .before
+        .before .before .before .before .before .before .before .before .before .before .before .before .before
+        .before .before .before .before .before .before .args .space .now) A B (c .before .before .before .before
+        .before .before .before .before .before .before .before .before .before .before .before .before .before
+        .before .before .alike .ensures)
+        (held-size A (c .before .before .before .before .before .before .before .before .before .before .before
+          .before .before .before .before .before .before .before .before .before .before .before .before .numbers-of
+          .ensures) (c .before .before .before .before .before .before .before .before .before .before .before .before
+          .before .before .before .before .before .before .before .before .before .before .size-of .ensures))
+        (held-size B (c .before .before .before .before .before .before .before .before .before .before .before
+          .before .before .before .before .before .before .before .before .before .before .numbers-of2 .ensures) (c
+          .before .before .before .before .before .before .before .before .before .before .before .before .before
+          .before .before .before .before .before .before .before .size-of2 .ensures)) (c .before .before .before
+          .before .before .before .before .before .before .before .before .before .before .before .before .before
+          .before .before .pair-number .ensures) (c .before .before .before .before .before .before .before .before
+          .before .before .before .before .before .before .before .before .before .if1 .left))
 
 pub compare-spec : {M : Type 1} → statement M
 compare-spec =
@@ -162,5 +319,6 @@ compare-spec =
     refuse-requires returns slice-aggregate-read-sheet-2 read-sheet-requires-2 enum-known-y enum-told-2
     cause-of-requires-2 refuse-requires-2 returns-2 numbers-of-requires size-of-requires cast-all
     numbers-of-requires-2 size-of-requires-2 cast-more alike-requires add-pair-number pair-number-requires
-    both-cause-requires refuse-requires-3 returns-3 slice-aggregate-build-two slice-aggregate-build-two-2 build-two-requires
+    both-cause-requires refuse-requires-3 returns-3 slice-aggregate-build-two slice-aggregate-build-two-2
+      build-two-requires
     decide-requires clear-requires same-length same-length-2 returns-4)

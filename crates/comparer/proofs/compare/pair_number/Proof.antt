@@ -27,12 +27,14 @@ mul-if3 c = search needs
 returns-3 : tie.Need-returns-3
 unfolding numberOf
 returns-3 c =
-    simp (not-false (c .before .before .before .args .matching) (c .before .before .if1 .left), le-ltb _ _ (c .before .if2 .left), lt-ltb _ _ (c .if3 .taken))
+    simp (not-false (c .before .before .before .args .matching) (c .before .before .if1 .left), le-ltb _ _ (c .before
+      .if2 .left), lt-ltb _ _ (c .if3 .taken))
 
 returns-4 : tie.Need-returns-4
 unfolding numberOf
 returns-4 c =
-    simp (not-false (c .before .before .before .args .matching) (c .before .before .if1 .left), le-ltb _ _ (c .before .if2 .left), le-ltb _ _ (c .if3 .left))
+    simp (not-false (c .before .before .before .args .matching) (c .before .before .if1 .left), le-ltb _ _ (c .before
+      .if2 .left), le-ltb _ _ (c .if3 .left))
 
 pub pair-number-spec : {M : Type 1} → statement M
 pair-number-spec = tie.close (tie.spec returns add-if2 mul-if2 returns-2 sub-if3 mul-if3 returns-3 returns-4)

@@ -59,9 +59,16 @@ refuse-requires-2 c κs = search needs
 
 returns-2 : tie.Need-returns-2
 returns-2 c =
-    let O = opened (c .before .before .before .before .before .before .before .before .before .before .before .before .before .before .args .sheet .now) _ _ (c .before .before .before .before .before .before .before .before .before .read-sheet .ensures .0) (c .before .before .before .before .before .before .before .before .before .read-sheet .ensures .1)
-          (length-replicate {A = ℕ} 36864 0) (c .before .before .before .before .before .before .x .given .1) (c .before .before .before .before .numbers-of .ensures) (c .before .before .before .size-of .ensures) in
-    refuses-words O (c .before .before .before .before .before .before .before .before .before .before .before .before .before .before .args .play .now) (c .before .before .before .before .before .before .before .before .before .before .before .before .before .before .args .words .now) _ (c .before .before .if1 .taken) (c .before .both-cause .ensures) (c .refuse2 .ensures) refl
+    let O = opened (c .before .before .before .before .before .before .before .before .before .before .before .before
+      .before .before .args .sheet .now) _ _ (c .before .before .before .before .before .before .before .before
+      .before .read-sheet .ensures .0) (c .before .before .before .before .before .before .before .before .before
+      .read-sheet .ensures .1)
+          (length-replicate {A = ℕ} 36864 0) (c .before .before .before .before .before .before .x .given .1) (c
+            .before .before .before .before .numbers-of .ensures) (c .before .before .before .size-of .ensures) in
+    refuses-words O (c .before .before .before .before .before .before .before .before .before .before .before .before
+      .before .before .args .play .now) (c .before .before .before .before .before .before .before .before .before
+      .before .before .before .before .before .args .words .now) _ (c .before .before .if1 .taken) (c .before
+      .both-cause .ensures) (c .refuse2 .ensures) refl
 
 count-moves-requires : tie.Need-count-moves-requires
 count-moves-requires c κs = search needs

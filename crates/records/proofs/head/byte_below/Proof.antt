@@ -6,23 +6,36 @@ use Rattle.records.specs.Head.{byteOf}
 use Rattle.records.proofs.head.byte_below.Statement.{statement}
 use Rattle.records.proofs.head.byte_below.Tie as tie
 
+refuse-requires : tie.Need-refuse-requires
+refuse-requires c κs = search needs
+
 returns : tie.Need-returns
 unfolding byteOf
-returns c = simp (le-leb _ _ (c .if1 .taken))
+returns c = simp (← c .refuse .ensures, le-leb _ _ (c .before .if1 .taken))
 
 shared-slice-read-b : tie.Need-shared-slice-read-b
 shared-slice-read-b c = search needs
 
 cast-if2 : tie.Need-cast-if2
-cast-if2 c = omega (arith, c .shared-slice-known .given (c .before .before .args .at))
+cast-if2 c = omega (arith, c .before .before .shared-slice-known .given (c .before .before .before .args .at))
+
+refuse-requires-2 : tie.Need-refuse-requires-2
+refuse-requires-2 c κs = search needs
 
 returns-2 : tie.Need-returns-2
 unfolding byteOf
-returns-2 c = simp (lt-leb _ _ (c .before .before .if1 .left), le-leb _ _ (c .if2 .taken))
+returns-2 c =
+    simp (
+      ← c .refuse2 .ensures,
+      lt-leb _ _ (c .before .before .before .if1 .left),
+      le-leb _ _ (c .before .if2 .taken),
+    )
 
 returns-3 : tie.Need-returns-3
 unfolding byteOf
 returns-3 c = simp (lt-leb _ _ (c .before .before .if1 .left), lt-leb _ _ (c .if2 .left))
 
 pub byte-below-spec : {M : Type 1} → statement M
-byte-below-spec = tie.close (tie.spec returns shared-slice-read-b cast-if2 returns-2 returns-3)
+byte-below-spec =
+    tie.close (tie.spec
+    refuse-requires returns shared-slice-read-b cast-if2 refuse-requires-2 returns-2 returns-3)

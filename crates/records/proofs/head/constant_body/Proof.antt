@@ -26,32 +26,35 @@ with-body-requires c κs = search needs
 returns : tie.Need-returns
 unfolding constant onByte
 returns c =
-    let m = c .before .before .before .before in
     simp (
-      sym (m .before .before .byte-below .ensures) ∙ m .found2 .given .1,
+      sym (c .before .before .before .before .before .before .byte-below .ensures)
+        ∙ c .before .before .before .before .found2 .given .1,
       ← c .before .before .in-range .ensures,
       c .before .if1 .taken,
       ← c .with-body .ensures,
     )
 
+refuse-requires : tie.Need-refuse-requires
+refuse-requires c κs = search needs
+
 returns-2 : tie.Need-returns-2
 unfolding constant onByte
 returns-2 c =
-    let m = c .before in
-    simp (sym (m .before .before .byte-below .ensures) ∙ m .found .given .1)
+    simp (sym (c .before .before .before .byte-below .ensures) ∙ c .before .found .given .1)
 
 returns-3 : tie.Need-returns-3
 unfolding constant onByte
 returns-3 c =
-    let m = c .before .before .before in
     simp (
-      sym (m .before .before .byte-below .ensures) ∙ m .found2 .given .1,
-      ← c .before .in-range .ensures,
-      c .if1 .left,
+      ← c .refuse .ensures,
+      sym (c .before .before .before .before .before .before .byte-below .ensures)
+        ∙ c .before .before .before .before .found2 .given .1,
+      ← c .before .before .in-range .ensures,
+      c .before .if1 .left,
     )
 
 pub constant-body-spec : {M : Type 1} → statement M
 constant-body-spec =
     tie.close (tie.spec
     add-at byte-below-requires enum-known-found enum-known-found-2 in-range-requires with-body-requires returns
-    returns-2 returns-3)
+    refuse-requires returns-2 returns-3)

@@ -18,11 +18,18 @@ enum-known-found c = search needs
 enum-known-found-2 : tie.Need-enum-known-found-2
 enum-known-found-2 c = search needs
 
+refuse-requires : tie.Need-refuse-requires
+refuse-requires c κs = search needs
+
 returns : tie.Need-returns
 unfolding dataByte onByte
 returns c =
-    let m = c .before .before in
-    simp (sym (m .before .before .byte-below .ensures) ∙ m .found2 .given .1, eq-eqb _ _ (c .if1 .taken))
+    simp (
+      ← c .refuse .ensures,
+      sym (c .before .before .before .before .before .byte-below .ensures)
+        ∙ c .before .before .before .found2 .given .1,
+      eq-eqb _ _ (c .before .if1 .taken),
+    )
 
 cast-with-body : tie.Need-cast-with-body
 cast-with-body c = search needs
@@ -33,15 +40,14 @@ with-body-requires c κs = search needs
 returns-2 : tie.Need-returns-2
 unfolding dataByte onByte
 returns-2 c =
-    let m = c .before in
-    simp (sym (m .before .before .byte-below .ensures) ∙ m .found .given .1)
+    simp (sym (c .before .before .before .byte-below .ensures) ∙ c .before .found .given .1)
 
 returns-3 : tie.Need-returns-3
 unfolding dataByte onByte
 returns-3 c =
-    let m = c .before .before .before in
     simp (
-      sym (m .before .before .byte-below .ensures) ∙ m .found2 .given .1,
+      sym (c .before .before .before .before .before .byte-below .ensures)
+        ∙ c .before .before .before .found2 .given .1,
       ne-eqb _ _ (c .before .if1 .left),
       ← c .with-body .ensures,
     )
@@ -49,5 +55,5 @@ returns-3 c =
 pub data-body-spec : {M : Type 1} → statement M
 data-body-spec =
     tie.close (tie.spec
-    add-data-at byte-below-requires enum-known-found enum-known-found-2 returns cast-with-body
+    add-data-at byte-below-requires enum-known-found enum-known-found-2 refuse-requires returns cast-with-body
     with-body-requires returns-2 returns-3)

@@ -1,6 +1,6 @@
 -- Range before depth.
 use borrow.Author.Needs.{needs}
-use Rattle.records.specs.Head.{onShape}
+use Rattle.records.specs.Head.{headOfShape}
 use Rattle.records.proofs.head.deep_number.Statement.{statement}
 use Rattle.records.proofs.head.deep_number.Tie as tie
 
@@ -17,19 +17,19 @@ enum-told-4 : tie.Need-enum-told-4
 enum-told-4 c = search needs
 
 returns : tie.Need-returns
-unfolding onShape
+unfolding headOfShape
 returns c = λ at. rw (c .enum-told .given .1)
 
 returns-2 : tie.Need-returns-2
-unfolding onShape
+unfolding headOfShape
 returns-2 c = λ at. rw (c .enum-told2 .given .1)
 
 returns-3 : tie.Need-returns-3
-unfolding onShape
+unfolding headOfShape
 returns-3 c = λ at. rw (c .enum-told3 .given .1)
 
 returns-4 : tie.Need-returns-4
-unfolding onShape
+unfolding headOfShape
 returns-4 c = λ at. rw (c .enum-told4 .given .1)
 
 pub deep-number-spec : {M : Type 1} → statement M

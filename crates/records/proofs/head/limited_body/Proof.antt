@@ -23,14 +23,15 @@ with-body-requires c κs = search needs
 returns : tie.Need-returns
 unfolding limited onByte
 returns c =
-    let m = c .before in
-    simp (sym (m .before .before .byte-below .ensures) ∙ m .found .given .1)
+    simp (sym (c .before .before .before .byte-below .ensures) ∙ c .before .found .given .1)
 
 returns-2 : tie.Need-returns-2
 unfolding limited onByte
 returns-2 c =
-    let m = c .before .before in
-    simp (sym (m .before .before .byte-below .ensures) ∙ m .found2 .given .1, ← c .with-body .ensures)
+    simp (
+      sym (c .before .before .before .before .byte-below .ensures) ∙ c .before .before .found2 .given .1,
+      ← c .with-body .ensures,
+    )
 
 pub limited-body-spec : {M : Type 1} → statement M
 limited-body-spec =

@@ -21,14 +21,18 @@ enum-known-found-2 c = search needs
 standing-of-requires : tie.Need-standing-of-requires
 standing-of-requires c κs = search needs
 
+refuse-requires : tie.Need-refuse-requires
+refuse-requires c κs = search needs
+
 returns : tie.Need-returns
 unfolding newOf onByte
 returns c =
-    let m = c .before .before .before in
     simp (
-      sym (m .before .before .byte-below .ensures) ∙ m .found2 .given .1,
-      ← c .before .standing-of .ensures,
-      eq-eqb _ _ (c .if1 .taken),
+      ← c .refuse .ensures,
+      sym (c .before .before .before .before .before .before .byte-below .ensures)
+        ∙ c .before .before .before .before .found2 .given .1,
+      ← c .before .before .standing-of .ensures,
+      eq-eqb _ _ (c .before .if1 .taken),
     )
 
 is-variable-requires : tie.Need-is-variable-requires
@@ -40,9 +44,9 @@ data-body-requires c κs = search needs
 returns-2 : tie.Need-returns-2
 unfolding newOf onByte
 returns-2 c =
-    let m = c .before .before .before .before .before .before in
     simp (
-      sym (m .before .before .byte-below .ensures) ∙ m .found2 .given .1,
+      sym (c .before .before .before .before .before .before .before .before .byte-below .ensures)
+        ∙ c .before .before .before .before .before .before .found2 .given .1,
       ← c .before .before .before .before .standing-of .ensures,
       ne-eqb _ _ (c .before .before .before .if1 .left),
       ← c .before .before .is-variable .ensures,
@@ -50,26 +54,29 @@ returns-2 c =
       ← c .data-body .ensures,
     )
 
+refuse-requires-2 : tie.Need-refuse-requires-2
+refuse-requires-2 c κs = search needs
+
 returns-3 : tie.Need-returns-3
 unfolding newOf onByte
 returns-3 c =
-    let m = c .before in
-    simp (sym (m .before .before .byte-below .ensures) ∙ m .found .given .1)
+    simp (sym (c .before .before .before .byte-below .ensures) ∙ c .before .found .given .1)
 
 returns-4 : tie.Need-returns-4
 unfolding newOf onByte
 returns-4 c =
-    let m = c .before .before .before .before .before in
     simp (
-      sym (m .before .before .byte-below .ensures) ∙ m .found2 .given .1,
-      ← c .before .before .before .standing-of .ensures,
-      ne-eqb _ _ (c .before .before .if1 .left),
-      ← c .before .is-variable .ensures,
-      c .if2 .left,
+      ← c .refuse2 .ensures,
+      sym (c .before .before .before .before .before .before .before .before .byte-below .ensures)
+        ∙ c .before .before .before .before .before .before .found2 .given .1,
+      ← c .before .before .before .before .standing-of .ensures,
+      ne-eqb _ _ (c .before .before .before .if1 .left),
+      ← c .before .before .is-variable .ensures,
+      c .before .if2 .left,
     )
 
 pub new-body-spec : {M : Type 1} → statement M
 new-body-spec =
     tie.close (tie.spec
-    add-id-at byte-below-requires enum-known-found enum-known-found-2 standing-of-requires returns
-    is-variable-requires data-body-requires returns-2 returns-3 returns-4)
+    add-id-at byte-below-requires enum-known-found enum-known-found-2 standing-of-requires refuse-requires
+    returns is-variable-requires data-body-requires returns-2 refuse-requires-2 returns-3 returns-4)

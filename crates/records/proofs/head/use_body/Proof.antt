@@ -21,25 +21,33 @@ enum-known-found-2 c = search needs
 standing-of-requires : tie.Need-standing-of-requires
 standing-of-requires c κs = search needs
 
+refuse-requires : tie.Need-refuse-requires
+refuse-requires c κs = search needs
+
 returns : tie.Need-returns
 unfolding useOf onByte
 returns c =
-    let m = c .before .before .before in
     simp (
-      sym (m .before .before .byte-below .ensures) ∙ m .found2 .given .1,
-      ← c .before .standing-of .ensures,
-      eq-eqb _ _ (c .if1 .taken),
+      ← c .refuse .ensures,
+      sym (c .before .before .before .before .before .before .byte-below .ensures)
+        ∙ c .before .before .before .before .found2 .given .1,
+      ← c .before .before .standing-of .ensures,
+      eq-eqb _ _ (c .before .if1 .taken),
     )
+
+refuse-requires-2 : tie.Need-refuse-requires-2
+refuse-requires-2 c κs = search needs
 
 returns-2 : tie.Need-returns-2
 unfolding useOf onByte
 returns-2 c =
-    let m = c .before .before .before .before in
     simp (
-      sym (m .before .before .byte-below .ensures) ∙ m .found2 .given .1,
-      ← c .before .before .standing-of .ensures,
-      ne-eqb _ _ (c .before .if1 .left),
-      eq-eqb _ _ (c .if2 .taken),
+      ← c .refuse2 .ensures,
+      sym (c .before .before .before .before .before .before .before .byte-below .ensures)
+        ∙ c .before .before .before .before .before .found2 .given .1,
+      ← c .before .before .before .standing-of .ensures,
+      ne-eqb _ _ (c .before .before .if1 .left),
+      eq-eqb _ _ (c .before .if2 .taken),
     )
 
 used-record-requires : tie.Need-used-record-requires
@@ -48,15 +56,14 @@ used-record-requires c κs = search needs
 returns-3 : tie.Need-returns-3
 unfolding useOf onByte
 returns-3 c =
-    let m = c .before in
-    simp (sym (m .before .before .byte-below .ensures) ∙ m .found .given .1)
+    simp (sym (c .before .before .before .byte-below .ensures) ∙ c .before .found .given .1)
 
 returns-4 : tie.Need-returns-4
 unfolding useOf onByte
 returns-4 c =
-    let m = c .before .before .before .before .before in
     simp (
-      sym (m .before .before .byte-below .ensures) ∙ m .found2 .given .1,
+      sym (c .before .before .before .before .before .before .before .byte-below .ensures)
+        ∙ c .before .before .before .before .before .found2 .given .1,
       ← c .before .before .before .standing-of .ensures,
       ne-eqb _ _ (c .before .before .if1 .left),
       ne-eqb _ _ (c .before .if2 .left),
@@ -66,5 +73,5 @@ returns-4 c =
 pub use-body-spec : {M : Type 1} → statement M
 use-body-spec =
     tie.close (tie.spec
-    add-at byte-below-requires enum-known-found enum-known-found-2 standing-of-requires returns returns-2
-    used-record-requires returns-3 returns-4)
+    add-at byte-below-requires enum-known-found enum-known-found-2 standing-of-requires refuse-requires returns
+    refuse-requires-2 returns-2 used-record-requires returns-3 returns-4)

@@ -1,8 +1,7 @@
 -- The declared types stand from the fifth byte of the declaration on.
 use borrow.Author.Needs.{needs}
-use borrow.Author.Tests.{eq-eqb, ne-eqb}
 use native.Mathlib.Omega.{arith}
-use Rattle.records.specs.Rule.{accepts}
+use Rattle.records.specs.Rule.{acceptsPart}
 use Rattle.records.proofs.typing.accepts_argument.Statement.{statement}
 use Rattle.records.proofs.typing.accepts_argument.Tie as tie
 
@@ -19,18 +18,11 @@ byte-at-requires : tie.Need-byte-at-requires
 byte-at-requires c κs = search needs
 
 returns : tie.Need-returns
-unfolding accepts
+unfolding acceptsPart
 returns c =
-    simp
-    (← c .before .before .record-of .ensures .0, ← c .before .byte-at .ensures, eq-eqb _ _ (c .if1 .taken))
-
-returns-2 : tie.Need-returns-2
-unfolding accepts
-returns-2 c =
-    simp
-    (← c .before .before .record-of .ensures .0, ← c .before .byte-at .ensures, ne-eqb _ _ (c .if1 .left))
+    simp (← c .before .record-of .ensures .0, ← c .byte-at .ensures)
 
 pub accepts-argument-spec : {M : Type 1} → statement M
 accepts-argument-spec =
     tie.close (tie.spec
-    record-of-requires add-at add-at-2 byte-at-requires returns returns-2)
+    record-of-requires add-at add-at-2 byte-at-requires returns)

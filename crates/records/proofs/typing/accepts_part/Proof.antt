@@ -1,7 +1,7 @@
 -- Each rule has its own test.
 use borrow.Author.Needs.{needs}
 use borrow.Author.Tests.{eq-eqb, ne-eqb}
-use Rattle.records.specs.Rule.{accepts}
+use Rattle.records.specs.Rule.{acceptsPart}
 use Rattle.records.proofs.typing.accepts_part.Statement.{statement}
 use Rattle.records.proofs.typing.accepts_part.Tie as tie
 
@@ -45,11 +45,11 @@ enum-told-10 : tie.Need-enum-told-10
 enum-told-10 c = search needs
 
 returns : tie.Need-returns
-unfolding accepts
+unfolding acceptsPart
 returns c = simp (c .before .enum-told10 .given .1, eq-eqb _ _ (c .if3 .taken))
 
 returns-2 : tie.Need-returns-2
-unfolding accepts
+unfolding acceptsPart
 returns-2 c =
     simp
     (c .before .before .enum-told10 .given .1, ne-eqb _ _ (c .before .if3 .left), eq-eqb _ _ (c .if4 .taken))
@@ -61,65 +61,65 @@ enum-told-12 : tie.Need-enum-told-12
 enum-told-12 c = search needs
 
 returns-3 : tie.Need-returns-3
-unfolding accepts
+unfolding acceptsPart
 returns-3 c = simp (c .enum-told .given .1)
 
 returns-4 : tie.Need-returns-4
-unfolding accepts
+unfolding acceptsPart
 returns-4 c = simp (c .enum-told2 .given .1)
 
 returns-5 : tie.Need-returns-5
-unfolding accepts
+unfolding acceptsPart
 returns-5 c = simp (c .enum-told3 .given .1)
 
 returns-6 : tie.Need-returns-6
-unfolding accepts
+unfolding acceptsPart
 returns-6 c = simp (c .enum-told4 .given .1)
 
 returns-7 : tie.Need-returns-7
-unfolding accepts
+unfolding acceptsPart
 returns-7 c = simp (c .before .enum-told5 .given .1, ← c .accepts-argument .ensures)
 
 returns-8 : tie.Need-returns-8
-unfolding accepts
+unfolding acceptsPart
 returns-8 c = simp (c .enum-told6 .given .1)
 
 returns-9 : tie.Need-returns-9
-unfolding accepts
+unfolding acceptsPart
 returns-9 c = simp (c .before .enum-told7 .given .1, ← c .operand-type .ensures)
 
 returns-10 : tie.Need-returns-10
-unfolding accepts
+unfolding acceptsPart
 returns-10 c = simp (c .before .enum-told8 .given .1, eq-eqb _ _ (c .if1 .taken))
 
 returns-11 : tie.Need-returns-11
-unfolding accepts
+unfolding acceptsPart
 returns-11 c = simp (c .before .enum-told8 .given .1, ne-eqb _ _ (c .if1 .left))
 
 returns-12 : tie.Need-returns-12
-unfolding accepts
+unfolding acceptsPart
 returns-12 c = simp (c .before .enum-told9 .given .1, eq-eqb _ _ (c .if2 .taken))
 
 returns-13 : tie.Need-returns-13
-unfolding accepts
+unfolding acceptsPart
 returns-13 c = simp (c .before .enum-told9 .given .1, ne-eqb _ _ (c .if2 .left))
 
 returns-14 : tie.Need-returns-14
-unfolding accepts
+unfolding acceptsPart
 returns-14 c =
     simp
     (c .before .before .enum-told10 .given .1, ne-eqb _ _ (c .before .if3 .left), ne-eqb _ _ (c .if4 .left))
 
 returns-15 : tie.Need-returns-15
-unfolding accepts
+unfolding acceptsPart
 returns-15 c = simp (c .before .enum-told11 .given .1, eq-eqb _ _ (c .if5 .taken))
 
 returns-16 : tie.Need-returns-16
-unfolding accepts
+unfolding acceptsPart
 returns-16 c = simp (c .before .enum-told11 .given .1, ne-eqb _ _ (c .if5 .left))
 
 returns-17 : tie.Need-returns-17
-unfolding accepts
+unfolding acceptsPart
 returns-17 c = simp (c .enum-told12 .given .1)
 
 pub accepts-part-spec : {M : Type 1} → statement M

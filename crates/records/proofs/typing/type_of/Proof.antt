@@ -1,7 +1,7 @@
 -- Each rule has its own type.
 use borrow.Author.Needs.{needs}
 use native.Mathlib.Omega.{arith}
-use Rattle.records.specs.Rule.{typeOf}
+use Rattle.records.specs.Rule.{partType}
 use Rattle.records.proofs.typing.type_of.Statement.{statement}
 use Rattle.records.proofs.typing.type_of.Tie as tie
 
@@ -48,55 +48,55 @@ enum-told-12 : tie.Need-enum-told-12
 enum-told-12 c = search needs
 
 returns : tie.Need-returns
-unfolding typeOf
+unfolding partType
 returns c = simp (c .enum-told .given .1)
 
 returns-2 : tie.Need-returns-2
-unfolding typeOf
+unfolding partType
 returns-2 c = simp (c .enum-told2 .given .1)
 
 returns-3 : tie.Need-returns-3
-unfolding typeOf
+unfolding partType
 returns-3 c = simp (c .enum-told3 .given .1)
 
 returns-4 : tie.Need-returns-4
-unfolding typeOf
+unfolding partType
 returns-4 c = simp (c .enum-told4 .given .1)
 
 returns-5 : tie.Need-returns-5
-unfolding typeOf
+unfolding partType
 returns-5 c = simp (c .before .enum-told5 .given .1, ← c .use-type .ensures)
 
 returns-6 : tie.Need-returns-6
-unfolding typeOf
+unfolding partType
 returns-6 c = rw (c .before .enum-told6 .given .1) (omega arith)
 
 returns-7 : tie.Need-returns-7
-unfolding typeOf
+unfolding partType
 returns-7 c = simp (c .before .enum-told6 .given .1)
 
 returns-8 : tie.Need-returns-8
-unfolding typeOf
+unfolding partType
 returns-8 c = simp (c .before .enum-told7 .given .1, ← c .result-type .ensures)
 
 returns-9 : tie.Need-returns-9
-unfolding typeOf
+unfolding partType
 returns-9 c = simp (c .enum-told8 .given .1)
 
 returns-10 : tie.Need-returns-10
-unfolding typeOf
+unfolding partType
 returns-10 c = simp (c .enum-told9 .given .1)
 
 returns-11 : tie.Need-returns-11
-unfolding typeOf
+unfolding partType
 returns-11 c = simp (c .enum-told10 .given .1)
 
 returns-12 : tie.Need-returns-12
-unfolding typeOf
+unfolding partType
 returns-12 c = simp (c .enum-told11 .given .1)
 
 returns-13 : tie.Need-returns-13
-unfolding typeOf
+unfolding partType
 returns-13 c = simp (c .enum-told12 .given .1)
 
 pub type-of-spec : {M : Type 1} → statement M

@@ -1,7 +1,7 @@
 -- A variable by its data, a name as declared.
 use borrow.Author.Needs.{needs}
 use native.Mathlib.Omega.{arith}
-use Rattle.records.specs.Rule.{typeOf}
+use Rattle.records.specs.Rule.{partType}
 use Rattle.records.specs.Standing.{dataOf}
 use Rattle.records.proofs.typing.use_type.Statement.{statement}
 use Rattle.records.proofs.typing.use_type.Tie as tie
@@ -21,7 +21,7 @@ unfolding dataOf
 cast-result c = omega (arith, c .data-of .ensures)
 
 returns : tie.Need-returns
-unfolding typeOf
+unfolding partType
 returns c = simp (← c .before .before .is-variable .ensures, c .before .if1 .taken, ← c .data-of .ensures)
 
 record-of-requires : tie.Need-record-of-requires
@@ -34,7 +34,7 @@ byte-at-requires : tie.Need-byte-at-requires
 byte-at-requires c κs = search needs
 
 returns-2 : tie.Need-returns-2
-unfolding typeOf
+unfolding partType
 returns-2 c =
     simp (
       ← c .before .before .before .is-variable .ensures,

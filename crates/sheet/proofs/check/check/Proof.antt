@@ -1,3 +1,4 @@
+-- The answer of the reader, with the size.
 use borrow.Author.Needs.{needs}
 use borrow.Author.Tests.{le-leb, lt-leb, lt-ltb, le-ltb, eq-eqb, ne-eqb, not-true, not-false}
 use Rattle.sheet.specs.Check.{checkedOf}
@@ -32,9 +33,10 @@ returns c =
 returns-2 : tie.Need-returns-2
 returns-2 c =
     checks-accepted _ (sym (c .before .before .before .x2 .given .1) ∙ c .before .before .before .before .before
-    .before .read-sheet .ensures .0 .answer) (rw (c .before .numbers-of .ensures) at (c .size-of .ensures))
+      .before .read-sheet .ensures .0 .answer) (rw (c .before .numbers-of .ensures) at (c .size-of .ensures))
 
 pub check-spec : {M : Type 1} → statement M
 check-spec =
-    tie.close (tie.spec slice-aggregate-read-sheet read-sheet-requires enum-known-x enum-known-x-2 numbers-of-requires
+    tie.close (tie.spec
+    slice-aggregate-read-sheet read-sheet-requires enum-known-x enum-known-x-2 numbers-of-requires
     size-of-requires returns returns-2)

@@ -1,3 +1,4 @@
+-- The four argument types, one after the other.
 use borrow.Author.Needs.{needs}
 use borrow.Author.Tests.{le-leb, lt-leb, lt-ltb, le-ltb, eq-eqb, ne-eqb, not-true, not-false}
 use Rattle.sheet.specs.Heading.{arguments}

@@ -1,6 +1,7 @@
+-- The first refusal is the answer.
 use borrow.Author.Needs.{needs}
 use borrow.Author.Tests.{le-leb, lt-leb, lt-ltb, le-ltb, eq-eqb, ne-eqb, not-true, not-false}
-use Rattle.sheet.specs.Heading.{both}
+use Rattle.sheet.specs.Heading.{andThen}
 use Rattle.sheet.proofs.heading.judge_both.Statement.{statement}
 use Rattle.sheet.proofs.heading.judge_both.Tie as tie
 
@@ -11,11 +12,11 @@ enum-known-first : tie.Need-enum-known-first
 enum-known-first c = search needs
 
 returns : tie.Need-returns
-unfolding both
+unfolding andThen
 returns c = simp (c .enum-told .given .1, c .before .match .keys1)
 
 returns-2 : tie.Need-returns-2
-unfolding both
+unfolding andThen
 returns-2 c = simp (c .before .first .given .1)
 
 pub judge-both-spec : {M : Type 1} → statement M

@@ -1,3 +1,4 @@
+-- The cycle of name records: how many are still allowed falls.
 use Prim.Native.Nat.{ℕ, _<_, _+_, _*_}
 use borrow.Author.Needs.{needs}
 use native.Mathlib.Omega.{arith}
@@ -12,6 +13,7 @@ use Rattle.sheet.proofs.names.+read_after+read_names.Lts-read_after as 
 use Rattle.sheet.proofs.names.read_names.Reads as read-names
 use Rattle.sheet.proofs.names.read_names.Kinds as read-names-kinds
 use Rattle.sheet.proofs.names.+read_after+read_names.Lts-read_names as read-names-lts
+use Rattle.records.proofs.refusal.refuse.Reads as refuse-reads
 use Rattle.records.proofs.kind.shape_of.Reads as shape-of-reads
 use Rattle.records.proofs.standing.declared_standing.Reads as declared-standing-reads
 use Rattle.sheet.proofs.heading.judge_declare.Reads as judge-declare-reads
@@ -45,19 +47,24 @@ read-names-below t =
 
 abbrev read-after-calls : ℕ → read-after-lts.Claims
 read-after-calls t =
-    (registered-reads.Asked, registered-reads.Learnt, read-names-below t, read-names.Post)
+    (refuse-reads.Asked, refuse-reads.Learnt, registered-reads.Asked, registered-reads.Learnt,
+      read-names-below t, read-names.Post)
 
 abbrev read-names-calls : ℕ → read-names-lts.Claims
 read-names-calls t =
-    (shape-of-reads.Asked, shape-of-reads.Learnt, read-term-reads.Asked, read-term-reads.Learnt,
-      judge-declare-reads.Asked, judge-declare-reads.Learnt, declared-standing-reads.Asked,
-      declared-standing-reads.Learnt, read-after-below t, read-after.Post, judge-fresh-reads.Asked,
-      judge-fresh-reads.Learnt)
+    (refuse-reads.Asked, refuse-reads.Learnt, shape-of-reads.Asked, shape-of-reads.Learnt,
+      read-term-reads.Asked, read-term-reads.Learnt, judge-declare-reads.Asked, judge-declare-reads.Learnt,
+      declared-standing-reads.Asked, declared-standing-reads.Learnt, read-after-below t, read-after.Post,
+      judge-fresh-reads.Asked, judge-fresh-reads.Learnt)
 
 -- read_after
 module _ (t : ℕ) where
+  read-after-refuse-requires : read-after-lts.Need-refuse-requires (read-after-calls t) (read-after-at t)
+    read-after.Post
+  read-after-refuse-requires c κs = search needs
+
   read-after-returns : read-after-lts.Need-returns (read-after-calls t) (read-after-at t) read-after.Post
-  read-after-returns c = λ name. after-full _ _ _ _ _ _ _ _ _ name (c .if1 .taken)
+  read-after-returns c = λ name. rw (c .refuse .ensures) (after-full _ _ _ _ _ _ _ _ _ name (c .before .if1 .taken))
 
   read-after-enum-known-judged : read-after-lts.Need-enum-known-judged (read-after-calls t) (read-after-at t)
     read-after.Post
@@ -102,8 +109,12 @@ module _ (t : ℕ) where
 
 -- read_names
 module _ (t : ℕ) where
+  read-names-refuse-requires : read-names-lts.Need-refuse-requires (read-names-calls t) (read-names-at t)
+    read-names.Post
+  read-names-refuse-requires c κs = search needs
+
   read-names-returns : read-names-lts.Need-returns (read-names-calls t) (read-names-at t) read-names.Post
-  read-names-returns c = names-short _ _ _ _ _ (c .if1 .taken)
+  read-names-returns c = rw (c .refuse .ensures) (names-short _ _ _ _ _ (c .before .if1 .taken))
 
   read-names-shared-slice-read-kind : read-names-lts.Need-shared-slice-read-kind (read-names-calls t)
     (read-names-at t) read-names.Post
@@ -115,6 +126,10 @@ module _ (t : ℕ) where
 
   read-names-enum-told : read-names-lts.Need-enum-told (read-names-calls t) (read-names-at t) read-names.Post
   read-names-enum-told c = search needs
+
+  read-names-refuse-requires-2 : read-names-lts.Need-refuse-requires-2 (read-names-calls t) (read-names-at t)
+    read-names.Post
+  read-names-refuse-requires-2 c κs = search needs
 
   read-names-enum-told-2 : read-names-lts.Need-enum-told-2 (read-names-calls t) (read-names-at t) read-names.Post
   read-names-enum-told-2 c = search needs
@@ -157,8 +172,9 @@ module _ (t : ℕ) where
 
   read-names-returns-2 : read-names-lts.Need-returns-2 (read-names-calls t) (read-names-at t) read-names.Post
   read-names-returns-2 c =
-      names-unknown _ _ _ _ _ (c .before .before .before .before .if1 .left)
-      (sym (c .before .before .shape-of .ensures) ∙ c .enum-told .given .1)
+      rw (c .refuse2 .ensures)
+      (names-unknown _ _ _ _ _ (c .before .before .before .before .before .if1 .left) (sym (c .before .before
+        .before .shape-of .ensures) ∙ c .before .enum-told .given .1))
 
   read-names-same-length : read-names-lts.Need-same-length (read-names-calls t) (read-names-at t) read-names.Post
   read-names-same-length c = search needs
@@ -167,7 +183,7 @@ module _ (t : ℕ) where
   read-names-returns-3 c =
       names-term _ _ _ _ _ (c .before .before .before .before .before .before .before .before .if1 .left) (sym
       (c .before .before .before .before .before .before .shape-of .ensures) ∙ c .before .before .before .before
-      .enum-told2 .given .1) (c .before .before .read-term .ensures)
+        .enum-told2 .given .1) (c .before .before .read-term .ensures)
 
   read-names-same-length-2 : read-names-lts.Need-same-length-2 (read-names-calls t) (read-names-at t) read-names.Post
   read-names-same-length-2 c = search needs
@@ -175,10 +191,11 @@ module _ (t : ℕ) where
   read-names-returns-4 : read-names-lts.Need-returns-4 (read-names-calls t) (read-names-at t) read-names.Post
   read-names-returns-4 c =
       names-declare _ _ _ _ _ (c .before .before .before .before .before .before .before .before .before .before
-      .before .if1 .left) (sym
+        .before .if1 .left) (sym
       (c .before .before .before .before .before .before .before .before .before .shape-of .ensures) ∙ c .before
-      .before .before .before .before .before .before .shape .given .1) (c .before .before .before .before .before
-      .judge-declare .ensures) (c .before .before .before .declared-standing .ensures) (c .before .before .read-after
+        .before .before .before .before .before .before .shape .given .1) (c .before .before .before .before
+        .before .judge-declare .ensures) (c .before .before .before .declared-standing .ensures) (c .before .before
+        .read-after
       .ensures)
 
   read-names-same-length-3 : read-names-lts.Need-same-length-3 (read-names-calls t) (read-names-at t) read-names.Post
@@ -187,22 +204,24 @@ module _ (t : ℕ) where
   read-names-returns-5 : read-names-lts.Need-returns-5 (read-names-calls t) (read-names-at t) read-names.Post
   read-names-returns-5 c =
       names-retire _ _ _ _ _ (c .before .before .before .before .before .before .before .before .before .before .if1
-      .left) (sym (c .before .before .before .before .before .before .before .before .shape-of .ensures) ∙ c .before
-      .before .before .before .before .before .shape2 .given .1) (c .before .before .before .before .judge-fresh
+      .left) (sym (c .before .before .before .before .before .before .before .before .shape-of .ensures) ∙ c
+        .before .before .before .before .before .before .shape2 .given .1) (c .before .before .before .before
+        .judge-fresh
       .ensures) (c .before .before .read-after2 .ensures)
 
 pub +read-after+read-names-spec : {M : Type 1} → statement M
 +read-after+read-names-spec =
     close μ-read-after μ-read-names
-    (λ t. read-after-lts.spec (read-after-calls t) (read-after-at t) read-after.Post (read-after-returns t)
-      (read-after-enum-known-judged t) (read-after-enum-told t) (read-after-registered-requires t)
-      (read-after-sub-read-names t) (read-after-add-read-names t) (read-after-add-read-names-2 t)
-      (read-after-read-names-requires t) (read-after-returns-2 t) (read-after-same-length t) (read-after-returns-3 t))
-    (λ t. read-names-lts.spec (read-names-calls t) (read-names-at t) read-names.Post (read-names-returns t)
-      (read-names-shared-slice-read-kind t) (read-names-shape-of-requires t) (read-names-enum-told t)
-      (read-names-enum-told-2 t) (read-names-read-term-requires t) (read-names-enum-known-shape t)
-      (read-names-judge-declare-requires t) (read-names-declared-standing-requires t)
-      (read-names-read-after-requires t) (read-names-enum-known-shape-2 t) (read-names-add-judge-fresh t)
-      (read-names-judge-fresh-requires t) (read-names-read-after-requires-2 t) (read-names-returns-2 t)
-      (read-names-same-length t) (read-names-returns-3 t) (read-names-same-length-2 t) (read-names-returns-4 t)
-      (read-names-same-length-3 t) (read-names-returns-5 t))
+    (λ t. read-after-lts.spec (read-after-calls t) (read-after-at t) read-after.Post (read-after-refuse-requires t)
+      (read-after-returns t) (read-after-enum-known-judged t) (read-after-enum-told t)
+      (read-after-registered-requires t) (read-after-sub-read-names t) (read-after-add-read-names t)
+      (read-after-add-read-names-2 t) (read-after-read-names-requires t) (read-after-returns-2 t)
+      (read-after-same-length t) (read-after-returns-3 t))
+    (λ t. read-names-lts.spec (read-names-calls t) (read-names-at t) read-names.Post (read-names-refuse-requires t)
+      (read-names-returns t) (read-names-shared-slice-read-kind t) (read-names-shape-of-requires t)
+      (read-names-enum-told t) (read-names-refuse-requires-2 t) (read-names-enum-told-2 t)
+      (read-names-read-term-requires t) (read-names-enum-known-shape t) (read-names-judge-declare-requires t)
+      (read-names-declared-standing-requires t) (read-names-read-after-requires t) (read-names-enum-known-shape-2 t)
+      (read-names-add-judge-fresh t) (read-names-judge-fresh-requires t) (read-names-read-after-requires-2 t)
+      (read-names-returns-2 t) (read-names-same-length t) (read-names-returns-3 t) (read-names-same-length-2 t)
+      (read-names-returns-4 t) (read-names-same-length-3 t) (read-names-returns-5 t))

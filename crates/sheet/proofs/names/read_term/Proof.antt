@@ -1,3 +1,4 @@
+-- The answer of the root, handed on.
 use borrow.Author.Needs.{needs}
 use borrow.Author.Tests.{le-leb, lt-leb, lt-ltb, le-ltb, eq-eqb, ne-eqb, not-true, not-false}
 use Rattle.sheet.proofs.Whole.{term-read, term-refused}
@@ -29,4 +30,5 @@ returns-2 c =
 
 pub read-term-spec : {M : Type 1} → statement M
 read-term-spec =
-    tie.close (tie.spec read-root-requires enum-known-p enum-known-p-2 same-length returns same-length-2 returns-2)
+    tie.close (tie.spec
+    read-root-requires enum-known-p enum-known-p-2 same-length returns same-length-2 returns-2)

@@ -1,9 +1,11 @@
+-- The cycle of parts: the remaining depth and, at one depth, the number of parts left fall.
 use Prim.Native.Nat.{ℕ, _<_, _+_, _*_}
 use borrow.Author.Needs.{needs}
 use borrow.Author.Tests.{not-true, not-false}
 use native.Mathlib.Omega.{arith}
 use mathlib.Core.Path.{sym, _∙_}
 use Rattle.records.specs.Bare.{bare}
+use Rattle.records.proofs.refusal.refuse.Reads as refuse-reads
 use Rattle.records.proofs.HeadLaws.{head-good}
 use Rattle.sheet.proofs.Core.{new-small}
 use Rattle.sheet.proofs.Steps.{part-bad, part-deep, part-good, scope-new, scope-plain, record-closes, parts-none}
@@ -86,12 +88,14 @@ read-scope-below t = and 3 read-scope-kinds.ps (falls 3 read-scope-kinds.ps _<_ 
 abbrev read-next-calls : ℕ → read-next-lts.Claims
 read-next-calls t =
     (bare-record-reads.Asked, bare-record-reads.Learnt, read-part-below t, read-part.Post,
-      accepts-part-reads.Asked, accepts-part-reads.Learnt, part-weight-reads.Asked, part-weight-reads.Learnt,
-      read-parts-below t, read-parts.Post, sat-add-reads.Asked, sat-add-reads.Learnt)
+      accepts-part-reads.Asked, accepts-part-reads.Learnt, refuse-reads.Asked, refuse-reads.Learnt,
+      part-weight-reads.Asked, part-weight-reads.Learnt, read-parts-below t, read-parts.Post,
+      sat-add-reads.Asked, sat-add-reads.Learnt)
 
 abbrev read-part-calls : ℕ → read-part-lts.Claims
 read-part-calls t =
-    (head-at-reads.Asked, head-at-reads.Learnt, read-record-below t, read-record.Post)
+    (head-at-reads.Asked, head-at-reads.Learnt, refuse-reads.Asked, refuse-reads.Learnt, read-record-below t,
+      read-record.Post)
 
 abbrev read-parts-calls : ℕ → read-parts-lts.Claims
 read-parts-calls t =
@@ -137,20 +141,26 @@ module _ (t : ℕ) where
     read-next.Post
   read-next-accepts-part-requires c κs = search needs
 
+  read-next-refuse-requires : read-next-lts.Need-refuse-requires (read-next-calls t) (read-next-at t) read-next.Post
+  read-next-refuse-requires c κs = search needs
+
   read-next-same-length-2 : read-next-lts.Need-same-length-2 (read-next-calls t) (read-next-at t) read-next.Post
   read-next-same-length-2 c = search needs
 
   read-next-returns-2 : read-next-lts.Need-returns-2 (read-next-calls t) (read-next-at t) read-next.Post
   unfolding bare
   read-next-returns-2 c =
-      let x = c .before .before .before .before .before .before .before .before .before .before .before
+      let x = c .before .before .before .before .before .before .before .before .before .before .before .before
         .before .args in
-      let o = c .before .before .before .before .before .before .before .before .before .before .before
+      let o = c .before .before .before .before .before .before .before .before .before .before .before .before
         .before .pre .1 .4 in
-      let b = c .before .before .before .before .before .before .before .before .before .bare-record .ensures in
-      next-wrong _ _ _ (bare (x .place) (x .rule) (x .a) (x .b)) _ _ _ _ (λ e. omega (arith, e, o))
-      (c .before .before .before .before .before .before .before .read-part .ensures .0) (c .before .before
-        .before .p .given .1) (sym (rw b at (c .before .accepts-part .ensures)) ∙ not-true _ (c .if1 .taken))
+      let b = c .before .before .before .before .before .before .before .before .before .before .bare-record
+        .ensures in
+      rw (c .refuse .ensures)
+      (next-wrong _ _ _ (bare (x .place) (x .rule) (x .a) (x .b)) _ _ _ _ (λ e. omega (arith, e, o))
+      (c .before .before .before .before .before .before .before .before .read-part .ensures .0) (c .before .before
+        .before .before .p .given .1)
+      (sym (rw b at (c .before .before .accepts-part .ensures)) ∙ not-true _ (c .before .if1 .taken)))
 
   read-next-part-weight-requires : read-next-lts.Need-part-weight-requires (read-next-calls t) (read-next-at t)
     read-next.Post
@@ -163,8 +173,8 @@ module _ (t : ℕ) where
 
   read-next-add-read-parts : read-next-lts.Need-add-read-parts (read-next-calls t) (read-next-at t) read-next.Post
   read-next-add-read-parts c =
-      let q = c .before .before .before .before .before .before .before .before .before .before .before
-        .before .before .before .pre .1 in
+      let q = c .before .before .before .before .before .before .before .before .before .before .before .before
+        .before .before .pre .1 in
       search (needs, q .3, q .4)
 
   read-next-read-parts-requires : read-next-lts.Need-read-parts-requires (read-next-calls t) (read-next-at t)
@@ -172,8 +182,8 @@ module _ (t : ℕ) where
   read-next-read-parts-requires c κs =
       let h = beyond-within _ _ (c .before .before .before .before .before .before .before .before .before
         .read-part .ensures .1) (c .before .before .before .before .before .p .given .1) in
-      let q = c .before .before .before .before .before .before .before .before .before .before .before
-        .before .before .before .pre in
+      let q = c .before .before .before .before .before .before .before .before .before .before .before .before
+        .before .before .pre in
       omega (arith, h, q .0, q .1 .0, q .1 .1, q .1 .2, q .1 .3, q .1 .4)
 
   read-next-enum-known-q : read-next-lts.Need-enum-known-q (read-next-calls t) (read-next-at t) read-next.Post
@@ -188,15 +198,15 @@ module _ (t : ℕ) where
   read-next-returns-3 : read-next-lts.Need-returns-3 (read-next-calls t) (read-next-at t) read-next.Post
   unfolding bare
   read-next-returns-3 c =
-      let x = c .before .before .before .before .before .before .before .before .before .before .before
-        .before .before .before .before .before .before .before .before .args in
-      let o = c .before .before .before .before .before .before .before .before .before .before .before
-        .before .before .before .before .before .before .before .before .pre .1 .4 in
-      let b = c .before .before .before .before .before .before .before .before .before .before .before
-        .before .before .before .before .before .bare-record .ensures in
+      let x = c .before .before .before .before .before .before .before .before .before .before .before .before
+        .before .before .before .before .before .before .before .args in
+      let o = c .before .before .before .before .before .before .before .before .before .before .before .before
+        .before .before .before .before .before .before .before .pre .1 .4 in
+      let b = c .before .before .before .before .before .before .before .before .before .before .before .before
+        .before .before .before .before .bare-record .ensures in
       next-later _ _ _ (bare (x .place) (x .rule) (x .a) (x .b)) _ _ _ _ (λ e. omega (arith, e, o))
-      (c .before .before .before .before .before .before .before .before .before .before .before .before
-        .before .before .read-part .ensures .0)
+      (c .before .before .before .before .before .before .before .before .before .before .before .before .before
+        .before .read-part .ensures .0)
       (c .before .before .before .before .before .before .before .before .before .before .p .given .1)
       (sym (rw b at (c .before .before .before .before .before .before .before .before .accepts-part
         .ensures)) ∙ not-false _ (c .before .before .before .before .before .before .before .if1 .left))
@@ -211,20 +221,20 @@ module _ (t : ℕ) where
   read-next-returns-4 : read-next-lts.Need-returns-4 (read-next-calls t) (read-next-at t) read-next.Post
   unfolding bare
   read-next-returns-4 c =
-      let x = c .before .before .before .before .before .before .before .before .before .before .before
-        .before .before .before .before .before .before .before .before .before .before .args in
-      let o = c .before .before .before .before .before .before .before .before .before .before .before
-        .before .before .before .before .before .before .before .before .before .before .pre .1 .4 in
-      let b = c .before .before .before .before .before .before .before .before .before .before .before
-        .before .before .before .before .before .before .before .bare-record .ensures in
+      let x = c .before .before .before .before .before .before .before .before .before .before .before .before
+        .before .before .before .before .before .before .before .before .before .args in
+      let o = c .before .before .before .before .before .before .before .before .before .before .before .before
+        .before .before .before .before .before .before .before .before .before .pre .1 .4 in
+      let b = c .before .before .before .before .before .before .before .before .before .before .before .before
+        .before .before .before .before .before .before .bare-record .ensures in
       next-more _ _ _ (bare (x .place) (x .rule) (x .a) (x .b)) _ _ _ _ (λ e. omega (arith, e, o))
-      (c .before .before .before .before .before .before .before .before .before .before .before .before
-        .before .before .before .before .read-part .ensures .0)
+      (c .before .before .before .before .before .before .before .before .before .before .before .before .before
+        .before .before .before .read-part .ensures .0)
       (c .before .before .before .before .before .before .before .before .before .before .before .before .p
         .given .1)
       (sym (rw b at (c .before .before .before .before .before .before .before .before .before .before
-        .accepts-part .ensures)) ∙ not-false _ (c .before .before .before .before .before .before .before
-        .before .before .if1 .left))
+        .accepts-part .ensures)) ∙ not-false _ (c .before .before .before .before .before .before .before .before
+        .before .if1 .left))
       (c .before .before .before .before .before .before .read-parts .ensures) (c .before .before .q .given .1)
       (rw b at (c .before .before .before .before .before .before .before .before .part-weight .ensures)) (c
         .sat-add .ensures)
@@ -240,11 +250,15 @@ module _ (t : ℕ) where
   read-part-enum-known-h-2 : read-part-lts.Need-enum-known-h-2 (read-part-calls t) (read-part-at t) read-part.Post
   read-part-enum-known-h-2 c = search needs
 
+  read-part-refuse-requires : read-part-lts.Need-refuse-requires (read-part-calls t) (read-part-at t) read-part.Post
+  read-part-refuse-requires c κs = search needs
+
   read-part-returns : read-part-lts.Need-returns (read-part-calls t) (read-part-at t) read-part.Post
   read-part-returns c =
-      let R = part-deep _ _ _ _ _ _ (sym (c .before .before .before .before .head-at .ensures) ∙ c .before
-        .before .h2 .given .1) (c .if1 .taken) in
-      (R, part-beyond _ _ _ _ _ _ (R .answer))
+      rw (c .refuse .ensures)
+      (let R = part-deep _ _ _ _ _ _ (sym (c .before .before .before .before .before .head-at .ensures) ∙ c .before
+        .before .before .h2 .given .1) (c .before .if1 .taken) in
+      (R, part-beyond _ _ _ _ _ _ (R .answer)))
 
   read-part-sub-read-record : read-part-lts.Need-sub-read-record (read-part-calls t) (read-part-at t) read-part.Post
   read-part-sub-read-record c = search needs
@@ -252,8 +266,8 @@ module _ (t : ℕ) where
   read-part-read-record-requires : read-part-lts.Need-read-record-requires (read-part-calls t) (read-part-at t)
     read-part.Post
   read-part-read-record-requires c κs =
-      let e = sym (c .before .before .before .before .before .head-at .ensures) ∙ c .before .before .before
-        .h2 .given .1 in
+      let e = sym (c .before .before .before .before .before .head-at .ensures) ∙ c .before .before .before .h2
+        .given .1 in
       let g = head-good _ _ _ _ _ _ e in
       let i = g .inside in
       let p = g .place in
@@ -272,8 +286,8 @@ module _ (t : ℕ) where
   read-part-returns-3 : read-part-lts.Need-returns-3 (read-part-calls t) (read-part-at t) read-part.Post
   read-part-returns-3 c =
       let R = part-good _ _ _ _ _ _ (sym (c .before .before .before .before .before .before .before .before
-        .head-at .ensures) ∙ c .before .before .before .before .before .before .h2 .given .1) (c .before
-        .before .before .before .if1 .left) (c .before .before .read-record .ensures) in
+        .head-at .ensures) ∙ c .before .before .before .before .before .before .h2 .given .1) (c .before .before
+        .before .before .if1 .left) (c .before .before .read-record .ensures) in
       (R, part-beyond _ _ _ _ _ _ (R .answer))
 
 -- read_parts
@@ -308,7 +322,8 @@ module _ (t : ℕ) where
     read-record.Post
   read-record-read-scope-requires c κs = search needs
 
-  read-record-close-record-requires : read-record-lts.Need-close-record-requires (read-record-calls t) (read-record-at t)
+  read-record-close-record-requires : read-record-lts.Need-close-record-requires (read-record-calls t)
+    (read-record-at t)
     read-record.Post
   read-record-close-record-requires c κs = search needs
 
@@ -317,8 +332,8 @@ module _ (t : ℕ) where
 
   read-record-returns : read-record-lts.Need-returns (read-record-calls t) (read-record-at t) read-record.Post
   read-record-returns c =
-      record-closes _ _ _ _ _ _ (c .before .before .before .before .before .before .read-scope .ensures) (c
-        .before .before .close-record .ensures .0) (c .before .before .close-record .ensures .1)
+      record-closes _ _ _ _ _ _ (c .before .before .before .before .before .before .read-scope .ensures) (c .before
+        .before .close-record .ensures .0) (c .before .before .close-record .ensures .1)
 
 -- read_scope
 module _ (t : ℕ) where
@@ -345,8 +360,8 @@ module _ (t : ℕ) where
 
   read-scope-returns : read-scope-lts.Need-returns (read-scope-calls t) (read-scope-at t) read-scope.Post
   read-scope-returns c =
-      scope-new _ _ _ _ _ _ (sym (c .before .before .before .before .before .before .before .before .before
-        .is-new .ensures) ∙ c .before .before .before .before .before .before .before .before .if1 .taken) (rw
+      scope-new _ _ _ _ _ _ (sym (c .before .before .before .before .before .before .before .before .before .is-new
+        .ensures) ∙ c .before .before .before .before .before .before .before .before .if1 .taken) (rw
         (← c .before .before .before .before .before .enter .ensures) (c .before .before .read-parts
         .ensures))
 
@@ -359,22 +374,23 @@ module _ (t : ℕ) where
 
   read-scope-returns-2 : read-scope-lts.Need-returns-2 (read-scope-calls t) (read-scope-at t) read-scope.Post
   read-scope-returns-2 c =
-      scope-plain _ _ _ _ _ _ (sym (c .before .before .before .before .before .is-new .ensures) ∙ c .before
-        .before .before .before .if1 .left) (c .before .before .read-parts2 .ensures)
+      scope-plain _ _ _ _ _ _ (sym (c .before .before .before .before .before .is-new .ensures) ∙ c .before .before
+        .before .before .if1 .left) (c .before .before .read-parts2 .ensures)
 
 pub +read-next+read-part+read-parts+read-record+read-scope-spec : {M : Type 1} → statement M
 +read-next+read-part+read-parts+read-record+read-scope-spec =
     close μ-read-next μ-read-part μ-read-parts μ-read-record μ-read-scope
     (λ t. read-next-lts.spec (read-next-calls t) (read-next-at t) read-next.Post (read-next-bare-record-requires t)
       (read-next-read-part-requires t) (read-next-enum-known-p t) (read-next-enum-told t) (read-next-same-length t)
-      (read-next-returns t) (read-next-accepts-part-requires t) (read-next-same-length-2 t) (read-next-returns-2 t)
-      (read-next-part-weight-requires t) (read-next-sub-read-parts t) (read-next-add-read-parts t)
-      (read-next-read-parts-requires t) (read-next-enum-known-q t) (read-next-enum-told-2 t)
-      (read-next-same-length-3 t) (read-next-returns-3 t) (read-next-sat-add-requires t)
-      (read-next-same-length-4 t) (read-next-returns-4 t))
+      (read-next-returns t) (read-next-accepts-part-requires t) (read-next-refuse-requires t)
+      (read-next-same-length-2 t) (read-next-returns-2 t) (read-next-part-weight-requires t)
+      (read-next-sub-read-parts t) (read-next-add-read-parts t) (read-next-read-parts-requires t)
+      (read-next-enum-known-q t) (read-next-enum-told-2 t) (read-next-same-length-3 t) (read-next-returns-3 t)
+      (read-next-sat-add-requires t) (read-next-same-length-4 t) (read-next-returns-4 t))
     (λ t. read-part-lts.spec (read-part-calls t) (read-part-at t) read-part.Post (read-part-head-at-requires t)
-      (read-part-enum-known-h t) (read-part-enum-known-h-2 t) (read-part-returns t) (read-part-sub-read-record t)
-      (read-part-read-record-requires t) (read-part-returns-2 t) (read-part-same-length t) (read-part-returns-3 t))
+      (read-part-enum-known-h t) (read-part-enum-known-h-2 t) (read-part-refuse-requires t) (read-part-returns t)
+      (read-part-sub-read-record t) (read-part-read-record-requires t) (read-part-returns-2 t)
+      (read-part-same-length t) (read-part-returns-3 t))
     (λ t. read-parts-lts.spec (read-parts-calls t) (read-parts-at t) read-parts.Post (read-parts-returns t)
       (read-parts-link-requires t) (read-parts-read-next-requires t) (read-parts-same-length t)
       (read-parts-returns-2 t))

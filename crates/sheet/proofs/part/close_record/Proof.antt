@@ -1,3 +1,4 @@
+-- The type, the weight and the row of a record, from the answer of its parts.
 use borrow.Author.Needs.{needs}
 use borrow.Author.Tests.{le-leb, lt-leb, lt-ltb, le-ltb, eq-eqb, ne-eqb, not-true, not-false}
 use Rattle.sheet.specs.table.Fill.{closedAnswer, closedAnswer, closedTable}
@@ -38,5 +39,6 @@ returns-2 c =
 
 pub close-record-spec : {M : Type 1} → statement M
 close-record-spec =
-    tie.close (tie.spec enum-known-parts enum-told returns type-of-requires record-weight-requires write-row-requires
-    same-length returns-2)
+    tie.close (tie.spec
+    enum-known-parts enum-told returns type-of-requires record-weight-requires write-row-requires same-length
+    returns-2)

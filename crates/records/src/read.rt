@@ -1,0 +1,24 @@
+// Reading a byte, a word or a standing at a place, past the end as well.
+ghost use mathlib.Core.Path.{_≡_};
+ghost use lib.ListN.{getD};
+
+// The byte at a place, 0 past the end.
+pub fn byte_at(s: &[u8], at: usize) -> u8
+    ensures { λ r. ⌜ r ≡ getD (now (s .entry)) at 0 ⌝ }
+{
+    if at < s.len() { s[at] } else { 0 }
+}
+
+// The word at a place, 0 past the end.
+pub(crate) fn word_at(t: &[u16], at: usize) -> u16
+    ensures { λ r. ⌜ r ≡ getD (now (t .entry)) at 0 ⌝ }
+{
+    if at < t.len() { t[at] } else { 0 }
+}
+
+// The standing of an id, 0 for 255.
+pub fn standing_of(st: &[u16; 255], id: u8) -> u16
+    ensures { λ r. ⌜ r ≡ getD (now (st .entry)) id 0 ⌝ }
+{
+    word_at(st, id as usize)
+}

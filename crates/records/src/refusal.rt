@@ -1,0 +1,37 @@
+// A refusal, and what the numbers of check's refusals stand for. Document 01, "Three services".
+ghost use mathlib.Core.Path.{_≡_};
+ghost use Rattle.records.specs.Refusal.{refusal};
+
+pub struct Refusal {
+    pub number: u8,
+    pub place: usize,
+}
+
+pub const TOO_LONG: u8 = 1;
+
+pub const CUT_SHORT: u8 = 2;
+
+pub const OUT_OF_RANGE: u8 = 3;
+
+pub const ID_TAKEN: u8 = 4;
+
+pub const ID_UNKNOWN: u8 = 5;
+
+pub const ID_RETIRED: u8 = 6;
+
+pub const WRONG_TYPE: u8 = 7;
+
+pub const TOO_DEEP: u8 = 8;
+
+pub const TOO_MANY_NAMES: u8 = 9;
+
+pub const LEFT_OVER: u8 = 10;
+
+pub const TOO_LARGE: u8 = 11;
+
+// The refusal with a number, at a place.
+pub fn refuse(number: u8, place: usize) -> Refusal
+    ensures { λ r. ⌜ r ≡ refusal number place ⌝ }
+{
+    Refusal { number, place }
+}

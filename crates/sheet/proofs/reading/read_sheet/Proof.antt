@@ -1,0 +1,91 @@
+-- The first two bytes judged, then the names and the term, then the end.
+use borrow.Author.Needs.{needs}
+use borrow.Author.Tests.{le-leb, lt-leb, lt-ltb, le-ltb, eq-eqb, ne-eqb, not-true, not-false}
+use Rattle.sheet.proofs.Tabling.{tabled, sheet-told}
+use Rattle.sheet.proofs.Whole.{sheet-closed, closes-sheet, too-long, empty, z-zero, z-large}
+use Rattle.sheet.proofs.Whole.{no-rule, rule-large, opened}
+use Rattle.sheet.proofs.reading.read_sheet.Statement.{statement}
+use Rattle.sheet.proofs.reading.read_sheet.Tie as tie
+
+refuse-requires : tie.Need-refuse-requires
+refuse-requires c κs = search needs
+
+returns : tie.Need-returns
+returns c = rw (c .refuse .ensures) (sheet-told _ _ (too-long _ (c .before .if1 .taken)))
+
+refuse-requires-2 : tie.Need-refuse-requires-2
+refuse-requires-2 c κs = search needs
+
+returns-2 : tie.Need-returns-2
+returns-2 c =
+    rw (c .refuse2 .ensures) (sheet-told _ _ (empty _ (c .before .before .if1 .left) (c .before .if2 .taken)))
+
+shared-slice-read-z : tie.Need-shared-slice-read-z
+shared-slice-read-z c = search needs
+
+refuse-requires-3 : tie.Need-refuse-requires-3
+refuse-requires-3 c κs = search needs
+
+returns-3 : tie.Need-returns-3
+returns-3 c =
+    rw (c .refuse3 .ensures) (sheet-told _ _ (z-zero _ (c .before .before .before .before .if1 .left) (c .before
+      .before .before .if2 .left) (c .before .if3 .taken)))
+
+refuse-requires-4 : tie.Need-refuse-requires-4
+refuse-requires-4 c κs = search needs
+
+returns-4 : tie.Need-returns-4
+returns-4 c =
+    rw (c .refuse4 .ensures) (sheet-told _ _ (z-large _ (c .before .before .before .before .before .if1 .left) (c
+      .before .before .before .before .if2 .left) (c .before .before .if3 .left) (c .before .if4 .taken)))
+
+refuse-requires-5 : tie.Need-refuse-requires-5
+refuse-requires-5 c κs = search needs
+
+returns-5 : tie.Need-returns-5
+returns-5 c =
+    rw (c .refuse5 .ensures) (sheet-told _ _ (no-rule _ (c .before .before .before .before .before .before .if1
+      .left) (c .before .before .before .before .before .if2 .left) (c .before .before .before .if3 .left) (c
+      .before .before .if4 .left) (c .before .if5 .taken)))
+
+shared-slice-read-rule : tie.Need-shared-slice-read-rule
+shared-slice-read-rule c = search needs
+
+refuse-requires-6 : tie.Need-refuse-requires-6
+refuse-requires-6 c κs = search needs
+
+returns-6 : tie.Need-returns-6
+returns-6 c =
+    rw (c .refuse6 .ensures) (sheet-told _ _ (rule-large _ (c .before .before .before .before .before .before
+      .before .before .if1 .left) (c .before .before .before .before .before .before .before .if2 .left) (c .before
+      .before .before .before .before .if3 .left) (c .before .before .before .before .if4 .left) (c .before .before
+      .before .if5 .left) (c .before .if6 .taken)))
+
+read-names-requires : tie.Need-read-names-requires
+read-names-requires c κs = search needs
+
+close-sheet-requires : tie.Need-close-sheet-requires
+close-sheet-requires c κs = search needs
+
+same-length : tie.Need-same-length
+same-length c = search needs
+
+returns-7 : tie.Need-returns-7
+returns-7 c =
+    let R =
+        sheet-closed _ _ _ (opened _ (c .before .before .before .before .before .before .before .before .before
+          .before .before .before .before .if1 .left) (c .before .before .before .before .before .before .before
+          .before .before .before .before .before .if2 .left) (c .before .before .before .before .before .before
+          .before .before .before .before .if3 .left) (c .before .before .before .before .before .before .before
+          .before .before .if4
+        .left) (c .before .before .before .before .before .before .before .before .if5 .left) (c .before .before
+          .before .before .before .before .if6 .left)) (closes-sheet _ _ _ (c .before .before .before .read-names
+        .ensures) (c .close-sheet .ensures)) in
+    (R, λ h. tabled _ _ _ h R)
+
+pub read-sheet-spec : {M : Type 1} → statement M
+read-sheet-spec =
+    tie.close (tie.spec
+    refuse-requires returns refuse-requires-2 returns-2 shared-slice-read-z refuse-requires-3 returns-3
+    refuse-requires-4 returns-4 refuse-requires-5 returns-5 shared-slice-read-rule refuse-requires-6 returns-6
+    read-names-requires close-sheet-requires same-length returns-7)

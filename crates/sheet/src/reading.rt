@@ -1,0 +1,90 @@
+// A whole sheet: its first two bytes, its names, its term and its end.
+use crate::names::Reading;
+use crate::names::read_names;
+use crate::size::size_of;
+use language::Numbers;
+use records::read::byte_at;
+use records::refusal::CUT_SHORT;
+use records::refusal::LEFT_OVER;
+use records::refusal::OUT_OF_RANGE;
+use records::refusal::TOO_LARGE;
+use records::refusal::TOO_LONG;
+use records::refusal::refuse;
+use records::weight::LIMIT;
+ghost use mathlib.Core.Path.{_≡_};
+ghost use lib.ListN.{length};
+ghost use Rattle.sheet.specs.Reader.{sheetOf, numbersAt};
+ghost use Rattle.sheet.specs.table.Fill.{ReadsSheet, closedReading};
+ghost use Rattle.sheet.specs.table.Tabled.{TabledBy};
+
+// The greatest length of a sheet, Z at most, the last overflow rule, and how many name records a sheet may have.
+const LENGTH: usize = 4096;
+
+const GREATEST: u8 = 7;
+
+const LAST_RULE: u8 = 1;
+
+const NAMES: u8 = 32;
+
+// Nothing after the term, and the size.
+fn close_sheet(s: &[u8], n: Numbers, x: Reading) -> Reading
+    ensures { λ r. ⌜ r ≡ closedReading n (now (s .entry)) x ⌝ }
+{
+    let Reading::Sheet {
+        root: _,
+        ty,
+        weight,
+        next,
+    } = x
+    else {
+        return x;
+    };
+    if next < s.len() {
+        return Reading::Refused(refuse(LEFT_OVER, next));
+    }
+    if LIMIT < size_of(n, ty, weight) {
+        return Reading::Refused(refuse(TOO_LARGE, 0));
+    }
+    x
+}
+
+// Reads a whole sheet, and leaves the rows of its parts in the table.
+pub fn read_sheet(s: &[u8], t: &mut [u16]) -> Reading
+    ensures reads { λ x. ⌜ ReadsSheet (numbersAt (now (s .entry))) (sheetOf (now (s .entry))) x
+        (now (t .entry)) (now (t .exit)) ⌝ }
+    ensures tabled { λ x. ⌜ (length (now (t .entry)) ≡ 36864 → TabledBy (now (s .entry)) x (now (t .exit))) ⌝ }
+{
+    if LENGTH < s.len() {
+        return Reading::Refused(refuse(TOO_LONG, LENGTH));
+    }
+    if s.len() <= 0 {
+        return Reading::Refused(refuse(CUT_SHORT, s.len()));
+    }
+    let z = s[0];
+    if z == 0 {
+        return Reading::Refused(refuse(OUT_OF_RANGE, 0));
+    }
+    if GREATEST < z {
+        return Reading::Refused(refuse(OUT_OF_RANGE, 0));
+    }
+    if s.len() <= 1 {
+        return Reading::Refused(refuse(CUT_SHORT, s.len()));
+    }
+    let rule = s[1];
+    if LAST_RULE < rule {
+        return Reading::Refused(refuse(OUT_OF_RANGE, 1));
+    }
+    let n = Numbers { z, rule };
+    let st = [0u16; 255];
+    let x = read_names(s, &st, t, n, NAMES, 2);
+    close_sheet(s, n, x)
+}
+
+// The range and the rule of a sheet.
+pub fn numbers_of(s: &[u8]) -> Numbers
+    ensures { λ r. ⌜ r ≡ numbersAt (now (s .entry)) ⌝ }
+{
+    let z = byte_at(s, 0);
+    let rule = byte_at(s, 1);
+    Numbers { z, rule }
+}
