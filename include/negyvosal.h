@@ -34,6 +34,10 @@ extern "C" {
 #define NEGYVOSAL_WORDS 5
 #define NEGYVOSAL_WHOLE(low, high) ((uint64_t)(high) << 32 | (low))
 
+/* Operator 3 of a sheet, remainder, gives the number from 0 up to, but not including, the absolute value of the right
+ * operand that differs from the left operand by a multiple of the right one: -1 remainder 7 is 6. A right operand of 0
+ * has no play. */
+
 #define NEGYVOSAL_REFUSED 0
 #define NEGYVOSAL_ACCEPTED 1
 #define NEGYVOSAL_FOLLOWS 2

@@ -393,7 +393,7 @@ impl Writer<'_> {
             Operator::Minus => self.fit(a - b),
             Operator::Times => self.fit(a * b),
             Operator::Remainder if b == 0 => None,
-            Operator::Remainder => self.fit(a % b),
+            Operator::Remainder => self.fit(a.rem_euclid(b)),
             Operator::Equal => Some((a == b) as usize),
             Operator::Less => Some((a < b) as usize),
             Operator::And => Some((a & b) as usize),

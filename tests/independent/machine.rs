@@ -112,7 +112,7 @@ fn operate(operator: Operator, left: i8, right: i8, heading: &Heading) -> Option
         Operator::Minus => fit(a - b, heading),
         Operator::Times => fit(a * b, heading),
         Operator::Remainder if b == 0 => None,
-        Operator::Remainder => fit(a % b, heading),
+        Operator::Remainder => fit(a.rem_euclid(b), heading),
         Operator::Equal | Operator::Alike => Some((a == b) as i8),
         Operator::Less => Some((a < b) as i8),
         Operator::And => Some((a == 1 && b == 1) as i8),

@@ -59,7 +59,7 @@ abs-quotient (pos a) (negsuc b) = omega (arith, abs-neg (pos (a / suc b)), div-l
 abs-quotient (negsuc a) (pos b) = omega (arith, abs-neg (pos (suc a / b)), div-le-self (suc a) b)
 abs-quotient (negsuc a) (negsuc b) = div-le-self (suc a) (suc b)
 
-abs-remainder : (x y : ℤ) → natAbs (remZ x y) ≤ natAbs x
+pub abs-remainder : (x y : ℤ) → natAbs (remZ x y) ≤ natAbs x
 abs-remainder (pos a) d = mod-le a (natAbs d)
 abs-remainder (negsuc a) d = omega (arith, abs-neg (pos (suc a % natAbs d)), mod-le (suc a) (natAbs d))
 

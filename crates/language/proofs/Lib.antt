@@ -2,4 +2,5 @@ pub mod Bits
 pub mod NumberLaws
 pub mod NumberSteps
 pub mod OperatorLaws
+pub mod RemainderLaws
 pub mod OperatorSteps

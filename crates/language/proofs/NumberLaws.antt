@@ -26,7 +26,7 @@ unfolding modulo
 modulo-below (pos a) n h = mod-lt a h
 modulo-below (negsuc a) n h = omega arith
 
-modulo-pos : (a n : ℕ) → a < n → modulo (pos a) n ≡ a
+pub modulo-pos : (a n : ℕ) → a < n → modulo (pos a) n ≡ a
 unfolding modulo
 modulo-pos a n h = mod-eq-of-lt h
 

@@ -2,21 +2,22 @@
 use Prim.Native.Nat.{ℕ, zero, suc, _-_, _≤_, _<_}
 use native.Mathlib.Omega.{arith}
 use mathlib.Core.Path.{_≡_, ap, ap₂, _∙_, sym}
-use mathlib.Core.Bool.{Bool}
+use mathlib.Core.Bool.{Bool, true, false}
 use mathlib.Core.Option.{some}
 use lib.Dec.{leb, ltb}
-use lib.IntN.{ℤ, pos, natAbs, _-ℤ_}
+use lib.IntN.{ℤ, pos, natAbs, _+ℤ_, _-ℤ_}
 use lib.Signed.{mag, ltZ, remZ}
 use borrow.Author.Tests.{ltb-true, ltb-false, lt-ltb, le-ltb, eq-eqb, ne-eqb}
 use mir.Syntax.{w64}
-use mir.Val.{ofZ, toZ}
+use mir.Val.{SFits, ofZ, toZ}
 use Rattle.language.specs.declared.Numbers.{Numbers}
 use Rattle.language.specs.declared.operator.Outcome.{Outcome}
 use Rattle.language.specs.declared.operator.Outcome.the-variants.{Nothing}
-use Rattle.language.specs.Number.{numbers, code, signed}
+use Rattle.language.specs.Number.{numbers, modulo, code, signed}
 use Rattle.language.specs.Operator.{fit, fitSome, remainder, truth, outcome}
-use Rattle.language.proofs.Bits.{read}
+use Rattle.language.proofs.Bits.{back, read, test-back, abs-remainder}
 use Rattle.language.proofs.NumberLaws.{minus-below, by-test}
+use Rattle.language.proofs.RemainderLaws.{from-0, up-by-positive, up-by-negative}
 
 minus-above : (a b : ℕ) → b ≤ a → pos a -ℤ pos b ≡ pos (a - b)
 minus-above a zero h = ap pos (omega arith)
@@ -32,6 +33,37 @@ signed-small N c h k = by-test (leb c (N .z)) (λ t. rw t (omega arith)) (λ t. 
         by-test (ltb c n)
         (λ u. rw (minus-below c n (ltb-true c n u)) (omega arith))
         (λ u. rw (minus-above c n (ltb-false c n u)) (omega arith))
+
+-- The remainder from 0 on: r is what `rem` returned for x and y, all held in 64 bits.
+module _
+    (x y : ℤ) {r : ℤ} (p : SFits w64 x) (q : SFits w64 y) (f : mag r < 9223372036854775808)
+    (e : r ≡ remZ (toZ w64 (ofZ w64 x)) (toZ w64 (ofZ w64 y))) where
+  exact : toZ w64 (ofZ w64 r) ≡ remZ x y
+  exact = read f e ∙ ap₂ remZ (back p) (back q)
+
+  -- small enough to be moved
+  pub movable :
+      natAbs x ≤ 65535 → natAbs y ≤ 65535 →
+      (natAbs (toZ w64 (ofZ w64 r)) ≤ 65535) × (natAbs (toZ w64 (ofZ w64 y)) ≤ 65535)
+  movable h k = (rw exact (omega (arith, abs-remainder x y)), rw (back q) k)
+
+  module _ (h : natAbs y ≡ 0 → ⊥) where
+    pub not-moved :
+        ltZ (toZ w64 (ofZ w64 r)) (pos 0) ≡ false → toZ w64 (ofZ w64 r) ≡ pos (modulo x (natAbs y))
+    not-moved t = exact ∙ from-0 x y h (rw exact at t)
+
+    module _ {w : ℤ} (t : ltZ (toZ w64 (ofZ w64 r)) (pos 0) ≡ true) (g : mag w < 9223372036854775808) where
+      pub moved-by-negative :
+          ltZ (toZ w64 (ofZ w64 y)) (pos 0) ≡ true → w ≡ toZ w64 (ofZ w64 r) -ℤ toZ w64 (ofZ w64 y) →
+          toZ w64 (ofZ w64 w) ≡ pos (modulo x (natAbs y))
+      moved-by-negative u d =
+          read g d ∙ ap₂ _-ℤ_ exact (back q) ∙ up-by-negative x y h (rw exact at t) (test-back q u)
+
+      pub moved-by-positive :
+          ltZ (toZ w64 (ofZ w64 y)) (pos 0) ≡ false → w ≡ toZ w64 (ofZ w64 r) +ℤ toZ w64 (ofZ w64 y) →
+          toZ w64 (ofZ w64 w) ≡ pos (modulo x (natAbs y))
+      moved-by-positive u d =
+          read g d ∙ ap₂ _+ℤ_ exact (back q) ∙ up-by-positive x y h (rw exact at t) (test-back q u)
 
 -- the overflow rule
 module _ (N : Numbers) (v : ℤ) where
@@ -80,11 +112,12 @@ module _
 
   pub remainder-is :
       {m : ℕ} {w : ℤ} {r : Outcome} → m ≡ natAbs (toZ w64 (ofZ w64 t)) → (m ≡ 0 → ⊥) →
-      mag w < 9223372036854775808 → w ≡ remZ (toZ w64 (ofZ w64 s)) (toZ w64 (ofZ w64 t)) →
+      mag w < 9223372036854775808 → w ≡ pos (modulo (toZ w64 (ofZ w64 s)) (natAbs (toZ w64 (ofZ w64 t)))) →
       r ≡ outcome (fit N (toZ w64 (ofZ w64 w))) → r ≡ outcome (fitSome N (remainder (signed N x) (signed N y)))
   unfolding fitSome remainder
   remainder-is e h k d g =
-      rw (ne-eqb (natAbs (signed N y)) 0 (λ z. h (e ∙ ap natAbs right ∙ z))) (exact-result remZ k d g)
+      rw (ne-eqb (natAbs (signed N y)) 0 (λ z. h (e ∙ ap natAbs right ∙ z)))
+      (exact-result (λ u v. pos (modulo u (natAbs v))) k d g)
 
 pub remainder-none :
     (N : Numbers) (x y : ℕ) {b : ℤ} {m : ℕ} → b ≡ signed N y → m ≡ natAbs b → m ≡ 0 →

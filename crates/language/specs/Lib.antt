@@ -2,6 +2,7 @@ pub mod Choice
 pub mod Number
 pub mod Operators
 pub mod Operator
+pub mod Remainder
 pub mod Ty
 pub mod Move
 pub mod Term

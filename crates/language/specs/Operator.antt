@@ -1,15 +1,15 @@
--- The nine operators on codes. Document 01, "Plays" (overflow and remainder). SHEETS 5.
+-- The nine operators on codes. Document 01, "Plays" (overflow); document 02, [2] (remainder). SHEETS 5.
 use Prim.Native.Nat.{ℕ}
 use mathlib.Core.Bool.{Bool, true, false}
 use mathlib.Core.Option.{Option, none, some}
 use lib.Dec.{eqb, ltb}
-use lib.IntN.{ℤ, natAbs, _+ℤ_, _-ℤ_, _*ℤ_}
-use lib.Signed.{ltZ, remZ}
+use lib.IntN.{ℤ, pos, natAbs, _+ℤ_, _-ℤ_, _*ℤ_}
+use lib.Signed.{ltZ}
 use Rattle.language.specs.declared.Numbers.{Numbers}
 use Rattle.language.specs.declared.operator.Outcome.{Outcome}
 use Rattle.language.specs.declared.operator.Outcome.the-variants.{Is, Nothing}
 use Rattle.language.specs.Choice.{pick}
-use Rattle.language.specs.Number.{code, signed}
+use Rattle.language.specs.Number.{modulo, code, signed}
 use Rattle.language.specs.Operators as op
 
 -- the overflow rule under which a result outside -Z to Z has no play
@@ -21,9 +21,10 @@ noPlay = 0
 unfoldable pub fit : Numbers → ℤ → Option ℕ
 fit N v = pick (eqb (N .rule) noPlay) (pick (ltb (N .z) (natAbs v)) none (some (code N v))) (some (code N v))
 
--- "Remainder takes the sign of the left operand, and has no play for a right operand of 0"
+-- "the number from 0 up to, but not including, the absolute value of the right operand that differs from the left
+-- operand by a multiple of the right one; a right operand of 0 still has no play" (document 02, [2]; `RemainderLaw`)
 unfoldable pub remainder : ℤ → ℤ → Option ℤ
-remainder x y = pick (eqb (natAbs y) 0) none (some (remZ x y))
+remainder x y = pick (eqb (natAbs y) 0) none (some (pos (modulo x (natAbs y))))
 
 -- the same where there may be no result
 unfoldable pub fitSome : Numbers → Option ℤ → Option ℕ

@@ -6,10 +6,10 @@ ghost use mathlib.Core.Bool.{true, false};
 ghost use mathlib.Core.Option.{some};
 ghost use Prim.Native.Nat.{_≤_};
 ghost use lib.Dec.{eqb};
-ghost use lib.IntN.{natAbs, _+ℤ_, _-ℤ_, _*ℤ_};
+ghost use lib.IntN.{pos, natAbs, _+ℤ_, _-ℤ_, _*ℤ_};
 ghost use lib.Signed.{ltZ, remZ};
 ghost use Rattle.language.specs.Choice.{pick};
-ghost use Rattle.language.specs.Number.{code, signed};
+ghost use Rattle.language.specs.Number.{modulo, code, signed};
 ghost use Rattle.language.specs.Operator.{fit, fitSome, remainder, truth, operate, outcome};
 
 // The operators, by their numbers in a sheet: four that give a number, two that compare numbers, three on truths.
@@ -78,6 +78,23 @@ pub(crate) fn rem(x: i64, y: i64) -> i64
     x % y
 }
 
+// The remainder from 0 up to, but not including, the absolute value of y: an exact remainder that is negative is moved up by
+// that value.
+pub(crate) fn rem_euclid(x: i64, y: i64) -> i64
+    requires { ⌜ (natAbs x ≤ 65535) × (natAbs y ≤ 65535) ⌝ }
+    requires { ⌜ (natAbs y ≡ 0 → ⊥) ⌝ }
+    ensures { λ r. ⌜ r ≡ pos (modulo x (natAbs y)) ⌝ }
+{
+    let r = rem(x, y);
+    if r < 0 {
+        if y < 0 {
+            return sub(r, y);
+        }
+        return add(r, y);
+    }
+    r
+}
+
 // The code of a result.
 fn kept(n: Numbers, v: i64) -> Outcome
     ensures { λ r. ⌜ r ≡ outcome (some (code n v)) ⌝ }
@@ -121,7 +138,7 @@ fn product(n: Numbers, x: u16, y: u16) -> Outcome
     fit(n, mul(number::signed(n, x), number::signed(n, y)))
 }
 
-// Remainder: it has the sign of the left operand, and a right operand of 0 has no play.
+// Remainder: from 0 up to, but not including, the absolute value of the right operand; a right operand of 0 has no play.
 fn remainder(n: Numbers, x: u16, y: u16) -> Outcome
     ensures { λ r. ⌜ r ≡ outcome (fitSome n (remainder (signed n x) (signed n y))) ⌝ }
 {
@@ -129,7 +146,7 @@ fn remainder(n: Numbers, x: u16, y: u16) -> Outcome
     if number::absolute(d) == 0 {
         return Outcome::Nothing;
     }
-    fit(n, rem(number::signed(n, x), d))
+    fit(n, rem_euclid(number::signed(n, x), d))
 }
 
 // The code of a truth.

@@ -1,6 +1,6 @@
-// Sheets worked through: document 01's table, document 001's examples for every range and rule, sheets for each
-// refusal, and what the services are lent. The answers, made by the same function as the program's, go to standard
-// output.
+// Sheets worked through: document 01's table, document 001's examples for every range and rule, document 02's
+// remainders, sheets for each refusal, and what the services are lent. The answers, made by the same function as the
+// program's, go to standard output.
 
 // Titles, sheets and reports.
 mod show;
@@ -10,6 +10,8 @@ mod terms;
 mod table;
 // Document 001's examples.
 mod examples;
+// Document 02's remainders.
+mod remainders;
 // Refusals.
 mod refused;
 // Words and bytes lent, and follow.
@@ -28,4 +30,5 @@ fn main() {
     lent::followed();
     tried::blocks();
     tried::calls();
+    remainders::rows();
 }

@@ -1,4 +1,4 @@
--- No play for a right operand of 0; else the exact remainder, as the rule takes it.
+-- No play for a right operand of 0; else the remainder from 0 on, as the rule takes it.
 use borrow.Author.Needs.{needs}
 use native.Mathlib.Omega.{arith}
 use mathlib.Core.Path.{_∙_}
@@ -22,8 +22,8 @@ returns c =
 signed-requires-2 : tie.Need-signed-requires-2
 signed-requires-2 c κs = search needs
 
-rem-requires : tie.Need-rem-requires
-rem-requires c κs =
+rem-euclid-requires : tie.Need-rem-euclid-requires
+rem-euclid-requires c κs =
     let a = c .before .before .before .before .args in
     let s = c .signed2 in
     let t = c .before .before .before .signed in (
@@ -41,7 +41,7 @@ returns-2 c =
     let t = c .before .before .before .before .before .signed in
     remainder-is (a .n) (a .x) (a .y) (s .ok) (s .ensures) (t .ok) (t .ensures)
     (c .before .before .before .before .absolute .ensures) (c .before .before .before .if1 .left)
-    (c .before .rem .ok) (c .before .rem .ensures) (c .fit .ensures)
+    (c .before .rem-euclid .ok) (c .before .rem-euclid .ensures) (c .fit .ensures)
 
 pub remainder-spec : {M : Type 1} → statement M
 remainder-spec =
@@ -51,6 +51,6 @@ remainder-spec =
     absolute-requires
     returns
     signed-requires-2
-    rem-requires
+    rem-euclid-requires
     fit-requires
     returns-2)
