@@ -57,25 +57,30 @@ Use i L u = (j : ℕ) × (q : Question) × (a : Answer) × (v : Word) × L j q a
 -- the plays of a term between the question q and the answer a
 unfoldable mutual
   pub Plays : Term → Question → Answer → Word → Type 0
-  Plays skip q a u = (a ≡ done) × (u ≡ [])
-  Plays diverge q a u = ⊥
+  -- constants (definition 13)
   Plays (const v) q a u = (a ≡ value v) × (u ≡ [])
-  Plays (t.private i) q a u =
-      VarPair q a × (u ≡ move (private i) (question q) ∷ move (private i) (answer a) ∷ [])
-  Plays (name i T rest) q a u =
-      Answers T q a × (v : Word) × Star (Use i (λ j p b x. PlaysArg rest j p b x)) v
-      × (u ≡ move (at i 0) (question q) ∷ (v ++ (move (at i 0) (answer a) ∷ [])))
-  Plays (fetch X) q a u = Plays X read a u
+  -- operators (definition 14)
   Plays (operate m o L R) q a u =
       (x : Val m) × (y : Val m) × (z : ℕ) × (apply o (x .0) (y .0) ≡ some z) × (a ≡ value z)
       × Cat (Plays L ask (value (x .0))) (Plays R ask (value (y .0))) u
-  Plays (assign m X E) q a u =
-      (a ≡ done) × (x : Val m) × Cat (Plays E ask (value (x .0))) (Plays X (write (x .0)) ok) u
+  -- commands (definition 15)
+  Plays skip q a u = (a ≡ done) × (u ≡ [])
+  Plays diverge q a u = ⊥
   Plays (seq C M) q a u = Cat (Plays C run done) (Plays M q a) u
   Plays (while B C) q a u =
       (a ≡ done) × Cat (Star (Cat (Plays B ask (value 1)) (Plays C run done))) (Plays B ask (value 0)) u
   Plays (cond B M N) q a u =
       Cat (Plays B ask (value 1)) (Plays M q a) u ⊎ Cat (Plays B ask (value 0)) (Plays N q a) u
+  -- identifiers (definition 18); between the question to a name and its answer, plays of its arguments (definition 22)
+  Plays (name i T rest) q a u =
+      Answers T q a × (v : Word) × Star (Use i (λ j p b x. PlaysArg rest j p b x)) v
+      × (u ≡ move (at i 0) (question q) ∷ (v ++ (move (at i 0) (answer a) ∷ [])))
+  Plays (t.private i) q a u =
+      VarPair q a × (u ≡ move (private i) (question q) ∷ move (private i) (answer a) ∷ [])
+  -- variables (definitions 24 to 26, as document 01 decides)
+  Plays (fetch X) q a u = Plays X read a u
+  Plays (assign m X E) q a u =
+      (a ≡ done) × (x : Val m) × Cat (Plays E ask (value (x .0))) (Plays X (write (x .0)) ok) u
   Plays (new m h C) q a u = (v : Word) × Plays C q a v × Stable m 0 (kept v) × (u ≡ hide v)
 
   -- the plays of argument j, counted from 0

@@ -1,5 +1,6 @@
 -- Terms, with every use resolved: a private variable by its block, a name by its id and type. Document 001, figure 1;
--- document 01, "The sheet, byte by byte". SHEETS 2.4.
+-- document 01, "The sheet, byte by byte". The forms stand in the order in which document 001 defines their plays
+-- (document 02, [10]). SHEETS 2.4.
 use mathlib.Core.Option.{Option}
 use Prim.Native.Nat.{ℕ, _<_}
 use Rattle.language.specs.declared.Numbers.{Numbers}
@@ -18,17 +19,21 @@ apply o x y = op.operate (o .over) (o .operator) x y
 -- A term. The number m of values stands in `operate` (of an operand), in `assign` and in `new` (of the variable).
 mutual
   pub data Term : Type 0 where
-    skip diverge : Term
+    -- constants (definition 13)
     const : ℕ → Term
-    -- the private variable of the enclosing block i, counted outwards from 0
-    private : ℕ → Term
-    -- the declared name of this id and result type, with its arguments
-    name : ℕ → Ty → Args → Term
-    fetch : Term → Term
+    -- operators (definition 14)
     operate : ℕ → Operation → Term → Term → Term
-    assign : ℕ → Term → Term → Term
+    -- commands (definition 15)
+    skip diverge : Term
     seq while : Term → Term → Term
     cond : Term → Term → Term → Term
+    -- identifiers (definition 18) and application (definition 22): the declared name of this id and result type, with
+    -- its arguments; the private variable of the enclosing block i, counted outwards from 0
+    name : ℕ → Ty → Args → Term
+    private : ℕ → Term
+    -- variables (definitions 24 to 26)
+    fetch : Term → Term
+    assign : ℕ → Term → Term → Term
     new : (m : ℕ) → 0 < m → Term → Term
 
   pub data Args : Type 0 where

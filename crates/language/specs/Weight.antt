@@ -1,23 +1,29 @@
--- Weight and size. Document 01, "Reckoned size". SHEETS 7.
+-- Weight and size. Document 01, "Reckoned size". The forms stand in the order in which document 001 defines their plays
+-- (document 02, [10]). SHEETS 7.
 use Prim.Native.Nat.{ℕ, _+_, _*_}
 use Rattle.language.specs.Ty.{Ty, questions, answers}
-use Rattle.language.specs.Term.{Term, skip, diverge, const, private, name, fetch, operate, assign, seq, while}
-use Rattle.language.specs.Term.{cond, new, Args, no-args, arg}
+use Rattle.language.specs.Term.{Term, const, operate, skip, diverge, seq, while, cond, name, private, fetch}
+use Rattle.language.specs.Term.{assign, new, Args, no-args, arg}
 
 -- the weight of a term, form by form, and of arguments
 unfoldable mutual
   pub weight : Term → ℕ
+  -- constants (definition 13)
+  weight (const v) = 1
+  -- operators (definition 14)
+  weight (operate m o L R) = weight L + m * weight R
+  -- commands (definition 15)
   weight skip = 1
   weight diverge = 1
-  weight (const v) = 1
-  weight (private i) = 2
-  weight (name i T args) = 2 + weightArgs args
-  weight (fetch X) = weight X
-  weight (operate m o L R) = weight L + m * weight R
-  weight (assign m X E) = weight E + m * weight X
   weight (seq C M) = weight C + weight M
   weight (while B C) = weight B + weight C
   weight (cond B M N) = weight B + (weight M + weight N)
+  -- identifiers (definition 18), and application (definition 22): the arguments of a name
+  weight (name i T args) = 2 + weightArgs args
+  weight (private i) = 2
+  -- variables (definitions 24 to 26)
+  weight (fetch X) = weight X
+  weight (assign m X E) = weight E + m * weight X
   weight (new m h C) = m * weight C
 
   pub weightArgs : Args → ℕ

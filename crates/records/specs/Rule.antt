@@ -1,5 +1,6 @@
 -- How the parts of a record are typed and weighed. Document 01, "The sheet, byte by byte" (types, after figure 1 of document 001)
--- and "Reckoned size". SHEETS 3.2 and 7.2.
+-- and "Reckoned size". Where forms are weighed they stand in the order in which document 001 defines their plays
+-- (document 02, [10]). SHEETS 3.2 and 7.2.
 use Prim.Native.Nat.{ℕ, _+_, _-_, _*_}
 use mathlib.Core.Bool.{Bool, true, false}
 use mathlib.Core.List.{List}
@@ -65,45 +66,60 @@ partType New s r last = command
 
 -- by what the weight of part j is multiplied, where the part has type ty and the one before it prev
 unfoldable pub factor : Rule → Numbers → Record → ℕ → ℕ → ℕ → ℕ
-factor Skip N r j prev ty = 1
-factor Diverge N r j prev ty = 1
+-- constants (definition 13)
 factor Truth N r j prev ty = 1
 factor Number N r j prev ty = 1
-factor Use N r j prev ty = questions N ty
-factor Fetch N r j prev ty = 1
+-- operators (definition 14)
 factor Operate N r j prev ty = pick (eqb j 0) 1 (values N prev)
-factor Assign N r j prev ty = pick (eqb j 0) (values N ty) 1
+-- commands (definition 15)
+factor Skip N r j prev ty = 1
+factor Diverge N r j prev ty = 1
 factor Sequence N r j prev ty = 1
-factor If N r j prev ty = 1
 factor While N r j prev ty = 1
+factor If N r j prev ty = 1
+-- identifiers (definition 18) and their arguments (application, definition 22)
+factor Use N r j prev ty = questions N ty
+-- variables (definitions 24 to 26)
+factor Fetch N r j prev ty = 1
+factor Assign N r j prev ty = pick (eqb j 0) (values N ty) 1
 factor New N r j prev ty = values N (r .b)
 
 -- what a part of type ty adds besides: an argument its answers
 unfoldable pub extra : Rule → Numbers → ℕ → ℕ
-extra Skip N ty = 0
-extra Diverge N ty = 0
+-- constants (definition 13)
 extra Truth N ty = 0
 extra Number N ty = 0
-extra Use N ty = answers N ty
-extra Fetch N ty = 0
+-- operators (definition 14)
 extra Operate N ty = 0
-extra Assign N ty = 0
+-- commands (definition 15)
+extra Skip N ty = 0
+extra Diverge N ty = 0
 extra Sequence N ty = 0
-extra If N ty = 0
 extra While N ty = 0
+extra If N ty = 0
+-- identifiers (definition 18) and their arguments (application, definition 22)
+extra Use N ty = answers N ty
+-- variables (definitions 24 to 26)
+extra Fetch N ty = 0
+extra Assign N ty = 0
 extra New N ty = 0
 
 -- the weight of a record without its parts
 unfoldable pub own : Rule → ℕ
-own Skip = 1
-own Diverge = 1
+-- constants (definition 13)
 own Truth = 1
 own Number = 1
-own Use = 2
-own Fetch = 0
+-- operators (definition 14)
 own Operate = 0
-own Assign = 0
+-- commands (definition 15)
+own Skip = 1
+own Diverge = 1
 own Sequence = 0
-own If = 0
 own While = 0
+own If = 0
+-- identifiers (definition 18) and their arguments (application, definition 22)
+own Use = 2
+-- variables (definitions 24 to 26)
+own Fetch = 0
+own Assign = 0
 own New = 0

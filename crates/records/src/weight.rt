@@ -81,32 +81,39 @@ pub fn answers_of(n: Numbers, ty: u8) -> u32
     2 * (values_of(n, ty as u16) as u32)
 }
 
+// In the functions by rule the forms stand in the order in which the paper defines their plays.
+
 // By what the weight of part j is multiplied, where the part has type ty and the one before it prev.
 pub(crate) fn factor_of(rule: Rule, n: Numbers, r: Record, j: u8, prev: u8, ty: u8) -> u32
     ensures { λ x. ⌜ x ≡ factor rule n r j prev ty ⌝ }
 {
     match rule {
-        Rule::Skip => 1,
-        Rule::Diverge => 1,
+        // Constants (definition 13).
         Rule::Truth => 1,
         Rule::Number => 1,
-        Rule::Use => questions_of(n, ty),
-        Rule::Fetch => 1,
+        // Operators (definition 14).
         Rule::Operate => {
             if j == 0 {
                 return 1;
             }
             values_of(n, prev as u16) as u32
         }
+        // Commands (definition 15).
+        Rule::Skip => 1,
+        Rule::Diverge => 1,
+        Rule::Sequence => 1,
+        Rule::While => 1,
+        Rule::If => 1,
+        // Identifiers (definition 18) and their arguments (application, definition 22).
+        Rule::Use => questions_of(n, ty),
+        // Variables (definitions 24 to 26).
+        Rule::Fetch => 1,
         Rule::Assign => {
             if j == 0 {
                 return values_of(n, ty as u16) as u32;
             }
             1
         }
-        Rule::Sequence => 1,
-        Rule::If => 1,
-        Rule::While => 1,
         Rule::New => values_of(n, r.b) as u32,
     }
 }
@@ -116,17 +123,22 @@ pub(crate) fn extra_of(rule: Rule, n: Numbers, ty: u8) -> u32
     ensures { λ x. ⌜ x ≡ extra rule n ty ⌝ }
 {
     match rule {
-        Rule::Skip => 0,
-        Rule::Diverge => 0,
+        // Constants (definition 13).
         Rule::Truth => 0,
         Rule::Number => 0,
-        Rule::Use => answers_of(n, ty),
-        Rule::Fetch => 0,
+        // Operators (definition 14).
         Rule::Operate => 0,
-        Rule::Assign => 0,
+        // Commands (definition 15).
+        Rule::Skip => 0,
+        Rule::Diverge => 0,
         Rule::Sequence => 0,
-        Rule::If => 0,
         Rule::While => 0,
+        Rule::If => 0,
+        // Identifiers (definition 18) and their arguments (application, definition 22).
+        Rule::Use => answers_of(n, ty),
+        // Variables (definitions 24 to 26).
+        Rule::Fetch => 0,
+        Rule::Assign => 0,
         Rule::New => 0,
     }
 }
@@ -136,17 +148,22 @@ pub(crate) fn own_of(rule: Rule) -> u32
     ensures { λ x. ⌜ x ≡ own rule ⌝ }
 {
     match rule {
-        Rule::Skip => 1,
-        Rule::Diverge => 1,
+        // Constants (definition 13).
         Rule::Truth => 1,
         Rule::Number => 1,
-        Rule::Use => 2,
-        Rule::Fetch => 0,
+        // Operators (definition 14).
         Rule::Operate => 0,
-        Rule::Assign => 0,
+        // Commands (definition 15).
+        Rule::Skip => 1,
+        Rule::Diverge => 1,
         Rule::Sequence => 0,
-        Rule::If => 0,
         Rule::While => 0,
+        Rule::If => 0,
+        // Identifiers (definition 18) and their arguments (application, definition 22).
+        Rule::Use => 2,
+        // Variables (definitions 24 to 26).
+        Rule::Fetch => 0,
+        Rule::Assign => 0,
         Rule::New => 0,
     }
 }

@@ -1,4 +1,4 @@
--- Only the arguments of a use add answers.
+-- Each rule adds its own.
 use borrow.Author.Needs.{needs}
 use Rattle.records.specs.Rule.{extra}
 use Rattle.records.proofs.weight.extra_of.Statement.{statement}
@@ -19,9 +19,6 @@ enum-told-4 c = search needs
 enum-told-5 : tie.Need-enum-told-5
 enum-told-5 c = search needs
 
-answers-of-requires : tie.Need-answers-of-requires
-answers-of-requires c κs = search needs
-
 enum-told-6 : tie.Need-enum-told-6
 enum-told-6 c = search needs
 
@@ -33,6 +30,9 @@ enum-told-8 c = search needs
 
 enum-told-9 : tie.Need-enum-told-9
 enum-told-9 c = search needs
+
+answers-of-requires : tie.Need-answers-of-requires
+answers-of-requires c κs = search needs
 
 enum-told-10 : tie.Need-enum-told-10
 enum-told-10 c = search needs
@@ -61,7 +61,7 @@ returns-4 c = simp (c .enum-told4 .given .1)
 
 returns-5 : tie.Need-returns-5
 unfolding extra
-returns-5 c = simp (c .before .enum-told5 .given .1, ← c .answers-of .ensures)
+returns-5 c = simp (c .enum-told5 .given .1)
 
 returns-6 : tie.Need-returns-6
 unfolding extra
@@ -77,7 +77,7 @@ returns-8 c = simp (c .enum-told8 .given .1)
 
 returns-9 : tie.Need-returns-9
 unfolding extra
-returns-9 c = simp (c .enum-told9 .given .1)
+returns-9 c = simp (c .before .enum-told9 .given .1, ← c .answers-of .ensures)
 
 returns-10 : tie.Need-returns-10
 unfolding extra
@@ -94,6 +94,6 @@ returns-12 c = simp (c .enum-told12 .given .1)
 pub extra-of-spec : {M : Type 1} → statement M
 extra-of-spec =
     tie.close (tie.spec
-    enum-told enum-told-2 enum-told-3 enum-told-4 enum-told-5 answers-of-requires enum-told-6 enum-told-7
-    enum-told-8 enum-told-9 enum-told-10 enum-told-11 enum-told-12 returns returns-2 returns-3 returns-4
-    returns-5 returns-6 returns-7 returns-8 returns-9 returns-10 returns-11 returns-12)
+    enum-told enum-told-2 enum-told-3 enum-told-4 enum-told-5 enum-told-6 enum-told-7 enum-told-8 enum-told-9
+    answers-of-requires enum-told-10 enum-told-11 enum-told-12 returns returns-2 returns-3 returns-4 returns-5
+    returns-6 returns-7 returns-8 returns-9 returns-10 returns-11 returns-12)
