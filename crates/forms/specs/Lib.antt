@@ -1,0 +1,3 @@
+pub mod Shows
+pub mod Contract
+pub mod Become

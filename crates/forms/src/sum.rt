@@ -1,0 +1,56 @@
+// Sums of rows.
+use crate::table::WIDTH;
+use crate::table::WORDS;
+use crate::words::at;
+use crate::words::put;
+use records::weight::sat_add;
+use records::weight::sat_mul;
+ghost use mathlib.Core.Path.{_≡_};
+ghost use Prim.Native.Nat.{_+_, _*_, _<_, _≤_};
+ghost use lib.ListN.{length};
+ghost use Rattle.procedures.specs.Held.{held};
+ghost use Rattle.forms.specs.Become.{Become, summed};
+ghost use Rattle.forms.specs.Contract.{Added, ConstantAdded};
+
+// x + factor * y, held at 4,097.
+fn sum_of(x: u32, factor: u32, y: u32) -> u32
+    ensures { λ r. ⌜ r ≡ held (x + factor * y) ⌝ }
+{
+    sat_add(x, sat_mul(factor, y))
+}
+
+// The first n words of a row become themselves and `factor` times those of another.
+fn add_words(s: &mut [u16], to: usize, from: usize, factor: u32, n: usize)
+    requires { ⌜ (to < 72) × ((from < 72) × ((n ≤ 129) × (9288 ≤ length (now s)))) ⌝ }
+    ensures { λ r. ⌜ Become (now (s .entry)) (now (s .exit)) (129 * to) n (summed (now (s .entry)) to from factor) ⌝ }
+{
+    let b = WIDTH * to;
+    let a = WIDTH * from;
+    let mut i = 0;
+    while i < n {
+        let x = at(s, b + i);
+        let y = at(s, a + i);
+        let v = sum_of(x, factor, y);
+        put(s, b + i, v);
+        i += 1;
+    }
+}
+
+// A row becomes itself and `factor` times another.
+pub fn add(f: &mut [u16; WORDS], to: usize, from: usize, factor: u32, m: usize)
+    requires { ⌜ (to < 72) × ((from < 72) × (m ≤ 128)) ⌝ }
+    ensures { λ r. ⌜ Added (now (f .entry)) (now (f .exit)) to from factor m ⌝ }
+{
+    add_words(f, to, from, factor, 1 + m);
+}
+
+// A row becomes itself and the constant c.
+pub fn add_constant(f: &mut [u16; WORDS], to: usize, c: u32)
+    requires { ⌜ to < 72 ⌝ }
+    ensures { λ r. ⌜ ConstantAdded (now (f .entry)) (now (f .exit)) to c ⌝ }
+{
+    let b = WIDTH * to;
+    let x = at(f, b);
+    let v = sat_add(x, c);
+    put(f, b, v);
+}
