@@ -21,3 +21,6 @@ pub mod Exchange
 pub mod LeaveOut
 pub mod Rules
 pub mod Mapped
+pub mod PartKind
+pub mod Table
+pub mod Marks

@@ -1,0 +1,70 @@
+-- The kinds of rows of the table of parts, and the words of a row. Only inner contracts cite it.
+use Prim.Native.Nat.{ℕ}
+
+abbrev pub SKIP : ℕ
+SKIP = 16
+
+abbrev pub DIVERGE : ℕ
+DIVERGE = 17
+
+-- a truth or a number
+abbrev pub CONSTANT : ℕ
+CONSTANT = 18
+
+-- a declared name
+abbrev pub NAME : ℕ
+NAME = 20
+
+abbrev pub FETCH : ℕ
+FETCH = 21
+
+abbrev pub OPERATE : ℕ
+OPERATE = 22
+
+abbrev pub ASSIGN : ℕ
+ASSIGN = 23
+
+abbrev pub SEQUENCE : ℕ
+SEQUENCE = 24
+
+abbrev pub IF : ℕ
+IF = 25
+
+abbrev pub WHILE : ℕ
+WHILE = 26
+
+abbrev pub NEW : ℕ
+NEW = 27
+
+abbrev pub PROCEDURE : ℕ
+PROCEDURE = 28
+
+-- uses of a private variable, of a parameter, of a procedure
+abbrev pub PRIVATE : ℕ
+PRIVATE = 128
+
+abbrev pub PARAMETER : ℕ
+PARAMETER = 129
+
+abbrev pub USE : ℕ
+USE = 130
+
+-- the words of a row: the kind, the place after the part, the class of its type, the number of values of its data, a
+-- detail by its kind, the place of its first part
+abbrev pub KIND : ℕ
+KIND = 0
+
+abbrev pub END : ℕ
+END = 1
+
+abbrev pub CLASS : ℕ
+CLASS = 2
+
+abbrev pub VALUES : ℕ
+VALUES = 3
+
+abbrev pub DETAIL : ℕ
+DETAIL = 4
+
+abbrev pub PARTS : ℕ
+PARTS = 5
