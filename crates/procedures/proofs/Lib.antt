@@ -35,3 +35,5 @@ pub mod Exchanging
 pub mod Leaving
 pub mod Ruling
 pub mod Existing
+pub mod Lowest
+pub mod Known

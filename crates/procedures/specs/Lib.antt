@@ -24,3 +24,5 @@ pub mod Mapped
 pub mod PartKind
 pub mod Table
 pub mod Marks
+pub mod Hiding
+pub mod Renumber
