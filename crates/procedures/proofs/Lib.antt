@@ -37,3 +37,4 @@ pub mod Ruling
 pub mod Existing
 pub mod Lowest
 pub mod Known
+pub mod Giving
