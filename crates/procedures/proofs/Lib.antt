@@ -38,3 +38,4 @@ pub mod Existing
 pub mod Lowest
 pub mod Known
 pub mod Giving
+pub mod Unaltered
