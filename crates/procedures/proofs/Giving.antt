@@ -1,13 +1,11 @@
--- The renumbering makes a sheet mapped from the sheet as read, with ids in order and no binder hiding another, and each
--- change leaves one id fewer. Document 02 [4].
+-- The renumbering makes a sheet mapped from the sheet as read, with ids in order and no binder hiding another; its
+-- changes take the lowest ids that are left. Document 02 [4].
 use Prim.Native.Nat.{ℕ, _+_, _<_}
-use native.Mathlib.Omega.{arith}
 use mathlib.Core.Path.{_≡_, refl, sym, ap, _∙_, subst}
 use mathlib.Core.Bool.{Bool, true, false}
 use mathlib.Core.List.{List, [], _∷_, _++_}
-use lib.ListN.{length, length-append}
 use lib.Dec.{ltb}
-use borrow.Author.Tests.{ltb-true}
+use borrow.Author.Tests.{ltb-true, ltb-false}
 use Rattle.language.specs.Choice.{pick}
 use Rattle.procedures.specs.Written.{Written, skip, diverge, truth, number, call, fetch, operate, assign}
 use Rattle.procedures.specs.Written.{sequence, while, choose, new, procedure, Parameter, Writtens, none, more}
@@ -23,9 +21,10 @@ use Rattle.procedures.specs.Hiding.{isHeld, Unheld, ApartParameters, Apa
 use Rattle.procedures.specs.Renumber.{Change, Renumbering, renumbered, none-left, over, before, next, lowest}
 use Rattle.procedures.specs.Renumber.{changed, renumberId, withId, renumberParameters, renumber, renumberAll}
 use Rattle.procedures.specs.Renumber.{width}
+use Rattle.procedures.specs.Renumbering.{Gives, Olds, NoneLeft}
 use Rattle.procedures.proofs.Tests.{by-test}
 use Rattle.procedures.proofs.Lowest.{true-false, not-true, put-here, put-past, put-true, by-id, held-here}
-use Rattle.procedures.proofs.Lowest.{held-past, held-cases, lowest-free, left, left-some, left-put}
+use Rattle.procedures.proofs.Lowest.{held-past, held-cases, lowest-free}
 use Rattle.procedures.proofs.Known.{Marked, Known, AllKnown}
 
 -- ids once taken stay taken
@@ -57,51 +56,76 @@ earlier-put seen f a b (e ∷ es) [] h u = absurd h
 earlier-put seen f a b (e ∷ es) (e′ ∷ es′) h u =
     (put-true a seen (e .id) (h .0), put-past a b f (e .id) (u .0) ∙ h .1, earlier-put seen f a b es es′ (h .2) (u .1))
 
--- origin: the ids that were taken at first
-module _ (origin : ℕ → Bool) where
-  -- a part is renumbered, so that P: each change takes an id, and there is none where no id was taken at first
+-- ids that were taken stay taken
+gives-grow : (cs : List Change) (taken then : ℕ → Bool) → Gives taken cs then → Grows taken then
+unfolding Gives Grows
+gives-grow [] taken then h j e = rw h e
+gives-grow (c ∷ cs) taken then h j e =
+    gives-grow cs (put (c .given) true taken) then (h .2) j (put-true (c .given) taken j e)
+
+gives-append : (cs ds : List Change) (taken then last : ℕ → Bool) → Gives taken cs then → Gives then ds last →
+    Gives taken (cs ++ ds) last
+unfolding Gives
+gives-append [] ds taken then last h g = subst (λ (t : ℕ → Bool). Gives t ds last) h g
+gives-append (c ∷ cs) ds taken then last h g =
+    (h .0, h .1, gives-append cs ds (put (c .given) true taken) then last (h .2) g)
+
+olds-append : (P : ℕ → Type 0) (cs ds : List Change) → Olds P cs → Olds P ds → Olds P (cs ++ ds)
+unfolding Olds
+olds-append P [] ds h g = g
+olds-append P (c ∷ cs) ds h g = (h .0, olds-append P cs ds (h .1) g)
+
+-- Old: what holds of the old ids
+module _ (Old : ℕ → Type 0) where
+  -- a part is renumbered, so that P
   pub record Good (P : Type 0) (taken : ℕ → Bool) (cs : List Change) (then : ℕ → Bool) : Type 0 where
-    pub grows : Grows taken then
-    pub counted : length cs + left then 255 ≡ left taken 255
-    pub few : left origin 255 ≡ 255 → length cs ≡ 0
+    pub gives : Gives taken cs then
+    pub olds : Olds Old cs
     pub so : P
 
   unfoldable pub AllGood : {X : Type 0} → (X → (ℕ → Bool) → Type 0) → (ℕ → Bool) → Renumbering X → Type 0
   AllGood P taken (renumbered x cs then) = Good (P x then) taken cs then
-  AllGood P taken (none-left at) = Unit
+  AllGood P taken (none-left at) = NoneLeft taken
 
   unchanged : (P : Type 0) (taken : ℕ → Bool) → P → Good P taken [] taken
-  unfolding Grows
-  unchanged P taken p = record { grows = λ j e. e; counted = omega arith; few = λ e. refl; so = p }
+  unfolding Gives Olds
+  unchanged P taken p = record { gives = refl; olds = tt; so = p }
 
   good-over : {X Y : Type 0} (P : X → (ℕ → Bool) → Type 0) (Q : Y → (ℕ → Bool) → Type 0) (taken : ℕ → Bool) (g : X → Y)
       (a : Renumbering X) → AllGood P taken a → ((x : X) (then : ℕ → Bool) → P x then → Q (g x) then) →
       AllGood Q taken (over g a)
   unfolding AllGood over
   good-over P Q taken g (renumbered x cs then) h k =
-      record { grows = h .grows; counted = h .counted; few = h .few; so = k x then (h .so) }
-  good-over P Q taken g (none-left at) h k = tt
+      record { gives = h .gives; olds = h .olds; so = k x then (h .so) }
+  good-over P Q taken g (none-left at) h k = h
 
   good-before : {Y : Type 0} (P : Type 0) (Q : Y → (ℕ → Bool) → Type 0) (taken then : ℕ → Bool) (cs : List Change)
       (a : Renumbering Y) → Good P taken cs then → AllGood Q then a → AllGood Q taken (before cs a)
-  unfolding AllGood before Grows
+  unfolding AllGood before
   good-before P Q taken then cs (renumbered y ds last) h g = record {
-      grows = λ j e. g .grows j (h .grows j e);
-      counted = omega (arith, length-append cs ds, h .counted, g .counted);
-      few = λ e. omega (arith, length-append cs ds, h .few e, g .few e);
+      gives = gives-append cs ds taken then last (h .gives) (g .gives);
+      olds = olds-append Old cs ds (h .olds) (g .olds);
       so = g .so }
-  good-before P Q taken then cs (none-left at) h g = tt
+  good-before P Q taken then cs (none-left at) h g = record {
+      made = cs ++ g .made;
+      last = g .last;
+      gives = gives-append cs (g .made) taken then (g .last) (h .gives) (g .gives);
+      full = g .full }
 
   good-next : {X Y : Type 0} (P : X → (ℕ → Bool) → Type 0) (Q : Y → (ℕ → Bool) → Type 0) (taken : ℕ → Bool)
       (a : Renumbering X) (k : X → (ℕ → Bool) → Renumbering Y) → AllGood P taken a →
       ((x : X) (then : ℕ → Bool) → P x then → Grows taken then → AllGood Q then (k x then)) → AllGood Q taken (next a k)
   unfolding AllGood next
   good-next P Q taken (renumbered x cs then) k h g =
-      good-before (P x then) Q taken then cs (k x then) h (g x then (h .so) (h .grows))
-  good-next P Q taken (none-left at) k h g = tt
+      good-before (P x then) Q taken then cs (k x then) h (g x then (h .so) (gives-grow cs taken then (h .gives)))
+  good-next P Q taken (none-left at) k h g = h
 
--- ns: the name records, whose ids were taken at first
+-- origin: the ids that were taken at first, those of the name records among them
 module _ (ns : List Name) (origin : ℕ → Bool) (unnamed : (j : ℕ) → origin j ≡ false → declared ns j ≡ free) where
+  -- the ids that binders have
+  abbrev pub Old : ℕ → Type 0
+  Old j = (j < 255) × (origin j ≡ true) × (declared ns j ≡ free)
+
   -- What is around a part: seen says which ids may be used, f what they become, bs are the enclosing binders as read
   -- and ds those as written.
   pub record Around (seen : ℕ → Bool) (f : ℕ → ℕ) (bs ds : List Binder) (taken : ℕ → Bool) : Type 0 where
@@ -137,8 +161,8 @@ module _ (ns : List Name) (origin : ℕ → Bool) (unnamed : (j : ℕ) → origi
 
   got-id : (bs : List Binder) (taken : ℕ → Bool) (at a : ℕ) → Grows origin taken → a < 255 → origin a ≡ true →
       declared ns a ≡ free →
-      AllGood origin (λ b then. GotId bs taken a b then) taken (renumberId bs taken at a)
-  unfolding AllGood renumberId changed Grows
+      AllGood Old (λ b then. GotId bs taken a b then) taken (renumberId bs taken at a)
+  unfolding AllGood renumberId changed Grows Gives Olds
   got-id bs taken at a first small o d =
       by-test (isHeld bs a)
       (λ t. rw t (by-test (ltb (lowest taken) 255)
@@ -147,9 +171,8 @@ module _ (ns : List Name) (origin : ℕ → Bool) (unnamed : (j : ℕ) → origi
           let v : taken b ≡ false = lowest-free taken s in
           let w : origin b ≡ false = not-true (origin b) (λ e. true-false (taken b) (first b e) v) in
           rw u (record {
-            grows = λ j e. put-true b taken j e;
-            counted = left-put taken 255 b s v;
-            few = λ e. let z : left origin 255 < 255 = left-some origin 255 a small o in absurd (omega (arith, z, e));
+            gives = (refl, s, refl);
+            olds = ((small, o, d), tt);
             so = record {
               is-taken = put-here b true taken;
               is-new = λ e. true-false (origin b) e w;
@@ -157,8 +180,8 @@ module _ (ns : List Name) (origin : ℕ → Bool) (unnamed : (j : ℕ) → origi
               is-free = unnamed b w;
               clear = λ j k n e h i. true-false (taken b) (ap taken (sym i) ∙ e) v;
               unheld = λ held h g. not-true held (λ e. true-false (taken b) (h e) v) } }))
-        (λ u. rw u tt)))
-      (λ t. rw t (unchanged origin (GotId bs taken a a taken) taken (record {
+        (λ u. rw u (record { made = []; last = taken; gives = refl; full = ltb-false (lowest taken) 255 u }))))
+      (λ t. rw t (unchanged Old (GotId bs taken a a taken) taken (record {
         is-taken = first a o;
         is-new = λ e. refl;
         small = small;
@@ -222,15 +245,15 @@ module _ (ns : List Name) (origin : ℕ → Bool) (unnamed : (j : ℕ) → origi
       (f : ℕ → ℕ) (obs nds : List Binder) (taken : ℕ → Bool) (at : ℕ) (es es′ : List Parameter) →
       Around seen₀ f₀ bs ds taken → Around seen f obs nds taken → Marked origin ps → FineParameters ns es ps →
       Earlier seen f es es′ →
-      AllGood origin (λ qs then. GotParameters ds seen f obs nds es′ ps qs then) taken
+      AllGood Old (λ qs then. GotParameters ds seen f obs nds es′ ps qs then) taken
         (renumberParameters bs taken at ps)
   unfolding AllGood renumberParameters withId Marked FineParameters Earlier Binds seenInside mapInside inside
     ApartParameters idOf
   got-parameters [] seen₀ f₀ bs ds seen f obs nds taken at es es′ r₀ r k h e =
-      unchanged origin (GotParameters ds seen f obs nds es′ [] [] taken) taken
+      unchanged Old (GotParameters ds seen f obs nds es′ [] [] taken) taken
         (record { binds = tt; around = r; apart = tt; fine = tt })
   got-parameters (p ∷ ps) seen₀ f₀ bs ds seen f obs nds taken at es es′ r₀ r k h e =
-      good-next origin (λ b then. GotId bs taken (p .id) b then)
+      good-next Old (λ b then. GotId bs taken (p .id) b then)
         (λ qs then. GotParameters ds seen f obs nds es′ (p ∷ ps) qs then) taken (renumberId bs taken at (p .id))
         (λ b then. over (_∷_ (withId p b)) (renumberParameters bs then (2 + at) ps))
         (got-id bs taken at (p .id) (r .first) (h .0) (k .0) (h .1))
@@ -241,7 +264,7 @@ module _ (ns : List Name) (origin : ℕ → Bool) (unnamed : (j : ℕ) → origi
           let cl : Clear seen f (p .id) b = got-clear seen f obs bs nds taken then (p .id) b r g in
           let seen′ : ℕ → Bool = put (p .id) true seen in
           let f′ : ℕ → ℕ = put (p .id) b f in
-          good-over origin (λ qs last. GotParameters ds seen′ f′ (c ∷ obs) (d ∷ nds) (q ∷ es′) ps qs last)
+          good-over Old (λ qs last. GotParameters ds seen′ f′ (c ∷ obs) (d ∷ nds) (q ∷ es′) ps qs last)
             (λ qs last. GotParameters ds seen f obs nds es′ (p ∷ ps) qs last) then (_∷_ (withId p b))
             (renumberParameters bs then (2 + at) ps)
             (got-parameters ps seen₀ f₀ bs ds seen′ f′ (c ∷ obs) (d ∷ nds) then (2 + at) (p ∷ es) (q ∷ es′)
@@ -268,15 +291,15 @@ module _ (ns : List Name) (origin : ℕ → Bool) (unnamed : (j : ℕ) → origi
   two : (seen : ℕ → Bool) (f : ℕ → ℕ) (bs ds : List Binder) (taken : ℕ → Bool) (at₁ at₂ : ℕ) (x y W : Written)
       (make : Written → Written → Written) → Around seen f bs ds taken →
       ((x′ y′ : Written) → Given seen f ds x x′ → Given seen f ds y y′ → Given seen f ds W (make x′ y′)) →
-      AllGood origin (λ X then. Given seen f ds x X) taken (renumber bs f taken at₁ x) →
+      AllGood Old (λ X then. Given seen f ds x X) taken (renumber bs f taken at₁ x) →
       ((then : ℕ → Bool) → Around seen f bs ds then →
-        AllGood origin (λ X last. Given seen f ds y X) then (renumber bs f then at₂ y)) →
-      AllGood origin (λ X then. Given seen f ds W X) taken
+        AllGood Old (λ X last. Given seen f ds y X) then (renumber bs f then at₂ y)) →
+      AllGood Old (λ X then. Given seen f ds W X) taken
         (next (renumber bs f taken at₁ x) (λ x′ then. over (make x′) (renumber bs f then at₂ y)))
   two seen f bs ds taken at₁ at₂ x y W make r k g h =
-      good-next origin (λ X then. Given seen f ds x X) (λ X then. Given seen f ds W X) taken (renumber bs f taken at₁ x)
+      good-next Old (λ X then. Given seen f ds x X) (λ X then. Given seen f ds W X) taken (renumber bs f taken at₁ x)
         (λ x′ then. over (make x′) (renumber bs f then at₂ y)) g
-        (λ x′ then i m. good-over origin (λ X last. Given seen f ds y X) (λ X last. Given seen f ds W X) then (make x′)
+        (λ x′ then i m. good-over Old (λ X last. Given seen f ds y X) (λ X last. Given seen f ds W X) then (make x′)
           (renumber bs f then at₂ y) (h then (later seen f bs ds taken then r m)) (λ y′ last j. k x′ y′ i j))
 
   -- THEOREM: a term as written is mapped from the term as read, its ids are in order and none hides another
@@ -284,20 +307,20 @@ module _ (ns : List Name) (origin : ℕ → Bool) (unnamed : (j : ℕ) → origi
     unfolding AllGood renumber renumberAll Known AllKnown FineIds AllFineIds Apart AllApart Grows Earlier idOf after
     pub give : (W : Written) (seen : ℕ → Bool) (f : ℕ → ℕ) (bs ds : List Binder) (taken : ℕ → Bool) (at : ℕ) →
         Around seen f bs ds taken → Known ns origin W →
-        AllGood origin (λ X then. Given seen f ds W X) taken (renumber bs f taken at W)
+        AllGood Old (λ X then. Given seen f ds W X) taken (renumber bs f taken at W)
     give skip seen f bs ds taken at r k =
-        unchanged origin (Given seen f ds skip skip) taken (record { mapped = to-skip; fine = tt; apart = tt })
+        unchanged Old (Given seen f ds skip skip) taken (record { mapped = to-skip; fine = tt; apart = tt })
     give (diverge ty) seen f bs ds taken at r k =
-        unchanged origin (Given seen f ds (diverge ty) (diverge ty)) taken
+        unchanged Old (Given seen f ds (diverge ty) (diverge ty)) taken
           (record { mapped = to-diverge; fine = tt; apart = tt })
     give (truth b) seen f bs ds taken at r k =
-        unchanged origin (Given seen f ds (truth b) (truth b)) taken
+        unchanged Old (Given seen f ds (truth b) (truth b)) taken
           (record { mapped = to-truth; fine = tt; apart = tt })
     give (number b) seen f bs ds taken at r k =
-        unchanged origin (Given seen f ds (number b) (number b)) taken
+        unchanged Old (Given seen f ds (number b) (number b)) taken
           (record { mapped = to-number; fine = tt; apart = tt })
     give (call id ws) seen f bs ds taken at r k =
-        good-over origin (λ X then. AllGiven seen f ds ws X) (λ X then. Given seen f ds (call id ws) X) taken
+        good-over Old (λ X then. AllGiven seen f ds ws X) (λ X then. Given seen f ds (call id ws) X) taken
           (call (f id)) (renumberAll bs f taken (2 + at) ws)
           (give-all ws seen f bs ds taken (2 + at) r (k .2))
           (λ ws′ then g. record {
@@ -305,7 +328,7 @@ module _ (ns : List Name) (origin : ℕ → Bool) (unnamed : (j : ℕ) → origi
             fine = (r .below id (k .0), g .fine);
             apart = g .apart })
     give (fetch v) seen f bs ds taken at r k =
-        good-over origin (λ X then. Given seen f ds v X) (λ X then. Given seen f ds (fetch v) X) taken fetch
+        good-over Old (λ X then. Given seen f ds v X) (λ X then. Given seen f ds (fetch v) X) taken fetch
           (renumber bs f taken (1 + at) v) (give v seen f bs ds taken (1 + at) r k)
           (λ v′ then g. record { mapped = to-fetch (g .mapped); fine = g .fine; apart = g .apart })
     give (operate op x y) seen f bs ds taken at r k =
@@ -327,7 +350,7 @@ module _ (ns : List Name) (origin : ℕ → Bool) (unnamed : (j : ℕ) → origi
           (give x seen f bs ds taken (1 + at) r (k .0))
           (λ then s. give y seen f bs ds then (1 + at + width x) s (k .1))
     give (choose b x y) seen f bs ds taken at r k =
-        good-next origin (λ X then. Given seen f ds b X) (λ X then. Given seen f ds (choose b x y) X) taken
+        good-next Old (λ X then. Given seen f ds b X) (λ X then. Given seen f ds (choose b x y) X) taken
           (renumber bs f taken (1 + at) b)
           (λ b′ then. next (renumber bs f then (1 + at + width b) x)
             (λ x′ then′. over (choose b′ x′) (renumber bs f then′ (1 + at + width b + width x) y)))
@@ -347,14 +370,14 @@ module _ (ns : List Name) (origin : ℕ → Bool) (unnamed : (j : ℕ) → origi
           (give x seen f bs ds taken (1 + at) r (k .0))
           (λ then s. give y seen f bs ds then (1 + at + width x) s (k .1))
     give (new id d c) seen f bs ds taken at r k =
-        good-next origin (λ b then. GotId bs taken id b then) (λ X then. Given seen f ds (new id d c) X) taken
+        good-next Old (λ b then. GotId bs taken id b then) (λ X then. Given seen f ds (new id d c) X) taken
           (renumberId bs taken (1 + at) id)
           (λ id′ then. over (new id′ d) (renumber (a-block id d ∷ bs) (put id id′ f) then (3 + at) c))
           (got-id bs taken (1 + at) id (r .first) (k .0) (k .1) (k .2))
           (λ b then g m.
             let seen′ : ℕ → Bool = put id true seen in
             let f′ : ℕ → ℕ = put id b f in
-            good-over origin (λ X last. Given seen′ f′ (a-block b d ∷ ds) c X)
+            good-over Old (λ X last. Given seen′ f′ (a-block b d ∷ ds) c X)
               (λ X last. Given seen f ds (new id d c) X) then (new b d)
               (renumber (a-block id d ∷ bs) f′ then (3 + at) c)
               (give c seen′ f′ (a-block id d ∷ bs) (a-block b d ∷ ds) then (3 + at)
@@ -364,7 +387,7 @@ module _ (ns : List Name) (origin : ℕ → Bool) (unnamed : (j : ℕ) → origi
                 fine = (g .small, g .is-free, h .fine);
                 apart = (got-apart seen f bs ds taken then id b r g, h .apart) }))
     give (procedure id ty ps x y) seen f bs ds taken at r k =
-        good-next origin (λ b then. GotId bs taken id b then) (λ X then. Given seen f ds (procedure id ty ps x y) X)
+        good-next Old (λ b then. GotId bs taken id b then) (λ X then. Given seen f ds (procedure id ty ps x y) X)
           taken (renumberId bs taken (1 + at) id)
           (λ id′ then. next (renumberParameters bs then (4 + at) ps) (λ qs then′.
             next (renumber (inside ps bs) (mapInside f ps qs) then′ (12 + at) x) (λ x′ then″.
@@ -373,7 +396,7 @@ module _ (ns : List Name) (origin : ℕ → Bool) (unnamed : (j : ℕ) → origi
           (got-id bs taken (1 + at) id (r .first) (k .0) (k .1) (k .2))
           (λ b then₁ g m₁.
             let r₁ : Around seen f bs ds then₁ = later seen f bs ds taken then₁ r m₁ in
-            good-next origin (λ qs then. GotParameters ds seen f bs ds [] ps qs then)
+            good-next Old (λ qs then. GotParameters ds seen f bs ds [] ps qs then)
               (λ X then. Given seen f ds (procedure id ty ps x y) X) then₁ (renumberParameters bs then₁ (4 + at) ps)
               (λ qs then′. next (renumber (inside ps bs) (mapInside f ps qs) then′ (12 + at) x) (λ x′ then″.
                 over (procedure b ty qs x′)
@@ -384,7 +407,7 @@ module _ (ns : List Name) (origin : ℕ → Bool) (unnamed : (j : ℕ) → origi
                 let d : Binder = a-procedure b ty (typesOf qs) in
                 let seen′ : ℕ → Bool = put id true seen in
                 let f′ : ℕ → ℕ = put id b f in
-                good-next origin
+                good-next Old
                   (λ X then. Given (seenInside seen ps) (mapInside f ps qs) (inside qs ds) x X)
                   (λ X then. Given seen f ds (procedure id ty ps x y) X) then₂
                   (renumber (inside ps bs) (mapInside f ps qs) then₂ (12 + at) x)
@@ -392,7 +415,7 @@ module _ (ns : List Name) (origin : ℕ → Bool) (unnamed : (j : ℕ) → origi
                     (renumber (after id ty ps bs) (put id b f) then″ (12 + at + width x) y))
                   (give x (seenInside seen ps) (mapInside f ps qs) (inside ps bs) (inside qs ds) then₂ (12 + at)
                     (q .around) (k .5))
-                  (λ x′ then₃ i m₃. good-over origin (λ X last. Given seen′ f′ (d ∷ ds) y X)
+                  (λ x′ then₃ i m₃. good-over Old (λ X last. Given seen′ f′ (d ∷ ds) y X)
                     (λ X last. Given seen f ds (procedure id ty ps x y) X) then₃ (procedure b ty qs x′)
                     (renumber (c ∷ bs) f′ then₃ (12 + at + width x) y)
                     (give y seen′ f′ (c ∷ bs) (d ∷ ds) then₃ (12 + at + width x)
@@ -407,14 +430,14 @@ module _ (ns : List Name) (origin : ℕ → Bool) (unnamed : (j : ℕ) → origi
 
     give-all : (ws : Writtens) (seen : ℕ → Bool) (f : ℕ → ℕ) (bs ds : List Binder) (taken : ℕ → Bool) (at : ℕ) →
         Around seen f bs ds taken → AllKnown ns origin ws →
-        AllGood origin (λ X then. AllGiven seen f ds ws X) taken (renumberAll bs f taken at ws)
+        AllGood Old (λ X then. AllGiven seen f ds ws X) taken (renumberAll bs f taken at ws)
     give-all none seen f bs ds taken at r k =
-        unchanged origin (AllGiven seen f ds none none) taken (record { mapped = to-none; fine = tt; apart = tt })
+        unchanged Old (AllGiven seen f ds none none) taken (record { mapped = to-none; fine = tt; apart = tt })
     give-all (more w ws) seen f bs ds taken at r k =
-        good-next origin (λ X then. Given seen f ds w X) (λ X then. AllGiven seen f ds (more w ws) X) taken
+        good-next Old (λ X then. Given seen f ds w X) (λ X then. AllGiven seen f ds (more w ws) X) taken
           (renumber bs f taken at w) (λ w′ then. over (more w′) (renumberAll bs f then (at + width w) ws))
           (give w seen f bs ds taken at r (k .0))
-          (λ w′ then i m. good-over origin (λ X last. AllGiven seen f ds ws X)
+          (λ w′ then i m. good-over Old (λ X last. AllGiven seen f ds ws X)
             (λ X last. AllGiven seen f ds (more w ws) X) then (more w′) (renumberAll bs f then (at + width w) ws)
             (give-all ws seen f bs ds then (at + width w) (later seen f bs ds taken then r m) (k .1))
             (λ ws′ last h. record {

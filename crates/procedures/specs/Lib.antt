@@ -26,3 +26,4 @@ pub mod Table
 pub mod Marks
 pub mod Hiding
 pub mod Renumber
+pub mod Renumbering

@@ -1,0 +1,81 @@
+-- What document 02 [4] says of the renumbering, as statements.
+use Prim.Native.Nat.{ℕ, suc, _+_, _≤_, _<_}
+use mathlib.Core.Path.{_≡_}
+use mathlib.Core.Bool.{Bool, true}
+use mathlib.Core.List.{List, [], _∷_}
+use lib.ListN.{length}
+use Rattle.language.specs.Weight.{size}
+use Rattle.procedures.specs.Written.{Written, Sheet}
+use Rattle.procedures.specs.Meaning.{tyOf, termOf, typeOf}
+use Rattle.procedures.specs.Fine.{Accepted}
+use Rattle.procedures.specs.Mapped.{put}
+use Rattle.procedures.specs.Rules.{SameSheets, withTerm}
+use Rattle.procedures.specs.Hiding.{Apart, AcceptedApart}
+use Rattle.procedures.specs.Renumber.{width, headingWidth, isBound, takenAtFirst, ids, lowest, Change, renumbered}
+use Rattle.procedures.specs.Renumber.{none-left, renumberSheet}
+
+-- the changes take one id after the other, each "the lowest id that is neither declared, retired, nor bound anywhere in
+-- the sheet as read or as changed so far"
+unfoldable pub Gives : (ℕ → Bool) → List Change → (ℕ → Bool) → Type 0
+Gives taken [] then = then ≡ taken
+Gives taken (c ∷ cs) then = (c .given ≡ lowest taken) × (c .given < ids) × Gives (put (c .given) true taken) cs then
+
+-- what holds of the old id of each change
+unfoldable pub Olds : (ℕ → Type 0) → List Change → Type 0
+Olds P [] = Unit
+Olds P (c ∷ cs) = P (c .old) × Olds P cs
+
+-- "left to right": the places rise, from low on and below high
+unfoldable pub Ascending : ℕ → ℕ → List Change → Type 0
+Ascending low high [] = low ≤ high
+Ascending low high (c ∷ cs) = (low ≤ c .place) × Ascending (suc (c .place)) high cs
+
+-- after some changes "no id is left"
+pub record NoneLeft (taken : ℕ → Bool) : Type 0 where
+  pub made : List Change
+  pub last : ℕ → Bool
+  pub gives : Gives taken made last
+  pub full : ids ≤ lowest last
+
+-- the term W is written for the sheet S, with the changes cs
+pub record Renumbered (S : Sheet) (W : Written) (cs : List Change) : Type 0 where
+  -- "The sheet written is accepted"
+  pub accepted : AcceptedApart (withTerm S W)
+  -- "and has the plays the earlier rule gave the old one"
+  pub same-term : termOf S ≡ termOf (withTerm S W)
+  pub same-sheets : SameSheets S (withTerm S W)
+  pub same-size : size (tyOf (S .numbers) (typeOf S)) (termOf S)
+    ≡ size (tyOf (S .numbers) (typeOf (withTerm S W))) (termOf (withTerm S W))
+  -- "It writes the sheet at the same length"
+  pub same-width : width (S .term) ≡ width W
+  -- "and lists each binding record's change, left to right"
+  pub places : Ascending (headingWidth S) (headingWidth S + width (S .term)) cs
+  pub olds : Olds (λ id. (id < ids) × (isBound (S .term) id ≡ true)) cs
+  -- "That space must have 1,020 bytes", four for each change: so they suffice
+  pub few : length cs ≤ 254
+  -- the sheet written has nothing to change
+  pub again : renumberSheet (withTerm S W) ≡ renumbered W [] (takenAtFirst (withTerm S W))
+
+unfoldable pub RenumberRule : Type 0
+RenumberRule =
+    (S : Sheet) (W : Written) (cs : List Change) (then : ℕ → Bool) → Accepted S →
+      renumberSheet S ≡ renumbered W cs then → Renumbered S W cs
+
+-- the ids that are given
+unfoldable pub GivenRule : Type 0
+GivenRule =
+    (S : Sheet) (W : Written) (cs : List Change) (then : ℕ → Bool) → Accepted S →
+      renumberSheet S ≡ renumbered W cs then → Gives (takenAtFirst S) cs then
+
+-- "a sheet with nothing to change comes back unaltered"
+unfoldable pub UnalteredRule : Type 0
+UnalteredRule = (S : Sheet) → Apart [] (S .term) → renumberSheet S ≡ renumbered (S .term) [] (takenAtFirst S)
+
+-- "17 at the id byte for which no id is left"
+pub record Refused (S : Sheet) (p : ℕ) : Type 0 where
+  pub none-left : NoneLeft (takenAtFirst S)
+  pub from : headingWidth S ≤ p
+  pub below : p < headingWidth S + width (S .term)
+
+unfoldable pub RefusedRule : Type 0
+RefusedRule = (S : Sheet) (p : ℕ) → Accepted S → renumberSheet S ≡ none-left p → Refused S p
