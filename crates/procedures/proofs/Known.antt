@@ -3,6 +3,7 @@ use Prim.Native.Nat.{ℕ, _<_}
 use mathlib.Core.Path.{_≡_, refl, sym, ap, _∙_, subst}
 use mathlib.Core.Bool.{Bool, true, false, _||_}
 use mathlib.Core.List.{List, [], _∷_}
+use lib.ListN.{length}
 use lib.Dec.{eqb}
 use borrow.Author.Tests.{eq-eqb}
 use Rattle.language.specs.Choice.{pick}
@@ -41,7 +42,7 @@ unfoldable mutual
   Known ns s (new id d c) = (id < 255) × (s id ≡ true) × (declared ns id ≡ free) × Known ns s c
   Known ns s (procedure id ty ps x y) =
       (id < 255) × (s id ≡ true) × (declared ns id ≡ free) × Marked s ps × FineParameters ns [] ps
-      × Known ns s x × Known ns s y
+      × Known ns s x × Known ns s y × (length ps < 5)
 
   pub AllKnown : List Name → (ℕ → Bool) → Writtens → Type 0
   AllKnown ns s none = Unit
@@ -143,7 +144,8 @@ module _ (N : Numbers) (ns : List Name) (s : ℕ → Bool) where
         (f .0, e, f .1, k, f .4,
           known x (inside ps bs) (f .5) (left-of (isBound x) (isBound y) h″) (means-inside ps bs k m),
           known y (a-procedure id ty (typesOf ps) ∷ bs) (f .7) (right-of (isBound x) (isBound y) h″)
-            (means-more (a-procedure id ty (typesOf ps)) bs e m))
+            (means-more (a-procedure id ty (typesOf ps)) bs e m),
+          f .3)
 
     known-all : (ws : Writtens) (bs : List Binder) (tys : List ℕ) → FineArgs N ns bs ws tys →
         ((j : ℕ) → isBoundIn ws j ≡ true → s j ≡ true) →

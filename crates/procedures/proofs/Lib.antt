@@ -39,3 +39,4 @@ pub mod Lowest
 pub mod Known
 pub mod Giving
 pub mod Unaltered
+pub mod Places
