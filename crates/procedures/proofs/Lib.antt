@@ -40,3 +40,4 @@ pub mod Known
 pub mod Giving
 pub mod Unaltered
 pub mod Places
+pub mod Renumbering

@@ -57,7 +57,7 @@ same-complete : (A B : Ty) (M L : Term) (u : Word) → A ≡ B → M ≡ L → C
 same-complete A B M L u e f x = subst (λ (T : Ty). Complete T L u) e (subst (λ (K : Term). Complete A K u) f x)
 
 -- sheets of the same numbers and the same type that stand for the same term
-same-sheets : (S T : Sheet) → S .numbers ≡ T .numbers → typeOf S ≡ typeOf T → termOf S ≡ termOf T → SameSheets S T
+pub same-sheets : (S T : Sheet) → S .numbers ≡ T .numbers → typeOf S ≡ typeOf T → termOf S ≡ termOf T → SameSheets S T
 same-sheets S T n e f =
     let A : Ty = tyOf (S .numbers) (typeOf S) in
     let B : Ty = tyOf (T .numbers) (typeOf T) in
