@@ -1,11 +1,11 @@
--- The renumbering makes a sheet mapped from the sheet as read, with ids in order and no binder hiding another; its
--- changes take the lowest ids that are left. Document 02 [4].
+-- The renumbering makes a sheet mapped from the sheet as read, with ids in order and no binder hiding another. Document
+-- 02 [4].
 use Prim.Native.Nat.{ℕ, _+_, _<_}
 use mathlib.Core.Path.{_≡_, refl, sym, ap, _∙_, subst}
 use mathlib.Core.Bool.{Bool, true, false}
 use mathlib.Core.List.{List, [], _∷_, _++_}
 use lib.Dec.{ltb}
-use borrow.Author.Tests.{ltb-true, ltb-false}
+use borrow.Author.Tests.{ltb-true}
 use Rattle.language.specs.Choice.{pick}
 use Rattle.procedures.specs.Written.{Written, skip, diverge, truth, number, call, fetch, operate, assign}
 use Rattle.procedures.specs.Written.{sequence, while, choose, new, procedure, Parameter, Writtens, none, more}
@@ -20,8 +20,8 @@ use Rattle.procedures.specs.Mapped.{to-choose, to-while, to-new, to-proc
 use Rattle.procedures.specs.Hiding.{isHeld, Unheld, ApartParameters, Apart, AllApart}
 use Rattle.procedures.specs.Renumber.{Change, Renumbering, renumbered, none-left, over, before, next, lowest}
 use Rattle.procedures.specs.Renumber.{changed, renumberId, withId, renumberParameters, renumber, renumberAll}
-use Rattle.procedures.specs.Renumber.{width}
-use Rattle.procedures.specs.Renumbering.{Gives, Olds, NoneLeft}
+use Rattle.procedures.specs.Width.{width}
+use Rattle.procedures.specs.Renumbering.{Olds}
 use Rattle.procedures.proofs.Tests.{by-test}
 use Rattle.procedures.proofs.Lowest.{true-false, not-true, put-here, put-past, put-true, by-id, held-here}
 use Rattle.procedures.proofs.Lowest.{held-past, held-cases, lowest-free}
@@ -56,20 +56,6 @@ earlier-put seen f a b (e ∷ es) [] h u = absurd h
 earlier-put seen f a b (e ∷ es) (e′ ∷ es′) h u =
     (put-true a seen (e .id) (h .0), put-past a b f (e .id) (u .0) ∙ h .1, earlier-put seen f a b es es′ (h .2) (u .1))
 
--- ids that were taken stay taken
-gives-grow : (cs : List Change) (taken then : ℕ → Bool) → Gives taken cs then → Grows taken then
-unfolding Gives Grows
-gives-grow [] taken then h j e = rw h e
-gives-grow (c ∷ cs) taken then h j e =
-    gives-grow cs (put (c .given) true taken) then (h .2) j (put-true (c .given) taken j e)
-
-gives-append : (cs ds : List Change) (taken then last : ℕ → Bool) → Gives taken cs then → Gives then ds last →
-    Gives taken (cs ++ ds) last
-unfolding Gives
-gives-append [] ds taken then last h g = subst (λ (t : ℕ → Bool). Gives t ds last) h g
-gives-append (c ∷ cs) ds taken then last h g =
-    (h .0, h .1, gives-append cs ds (put (c .given) true taken) then last (h .2) g)
-
 olds-append : (P : ℕ → Type 0) (cs ds : List Change) → Olds P cs → Olds P ds → Olds P (cs ++ ds)
 unfolding Olds
 olds-append P [] ds h g = g
@@ -79,46 +65,42 @@ olds-append P (c ∷ cs) ds h g = (h .0, olds-append P cs ds (h .1) g)
 module _ (Old : ℕ → Type 0) where
   -- a part is renumbered, so that P
   pub record Good (P : Type 0) (taken : ℕ → Bool) (cs : List Change) (then : ℕ → Bool) : Type 0 where
-    pub gives : Gives taken cs then
+    pub grows : Grows taken then
     pub olds : Olds Old cs
     pub so : P
 
   unfoldable pub AllGood : {X : Type 0} → (X → (ℕ → Bool) → Type 0) → (ℕ → Bool) → Renumbering X → Type 0
   AllGood P taken (renumbered x cs then) = Good (P x then) taken cs then
-  AllGood P taken (none-left at) = NoneLeft taken
+  AllGood P taken (none-left at) = Unit
 
   unchanged : (P : Type 0) (taken : ℕ → Bool) → P → Good P taken [] taken
-  unfolding Gives Olds
-  unchanged P taken p = record { gives = refl; olds = tt; so = p }
+  unfolding Grows Olds
+  unchanged P taken p = record { grows = λ j e. e; olds = tt; so = p }
 
   good-over : {X Y : Type 0} (P : X → (ℕ → Bool) → Type 0) (Q : Y → (ℕ → Bool) → Type 0) (taken : ℕ → Bool) (g : X → Y)
       (a : Renumbering X) → AllGood P taken a → ((x : X) (then : ℕ → Bool) → P x then → Q (g x) then) →
       AllGood Q taken (over g a)
   unfolding AllGood over
   good-over P Q taken g (renumbered x cs then) h k =
-      record { gives = h .gives; olds = h .olds; so = k x then (h .so) }
-  good-over P Q taken g (none-left at) h k = h
+      record { grows = h .grows; olds = h .olds; so = k x then (h .so) }
+  good-over P Q taken g (none-left at) h k = tt
 
   good-before : {Y : Type 0} (P : Type 0) (Q : Y → (ℕ → Bool) → Type 0) (taken then : ℕ → Bool) (cs : List Change)
       (a : Renumbering Y) → Good P taken cs then → AllGood Q then a → AllGood Q taken (before cs a)
-  unfolding AllGood before
+  unfolding AllGood before Grows
   good-before P Q taken then cs (renumbered y ds last) h g = record {
-      gives = gives-append cs ds taken then last (h .gives) (g .gives);
+      grows = λ j e. g .grows j (h .grows j e);
       olds = olds-append Old cs ds (h .olds) (g .olds);
       so = g .so }
-  good-before P Q taken then cs (none-left at) h g = record {
-      made = cs ++ g .made;
-      last = g .last;
-      gives = gives-append cs (g .made) taken then (g .last) (h .gives) (g .gives);
-      full = g .full }
+  good-before P Q taken then cs (none-left at) h g = tt
 
   good-next : {X Y : Type 0} (P : X → (ℕ → Bool) → Type 0) (Q : Y → (ℕ → Bool) → Type 0) (taken : ℕ → Bool)
       (a : Renumbering X) (k : X → (ℕ → Bool) → Renumbering Y) → AllGood P taken a →
       ((x : X) (then : ℕ → Bool) → P x then → Grows taken then → AllGood Q then (k x then)) → AllGood Q taken (next a k)
   unfolding AllGood next
   good-next P Q taken (renumbered x cs then) k h g =
-      good-before (P x then) Q taken then cs (k x then) h (g x then (h .so) (gives-grow cs taken then (h .gives)))
-  good-next P Q taken (none-left at) k h g = h
+      good-before (P x then) Q taken then cs (k x then) h (g x then (h .so) (h .grows))
+  good-next P Q taken (none-left at) k h g = tt
 
 -- origin: the ids that were taken at first, those of the name records among them
 module _ (ns : List Name) (origin : ℕ → Bool) (unnamed : (j : ℕ) → origin j ≡ false → declared ns j ≡ free) where
@@ -162,7 +144,7 @@ module _ (ns : List Name) (origin : ℕ → Bool) (unnamed : (j : ℕ) → origi
   got-id : (bs : List Binder) (taken : ℕ → Bool) (at a : ℕ) → Grows origin taken → a < 255 → origin a ≡ true →
       declared ns a ≡ free →
       AllGood Old (λ b then. GotId bs taken a b then) taken (renumberId bs taken at a)
-  unfolding AllGood renumberId changed Grows Gives Olds
+  unfolding AllGood renumberId changed Grows Olds
   got-id bs taken at a first small o d =
       by-test (isHeld bs a)
       (λ t. rw t (by-test (ltb (lowest taken) 255)
@@ -171,7 +153,7 @@ module _ (ns : List Name) (origin : ℕ → Bool) (unnamed : (j : ℕ) → origi
           let v : taken b ≡ false = lowest-free taken s in
           let w : origin b ≡ false = not-true (origin b) (λ e. true-false (taken b) (first b e) v) in
           rw u (record {
-            gives = (refl, s, refl);
+            grows = λ j e. put-true b taken j e;
             olds = ((small, o, d), tt);
             so = record {
               is-taken = put-here b true taken;
@@ -180,7 +162,7 @@ module _ (ns : List Name) (origin : ℕ → Bool) (unnamed : (j : ℕ) → origi
               is-free = unnamed b w;
               clear = λ j k n e h i. true-false (taken b) (ap taken (sym i) ∙ e) v;
               unheld = λ held h g. not-true held (λ e. true-false (taken b) (h e) v) } }))
-        (λ u. rw u (record { made = []; last = taken; gives = refl; full = ltb-false (lowest taken) 255 u }))))
+        (λ u. rw u tt)))
       (λ t. rw t (unchanged Old (GotId bs taken a a taken) taken (record {
         is-taken = first a o;
         is-new = λ e. refl;

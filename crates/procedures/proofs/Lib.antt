@@ -40,4 +40,6 @@ pub mod Known
 pub mod Giving
 pub mod Unaltered
 pub mod Places
+pub mod Hidings
+pub mod Listing
 pub mod Renumbering

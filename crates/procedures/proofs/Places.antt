@@ -15,7 +15,7 @@ use Rattle.procedures.specs.Mapped.{put, mapInside}
 use Rattle.procedures.specs.Hiding.{isHeld}
 use Rattle.procedures.specs.Renumber.{Change, Renumbering, renumbered, none-left, over, before, next, lowest}
 use Rattle.procedures.specs.Renumber.{changed, renumberId, withId, renumberParameters, renumber, renumberAll}
-use Rattle.procedures.specs.Renumber.{width, widths}
+use Rattle.procedures.specs.Width.{width, widths}
 use Rattle.procedures.specs.Renumbering.{Ascending}
 use Rattle.procedures.proofs.Tests.{by-test}
 use Rattle.procedures.proofs.Known.{Known, AllKnown}

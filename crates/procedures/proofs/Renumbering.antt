@@ -15,10 +15,11 @@ use Rattle.procedures.specs.Mapped.{put, Mapped, to-skip, to-diverge}
 use Rattle.procedures.specs.Mapped.{to-truth, to-number, to-call, to-fetch, to-operate, to-assign, to-sequence}
 use Rattle.procedures.specs.Mapped.{to-choose, to-while, to-new, to-procedure, Mappeds, to-none, to-more}
 use Rattle.procedures.specs.Rules.{withTerm}
-use Rattle.procedures.specs.Hiding.{isHeld}
-use Rattle.procedures.specs.Renumber.{width, widths, headingWidth, isNamed, isBound, takenAtFirst, lowest, Change}
-use Rattle.procedures.specs.Renumber.{Renumbering, renumbered, none-left, renumberSheet}
-use Rattle.procedures.specs.Renumbering.{Gives, Olds, Ascending, NoneLeft, RenumberRule, GivenRule, UnalteredRule}
+use Rattle.procedures.specs.Hiding.{isHeld, Apart, hiding, ApartRule}
+use Rattle.procedures.specs.Width.{width, widths, headingWidth}
+use Rattle.procedures.specs.Renumber.{isNamed, isBound, takenAtFirst, Change, Renumbering, renumbered}
+use Rattle.procedures.specs.Renumber.{none-left, renumberSheet}
+use Rattle.procedures.specs.Renumbering.{Gives, Olds, replaced, RenumberRule, GivenRule, UnalteredRule, NothingRule}
 use Rattle.procedures.specs.Renumbering.{RefusedRule}
 use Rattle.procedures.proofs.Tests.{by-test}
 use Rattle.procedures.proofs.Mapping.{mapped-like, mapped-sheet}
@@ -30,6 +31,8 @@ use Rattle.procedures.proofs.Known.{Known, known}
 use Rattle.procedures.proofs.Giving.{Grows, Good, AllGood, Old, Around, Given, give}
 use Rattle.procedures.proofs.Unaltered.{unaltered}
 use Rattle.procedures.proofs.Places.{Within, within}
+use Rattle.procedures.proofs.Hidings.{apart-rule}
+use Rattle.procedures.proofs.Listing.{Listed, Lists, lists}
 
 -- a term mapped has as many bytes
 mutual
@@ -143,11 +146,27 @@ module _ (S : Sheet) (A : Accepted S) where
       (o .0, or-cases (isNamed (S .names) j) (isBound (S .term) j) (o .1)
         (λ t. absurd (named-declared (S .names) j t (o .2))) (λ t. t))
 
+-- the list of any sheet's changes
+lists-sheet : (S : Sheet) → Lists (takenAtFirst S) (hiding [] (headingWidth S) (S .term)) (renumberSheet S)
+unfolding renumberSheet
+lists-sheet S = lists (S .term) [] (λ j. j) (takenAtFirst S) (headingWidth S)
+
+listed-sheet : (S : Sheet) (W : Written) (cs : List Change) (then : ℕ → Bool) → renumberSheet S ≡ renumbered W cs then →
+    Listed (takenAtFirst S) (hiding [] (headingWidth S) (S .term)) cs then
+unfolding Lists
+listed-sheet S W cs then e =
+    subst (λ (a : Renumbering Written). Lists (takenAtFirst S) (hiding [] (headingWidth S) (S .term)) a) e
+      (lists-sheet S)
+
+same-result : (W X : Written) (taken then : ℕ → Bool) → renumbered W [] taken ≡ renumbered X [] then → W ≡ X
+same-result W X taken then e = cc
+
 -- THEOREM: the sheet written
 pub renumber-rule : RenumberRule
 unfolding RenumberRule withTerm GivenSheet OldIn Within
 renumber-rule S W cs then A e =
     let g = good-sheet S A W cs then e in
+    let n : Listed (takenAtFirst S) (hiding [] (headingWidth S) (S .term)) cs then = listed-sheet S W cs then e in
     let m : Mapped (takenAtFirst S) (λ j. j) (S .term) W = g .so .mapped in
     let l : Like (S .names) [] [] (S .term) W =
       mapped-like (S .names) m [] [] (record { many = refl; same = λ j s. refl; names = λ j s n. refl }) in
@@ -159,33 +178,33 @@ renumber-rule S W cs then A e =
       same-sheets = same-sheets S T refl (p .1) (p .0);
       same-size = rw (p .0, p .1) refl;
       same-width = mapped-width m;
+      listed = n .listed;
       places = subst (λ (a : Renumbering Written). Within (headingWidth S) (headingWidth S + width (S .term)) a) e
         (within-sheet S A);
       olds = olds-map (OldIn S A) (λ j. (j < 255) × (isBound (S .term) j ≡ true)) cs (old-bound S A) (g .olds);
-      few = few-changes (OldIn S A) (takenAtFirst S) then cs (g .gives) (g .olds) (λ j o. (o .0, o .1));
+      few = few-changes (OldIn S A) (takenAtFirst S) then cs (n .gives) (g .olds) (λ j o. (o .0, o .1));
       again = unfold renumberSheet in
         unaltered W [] (λ j. j) (takenAtFirst T) (headingWidth T) (λ j. refl) (g .so .apart) }
 
 -- THEOREM: the ids given
 pub given-rule : GivenRule
 unfolding GivenRule
-given-rule S W cs then A e = good-sheet S A W cs then e .gives
+given-rule S W cs then e = listed-sheet S W cs then e .gives
 
 -- THEOREM: a sheet with nothing to change
 pub unaltered-rule : UnalteredRule
 unfolding UnalteredRule renumberSheet
 unaltered-rule S h = unaltered (S .term) [] (λ j. j) (takenAtFirst S) (headingWidth S) (λ j. refl) h
 
+pub nothing-rule : NothingRule
+unfolding NothingRule UnalteredRule ApartRule replaced
+nothing-rule S W then e =
+    let h : Apart [] (S .term) = apart-rule (S .term) [] (headingWidth S) .1 (sym (listed-sheet S W [] then e .listed)) in
+    (h, same-result (S .term) W (takenAtFirst S) then (sym (unaltered-rule S h) ∙ e))
+
 -- THEOREM: a sheet refused
 pub refused-rule : RefusedRule
-unfolding RefusedRule AllGood Within
-refused-rule S p A e =
-    let w : (headingWidth S ≤ p) × (p < headingWidth S + width (S .term)) =
-      subst (λ (a : Renumbering Written). Within (headingWidth S) (headingWidth S + width (S .term)) a) e
-        (within-sheet S A) in
-    record {
-      none-left = subst
-        (λ (a : Renumbering Written). AllGood (OldIn S A) (λ X t. GivenSheet S A X) (takenAtFirst S) a) e
-        (given-sheet S A);
-      from = w .0;
-      below = w .1 }
+unfolding RefusedRule Lists
+refused-rule S p e =
+    subst (λ (a : Renumbering Written). Lists (takenAtFirst S) (hiding [] (headingWidth S) (S .term)) a) e
+      (lists-sheet S)

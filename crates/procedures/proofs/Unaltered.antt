@@ -9,7 +9,8 @@ use Rattle.procedures.specs.Meaning.{Binder, a-block, a-procedure, insid
 use Rattle.procedures.specs.Mapped.{put, mapInside}
 use Rattle.procedures.specs.Hiding.{isHeld, Unheld, ApartParameters, Apart, AllApart}
 use Rattle.procedures.specs.Renumber.{Renumbering, renumbered, over, before, next, renumberId, withId}
-use Rattle.procedures.specs.Renumber.{renumberParameters, renumber, renumberAll, width}
+use Rattle.procedures.specs.Renumber.{renumberParameters, renumber, renumberAll}
+use Rattle.procedures.specs.Width.{width}
 use Rattle.procedures.proofs.Lowest.{put-here, put-past, by-id}
 
 -- one part after the other, each unaltered

@@ -24,6 +24,7 @@ pub mod Mapped
 pub mod PartKind
 pub mod Table
 pub mod Marks
+pub mod Width
 pub mod Hiding
 pub mod Renumber
 pub mod Renumbering

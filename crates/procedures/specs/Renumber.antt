@@ -13,40 +13,8 @@ use Rattle.procedures.specs.Written.{Name, declare, retire, Sheet}
 use Rattle.procedures.specs.Meaning.{Binder, a-block, inside, after}
 use Rattle.procedures.specs.Rename.{holds-id}
 use Rattle.procedures.specs.Mapped.{put, mapInside}
+use Rattle.procedures.specs.Width.{width, headingWidth}
 use Rattle.procedures.specs.Hiding.{isHeld}
-
--- how many bytes a term has: document 01, "one byte of kind and a body whose length the kind fixes"
-unfoldable mutual
-  pub width : Written → ℕ
-  width skip = 1
-  width (diverge ty) = 2
-  width (truth b) = 2
-  width (number b) = 2
-  width (call id ws) = 2 + widths ws
-  width (fetch v) = 1 + width v
-  width (operate op x y) = 2 + (width x + width y)
-  width (assign x y) = 1 + (width x + width y)
-  width (sequence x y) = 1 + (width x + width y)
-  width (choose b x y) = 1 + (width b + (width x + width y))
-  width (while x y) = 1 + (width x + width y)
-  width (new id d c) = 3 + width c
-  width (procedure id ty ps x y) = 12 + (width x + width y)
-
-  pub widths : Writtens → ℕ
-  widths none = 0
-  widths (more w ws) = width w + widths ws
-
-unfoldable pub nameWidth : Name → ℕ
-nameWidth (declare id ty tys) = 8
-nameWidth (retire id) = 2
-
-unfoldable pub namesWidth : List Name → ℕ
-namesWidth [] = 0
-namesWidth (n ∷ ns) = nameWidth n + namesWidth ns
-
--- "All bytes up to the term are the heading": Z, the overflow rule and the name records
-unfoldable pub headingWidth : Sheet → ℕ
-headingWidth S = 2 + namesWidth (S .names)
 
 -- "declared, retired"
 unfoldable pub isNamed : List Name → ℕ → Bool

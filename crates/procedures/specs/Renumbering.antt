@@ -2,7 +2,7 @@
 use Prim.Native.Nat.{ℕ, suc, _+_, _≤_, _<_}
 use mathlib.Core.Path.{_≡_}
 use mathlib.Core.Bool.{Bool, true}
-use mathlib.Core.List.{List, [], _∷_}
+use mathlib.Core.List.{List, [], _∷_, _++_}
 use lib.ListN.{length}
 use Rattle.language.specs.Weight.{size}
 use Rattle.procedures.specs.Written.{Written, Sheet}
@@ -10,9 +10,10 @@ use Rattle.procedures.specs.Meaning.{tyOf, termOf, typeOf}
 use Rattle.procedures.specs.Fine.{Accepted}
 use Rattle.procedures.specs.Mapped.{put}
 use Rattle.procedures.specs.Rules.{SameSheets, withTerm}
-use Rattle.procedures.specs.Hiding.{Apart, AcceptedApart}
-use Rattle.procedures.specs.Renumber.{width, headingWidth, isBound, takenAtFirst, ids, lowest, Change, renumbered}
-use Rattle.procedures.specs.Renumber.{none-left, renumberSheet}
+use Rattle.procedures.specs.Hiding.{Apart, AcceptedApart, Hiding, hiding}
+use Rattle.procedures.specs.Width.{width, headingWidth}
+use Rattle.procedures.specs.Renumber.{isBound, takenAtFirst, ids, lowest, Change, renumbered, none-left}
+use Rattle.procedures.specs.Renumber.{renumberSheet}
 
 -- the changes take one id after the other, each "the lowest id that is neither declared, retired, nor bound anywhere in
 -- the sheet as read or as changed so far"
@@ -25,17 +26,25 @@ unfoldable pub Olds : (ℕ → Type 0) → List Change → Type 0
 Olds P [] = Unit
 Olds P (c ∷ cs) = P (c .old) × Olds P cs
 
+-- what each change replaces
+unfoldable pub replaced : List Change → List Hiding
+replaced [] = []
+replaced (c ∷ cs) = record { place = c .place; id = c .old } ∷ replaced cs
+
 -- "left to right": the places rise, from low on and below high
 unfoldable pub Ascending : ℕ → ℕ → List Change → Type 0
 Ascending low high [] = low ≤ high
 Ascending low high (c ∷ cs) = (low ≤ c .place) × Ascending (suc (c .place)) high cs
 
--- after some changes "no id is left"
-pub record NoneLeft (taken : ℕ → Bool) : Type 0 where
+-- "the id byte for which no id is left": the binders before it got ids, and then all are taken
+pub record NoneLeft (taken : ℕ → Bool) (hs : List Hiding) (p : ℕ) : Type 0 where
   pub made : List Change
   pub last : ℕ → Bool
+  pub id : ℕ
+  pub rest : List Hiding
   pub gives : Gives taken made last
   pub full : ids ≤ lowest last
+  pub stopped : replaced made ++ (record { place = p; id = id } ∷ rest) ≡ hs
 
 -- the term W is written for the sheet S, with the changes cs
 pub record Renumbered (S : Sheet) (W : Written) (cs : List Change) : Type 0 where
@@ -48,7 +57,8 @@ pub record Renumbered (S : Sheet) (W : Written) (cs : List Change) : Type 0 wher
     ≡ size (tyOf (S .numbers) (typeOf (withTerm S W))) (termOf (withTerm S W))
   -- "It writes the sheet at the same length"
   pub same-width : width (S .term) ≡ width W
-  -- "and lists each binding record's change, left to right"
+  -- "and lists each binding record's change, left to right": a change for each binder that hides another
+  pub listed : replaced cs ≡ hiding [] (headingWidth S) (S .term)
   pub places : Ascending (headingWidth S) (headingWidth S + width (S .term)) cs
   pub olds : Olds (λ id. (id < ids) × (isBound (S .term) id ≡ true)) cs
   -- "That space must have 1,020 bytes", four for each change: so they suffice
@@ -61,21 +71,24 @@ RenumberRule =
     (S : Sheet) (W : Written) (cs : List Change) (then : ℕ → Bool) → Accepted S →
       renumberSheet S ≡ renumbered W cs then → Renumbered S W cs
 
--- the ids that are given
+-- the ids that are given, in any sheet
 unfoldable pub GivenRule : Type 0
 GivenRule =
-    (S : Sheet) (W : Written) (cs : List Change) (then : ℕ → Bool) → Accepted S →
-      renumberSheet S ≡ renumbered W cs then → Gives (takenAtFirst S) cs then
+    (S : Sheet) (W : Written) (cs : List Change) (then : ℕ → Bool) → renumberSheet S ≡ renumbered W cs then →
+      Gives (takenAtFirst S) cs then
 
 -- "a sheet with nothing to change comes back unaltered"
 unfoldable pub UnalteredRule : Type 0
 UnalteredRule = (S : Sheet) → Apart [] (S .term) → renumberSheet S ≡ renumbered (S .term) [] (takenAtFirst S)
 
--- "17 at the id byte for which no id is left"
-pub record Refused (S : Sheet) (p : ℕ) : Type 0 where
-  pub none-left : NoneLeft (takenAtFirst S)
-  pub from : headingWidth S ≤ p
-  pub below : p < headingWidth S + width (S .term)
+-- a sheet that comes back without a change had nothing to change
+unfoldable pub NothingRule : Type 0
+NothingRule =
+    (S : Sheet) (W : Written) (then : ℕ → Bool) → renumberSheet S ≡ renumbered W [] then →
+      Apart [] (S .term) × (S .term ≡ W)
 
+-- "17 at the id byte for which no id is left", in any sheet
 unfoldable pub RefusedRule : Type 0
-RefusedRule = (S : Sheet) (p : ℕ) → Accepted S → renumberSheet S ≡ none-left p → Refused S p
+RefusedRule =
+    (S : Sheet) (p : ℕ) → renumberSheet S ≡ none-left p →
+      NoneLeft (takenAtFirst S) (hiding [] (headingWidth S) (S .term)) p
