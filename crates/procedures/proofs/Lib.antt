@@ -43,3 +43,4 @@ pub mod Places
 pub mod Hidings
 pub mod Listing
 pub mod Renumbering
+pub mod WorkedRenumbering

@@ -1,5 +1,5 @@
--- There is a change for each binder that hides another, in their order, and it gives the lowest id that is left. Document
--- 02 [4].
+-- There is a change for each binder that hides another, in their order, and it gives the lowest id that is left.
+-- Document 02 [4].
 use Prim.Native.Nat.{ℕ, _+_, _≤_}
 use mathlib.Core.Path.{_≡_, refl, sym, ap, _∙_, subst}
 use mathlib.Core.Bool.{Bool, true, false}

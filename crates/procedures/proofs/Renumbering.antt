@@ -19,8 +19,8 @@ use Rattle.procedures.specs.Hiding.{isHeld, Apart, hiding, ApartRule}
 use Rattle.procedures.specs.Width.{width, widths, headingWidth}
 use Rattle.procedures.specs.Renumber.{isNamed, isBound, takenAtFirst, Change, Renumbering, renumbered}
 use Rattle.procedures.specs.Renumber.{none-left, renumberSheet}
-use Rattle.procedures.specs.Renumbering.{Gives, Olds, replaced, RenumberRule, GivenRule, UnalteredRule, NothingRule}
-use Rattle.procedures.specs.Renumbering.{RefusedRule}
+use Rattle.procedures.specs.Renumbering.{Gives, Olds, replaced, RenumberRule, GivenRule, UnalteredRule}
+use Rattle.procedures.specs.Renumbering.{NothingRule, RefusedRule}
 use Rattle.procedures.proofs.Tests.{by-test}
 use Rattle.procedures.proofs.Mapping.{mapped-like, mapped-sheet}
 use Rattle.procedures.proofs.Renumbered.{like-accepted}
@@ -199,7 +199,8 @@ unaltered-rule S h = unaltered (S .term) [] (λ j. j) (takenAtFirst S) (headingW
 pub nothing-rule : NothingRule
 unfolding NothingRule UnalteredRule ApartRule replaced
 nothing-rule S W then e =
-    let h : Apart [] (S .term) = apart-rule (S .term) [] (headingWidth S) .1 (sym (listed-sheet S W [] then e .listed)) in
+    let n : [] ≡ hiding [] (headingWidth S) (S .term) = listed-sheet S W [] then e .listed in
+    let h : Apart [] (S .term) = apart-rule (S .term) [] (headingWidth S) .1 (sym n) in
     (h, same-result (S .term) W (takenAtFirst S) then (sym (unaltered-rule S h) ∙ e))
 
 -- THEOREM: a sheet refused
