@@ -1,9 +1,11 @@
 -- There is a change for each binder that hides another, in their order, and it gives the lowest id that is left.
 -- Document 02 [4].
-use Prim.Native.Nat.{ℕ, _+_, _≤_}
+use Prim.Native.Nat.{ℕ, _+_, _<_}
+use native.Mathlib.Omega.{arith}
 use mathlib.Core.Path.{_≡_, refl, sym, ap, _∙_, subst}
 use mathlib.Core.Bool.{Bool, true, false}
 use mathlib.Core.List.{List, [], _∷_, _++_, append-assoc}
+use lib.ListN.{length, length-append}
 use lib.Dec.{ltb}
 use borrow.Author.Tests.{ltb-true, ltb-false}
 use Rattle.procedures.specs.Written.{Written, skip, diverge, truth, number, call, fetch, operate, assign}
@@ -13,9 +15,10 @@ use Rattle.procedures.specs.Mapped.{put, mapInside}
 use Rattle.procedures.specs.Width.{width}
 use Rattle.procedures.specs.Hiding.{isHeld, Hiding, hidingId, hidingParameters, hiding, allHiding}
 use Rattle.procedures.specs.Renumber.{Change, Renumbering, renumbered, none-left, over, before, next, lowest}
-use Rattle.procedures.specs.Renumber.{changed, renumberId, withId, renumberParameters, renumber, renumberAll}
+use Rattle.procedures.specs.Renumber.{left, changed, renumberId, withId, renumberParameters, renumber, renumberAll}
 use Rattle.procedures.specs.Renumbering.{Gives, replaced, NoneLeft}
 use Rattle.procedures.proofs.Tests.{by-test}
+use Rattle.procedures.proofs.Lowest.{lowest-free, left-put, none-lowest}
 
 gives-append : (cs ds : List Change) (taken then last : ℕ → Bool) → Gives taken cs then → Gives then ds last →
     Gives taken (cs ++ ds) last
@@ -23,6 +26,16 @@ unfolding Gives
 gives-append [] ds taken then last h g = subst (λ (t : ℕ → Bool). Gives t ds last) h g
 gives-append (c ∷ cs) ds taken then last h g =
     (h .0, h .1, gives-append cs ds (put (c .given) true taken) then last (h .2) g)
+
+-- each change leaves one id fewer
+pub gives-left : (cs : List Change) (taken then : ℕ → Bool) → Gives taken cs then →
+    length cs + left then 255 ≡ left taken 255
+unfolding Gives
+gives-left [] taken then h = rw h (omega arith)
+gives-left (c ∷ cs) taken then h =
+    let e : taken (c .given) ≡ false =
+      ap taken (h .0) ∙ lowest-free taken (subst (λ (k : ℕ). k < 255) (h .0) (h .1)) in
+    omega (arith, gives-left cs (put (c .given) true taken) then (h .2), left-put taken 255 (c .given) (h .1) e)
 
 replaced-append : (cs ds : List Change) → replaced (cs ++ ds) ≡ replaced cs ++ replaced ds
 unfolding replaced
@@ -63,6 +76,7 @@ lists-before taken then hs ks cs (none-left at) h g =
       rest = g .rest;
       gives = gives-append cs (g .made) taken then (g .last) (h .gives) (g .gives);
       full = g .full;
+      many = omega (arith, length-append cs (g .made), gives-left cs taken then (h .gives), g .many);
       stopped = ap (_++ from) (replaced-append cs (g .made))
         ∙ append-assoc (replaced cs) (replaced (g .made)) from
         ∙ ap (_++ (replaced (g .made) ++ from)) (h .listed) ∙ ap (hs ++_) (g .stopped) }
@@ -81,6 +95,7 @@ lists-next taken hs ks (none-left at) k h g =
       rest = h .rest ++ ks;
       gives = h .gives;
       full = h .full;
+      many = h .many;
       stopped = sym (append-assoc (replaced (h .made)) (here ∷ h .rest) ks) ∙ ap (_++ ks) (h .stopped) }
 
 lists-id : (bs : List Binder) (taken : ℕ → Bool) (at id : ℕ) →
@@ -92,7 +107,7 @@ lists-id bs taken at id =
       (λ u. rw u (record { gives = (refl, ltb-true (lowest taken) 255 u, refl); listed = refl }))
       (λ u. rw u (record {
         made = []; last = taken; id = id; rest = []; gives = refl; full = ltb-false (lowest taken) 255 u;
-        stopped = refl }))))
+        many = sym (none-lowest taken (ltb-false (lowest taken) 255 u)); stopped = refl }))))
     (λ t. rw t (no-change taken))
 
 lists-parameters : (ps : List Parameter) (bs : List Binder) (taken : ℕ → Bool) (at : ℕ) →

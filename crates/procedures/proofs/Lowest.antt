@@ -11,7 +11,7 @@ use Rattle.procedures.specs.Written.{Name, declare, retire}
 use Rattle.procedures.specs.Meaning.{Binder, idOf, free, declared}
 use Rattle.procedures.specs.Mapped.{put}
 use Rattle.procedures.specs.Hiding.{isHeld}
-use Rattle.procedures.specs.Renumber.{lowestFrom, lowest, isNamed}
+use Rattle.procedures.specs.Renumber.{lowestFrom, lowest, left, isNamed}
 use Rattle.procedures.proofs.Tests.{by-test}
 
 pub true-false : {P : Type 0} (t : Bool) → t ≡ true → t ≡ false → P
@@ -92,11 +92,7 @@ pub lowest-least : (taken : ℕ → Bool) (j : ℕ) → j < lowest taken → tak
 unfolding lowest
 lowest-least taken j h = lowest-from-least taken 255 0 j (omega arith) h
 
--- how many ids below n are not taken
-unfoldable pub left : (ℕ → Bool) → ℕ → ℕ
-left taken zero = 0
-left taken (suc n) = pick (taken n) 0 1 + left taken n
-
+-- how many are left
 pub left-most : (taken : ℕ → Bool) (n : ℕ) → left taken n ≤ n
 unfolding left
 left-most taken zero = omega arith
@@ -114,6 +110,15 @@ left-some taken (suc n) j h e =
       rw e′ (omega (arith, i)))
     (λ g. let i : left taken n < n = left-some taken n j (omega (arith, h, g)) e in
       by-test (taken n) (λ t. rw t (omega (arith, i))) (λ t. rw t (omega (arith, i))))
+
+left-none : (taken : ℕ → Bool) (n : ℕ) → ((j : ℕ) → j < n → taken j ≡ true) → left taken n ≡ 0
+unfolding left
+left-none taken zero h = refl
+left-none taken (suc n) h =
+    rw (h n (omega arith), left-none taken n (λ j g. h j (omega (arith, g)))) refl
+
+pub none-lowest : (taken : ℕ → Bool) → 255 ≤ lowest taken → left taken 255 ≡ 0
+none-lowest taken h = left-none taken 255 (λ j g. lowest-least taken j (omega (arith, h, g)))
 
 left-beyond : (taken : ℕ → Bool) (n b : ℕ) → n ≤ b → left (put b true taken) n ≡ left taken n
 unfolding left

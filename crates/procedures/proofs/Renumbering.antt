@@ -1,10 +1,10 @@
 -- What document 02 [4] says of the renumbering holds (specs/Renumbering).
-use Prim.Native.Nat.{ℕ, _+_, _≤_, _<_}
+use Prim.Native.Nat.{ℕ, suc, _+_, _≤_, _<_}
 use native.Mathlib.Omega.{arith}
 use mathlib.Core.Path.{_≡_, refl, sym, ap, _∙_, subst}
 use mathlib.Core.Bool.{Bool, true, false, _||_}
 use mathlib.Core.List.{List, [], _∷_}
-use lib.ListN.{length}
+use lib.ListN.{length, length-append}
 use lib.Dec.{eqb}
 use Rattle.language.specs.Weight.{size}
 use Rattle.procedures.specs.Written.{Written, Writtens, Name, declare, retire, Sheet}
@@ -15,24 +15,24 @@ use Rattle.procedures.specs.Mapped.{put, Mapped, to-skip, to-diverge}
 use Rattle.procedures.specs.Mapped.{to-truth, to-number, to-call, to-fetch, to-operate, to-assign, to-sequence}
 use Rattle.procedures.specs.Mapped.{to-choose, to-while, to-new, to-procedure, Mappeds, to-none, to-more}
 use Rattle.procedures.specs.Rules.{withTerm}
-use Rattle.procedures.specs.Hiding.{isHeld, Apart, hiding, ApartRule}
+use Rattle.procedures.specs.Hiding.{isHeld, Apart, Hiding, hiding, ApartRule}
 use Rattle.procedures.specs.Width.{width, widths, headingWidth}
-use Rattle.procedures.specs.Renumber.{isNamed, isBound, takenAtFirst, Change, Renumbering, renumbered}
-use Rattle.procedures.specs.Renumber.{none-left, renumberSheet}
+use Rattle.procedures.specs.Renumber.{isNamed, isBound, takenAtFirst, left, Change, Renumbering}
+use Rattle.procedures.specs.Renumber.{renumbered, none-left, renumberSheet}
 use Rattle.procedures.specs.Renumbering.{Gives, Olds, replaced, RenumberRule, GivenRule, UnalteredRule}
-use Rattle.procedures.specs.Renumbering.{NothingRule, RefusedRule}
+use Rattle.procedures.specs.Renumbering.{NothingRule, Passes, EnoughRule, RefusedRule}
 use Rattle.procedures.proofs.Tests.{by-test}
 use Rattle.procedures.proofs.Mapping.{mapped-like, mapped-sheet}
 use Rattle.procedures.proofs.Renumbered.{like-accepted}
 use Rattle.procedures.proofs.Ruling.{same-sheets}
 use Rattle.procedures.proofs.Lowest.{true-false, not-true, or-left, or-right, or-cases, unnamed-free}
-use Rattle.procedures.proofs.Lowest.{lowest-free, left, left-most, left-some, left-put}
+use Rattle.procedures.proofs.Lowest.{left-some}
 use Rattle.procedures.proofs.Known.{Known, known}
 use Rattle.procedures.proofs.Giving.{Grows, Good, AllGood, Old, Around, Given, give}
 use Rattle.procedures.proofs.Unaltered.{unaltered}
 use Rattle.procedures.proofs.Places.{Within, within}
 use Rattle.procedures.proofs.Hidings.{apart-rule}
-use Rattle.procedures.proofs.Listing.{Listed, Lists, lists}
+use Rattle.procedures.proofs.Listing.{Listed, Lists, lists, gives-left}
 
 -- a term mapped has as many bytes
 mutual
@@ -69,16 +69,6 @@ named-declared (retire k ∷ ns) j e g =
     (λ t. let g′ = rw t at g in let z : _≡_ {A = ℕ} 0 1 = cc in absurd (omega arith))
     (λ t. named-declared ns j (rw t at e) (rw t at g))
 
--- each change leaves one id fewer
-gives-left : (cs : List Change) (taken then : ℕ → Bool) → Gives taken cs then →
-    length cs + left then 255 ≡ left taken 255
-unfolding Gives
-gives-left [] taken then h = rw h (omega arith)
-gives-left (c ∷ cs) taken then h =
-    let e : taken (c .given) ≡ false =
-      ap taken (h .0) ∙ lowest-free taken (subst (λ (k : ℕ). k < 255) (h .0) (h .1)) in
-    omega (arith, gives-left cs (put (c .given) true taken) then (h .2), left-put taken 255 (c .given) (h .1) e)
-
 -- "That space must have 1,020 bytes"
 few-changes : (P : ℕ → Type 0) (taken then : ℕ → Bool) (cs : List Change) → Gives taken cs then → Olds P cs →
     ((j : ℕ) → P j → (j < 255) × (taken j ≡ true)) → length cs ≤ 254
@@ -87,6 +77,11 @@ few-changes P taken then [] g o h = omega arith
 few-changes P taken then (c ∷ cs) g o h =
     let x = h (c .old) (o .0) in
     omega (arith, gives-left (c ∷ cs) taken then g, left-some taken 255 (c .old) (x .0) (x .1))
+
+replaced-length : (cs : List Change) → length (replaced cs) ≡ length cs
+unfolding replaced
+replaced-length [] = refl
+replaced-length (c ∷ cs) = ap suc (replaced-length cs)
 
 olds-map : (P Q : ℕ → Type 0) (cs : List Change) → ((j : ℕ) → P j → Q j) → Olds P cs → Olds Q cs
 unfolding Olds
@@ -202,6 +197,24 @@ nothing-rule S W then e =
     let n : [] ≡ hiding [] (headingWidth S) (S .term) = listed-sheet S W [] then e .listed in
     let h : Apart [] (S .term) = apart-rule (S .term) [] (headingWidth S) .1 (sym n) in
     (h, same-result (S .term) W (takenAtFirst S) then (sym (unaltered-rule S h) ∙ e))
+
+-- THEOREM: a sheet not refused
+by-result : (S : Sheet) (a : Renumbering Written) → renumberSheet S ≡ a →
+    Lists (takenAtFirst S) (hiding [] (headingWidth S) (S .term)) a →
+    length (hiding [] (headingWidth S) (S .term)) ≤ left (takenAtFirst S) 255 → Passes S
+unfolding Lists
+by-result S (renumbered W cs then) e l h = record { written = W; changes = cs; taken = then; passes = e }
+by-result S (none-left p) e l h =
+    let hs : List Hiding = hiding [] (headingWidth S) (S .term) in
+    let stop : List Hiding = record { place = p; id = l .id } ∷ l .rest in
+    let n : length hs ≡ length (l .made) + length stop =
+      ap length (sym (l .stopped)) ∙ length-append (replaced (l .made)) stop
+        ∙ ap (_+ length stop) (replaced-length (l .made)) in
+    absurd (omega (arith, h, n, l .many))
+
+pub enough-rule : EnoughRule
+unfolding EnoughRule
+enough-rule S h = by-result S (renumberSheet S) refl (lists-sheet S) h
 
 -- THEOREM: a sheet refused
 pub refused-rule : RefusedRule

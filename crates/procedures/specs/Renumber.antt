@@ -60,6 +60,11 @@ lowestFrom taken id (suc n) = pick (taken id) (lowestFrom taken (suc id) n) id
 unfoldable pub lowest : (ℕ → Bool) → ℕ
 lowest taken = lowestFrom taken 0 ids
 
+-- how many of the ids below n are not taken
+unfoldable pub left : (ℕ → Bool) → ℕ → ℕ
+left taken zero = 0
+left taken (suc n) = pick (taken n) 0 1 + left taken n
+
 -- "place of the id byte in two bytes, low byte first, old id, new id"
 pub record Change : Type 0 where
   pub place : ℕ

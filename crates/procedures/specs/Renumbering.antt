@@ -12,8 +12,8 @@ use Rattle.procedures.specs.Mapped.{put}
 use Rattle.procedures.specs.Rules.{SameSheets, withTerm}
 use Rattle.procedures.specs.Hiding.{Apart, AcceptedApart, Hiding, hiding}
 use Rattle.procedures.specs.Width.{width, headingWidth}
-use Rattle.procedures.specs.Renumber.{isBound, takenAtFirst, ids, lowest, Change, renumbered, none-left}
-use Rattle.procedures.specs.Renumber.{renumberSheet}
+use Rattle.procedures.specs.Renumber.{isBound, takenAtFirst, ids, lowest, left, Change}
+use Rattle.procedures.specs.Renumber.{renumbered, none-left, renumberSheet}
 
 -- the changes take one id after the other, each "the lowest id that is neither declared, retired, nor bound anywhere in
 -- the sheet as read or as changed so far"
@@ -44,6 +44,8 @@ pub record NoneLeft (taken : ℕ → Bool) (hs : List Hiding) (p : ℕ) : Type 0
   pub rest : List Hiding
   pub gives : Gives taken made last
   pub full : ids ≤ lowest last
+  -- as many binders got ids as there were ids left
+  pub many : length made ≡ left taken ids
   pub stopped : replaced made ++ (record { place = p; id = id } ∷ rest) ≡ hs
 
 -- the term W is written for the sheet S, with the changes cs
@@ -86,6 +88,17 @@ unfoldable pub NothingRule : Type 0
 NothingRule =
     (S : Sheet) (W : Written) (then : ℕ → Bool) → renumberSheet S ≡ renumbered W [] then →
       Apart [] (S .term) × (S .term ≡ W)
+
+-- where ids are left for all binders that hide others, the sheet is not refused
+pub record Passes (S : Sheet) : Type 0 where
+  pub written : Written
+  pub changes : List Change
+  pub taken : ℕ → Bool
+  pub passes : renumberSheet S ≡ renumbered written changes taken
+
+unfoldable pub EnoughRule : Type 0
+EnoughRule =
+    (S : Sheet) → length (hiding [] (headingWidth S) (S .term)) ≤ left (takenAtFirst S) ids → Passes S
 
 -- "17 at the id byte for which no id is left", in any sheet
 unfoldable pub RefusedRule : Type 0
