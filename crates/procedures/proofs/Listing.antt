@@ -15,7 +15,8 @@ use Rattle.procedures.specs.Mapped.{put, mapInside}
 use Rattle.procedures.specs.Width.{width}
 use Rattle.procedures.specs.Hiding.{isHeld, Hiding, hidingId, hidingParameters, hiding, allHiding}
 use Rattle.procedures.specs.Renumber.{Change, Renumbering, renumbered, none-left, over, before, next, lowest}
-use Rattle.procedures.specs.Renumber.{left, changed, renumberId, withId, renumberParameters, renumber, renumberAll}
+use Rattle.procedures.specs.Renumber.{left, changed, renumberId, withId, renumberParameters, renumber}
+use Rattle.procedures.specs.Renumber.{renumberAll}
 use Rattle.procedures.specs.Renumbering.{Gives, replaced, NoneLeft}
 use Rattle.procedures.proofs.Tests.{by-test}
 use Rattle.procedures.proofs.Lowest.{lowest-free, left-put, none-lowest}

@@ -6,12 +6,11 @@ use mathlib.Core.Bool.{Bool, true, false, _||_}
 use mathlib.Core.List.{List, [], _∷_}
 use lib.ListN.{length, length-append}
 use lib.Dec.{eqb}
-use Rattle.language.specs.Weight.{size}
 use Rattle.procedures.specs.Written.{Written, Writtens, Name, declare, retire, Sheet}
-use Rattle.procedures.specs.Meaning.{meaning, declared, free, tyOf, termOf, typeOf}
+use Rattle.procedures.specs.Meaning.{meaning, declared, free, termOf, typeOf}
 use Rattle.procedures.specs.Fine.{Accepted}
 use Rattle.procedures.specs.Like.{Like}
-use Rattle.procedures.specs.Mapped.{put, Mapped, to-skip, to-diverge}
+use Rattle.procedures.specs.Mapped.{Mapped, to-skip, to-diverge}
 use Rattle.procedures.specs.Mapped.{to-truth, to-number, to-call, to-fetch, to-operate, to-assign, to-sequence}
 use Rattle.procedures.specs.Mapped.{to-choose, to-while, to-new, to-procedure, Mappeds, to-none, to-more}
 use Rattle.procedures.specs.Rules.{withTerm}

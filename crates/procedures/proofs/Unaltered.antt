@@ -7,7 +7,7 @@ use Rattle.procedures.specs.Written.{Written, skip, diverge, truth, numb
 use Rattle.procedures.specs.Written.{sequence, while, choose, new, procedure, Parameter, Writtens, none, more}
 use Rattle.procedures.specs.Meaning.{Binder, a-block, a-procedure, inside, after, typesOf}
 use Rattle.procedures.specs.Mapped.{put, mapInside}
-use Rattle.procedures.specs.Hiding.{isHeld, Unheld, ApartParameters, Apart, AllApart}
+use Rattle.procedures.specs.Hiding.{Unheld, ApartParameters, Apart, AllApart}
 use Rattle.procedures.specs.Renumber.{Renumbering, renumbered, over, before, next, renumberId, withId}
 use Rattle.procedures.specs.Renumber.{renumberParameters, renumber, renumberAll}
 use Rattle.procedures.specs.Width.{width}
