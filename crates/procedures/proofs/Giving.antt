@@ -117,6 +117,14 @@ module _ (ns : List Name) (origin : ℕ → Bool) (unnamed : (j : ℕ) → origi
     pub below : (j : ℕ) → j < 255 → f j < 255
     pub held-taken : (j : ℕ) → isHeld ds j ≡ true → taken j ≡ true
     pub held-as-read : (j : ℕ) → isHeld ds j ≡ true → origin j ≡ true → isHeld bs j ≡ true
+    pub held-as-written : (j : ℕ) → isHeld bs j ≡ true → isHeld ds j ≡ true
+
+  -- THEOREM: hiding is the same judged on the sheet as read or as changed
+  pub judged-alike : (seen : ℕ → Bool) (f : ℕ → ℕ) (bs ds : List Binder) (taken : ℕ → Bool) (a : ℕ) →
+      Around seen f bs ds taken → origin a ≡ true → isHeld bs a ≡ isHeld ds a
+  judged-alike seen f bs ds taken a r o =
+      by-test (isHeld bs a) (λ t. t ∙ sym (r .held-as-written a t))
+        (λ t. t ∙ sym (not-true (isHeld ds a) (λ e. true-false (isHeld bs a) (r .held-as-read a e o) t)))
 
   later : (seen : ℕ → Bool) (f : ℕ → ℕ) (bs ds : List Binder) (taken then : ℕ → Bool) → Around seen f bs ds taken →
       Grows taken then → Around seen f bs ds then
@@ -128,12 +136,14 @@ module _ (ns : List Name) (origin : ℕ → Bool) (unnamed : (j : ℕ) → origi
       becomes-itself = r .becomes-itself;
       below = r .below;
       held-taken = λ j e. g j (r .held-taken j e);
-      held-as-read = r .held-as-read }
+      held-as-read = r .held-as-read;
+      held-as-written = r .held-as-written }
 
   -- the id of a binder, a as read and b as written, where the binders in bs enclose it
   pub record GotId (bs : List Binder) (taken : ℕ → Bool) (a b : ℕ) (then : ℕ → Bool) : Type 0 where
     pub is-taken : then b ≡ true
     pub is-new : origin b ≡ true → b ≡ a
+    pub hides : (b ≡ a → ⊥) → isHeld bs a ≡ true
     pub small : b < 255
     pub is-free : declared ns b ≡ free
     pub clear : (j k : ℕ) → (j ≡ a → ⊥) → taken k ≡ true → (origin k ≡ true → k ≡ j) → k ≡ b → ⊥
@@ -157,6 +167,7 @@ module _ (ns : List Name) (origin : ℕ → Bool) (unnamed : (j : ℕ) → origi
             so = record {
               is-taken = put-here b true taken;
               is-new = λ e. true-false (origin b) e w;
+              hides = λ n. t;
               small = s;
               is-free = unnamed b w;
               clear = λ j k n e h i. true-false (taken b) (ap taken (sym i) ∙ e) v;
@@ -165,6 +176,7 @@ module _ (ns : List Name) (origin : ℕ → Bool) (unnamed : (j : ℕ) → origi
       (λ t. rw t (unchanged Old (GotId bs taken a a taken) taken (record {
         is-taken = first a o;
         is-new = λ e. refl;
+        hides = λ n. absurd (n refl);
         small = small;
         is-free = d;
         clear = λ j k n e h i. n (sym (sym i ∙ h (ap origin i ∙ o)));
@@ -177,12 +189,14 @@ module _ (ns : List Name) (origin : ℕ → Bool) (unnamed : (j : ℕ) → origi
   got-clear seen f bs bs′ ds taken then a b r g j n s e =
       g .clear j (f j) n (r .becomes-taken j s) (λ o. r .becomes-itself j s o) e
 
-  -- what is around the part that a binder reaches over: c is the binder as read, d the binder as written
+  -- what is around the part that a binder reaches over: c is the binder as read, d the binder as written, judged among
+  -- those in bs′
   enter : (seen : ℕ → Bool) (f : ℕ → ℕ) (bs bs′ ds : List Binder) (taken then : ℕ → Bool) (c d : Binder) →
-      Around seen f bs ds taken → Grows taken then → GotId bs′ taken (idOf c) (idOf d) then →
+      ((j : ℕ) → isHeld bs′ j ≡ true → isHeld bs j ≡ true) → Around seen f bs ds taken → Grows taken then →
+      GotId bs′ taken (idOf c) (idOf d) then →
       Around (put (idOf c) true seen) (put (idOf c) (idOf d) f) (c ∷ bs) (d ∷ ds) then
   unfolding Grows
-  enter seen f bs bs′ ds taken then c d r m g = record {
+  enter seen f bs bs′ ds taken then c d w r m g = record {
       first = λ j e. m j (r .first j e);
       sees = λ j e. put-true a seen j (r .sees j e);
       becomes-taken = λ j e. by-id j a
@@ -197,7 +211,11 @@ module _ (ns : List Name) (origin : ℕ → Bool) (unnamed : (j : ℕ) → origi
       held-taken = λ j e. held-cases d ds j e (λ i. ap then (sym i) ∙ g .is-taken) (λ h. m j (r .held-taken j h));
       held-as-read = λ j e o. held-cases d ds j e
         (λ i. held-here c bs j (sym (g .is-new (ap origin i ∙ o)) ∙ i))
-        (λ h. held-past c bs j (r .held-as-read j h o)) }
+        (λ h. held-past c bs j (r .held-as-read j h o));
+      held-as-written = λ j e. held-cases c bs j e
+        (λ i. by-id b a (λ s. held-here d ds j (s ∙ i))
+          (λ n. held-past d ds j (r .held-as-written j (ap (isHeld bs) (sym i) ∙ w a (g .hides n)))))
+        (λ h. held-past d ds j (r .held-as-written j h)) }
     where
       a : ℕ
       a = idOf c
@@ -224,16 +242,16 @@ module _ (ns : List Name) (origin : ℕ → Bool) (unnamed : (j : ℕ) → origi
 
   got-parameters : (ps : List Parameter) (seen₀ : ℕ → Bool) (f₀ : ℕ → ℕ) (bs ds : List Binder) (seen : ℕ → Bool)
       (f : ℕ → ℕ) (obs nds : List Binder) (taken : ℕ → Bool) (at : ℕ) (es es′ : List Parameter) →
-      Around seen₀ f₀ bs ds taken → Around seen f obs nds taken → Marked origin ps → FineParameters ns es ps →
-      Earlier seen f es es′ →
+      ((j : ℕ) → isHeld bs j ≡ true → isHeld obs j ≡ true) → Around seen₀ f₀ bs ds taken →
+      Around seen f obs nds taken → Marked origin ps → FineParameters ns es ps → Earlier seen f es es′ →
       AllGood Old (λ qs then. GotParameters ds seen f obs nds es′ ps qs then) taken
         (renumberParameters bs taken at ps)
   unfolding AllGood renumberParameters withId Marked FineParameters Earlier Binds seenInside mapInside inside
     ApartParameters idOf
-  got-parameters [] seen₀ f₀ bs ds seen f obs nds taken at es es′ r₀ r k h e =
+  got-parameters [] seen₀ f₀ bs ds seen f obs nds taken at es es′ w r₀ r k h e =
       unchanged Old (GotParameters ds seen f obs nds es′ [] [] taken) taken
         (record { binds = tt; around = r; apart = tt; fine = tt })
-  got-parameters (p ∷ ps) seen₀ f₀ bs ds seen f obs nds taken at es es′ r₀ r k h e =
+  got-parameters (p ∷ ps) seen₀ f₀ bs ds seen f obs nds taken at es es′ w r₀ r k h e =
       good-next Old (λ b then. GotId bs taken (p .id) b then)
         (λ qs then. GotParameters ds seen f obs nds es′ (p ∷ ps) qs then) taken (renumberId bs taken at (p .id))
         (λ b then. over (_∷_ (withId p b)) (renumberParameters bs then (2 + at) ps))
@@ -249,7 +267,8 @@ module _ (ns : List Name) (origin : ℕ → Bool) (unnamed : (j : ℕ) → origi
             (λ qs last. GotParameters ds seen f obs nds es′ (p ∷ ps) qs last) then (_∷_ (withId p b))
             (renumberParameters bs then (2 + at) ps)
             (got-parameters ps seen₀ f₀ bs ds seen′ f′ (c ∷ obs) (d ∷ nds) then (2 + at) (p ∷ es) (q ∷ es′)
-              (later seen₀ f₀ bs ds taken then r₀ m) (enter seen f obs bs nds taken then c d r m g) (k .1) (h .4)
+              (λ j i. held-past c obs j (w j i)) (later seen₀ f₀ bs ds taken then r₀ m)
+              (enter seen f obs bs nds taken then c d w r m g) (k .1) (h .4)
               (put-here (p .id) true seen, put-here (p .id) b f, earlier-put seen f (p .id) b es es′ e (h .2)))
             (λ qs last x. record {
               binds = (refl, cl, x .binds);
@@ -362,7 +381,7 @@ module _ (ns : List Name) (origin : ℕ → Bool) (unnamed : (j : ℕ) → origi
               (λ X last. Given seen f ds (new id d c) X) then (new b d)
               (renumber (a-block id d ∷ bs) f′ then (3 + at) c)
               (give c seen′ f′ (a-block id d ∷ bs) (a-block b d ∷ ds) then (3 + at)
-                (enter seen f bs bs ds taken then (a-block id d) (a-block b d) r m g) (k .3))
+                (enter seen f bs bs ds taken then (a-block id d) (a-block b d) (λ j i. i) r m g) (k .3))
               (λ c′ last h. record {
                 mapped = to-new (got-clear seen f bs bs ds taken then id b r g) (h .mapped);
                 fine = (g .small, g .is-free, h .fine);
@@ -382,7 +401,7 @@ module _ (ns : List Name) (origin : ℕ → Bool) (unnamed : (j : ℕ) → origi
               (λ qs then′. next (renumber (inside ps bs) (mapInside f ps qs) then′ (12 + at) x) (λ x′ then″.
                 over (procedure b ty qs x′)
                   (renumber (after id ty ps bs) (put id b f) then″ (12 + at + width x) y)))
-              (got-parameters ps seen f bs ds seen f bs ds then₁ (4 + at) [] [] r₁ r₁ (k .3) (k .4) tt)
+              (got-parameters ps seen f bs ds seen f bs ds then₁ (4 + at) [] [] (λ j i. i) r₁ r₁ (k .3) (k .4) tt)
               (λ qs then₂ q m₂.
                 let c : Binder = a-procedure id ty (typesOf ps) in
                 let d : Binder = a-procedure b ty (typesOf qs) in
@@ -400,8 +419,8 @@ module _ (ns : List Name) (origin : ℕ → Bool) (unnamed : (j : ℕ) → origi
                     (λ X last. Given seen f ds (procedure id ty ps x y) X) then₃ (procedure b ty qs x′)
                     (renumber (c ∷ bs) f′ then₃ (12 + at + width x) y)
                     (give y seen′ f′ (c ∷ bs) (d ∷ ds) then₃ (12 + at + width x)
-                      (later seen′ f′ (c ∷ bs) (d ∷ ds) then₁ then₃ (enter seen f bs bs ds taken then₁ c d r m₁ g)
-                        (λ j e. m₃ j (m₂ j e)))
+                      (later seen′ f′ (c ∷ bs) (d ∷ ds) then₁ then₃
+                        (enter seen f bs bs ds taken then₁ c d (λ j i. i) r m₁ g) (λ j e. m₃ j (m₂ j e)))
                       (k .6))
                     (λ y′ last h. record {
                       mapped = to-procedure (got-clear seen f bs bs ds taken then₁ id b r g) (q .binds) (i .mapped)

@@ -108,7 +108,8 @@ module _ (S : Sheet) (A : Accepted S) where
   unfolding Grows isHeld
   around-sheet = record {
       first = λ j e. e; sees = λ j e. e; becomes-taken = λ j e. e; becomes-itself = λ j e o. refl; below = λ j h. h;
-      held-taken = λ j e. true-false false e refl; held-as-read = λ j e o. true-false false e refl }
+      held-taken = λ j e. true-false false e refl; held-as-read = λ j e o. true-false false e refl;
+      held-as-written = λ j e. true-false false e refl }
 
   -- the sheet as written
   GivenSheet : Written → Type 0

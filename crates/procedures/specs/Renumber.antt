@@ -1,7 +1,8 @@
 -- The renumbering of a sheet. Document 02 [4]: a tool that "goes left to right, and gives each inner name that hides an
 -- outer one the lowest id that is neither declared, retired, nor bound anywhere in the sheet as read or as changed so
 -- far; the uses it governs follow", and "lists each binding record's change, left to right". Hiding is judged on the
--- sheet as read; judged on the sheet as changed it is the same, since the outermost binder of an id keeps it.
+-- sheet as read; judged on the sheet as changed it is the same, since the outermost binder of an id keeps it and the
+-- ids given are new (proofs/Giving, judged-alike).
 use Prim.Native.Nat.{ℕ, zero, suc, _+_}
 use mathlib.Core.Bool.{Bool, true, false, _||_}
 use mathlib.Core.List.{List, [], _∷_, _++_}
