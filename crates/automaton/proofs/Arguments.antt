@@ -25,7 +25,8 @@ use Rattle.machine.specs.Numbering.{alone, numbered-questions, numbered-answers
 use Rattle.machine.specs.Numbering.{numbered-name, positions, weight-args, numbered-use, numbered, numberedArgs}
 use Rattle.machine.specs.Step.{later, step, stepArgs}
 use Rattle.machine.proofs.Unique.{Answers-prop}
-use Rattle.sheet.specs.table.Rep.{word, count, RepArgs, r-none, r-arg}
+use Rattle.records.specs.Row.{word}
+use Rattle.nodes.specs.Rep.{count, RepArgs, r-none, r-arg}
 use Rattle.automaton.specs.declared.Move.{Move as Record}
 use Rattle.automaton.specs.declared.Frame.{Frame}
 use Rattle.automaton.specs.declared.Out.{Out as Did}
@@ -36,7 +37,8 @@ use Rattle.automaton.specs.walk.Types.{answersOf, answerNumber}
 use Rattle.automaton.specs.walk.Name.{framedOf, saidOf, copiesOf, argSpots, replyHere, replyOf, argHere, inArgs}
 use Rattle.automaton.specs.walk.Up.{exitArgument, exitsOf, goesOf, riseOf}
 use Rattle.automaton.specs.walk.Step.{stepAt}
-use Rattle.automaton.specs.walk.Shows.{kindQ, valueQ, kindA, valueA, moveOf, stored, updated, ShowsNext}
+use Rattle.automaton.specs.walk.Shows.{kindQ, valueQ, kindA, valueA, moveOf, stored, held, updated, ShowsNext}
+use Rattle.automaton.specs.walk.Shows.{Variables}
 use Rattle.automaton.specs.walk.Shows.{ShowsSaid, waits, leads, Shows, ArgsNext, ArgsSaid, a-waits, a-leads}
 use Rattle.automaton.specs.walk.Shows.{ArgsShow}
 use Rattle.automaton.proofs.Sums.{map-edge, sum-small, mul-add-small, quotient, remainder, times, factors}
@@ -104,7 +106,7 @@ module _ (t : List ℕ) (node j : ℕ) (T : Ty) (M : Term) (pw : partWeight t no
         question-kind _ _ T ty q, question-value _ _ T ty q) refl
 
 -- the positions of all arguments
-pub spots-of : {K : Numbers} {t n : List ℕ} {left node j : ℕ} {args : Args} → RepArgs K t left node j n args →
+pub spots-of : {K : Numbers} {t rs n : List ℕ} {left node j : ℕ} {args : Args} → RepArgs K t left node j rs n args →
   weightArgs args < 65536 → j + count args < 65536 → argSpots t node j (count args) ≡ positions args
 unfolding count argSpots positions weightArgs
 spots-of r-none b h = refl
@@ -117,7 +119,7 @@ spots-of {t = t} (r-arg {at = node} {j} {T = T} {M} {args} r rs) b h =
 -- the step of an argument, among the arguments
 module _ (K : Numbers) (t : List ℕ) (m : Record) (n : Context) (T : Ty) (M : Term) (rest : Args) (c k : ℕ)
   (ty : HasType c k T)
-  (q : QuestionOf T) (base after : ℕ) (vs : List ℕ) (fits : questions T * weight M + answers T < 65536)
+  (q : QuestionOf T) (base after : ℕ) (vs : Variables) (fits : questions T * weight M + answers T < 65536)
   (low : base < 65536) (low′ : after < 65536) where
   abbrev pub ArgFrame : Frame
   ArgFrame = framedOf 6 (base + numbered-questions T .code q * weight M) after c k (numbered-questions T .code q)
@@ -190,7 +192,7 @@ module _ (K : Numbers) (t : List ℕ) (m : Record) (n : Context) (T : Ty) (M : T
 
 -- the step of a later argument
 module _ (K : Numbers) (t : List ℕ) (m : Record) (n : Context) (T : Ty) (M : Term) (rest : Args) (base after : ℕ)
-  (vs : List ℕ) where
+  (vs : Variables) where
   abbrev pub later-in : StateArgs n rest → StateArgs n (arg T M rest)
   later-in s = (s .0, inr (s .1))
 
@@ -230,7 +232,7 @@ module _ (K : Numbers) (t : List ℕ) (m : Record) (n : Context) (T : Ty) (M : T
         (later-next (edge-hear l k (move (at i j) d)) o b))
 
 -- the steps of the arguments, in the name
-module _ (K : Numbers) (t : List ℕ) (m : Record) (n : Context) (i : ℕ) (T : Ty) (args : Args) (vs : List ℕ) where
+module _ (K : Numbers) (t : List ℕ) (m : Record) (n : Context) (i : ℕ) (T : Ty) (args : Args) (vs : Variables) where
   abbrev pub whole-in : StateArgs n args → State n (name i T args)
   whole-in s = (s .0, within (s .1))
 
@@ -275,7 +277,7 @@ said-of id c m (expression k) e j _ _ (to-ask {v = v} h) = rw (e .0, e .1, lt-le
 said-of id c m (variable k) e j _ _ (to-read {v = v} h) = rw (e .0, e .1, lt-leb k v h) refl
 said-of id c m (variable k) e j _ _ (to-write {v = v} h) = rw (e .0, e .1, le-leb k (k + v) (omega arith)) refl
 
-pub reply-of : {K : Numbers} {t n : List ℕ} {left node j : ℕ} {args : Args} → RepArgs K t left node j n args →
+pub reply-of : {K : Numbers} {t rs n : List ℕ} {left node j : ℕ} {args : Args} → RepArgs K t left node j rs n args →
   weightArgs args < 65536 → j + count args < 65536 → (id : ℕ) (r : Reply (types args)) →
   replyOf t id node j (count args) (numbered-replies (types args) .code r)
   ≡ saidOf (kindA (r .2)) id (suc (j + r .0)) (valueA (r .2))
@@ -299,8 +301,9 @@ reply-of {t = t} (r-arg {at = node} {j} {T = T} {M} {args} r rs) b h id (suc i, 
       ∙ ap (λ (k : ℕ). saidOf (kindA a) id (suc k) (valueA a)) (omega arith))
 
 -- where a position of the arguments is found
-pub record ArgFound (K : Numbers) (t : List ℕ) (left node j base after : ℕ) (n : Context) (args : Args) (σ : Store n)
-  (s : List ℕ) (m : Record) (p : PositionArgs args) : Type 0 where
+pub record ArgFound (K : Numbers) (t : List ℕ) (left node j base after : ℕ) (rs : List ℕ) (n : Context) (args : Args)
+    (σ : Store n)
+  (s : ℕ → ℕ) (m : Record) (p : PositionArgs args) : Type 0 where
   pub part : ℕ
   pub kind : ℕ
   pub value : ℕ
@@ -308,19 +311,19 @@ pub record ArgFound (K : Numbers) (t : List ℕ) (left node j base after : ℕ) 
   pub frame : Frame
   pub down : inArgs t node j (count args) (numberedArgs args .code p) base after ≡ Inside part kind value inner frame
   pub plain : eqb (frame .role) 7 ≡ false
-  pub shows : ArgsShow K t n args base after (stored n σ) m (stepArgs args n σ p)
-    (riseOf K frame (stepAt t K left part kind value inner s (length n) m))
+  pub shows : ArgsShow K t n args base after (held rs n σ) m (stepArgs args n σ p)
+    (riseOf K frame (stepAt t K left part kind value inner s m))
 
-module _ (K : Numbers) (t : List ℕ) (left node j : ℕ) (n : Context) (T : Ty) (M : Term) (args : Args)
+module _ (K : Numbers) (t : List ℕ) (left node j : ℕ) (rs : List ℕ) (n : Context) (T : Ty) (M : Term) (args : Args)
   (pw : partWeight t node j ≡ weight M) (ty : HasType (partClass t node j) (partValues t node j) T)
-  (fits : questions T * weight M + answers T + weightArgs args < 65536) (room : j < 65536) (σ : Store n) (s : List ℕ)
+  (fits : questions T * weight M + answers T + weightArgs args < 65536) (room : j < 65536) (σ : Store n) (s : ℕ → ℕ)
   (m : Record) (base after : ℕ) (low : base + (questions T * weight M + positions args) < 65536)
   (low′ : after + (answers T + replies (types args)) < 65536) where
 
   pub arg-first : (q : QuestionOf T) (p : Position M) →
-    Shows K t n M (stored n σ) m (step M n (q .0) σ p)
-      (stepAt t K left (word t node (5 + j)) (kindQ (q .0)) (valueQ (q .0)) (numbered M .code p) s (length n) m) →
-    ArgFound K t left node j base after n (arg T M args) σ s m (inl (q, p))
+    Shows K t n M (held rs n σ) m (step M n (q .0) σ p)
+      (stepAt t K left (word t node (5 + j)) (kindQ (q .0)) (valueQ (q .0)) (numbered M .code p) s m) →
+    ArgFound K t left node j base after rs n (arg T M args) σ s m (inl (q, p))
   unfolding count inArgs numberedArgs sum sum-code product product-code stepArgs step first-out
   arg-first q p x = record {
       part = word t node (5 + j);
@@ -338,13 +341,13 @@ module _ (K : Numbers) (t : List ℕ) (left node j : ℕ) (n : Context) (T : Ty)
         (found t node j T M pw ty (omega arith) q p base after (omega arith));
       plain = refl;
       shows =
-        first K t m n T M args (partClass t node j) (partValues t node j) ty q base after (stored n σ) (omega arith)
+        first K t m n T M args (partClass t node j) (partValues t node j) ty q base after (held rs n σ) (omega arith)
         (omega arith) (omega arith) (step M n (q .0) σ p) _ x
     }
 
   pub arg-later : (p : PositionArgs args) →
-    ArgFound K t left node (j + 1) (base + questions T * weight M) (after + answers T) n args σ s m p →
-    ArgFound K t left node j base after n (arg T M args) σ s m (inr p)
+    ArgFound K t left node (j + 1) (base + questions T * weight M) (after + answers T) rs n args σ s m p →
+    ArgFound K t left node j base after rs n (arg T M args) σ s m (inr p)
   unfolding count inArgs numberedArgs sum sum-code product product-code stepArgs step later-out
   arg-later p x =
       let e : sumOf j 1 ≡ j + 1 = sum-small j 1 (omega arith) in
@@ -364,5 +367,5 @@ module _ (K : Numbers) (t : List ℕ) (left node j : ℕ) (n : Context) (T : Ty)
             le-leb (questions T * weight M) (questions T * weight M + k) (omega arith),
             answers-here t node j T M pw ty (omega arith), e, d, e₁, e₂) (x .down);
         plain = x .plain;
-        shows = among K t m n T M args base after (stored n σ) (stepArgs args n σ p) _ (x .shows)
+        shows = among K t m n T M args base after (held rs n σ) (stepArgs args n σ p) _ (x .shows)
       }

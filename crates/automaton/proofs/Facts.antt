@@ -7,7 +7,7 @@ use lib.ListN.{length, List·getD-eq-default}
 use Rattle.language.specs.Operator.{outcome}
 use Rattle.language.specs.declared.operator.Outcome.the-variants.{Is, Nothing}
 use Rattle.records.specs.Row.{cell}
-use Rattle.sheet.specs.table.Rep.{word}
+use Rattle.records.specs.Row.{word}
 use Rattle.automaton.specs.declared.Out.the-variants.{Exit, Stuck}
 use Rattle.automaton.specs.walk.Up.{exitResult}
 
@@ -17,13 +17,13 @@ unfolding word cell
 past t at i h = sym (List·getD-eq-default t 0 h)
 
 -- the exit with the code that the operator answers
-pub result-is : (o : Option ℕ) (v level set : ℕ) → outcome o ≡ Is v → Exit 5 v level set ≡ exitResult o level set
+pub result-is : (o : Option ℕ) (v block set : ℕ) → outcome o ≡ Is v → Exit 5 v block set ≡ exitResult o block set
 unfolding outcome exitResult
-result-is none v level set e = cc
-result-is (some x) v level set e = cc
+result-is none v block set e = cc
+result-is (some x) v block set e = cc
 
 -- nothing where it answers that there is no play
-pub result-nothing : (o : Option ℕ) (level set : ℕ) → outcome o ≡ Nothing → Stuck ≡ exitResult o level set
+pub result-nothing : (o : Option ℕ) (block set : ℕ) → outcome o ≡ Nothing → Stuck ≡ exitResult o block set
 unfolding outcome exitResult
-result-nothing none level set e = refl
-result-nothing (some x) level set e = cc
+result-nothing none block set e = refl
+result-nothing (some x) block set e = cc

@@ -6,7 +6,6 @@ use mathlib.Core.List.{List, [], _∷_}
 use Prim.Native.Nat.{ℕ, zero, suc, _+_, _*_, _-_, _≤_, _<_}
 use native.Mathlib.Omega.{arith}
 use native.Mathlib.Decide.{ℕ-discrete}
-use lib.ListN.{length}
 use lib.Dec.{eqb, leb}
 use borrow.Author.Tests.{lt-leb, le-leb, eq-eqb, ne-eqb}
 use Rattle.language.specs.Choice.{pick}
@@ -28,14 +27,16 @@ use Rattle.machine.specs.Numbering.{numbered-answers, numbered-questions, numbe
 use Rattle.machine.specs.Numbering.{numberedArgs}
 use Rattle.machine.specs.Step.{enter, listen}
 use Rattle.machine.proofs.Unique.{FitsAt-prop}
-use Rattle.sheet.specs.table.Rep.{word, count, Rep, RepArgs, r-none, r-arg}
+use Rattle.records.specs.Row.{word}
+use Rattle.nodes.specs.Rep.{count, Rep, RepArgs, r-none, r-arg}
 use Rattle.automaton.specs.declared.Move.{Move as Record}
 use Rattle.automaton.specs.declared.Out.{Out as Did}
 use Rattle.automaton.specs.declared.Out.the-variants.{Go, Exit, Hear, Stuck}
 use Rattle.automaton.specs.walk.Row.{partWeight, partClass, partValues, nameId, nameCount, sumOf, mulAddOf}
 use Rattle.automaton.specs.walk.Types.{questionNumber, answerNumber}
 use Rattle.automaton.specs.walk.Name.{argSpots, hearAnswer, hearQuestion, listenOf, atWait}
-use Rattle.automaton.specs.walk.Shows.{kindQ, valueQ, kindA, valueA, moveOf, stored, updated, ShowsNext}
+use Rattle.automaton.specs.walk.Shows.{kindQ, valueQ, kindA, valueA, moveOf, stored, held, valued, updated}
+use Rattle.automaton.specs.walk.Shows.{Variables, ShowsNext}
 use Rattle.automaton.specs.walk.Shows.{Awaits, ShowsHeard, waits, leads, GivenMove}
 use Rattle.automaton.proofs.Sums.{sum-small, mul-add-small, when-dead}
 use Rattle.automaton.proofs.TypeNumbers.{HasType, Answered, fitting, unfitting, answer-of, Asked, asking}
@@ -71,7 +72,7 @@ module _ (t : List ℕ) (n : Context) (σ : Store n) (p : Question) where
         × (questionNumber (partClass t node a) (partValues t node a) (kindQ p) (valueQ p) ≡ 0)) →
       Enters node j i a args
 
-  entering : {K : Numbers} {left node j : ℕ} {args : Args} → RepArgs K t left node j n args →
+  entering : {K : Numbers} {rs : List ℕ} {left node j : ℕ} {args : Args} → RepArgs K t left node j rs n args →
     weightArgs args < 65536 → j + count args < 65536 → (i a : ℕ) → a ≡ j + i → Enters node j i a args
   unfolding types FitsAt count weightArgs enter mapNext numberedArgs sum sum-code product product-code argSpots
   entering r-none b h i a e = refuses (λ f. f) (inl (omega arith))
@@ -106,11 +107,20 @@ module _ (t : List ℕ) (n : Context) (σ : Store n) (p : Question) where
       cases (refuses f (inr (x, y))) = refuses f (inr (omega arith, y))
 
 -- no variable is written
-pub written-none : (vs : List ℕ) (u : ℕ) → updated vs 0 u ≡ vs
-unfolding updated
+pub written-none : (vs : Variables) (u : ℕ) → updated vs 0 u ≡ valued vs
+unfolding updated valued
 written-none [] u = refl
 written-none (v ∷ vs) u =
-    rw (ne-eqb 0 (suc (length vs)) (omega arith)) (ap (λ (l : List ℕ). v ∷ l) (written-none vs u))
+    rw (ne-eqb 0 (suc (v .0)) (omega arith)) (ap (λ (l : List ℕ). v .1 ∷ l) (written-none vs u))
+
+pub valued-held : (rs : List ℕ) (n : Context) (σ : Store n) → stored n σ ≡ valued (held rs n σ)
+unfolding stored held valued
+valued-held rs [] σ = refl
+valued-held [] (m ∷ n) σ = ap (λ (l : List ℕ). σ .0 .0 ∷ l) (valued-held [] n (σ .1))
+valued-held (r ∷ rs) (m ∷ n) σ = ap (λ (l : List ℕ). σ .0 .0 ∷ l) (valued-held rs n (σ .1))
+
+pub unwritten : (rs : List ℕ) (n : Context) (σ : Store n) → stored n σ ≡ updated (held rs n σ) 0 0
+unwritten rs n σ = valued-held rs n σ ∙ sym (written-none (held rs n σ) 0)
 
 pub stuck : (b : Bool) → _≡_ {A = Did} (pick b Stuck Stuck) Stuck
 stuck true = refl
@@ -128,15 +138,16 @@ kind-below i j (answer ok) = refl
 kind-below i j (answer (value v)) = refl
 
 -- what is heard at a name
-module _ (K : Numbers) (t : List ℕ) (left node i : ℕ) (n : Context) (T : Ty) (args : Args) (pi : nameId t node ≡ i)
+module _ (K : Numbers) (t : List ℕ) (left node i : ℕ) (rs : List ℕ) (n : Context) (T : Ty) (args : Args) (pi : nameId
+    t node ≡ i)
   (pc : nameCount t node ≡ count args) (ty : HasType (word t node 2) (word t node 3) T) (own : answers T < 1048576)
-  (few : count args ≤ 4) (fits : 2 + weightArgs args < 65536) (r : Rep K t (suc left) node n (name i T args) T)
-  (ra : RepArgs K t left node 0 n args) (q : Question) (σ : Store n) where
+  (few : count args ≤ 4) (fits : 2 + weightArgs args < 65536) (r : Rep K t (suc left) node rs n (name i T args) T)
+  (ra : RepArgs K t left node 0 rs n args) (q : Question) (σ : Store n) where
   abbrev Use : Term
   Use = name i T args
 
-  abbrev vs : List ℕ
-  vs = stored n σ
+  abbrev vs : Variables
+  vs = held rs n σ
 
   dead-shows : (x : Next (State n Use) (ExitOf n)) (o : Did) → x ≡ dead → o ≡ Stuck → ShowsNext n Use vs x o
   unfolding ShowsNext
@@ -154,7 +165,7 @@ module _ (K : Numbers) (t : List ℕ) (left node i : ℕ) (n : Context) (T : Ty)
           (Exit (kindA a) (valueA a) 0 0))
       cases (yes x) (fitting h e) =
           rw (e, ne-eqb (suc (numbered-answers T .code (q, a, h))) 0 (omega arith))
-          (0, 0, refl, sym (written-none vs 0))
+          (0, 0, refl, unwritten rs n σ)
       cases (yes x) (unfitting h e) = absurd (h x)
       cases (no x) (fitting h e) = absurd (x h)
       cases (no x) (unfitting h e) = rw e refl
@@ -184,7 +195,7 @@ module _ (K : Numbers) (t : List ℕ) (left node i : ℕ) (n : Context) (T : Ty)
               mul-add-small k (partWeight t node j) (2 + argSpots t node 0 j) k₁ k₂ (omega (arith, w)))
             (omega (arith, w, within-code i T args x)) in
           rw (FitsAt-prop (types args) j p y h, g, lt-leb (count args) j l, e, ne-eqb (suc k) 0 (omega arith), d)
-          (0, 0, ap (λ (z : ℕ). Go z 0 0) f, sym (written-none vs 0))
+          (0, 0, ap (λ (z : ℕ). Go z 0 0) f, unwritten rs n σ)
       cases (yes y) (refuses f x) = absurd (f y)
       cases (no y) (enters h x k g l e k₁ k₂ w) = absurd (y h)
       cases (no y) (refuses f (inl l)) = rw (le-leb (count args) j l) refl
@@ -223,7 +234,8 @@ module _ (K : Numbers) (t : List ℕ) (left node i : ℕ) (n : Context) (T : Ty)
 
   awaited : Awaits K t (calling i (types args) T q) node (kindQ q) (valueQ q)
   awaited = record {
-    left = suc left; within = n; id = i; result = T; args = args; part = r; asked = q; listens = refl; kinded = refl;
+    left = suc left; rows = rs; within = n; id = i; result = T; args = args; part = r; asked = q; listens = refl;
+        kinded = refl;
     valued = refl
   }
 

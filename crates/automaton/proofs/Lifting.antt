@@ -33,7 +33,7 @@ use Rattle.automaton.specs.walk.Up.{exitDone, exitTruth, exitValue, exit
 use Rattle.automaton.specs.walk.Up.{exitsOf}
 use Rattle.automaton.specs.walk.Up.{goesOf, riseOf}
 use Rattle.automaton.specs.walk.Shows.{kindA, valueA, moveOf, stored, updated, ShowsNext, ShowsSaid, waits}
-use Rattle.automaton.specs.walk.Shows.{leads, Shows}
+use Rattle.automaton.specs.walk.Shows.{leads, Shows, Variables}
 use Rattle.automaton.proofs.Sums.{map-edge, sum-small}
 
 -- where the part has the same variables
@@ -42,7 +42,7 @@ in-part n L M inj s = (s .0, inj (s .1))
 
 module _ (K : Numbers) (t : List ℕ) (m : Record) (n : Context) (L M : Term) (F : Frame)
   (inj : Position L → Position M)
-  (e : ExitOf n → Next (State n M) (ExitOf n)) (vs : List ℕ) (role : eqb (F .role) 7 ≡ false)
+  (e : ExitOf n → Next (State n M) (ExitOf n)) (vs : Variables) (role : eqb (F .role) 7 ≡ false)
   (codes : (p : Position L) → sumOf (F .base) (numbered L .code p) ≡ numbered M .code (inj p))
   (outs : (x : ExitOf n) (l u : ℕ) → stored n (x .0) ≡ updated vs l u →
     ShowsNext n M vs (e x) (exitsOf K F (kindA (x .1)) (valueA (x .1)) l u)) where
@@ -74,7 +74,7 @@ module _ (K : Numbers) (t : List ℕ) (m : Record) (n : Context) (L M : Term) (F
         (lift-next (edge-hear l k (move (at i j) d)) o b))
 
 -- what exits become
-module _ (K : Numbers) (n : Context) (M : Term) (vs : List ℕ) where
+module _ (K : Numbers) (n : Context) (M : Term) (vs : Variables) where
   pub out-pass : (base a b c d : ℕ) (x : ExitOf n) (l u : ℕ) → stored n (x .0) ≡ updated vs l u →
     ShowsNext n M vs (out x) (exitsOf K (framedOf 0 base a b c d) (kindA (x .1)) (valueA (x .1)) l u)
   unfolding ShowsNext exitsOf
@@ -160,7 +160,7 @@ module _ (K : Numbers) (n : Context) (M : Term) (vs : List ℕ) where
       cases (no h) = rw (le-ltb v c (omega arith)) refl
 
 -- a fetch is its variable, asked to be read
-module _ (K : Numbers) (t : List ℕ) (m : Record) (n : Context) (X : Term) (vs : List ℕ)
+module _ (K : Numbers) (t : List ℕ) (m : Record) (n : Context) (X : Term) (vs : Variables)
   (fits : weight X < 65536) where
   same-next : (x : Next (State n X) (ExitOf n)) (o : Did) → ShowsNext n X vs x o →
     ShowsNext n (fetch X) vs x (riseOf K (framedOf 0 0 0 0 0 0) o)

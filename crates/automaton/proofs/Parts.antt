@@ -10,12 +10,13 @@ use Rattle.language.specs.declared.Numbers.{Numbers}
 use Rattle.machine.specs.Position.{entry}
 use Rattle.machine.specs.Numbered.{values}
 use Rattle.machine.specs.Numbering.{numbered}
-use Rattle.sheet.specs.table.Rep.{word, Represented, Rep, r-skip, r-diverge, r-const, r-private, r-name, r-fetch, r-operate}
-use Rattle.sheet.specs.table.Rep.{r-assign, r-seq, r-cond, r-while, r-new}
+use Rattle.records.specs.Row.{word}
+use Rattle.nodes.specs.Rep.{Represented, Rep, r-skip, r-diverge, r-const, r-private, r-name, r-fetch, r-operate}
+use Rattle.nodes.specs.Rep.{r-assign, r-seq, r-cond, r-while, r-new}
 use Rattle.automaton.specs.walk.Row.{partWeight, partClass, partValues}
 use Rattle.automaton.proofs.TypeNumbers.{HasType, has-type}
 
-pub row-of : {K : Numbers} {t n : List ℕ} {left at : ℕ} {M : Term} {T : Ty} → Rep K t left at n M T →
+pub row-of : {K : Numbers} {t rs n : List ℕ} {left at : ℕ} {M : Term} {T : Ty} → Rep K t left at rs n M T →
   (k : ℕ) × Represented t at k M T
 row-of (r-skip r) = (16, r)
 row-of (r-diverge r) = (17, r)
@@ -28,15 +29,15 @@ row-of (r-assign r x y) = (23, r)
 row-of (r-seq r x y) = (24, r)
 row-of (r-cond r x y z) = (25, r)
 row-of (r-while r x y) = (26, r)
-row-of (r-new r e x) = (27, r)
+row-of (r-new r e f x) = (27, r)
 
-pub small-weight : {K : Numbers} {t n : List ℕ} {left at : ℕ} {M : Term} {T : Ty} → Rep K t left at n M T →
+pub small-weight : {K : Numbers} {t rs n : List ℕ} {left at : ℕ} {M : Term} {T : Ty} → Rep K t left at rs n M T →
   weight M ≤ 4096
 small-weight r = row-of r .1 .small
 
 -- part j of the term at a place
-module _ {K : Numbers} {t n : List ℕ} {left : ℕ} {M : Term} {T : Ty} (at j : ℕ)
-  (r : Rep K t left (word t at (5 + j)) n M T) where
+module _ {K : Numbers} {t rs n : List ℕ} {left : ℕ} {M : Term} {T : Ty} (at j : ℕ)
+  (r : Rep K t left (word t at (5 + j)) rs n M T) where
   pub part-weight : partWeight t at j ≡ weight M
   unfolding partWeight
   part-weight = row-of r .1 .weighed

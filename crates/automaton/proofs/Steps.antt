@@ -6,11 +6,11 @@ use lib.Dec.{leb}
 use native.Mathlib.Numerals.{sub-one}
 use Rattle.language.specs.Choice.{pick}
 use Rattle.language.specs.declared.Numbers.{Numbers}
-use Rattle.sheet.specs.table.Rep.{word}
+use Rattle.records.specs.Row.{word}
 use Rattle.automaton.specs.declared.Move.{Move}
 use Rattle.automaton.specs.walk.Row.{partWeight, partClass, partValues, sumOf}
 use Rattle.automaton.specs.walk.Types.{answersOf}
-use Rattle.automaton.specs.walk.Store.{storeIn, heightIn}
+use Rattle.automaton.specs.walk.Store.{storeIn}
 use Rattle.automaton.specs.walk.Name.{copiesOf, argSpots, replyHere, replyOf, argHere, inArgs}
 use Rattle.automaton.specs.walk.Down.{downOf}
 use Rattle.automaton.specs.walk.Up.{riseOf}
@@ -39,11 +39,11 @@ unfolding inArgs
 args-step t at j zero k base after h = absurd (h refl)
 args-step t at j (suc n) k base after h = simp sub-one
 
-pub at-step : (t : List ℕ) (N : Numbers) (left at q x k : ℕ) (s : List ℕ) (h : ℕ) (m : Move) → (left ≡ 0 → ⊥) →
-  stepAt t N left at q x k s h m ≡
-  onSpot (downOf t at q x k s h m)
+pub at-step : (t : List ℕ) (N : Numbers) (left at q x k : ℕ) (s : ℕ → ℕ) (m : Move) → (left ≡ 0 → ⊥) →
+  stepAt t N left at q x k s m ≡
+  onSpot (downOf t at q x k s m)
   (λ part kind value inner f. riseOf N f
-    (stepAt t N (left - 1) part kind value inner (storeIn s h f) (heightIn h f) m))
+    (stepAt t N (left - 1) part kind value inner (storeIn s f) m))
 unfolding stepAt
-at-step t N zero at q x k s h m e = absurd (e refl)
-at-step t N (suc left) at q x k s h m e = simp sub-one
+at-step t N zero at q x k s m e = absurd (e refl)
+at-step t N (suc left) at q x k s m e = simp sub-one

@@ -2,18 +2,16 @@
 use mathlib.Core.Path.{_≡_, refl, sym, _∙_, ap, subst}
 use mathlib.Core.Bool.{Bool, true, false}
 use mathlib.Core.List.{List, [], _∷_}
-use Prim.Native.Nat.{ℕ, suc, _+_, _*_, _%_, _≤_, _<_}
+use Prim.Native.Nat.{ℕ, suc, _+_, _*_, _≤_, _<_}
 use native.Mathlib.Omega.{arith}
 use native.Mathlib.Decide.{decLt}
-use native.Mathlib.Nat.{mod-eq-of-lt}
-use lib.Seq.{getD-set-same, getD-set-other}
-use lib.ListN.{getD, length, set, length-set}
 use lib.Dec.{eqb}
 use borrow.Author.Tests.{lt-ltb, le-ltb, eq-eqb, ne-eqb}
 use Rattle.language.specs.Choice.{pick}
 use Rattle.language.specs.Ty.{Question, run, ask, read, write, Answer, ok, value}
 use Rattle.language.specs.Move.{at, Move, move}
 use Rattle.language.specs.Term.{Term, private, new}
+use Rattle.language.specs.Typing.{Scope, here, there}
 use Rattle.language.specs.Play.{Val}
 use Rattle.language.specs.Weight.{weight}
 use Rattle.language.specs.declared.Numbers.{Numbers}
@@ -24,7 +22,8 @@ use Rattle.machine.specs.Position.{Context, Store, Position, State, Exit as Exi
 use Rattle.machine.specs.Numbered.{values, product, product-code}
 use Rattle.machine.specs.Numbering.{numbered}
 use Rattle.machine.specs.Step.{askVariable, access}
-use Rattle.sheet.specs.table.Rep.{word, Level, here, there}
+use Rattle.records.specs.Row.{word}
+use Rattle.nodes.specs.Rep.{Fresh}
 use Rattle.automaton.specs.declared.Move.{Move as Record}
 use Rattle.automaton.specs.declared.Frame.{Frame}
 use Rattle.automaton.specs.declared.Out.{Out as Did}
@@ -34,29 +33,37 @@ use Rattle.automaton.specs.walk.Store.{withValue}
 use Rattle.automaton.specs.walk.Name.{framedOf}
 use Rattle.automaton.specs.walk.Down.{inPrivate}
 use Rattle.automaton.specs.walk.Up.{exitNew, exitsOf, goesOf, riseOf}
-use Rattle.automaton.specs.walk.Shows.{kindQ, valueQ, kindA, valueA, moveOf, stored, updated, HeldStore}
-use Rattle.automaton.specs.walk.Shows.{ShowsNext}
+use Rattle.automaton.specs.walk.Shows.{kindQ, valueQ, kindA, valueA, moveOf, stored, held, valued, updated}
+use Rattle.automaton.specs.walk.Shows.{Variables, HeldStore, ShowsNext}
 use Rattle.automaton.specs.walk.Shows.{ShowsSaid, waits, leads, Shows}
 use Rattle.automaton.proofs.Sums.{map-edge, sum-small, mul-add-small, times, under}
 use Rattle.automaton.proofs.Parts.{positive}
-use Rattle.automaton.proofs.Hearing.{written-none}
+use Rattle.automaton.proofs.Hearing.{written-none, valued-held, unwritten}
 
-pub stored-length : (n : Context) (σ : Store n) → length (stored n σ) ≡ length n
-unfolding stored
-stored-length [] σ = refl
-stored-length (m ∷ n) σ = ap suc (stored-length n (σ .1))
+-- the blocks on a path: their rows, each of them once, and the numbers of values of their variables
+pub data Blocks : List ℕ → Context → Type 0 where
+  outside : Blocks [] []
+  inside : {rs : List ℕ} {n : Context} {r m : ℕ} → Fresh rs r → Blocks rs n → Blocks (r ∷ rs) (m ∷ n)
+
+-- the enclosing block i has the row r, and its variable m values
+pub data Block : List ℕ → Context → ℕ → ℕ → ℕ → Type 0 where
+  own : {r m : ℕ} {rs : List ℕ} {n : Context} → Block (r ∷ rs) (m ∷ n) 0 m r
+  outer : {r m k i l : ℕ} {rs : List ℕ} {n : Context} → Block rs n i m r → Block (l ∷ rs) (k ∷ n) (suc i) m r
+
+pub block : {rs : List ℕ} {n : Context} {i m r : ℕ} → Scope rs i r → Scope n i m → Block rs n i m r
+block here here = own
+block (there a) (there b) = outer (block a b)
+
+block-row : {rs : List ℕ} {n : Context} {i m r : ℕ} → Block rs n i m r → Scope rs i r
+block-row own = here
+block-row (outer a) = there (block-row a)
 
 -- reading and writing a private variable
-pub read-at : {S A : Type 0} (s : List ℕ) {n : Context} {i m l : ℕ} → Level n i m l → (σ : Store n) →
-  HeldStore s (stored n σ) → (k : Store n → Answer → Next S A) → access n i σ read k ≡ k σ (value (getD s l 0))
-unfolding access askVariable HeldStore stored
-read-at s (here {n = n}) σ h k =
-    ap (λ (v : ℕ). k σ (value v)) (sym (subst (λ (j : ℕ). getD s j 0 ≡ σ .0 .0) (stored-length n (σ .1)) (h .0)))
-read-at s (there a) σ h k = read-at s a (σ .1) (h .1) (λ τ. k (σ .0, τ))
-
-pub level-below : {n : Context} {i m l : ℕ} → Level n i m l → l < length n
-level-below here = omega arith
-level-below (there a) = omega (arith, level-below a)
+pub read-at : {S A : Type 0} (s : ℕ → ℕ) {rs : List ℕ} {n : Context} {i m r : ℕ} → Block rs n i m r → (σ : Store n) →
+  HeldStore s (held rs n σ) → (k : Store n → Answer → Next S A) → access n i σ read k ≡ k σ (value (s r))
+unfolding access askVariable HeldStore held
+read-at s own σ h k = ap (λ (v : ℕ). k σ (value v)) (sym (h .0))
+read-at s (outer a) σ h k = read-at s a (σ .1) (h .1) (λ τ. k (σ .0, τ))
 
 when-some : {S A : Type 0} (m x : ℕ) (f : x < m → Next S A) (h : x < m) (d : Dec (x < m)) →
   (y : x < m) × (when d f ≡ f y)
@@ -69,60 +76,59 @@ unfolding when
 when-none m x f h (yes y) = absurd (omega arith)
 when-none m x f h (no n) = refl
 
-pub write-at : {S A : Type 0} {n : Context} {i m l : ℕ} → Level n i m l → (x : ℕ) → x < m → (σ : Store n) →
-  (k : Store n → Answer → Next S A) →
-  (τ : Store n) × (access n i σ (write x) k ≡ k τ ok) × (stored n τ ≡ updated (stored n σ) (suc l) x)
-unfolding access askVariable stored updated
-write-at (here {m} {n}) x b σ k =
+pub write-at : {S A : Type 0} {rs : List ℕ} {n : Context} {i m r : ℕ} → Block rs n i m r → Blocks rs n → (x : ℕ) →
+  x < m → (σ : Store n) → (k : Store n → Answer → Next S A) →
+  (τ : Store n) × (access n i σ (write x) k ≡ k τ ok) × (stored n τ ≡ updated (held rs n σ) (suc r) x)
+unfolding access askVariable stored held updated Fresh
+write-at (own {r} {m} {rs} {n}) d x b σ k =
     let y = when-some m x (λ h. k ((x, h), σ .1) ok) b (decLt x m) in
     (((x, y .0), σ .1), y .1,
-      rw (eq-eqb (suc (length n)) (suc (length (stored n (σ .1)))) (ap suc (sym (stored-length n (σ .1))))))
-write-at (there {k = k₁} {l = l} {n = n} a) x b σ k =
-    let r = write-at a x b (σ .1) (λ τ. k (σ .0, τ)) in
-    ((σ .0, r .0), r .1,
-      rw (ne-eqb (suc l) (suc (length (stored n (σ .1)))) (omega (arith, level-below a, stored-length n (σ .1))))
-      (ap (λ (z : List ℕ). σ .0 .0 ∷ z) (r .2)))
+      rw (eq-eqb (suc r) (suc r) refl) (ap (λ (z : List ℕ). x ∷ z) (valued-held rs n (σ .1))))
+write-at (outer {r = r} {k = k₁} {i = i} {l = l} {rs = rs} {n = n} a) (inside f d) x b σ k =
+    let w = write-at a d x b (σ .1) (λ τ. k (σ .0, τ)) in
+    ((σ .0, w .0), w .1,
+      rw (ne-eqb (suc r) (suc l) (λ e. f i (subst (λ (j : ℕ). Scope rs i j) (omega arith) (block-row a))))
+      (ap (λ (z : List ℕ). σ .0 .0 ∷ z) (w .2)))
 
-pub write-not : {S A : Type 0} {n : Context} {i m l : ℕ} → Level n i m l → (x : ℕ) → m ≤ x → (σ : Store n) →
+pub write-not : {S A : Type 0} {rs : List ℕ} {n : Context} {i m r : ℕ} → Block rs n i m r → (x : ℕ) → m ≤ x → (σ :
+    Store n) →
   (k : Store n → Answer → Next S A) → access n i σ (write x) k ≡ dead
 unfolding access askVariable
-write-not (here {m} {n}) x b σ k = when-none m x (λ h. k ((x, h), σ .1) ok) b (decLt x m)
-write-not (there a) x b σ k = write-not a x b (σ .1) (λ τ. k (σ .0, τ))
+write-not (own {m = m} {n = n}) x b σ k = when-none m x (λ h. k ((x, h), σ .1) ok) b (decLt x m)
+write-not (outer a) x b σ k = write-not a x b (σ .1) (λ τ. k (σ .0, τ))
 
-pub no-run : {S A : Type 0} {n : Context} {i m l : ℕ} → Level n i m l → (σ : Store n) →
+pub no-run : {S A : Type 0} {rs : List ℕ} {n : Context} {i m r : ℕ} → Block rs n i m r → (σ : Store n) →
   (k : Store n → Answer → Next S A) → access n i σ run k ≡ dead
 unfolding access askVariable
-no-run here σ k = refl
-no-run (there a) σ k = no-run a (σ .1) (λ τ. k (σ .0, τ))
+no-run own σ k = refl
+no-run (outer a) σ k = no-run a (σ .1) (λ τ. k (σ .0, τ))
 
-pub no-ask : {S A : Type 0} {n : Context} {i m l : ℕ} → Level n i m l → (σ : Store n) →
+pub no-ask : {S A : Type 0} {rs : List ℕ} {n : Context} {i m r : ℕ} → Block rs n i m r → (σ : Store n) →
   (k : Store n → Answer → Next S A) → access n i σ ask k ≡ dead
 unfolding access askVariable
-no-ask here σ k = refl
-no-ask (there a) σ k = no-ask a (σ .1) (λ τ. k (σ .0, τ))
+no-ask own σ k = refl
+no-ask (outer a) σ k = no-ask a (σ .1) (λ τ. k (σ .0, τ))
 
 -- the values that are held, one more
-held-other : (s : List ℕ) (h x : ℕ) (vs : List ℕ) → length vs ≤ h → HeldStore s vs → HeldStore (set s h x) vs
-unfolding HeldStore
-held-other s h x [] l d = tt
-held-other s h x (v ∷ vs) l d =
-    (getD-set-other s h (length vs) x 0 (λ e. absurd (omega arith)) ∙ d .0, held-other s h x vs (omega arith) (d .1))
+held-other : (s : ℕ → ℕ) (r x : ℕ) {rs : List ℕ} {n : Context} → Blocks rs n → (σ : Store n) → Fresh rs r →
+  HeldStore s (held rs n σ) → HeldStore (withValue s (suc r) x) (held rs n σ)
+unfolding HeldStore held withValue Fresh
+held-other s r x outside σ f d = tt
+held-other s r x (inside {rs} {n} {r = l} g ds) σ f d =
+    (rw (ne-eqb (suc r) (suc l) (λ e. f 0 (subst (λ (j : ℕ). Scope (l ∷ rs) 0 j) (omega arith) here))) (d .0),
+      held-other s r x ds (σ .1) (λ i a. f (suc i) (there a)) (d .1))
 
-pub held-push : (s : List ℕ) (h v : ℕ) (vs : List ℕ) → length vs ≡ h → h < 32 → length s ≡ 32 → v < 65536 →
-  HeldStore s vs → HeldStore (withValue s h v) (v ∷ vs)
-unfolding HeldStore withValue
-held-push s h v vs e b c d k =
-    rw (lt-ltb h 32 b)
-    (rw e (getD-set-same s h (v % 65536) 0 (omega arith) ∙ mod-eq-of-lt d),
-      held-other s h (v % 65536) vs (omega arith) k)
-
-pub push-length : (s : List ℕ) (h v : ℕ) → h < 32 → length (withValue s h v) ≡ length s
-unfolding withValue
-push-length s h v b = rw (lt-ltb h 32 b) (simp length-set)
+pub held-push : (s : ℕ → ℕ) (r a m : ℕ) {rs : List ℕ} {n : Context} → a ≡ suc r → Blocks rs n → (v : Val m) (σ : Store
+    n) →
+  Fresh rs r → HeldStore s (held rs n σ) → HeldStore (withValue s a (v .0)) (held (r ∷ rs) (m ∷ n) (v, σ))
+unfolding HeldStore held withValue
+held-push s r a m e ds v σ f d =
+    rw e (rw (eq-eqb (suc r) (suc r) refl) refl, held-other s r (v .0) ds σ f d)
 
 -- the exit of a private variable
-module _ (t : List ℕ) (node : ℕ) (n : Context) (i m₀ l₀ : ℕ) (rl : word t node 4 ≡ l₀) (rm : word t node 3 ≡ m₀)
-  (a : Level n i m₀ l₀) (σ : Store n) (s : List ℕ) (hd : HeldStore s (stored n σ)) (small : length n ≤ 32) where
+module _ (t : List ℕ) (node : ℕ) (rs : List ℕ) (n : Context) (i m₀ r₀ : ℕ) (rl : word t node 4 ≡ r₀)
+  (rm : word t node 3 ≡ m₀) (a : Block rs n i m₀ r₀) (ds : Blocks rs n) (σ : Store n) (s : ℕ → ℕ)
+  (hd : HeldStore s (held rs n σ)) (small : r₀ < 65536) where
   abbrev leave : Store n → Answer → Next (State n (private i)) (ExitOf n)
   leave τ b = out (τ, b)
 
@@ -130,20 +136,20 @@ module _ (t : List ℕ) (node : ℕ) (n : Context) (i m₀ l₀ : ℕ) (rl : wor
   accessed q = access n i σ q leave
 
   pub private-shows : (q : Question) →
-    ShowsNext n (private i) (stored n σ) (accessed q) (inPrivate t node (kindQ q) (valueQ q) 1 s)
+    ShowsNext n (private i) (held rs n σ) (accessed q) (inPrivate t node (kindQ q) (valueQ q) 1 s)
   unfolding ShowsNext inPrivate kindQ valueQ kindA valueA
   private-shows run = rw (no-run a σ leave) refl
   private-shows ask = rw (no-ask a σ leave) refl
-  private-shows read = rw (read-at s a σ hd leave, rl) (0, 0, refl, sym (written-none (stored n σ) 0))
+  private-shows read = rw (read-at s a σ hd leave, rl) (0, 0, refl, unwritten rs n σ)
   private-shows (write x) = cases (decLt x m₀)
     where
       cases : Dec (x < m₀) →
-        ShowsNext n (private i) (stored n σ) (accessed (write x)) (inPrivate t node 6 x 1 s)
+        ShowsNext n (private i) (held rs n σ) (accessed (write x)) (inPrivate t node 6 x 1 s)
       cases (yes h) =
-          let r = write-at a x h σ leave in
+          let r = write-at a ds x h σ leave in
           rw (r .1, rl, rm, lt-ltb x m₀ h)
-          (suc l₀, x,
-            rw (sum-small l₀ 1 (omega (arith, level-below a))) (ap (λ (k : ℕ). Exit 4 0 k x) (omega arith)), r .2)
+          (suc r₀, x,
+            rw (sum-small r₀ 1 (omega arith)) (ap (λ (k : ℕ). Exit 4 0 k x) (omega arith)), r .2)
       cases (no h) = rw (write-not a x (omega arith) σ leave, rm, le-ltb x m₀ (omega arith)) refl
 
 -- a block's step, seen from outside
@@ -154,28 +160,28 @@ cons-tail : (v w : ℕ) (vs ws : List ℕ) → _≡_ {A = List ℕ} (v ∷ vs) (
 cons-tail v w vs ws e = cc
 
 module _ (K : Numbers) (t : List ℕ) (m : Record) (n : Context) (k : ℕ) (z : 0 < k) (C : Term) (v : Val k)
-  (vs : List ℕ)
-  (depth : length vs ≡ length n) (fits : k * weight C < 65536) (low : length n < 32) where
+  (vs : Variables) (row : ℕ) (fits : k * weight C < 65536) (low : row < 65536) where
   abbrev BlockFrame : Frame
-  BlockFrame = framedOf 7 (mulAddOf (v .0) (weight C) 0) (sumOf (length n) 1) (weight C) (v .0) 0
+  BlockFrame = framedOf 7 (mulAddOf (v .0) (weight C) 0) (sumOf row 1) (weight C) (v .0) 0
 
   -- what a change says of the block's variable and of the others
   data Change (x : ℕ) (xs : List ℕ) (l u : ℕ) : Type 0 where
-    mine : eqb l (sumOf (length n) 1) ≡ true → x ≡ u → xs ≡ vs → Change x xs l u
-    other : eqb l (sumOf (length n) 1) ≡ false → x ≡ v .0 → xs ≡ updated vs l u → Change x xs l u
+    mine : eqb l (sumOf row 1) ≡ true → x ≡ u → xs ≡ valued vs → Change x xs l u
+    other : eqb l (sumOf row 1) ≡ false → x ≡ v .0 → xs ≡ updated vs l u → Change x xs l u
 
-  change : (x : ℕ) (xs : List ℕ) (l u : ℕ) → _≡_ {A = List ℕ} (x ∷ xs) (updated (v .0 ∷ vs) l u) → Change x xs l u
+  change : (x : ℕ) (xs : List ℕ) (l u : ℕ) → _≡_ {A = List ℕ} (x ∷ xs) (updated ((row, v .0) ∷ vs) l u) → Change x xs
+      l u
   unfolding updated
   change x xs l u w = cases _ refl w
     where
-      level : suc (length vs) ≡ sumOf (length n) 1
-      level = omega (arith, sum-small (length n) 1 (omega arith))
-      cases : (b : Bool) → eqb l (suc (length vs)) ≡ b →
-        _≡_ {A = List ℕ} (x ∷ xs) (pick b (u ∷ vs) (v .0 ∷ updated vs l u)) → Change x xs l u
+      place : suc row ≡ sumOf row 1
+      place = omega (arith, sum-small row 1 (omega arith))
+      cases : (b : Bool) → eqb l (suc row) ≡ b →
+        _≡_ {A = List ℕ} (x ∷ xs) (pick b (u ∷ valued vs) (v .0 ∷ updated vs l u)) → Change x xs l u
       cases true e h =
-          mine (subst (λ (j : ℕ). eqb l j ≡ true) level e) (cons-head x u xs vs h) (cons-tail x u xs vs h)
+          mine (subst (λ (j : ℕ). eqb l j ≡ true) place e) (cons-head x u xs _ h) (cons-tail x u xs _ h)
       cases false e h =
-          other (subst (λ (j : ℕ). eqb l j ≡ false) level e) (cons-head x (v .0) xs _ h) (cons-tail x (v .0) xs _ h)
+          other (subst (λ (j : ℕ). eqb l j ≡ false) place e) (cons-head x (v .0) xs _ h) (cons-tail x (v .0) xs _ h)
 
   size : weight C < 65536
   size = omega (arith, times k (weight C) (v .0) (v .1))
@@ -203,7 +209,7 @@ module _ (K : Numbers) (t : List ℕ) (m : Record) (n : Context) (k : ℕ) (z : 
   abbrev closed : ExitOf (k ∷ n) → Next (State n (new k z C)) (ExitOf n)
   closed e = out (e .0 .1, e .1)
 
-  new-next : (x : Next (State (k ∷ n) C) (ExitOf (k ∷ n))) (o : Did) → ShowsNext (k ∷ n) C (v .0 ∷ vs) x o →
+  new-next : (x : Next (State (k ∷ n) C) (ExitOf (k ∷ n))) (o : Did) → ShowsNext (k ∷ n) C ((row, v .0) ∷ vs) x o →
     ShowsNext n (new k z C) vs (mapNext opened closed x) (riseOf K BlockFrame o)
   unfolding ShowsNext mapNext riseOf goesOf exitsOf exitNew stored numbered product product-code values
   new-next (to s) o (l, u, h, w) = rw h (cases (change _ _ l u w))
@@ -222,15 +228,16 @@ module _ (K : Numbers) (t : List ℕ) (m : Record) (n : Context) (k : ℕ) (z : 
   new-next dead o h = rw h refl
 
   new-said : (y : Move) (x : Next (State (k ∷ n) C) (ExitOf (k ∷ n))) (o : Did) →
-    ShowsSaid (k ∷ n) C (v .0 ∷ vs) y x o →
+    ShowsSaid (k ∷ n) C ((row, v .0) ∷ vs) y x o →
     ShowsSaid n (new k z C) vs y (mapNext opened closed x) (riseOf K BlockFrame o)
-  unfolding ShowsSaid mapNext riseOf stored numbered product product-code values
+  unfolding ShowsSaid mapNext riseOf stored valued numbered product product-code values
   new-said y (to s) o (h, w) =
       rw h (ap (λ (j : ℕ). Say (moveOf y) j) (kept-code (s .0 .0) (cons-head _ _ _ _ w) (s .1)), cons-tail _ _ _ _ w)
   new-said y (out x) o h = absurd h
   new-said y dead o h = absurd h
 
-  pub lift-new : (y : Action (State (k ∷ n) C) (ExitOf (k ∷ n))) (o : Did) → Shows K t (k ∷ n) C (v .0 ∷ vs) m y o →
+  pub lift-new : (y : Action (State (k ∷ n) C) (ExitOf (k ∷ n))) (o : Did) → Shows K t (k ∷ n) C ((row, v .0) ∷ vs) m
+      y o →
     Shows K t n (new k z C) vs m (mapAction opened closed y) (riseOf K BlockFrame o)
   unfolding Shows mapAction riseOf
   lift-new (go x) o h = new-next x o h

@@ -3,7 +3,6 @@ use mathlib.Core.Path.{_≡_, refl, sym, _∙_, ap, ap₂, subst}
 use mathlib.Core.List.{List}
 use Prim.Native.Nat.{ℕ, suc, _+_, _*_, _-_, _≤_, _<_}
 use native.Mathlib.Omega.{arith}
-use lib.ListN.{length}
 use lib.Dec.{eqb}
 use mathlib.Core.Bool.{false}
 use borrow.Author.Tests.{lt-ltb, le-ltb, ne-eqb}
@@ -18,46 +17,48 @@ use Rattle.machine.specs.Position.{State, Exit as ExitOf}
 use Rattle.machine.specs.Numbered.{single, iso, sum, sum-code}
 use Rattle.machine.specs.Numbering.{numbered-replies, numbered-name, positions, weight-args, numbered, numberedArgs}
 use Rattle.machine.specs.Step.{listen, step, stepArgs}
-use Rattle.sheet.specs.table.Rep.{word, count, RepArgs}
+use Rattle.records.specs.Row.{word}
+use Rattle.nodes.specs.Rep.{count, RepArgs}
 use Rattle.automaton.specs.declared.Move.{Move as Record}
 use Rattle.automaton.specs.declared.Frame.{Frame}
 use Rattle.automaton.specs.declared.Out.{Out as Did}
 use Rattle.automaton.specs.declared.Out.the-variants.{Go, Say}
 use Rattle.automaton.specs.declared.Spot.the-variants.{Here, Inside}
 use Rattle.automaton.specs.walk.Row.{nameId, nameCount, sumOf, mulAddOf}
-use Rattle.automaton.specs.walk.Store.{withValue, storeIn, heightIn}
+use Rattle.automaton.specs.walk.Store.{withValue, storeIn}
 use Rattle.automaton.specs.walk.Name.{framedOf, saidOf, argSpots, replyOf, inArgs, atWait, inName}
 use Rattle.automaton.specs.walk.Down.{operateIn, assignIn, inPrivate, downAs, downOf}
 use Rattle.automaton.specs.walk.Up.{riseOf}
 use Rattle.automaton.specs.walk.Step.{onSpot, stepAt}
-use Rattle.automaton.specs.walk.Shows.{kindQ, valueQ, kindA, valueA, moveOf, stored, ShowsSaid, ShowsHeard}
+use Rattle.automaton.specs.walk.Shows.{kindQ, valueQ, kindA, valueA, moveOf, held, ShowsSaid, ShowsHeard}
 use Rattle.automaton.specs.walk.Shows.{Shows}
 use Rattle.automaton.proofs.Sums.{sum-small, quotient, remainder}
 use Rattle.automaton.proofs.Arguments.{named-code, spots-of, reply-of, within-code, reply-code, whole}
 use Rattle.automaton.proofs.Arguments.{ArgFound}
+use Rattle.automaton.proofs.Hearing.{valued-held}
 
 -- the position is here
-pub walk-here : (K : Numbers) (t : List ℕ) (left node q x k : ℕ) (s : List ℕ) (h : ℕ) (m : Record) {o : Did} →
-  downOf t node q x k s h m ≡ Here o → stepAt t K (suc left) node q x k s h m ≡ o
+pub walk-here : (K : Numbers) (t : List ℕ) (left node q x k : ℕ) (s : ℕ → ℕ) (m : Record) {o : Did} →
+  downOf t node q x k s m ≡ Here o → stepAt t K (suc left) node q x k s m ≡ o
 unfolding stepAt onSpot
-walk-here K t left node q x k s h m e = rw e refl
+walk-here K t left node q x k s m e = rw e refl
 
 -- the position is in a part with the same variables
-pub walk-in : (K : Numbers) (t : List ℕ) (left node q x k : ℕ) (s : List ℕ) (h : ℕ) (m : Record)
-  {part kind value inner : ℕ} {F : Frame} → downOf t node q x k s h m ≡ Inside part kind value inner F →
+pub walk-in : (K : Numbers) (t : List ℕ) (left node q x k : ℕ) (s : ℕ → ℕ) (m : Record)
+  {part kind value inner : ℕ} {F : Frame} → downOf t node q x k s m ≡ Inside part kind value inner F →
   eqb (F .role) 7 ≡ false →
-  stepAt t K (suc left) node q x k s h m ≡ riseOf K F (stepAt t K left part kind value inner s h m)
-unfolding stepAt onSpot storeIn heightIn
-walk-in K t left node q x k s h m e role = rw e (simp role)
+  stepAt t K (suc left) node q x k s m ≡ riseOf K F (stepAt t K left part kind value inner s m)
+unfolding stepAt onSpot storeIn
+walk-in K t left node q x k s m e role = rw e (simp role)
 
 -- the position is in a block
-pub walk-new : (K : Numbers) (t : List ℕ) (left node q x k : ℕ) (s : List ℕ) (h : ℕ) (m : Record)
+pub walk-new : (K : Numbers) (t : List ℕ) (left node q x k : ℕ) (s : ℕ → ℕ) (m : Record)
   {part kind value inner : ℕ} (base a b c d : ℕ) →
-  downOf t node q x k s h m ≡ Inside part kind value inner (framedOf 7 base a b c d) →
-  stepAt t K (suc left) node q x k s h m
-  ≡ riseOf K (framedOf 7 base a b c d) (stepAt t K left part kind value inner (withValue s h c) (sumOf h 1) m)
-unfolding stepAt onSpot storeIn heightIn
-walk-new K t left node q x k s h m base a b c d e = rw e refl
+  downOf t node q x k s m ≡ Inside part kind value inner (framedOf 7 base a b c d) →
+  stepAt t K (suc left) node q x k s m
+  ≡ riseOf K (framedOf 7 base a b c d) (stepAt t K left part kind value inner (withValue s a c) m)
+unfolding stepAt onSpot storeIn
+walk-new K t left node q x k s m base a b c d e = rw e refl
 
 -- in the copy for x of an assigned variable and of a right operand
 pub assign-right : (var e w v m x c : ℕ) → c < v →
@@ -77,15 +78,16 @@ operate-right l r w v o m x c h =
       remainder x v c h) refl
 
 -- the first step of a private variable
-pub private-go : (t : List ℕ) (node q x : ℕ) (s : List ℕ) (h : ℕ) (m : Record) → word t node 0 ≡ 128 →
-  downOf t node q x 0 s h m ≡ Here (Go 1 0 0)
+pub private-go : (t : List ℕ) (node q x : ℕ) (s : ℕ → ℕ) (m : Record) → word t node 0 ≡ 128 →
+  downOf t node q x 0 s m ≡ Here (Go 1 0 0)
 unfolding downAs inPrivate
-private-go t node q x s h m kd = rw kd refl
+private-go t node q x s m kd = rw kd refl
 
 -- names
-module _ (K : Numbers) (t : List ℕ) (left node i : ℕ) (n : Context) (T : Ty) (args : Args) (kd : word t node 0 ≡ 20)
+module _ (K : Numbers) (t : List ℕ) (left node i : ℕ) (rs : List ℕ) (n : Context) (T : Ty) (args : Args) (kd : word t
+    node 0 ≡ 20)
   (pi : nameId t node ≡ i) (pc : nameCount t node ≡ count args) (few : count args ≤ 4)
-  (fits : 2 + weightArgs args < 65536) (ra : RepArgs K t left node 0 n args) (q : Question) (σ : Store n) (s : List ℕ)
+  (fits : 2 + weightArgs args < 65536) (ra : RepArgs K t left node 0 rs n args) (q : Question) (σ : Store n) (s : ℕ → ℕ)
   (m : Record) where
   all : argSpots t node 0 (count args) ≡ positions args
   all = spots-of ra (omega arith) (omega arith)
@@ -94,7 +96,7 @@ module _ (K : Numbers) (t : List ℕ) (left node i : ℕ) (n : Context) (T : Ty)
   after = sum-small 2 (positions args) (omega (arith, weight-args args))
 
   at-args : (k : ℕ) → k < positions args →
-    downOf t node (kindQ q) (valueQ q) (2 + k) s (length n) m
+    downOf t node (kindQ q) (valueQ q) (2 + k) s m
     ≡ inArgs t node 0 (count args) k 2 (2 + positions args)
   unfolding downAs inName
   at-args k h =
@@ -103,7 +105,7 @@ module _ (K : Numbers) (t : List ℕ) (left node i : ℕ) (n : Context) (T : Ty)
         lt-ltb k (positions args) h, after) refl
 
   at-replies : (k : ℕ) →
-    downOf t node (kindQ q) (valueQ q) (2 + positions args + k) s (length n) m
+    downOf t node (kindQ q) (valueQ q) (2 + positions args + k) s m
     ≡ Here (replyOf t i node 0 (count args) k)
   unfolding downAs inName
   at-replies k =
@@ -113,16 +115,16 @@ module _ (K : Numbers) (t : List ℕ) (left node i : ℕ) (n : Context) (T : Ty)
         pc, all, d, le-ltb (positions args + k) (positions args) (omega arith), d′) refl
 
   abbrev Goal : Position (name i T args) → Action (State n (name i T args)) (ExitOf n) → Type 0
-  Goal p y = Shows K t n (name i T args) (stored n σ) m y
-    (stepAt t K (suc left) node (kindQ q) (valueQ q) (numbered (name i T args) .code p) s (length n) m)
+  Goal p y = Shows K t n (name i T args) (held rs n σ) m y
+    (stepAt t K (suc left) node (kindQ q) (valueQ q) (numbered (name i T args) .code p) s m)
 
   move-to : (p : Position (name i T args)) (y : Action (State n (name i T args)) (ExitOf n)) (k : ℕ) →
     k ≡ numbered (name i T args) .code p →
-    Shows K t n (name i T args) (stored n σ) m y (stepAt t K (suc left) node (kindQ q) (valueQ q) k s (length n) m) →
+    Shows K t n (name i T args) (held rs n σ) m y (stepAt t K (suc left) node (kindQ q) (valueQ q) k s m) →
     Goal p y
   move-to p y k e x =
-      subst (λ (j : ℕ). Shows K t n (name i T args) (stored n σ) m y
-        (stepAt t K (suc left) node (kindQ q) (valueQ q) j s (length n) m)) e x
+      subst (λ (j : ℕ). Shows K t n (name i T args) (held rs n σ) m y
+        (stepAt t K (suc left) node (kindQ q) (valueQ q) j s m)) e x
 
   start-code : 0 ≡ numbered (name i T args) .code start
   unfolding numbered-name iso sum sum-code single
@@ -136,18 +138,19 @@ module _ (K : Numbers) (t : List ℕ) (left node i : ℕ) (n : Context) (T : Ty)
   unfolding downAs inName Shows ShowsSaid moveOf
   name-start =
       move-to start (say (move (at i 0) (question q)) (to (σ, wait))) 0 start-code
-      (rw (walk-here K t left node (kindQ q) (valueQ q) 0 s (length n) m {o = saidOf (kindQ q) i 0 (valueQ q)}
+      (rw (walk-here K t left node (kindQ q) (valueQ q) 0 s m {o = saidOf (kindQ q) i 0 (valueQ q)}
           (rw (kd, pi) refl))
-        (ap (λ (j : ℕ). Say (record { kind = kindQ q; id = i; arg = 0; value = valueQ q }) j) wait-code, refl))
+        (ap (λ (j : ℕ). Say (record { kind = kindQ q; id = i; arg = 0; value = valueQ q }) j) wait-code, valued-held
+            rs n σ))
 
   pub name-wait :
-    ShowsHeard K t n (name i T args) (stored n σ) m (calling i (types args) T q) (listen i T args n q σ)
+    ShowsHeard K t n (name i T args) (held rs n σ) m (calling i (types args) T q) (listen i T args n q σ)
       (atWait t node (kindQ q) (valueQ q) m) →
     Goal wait (hear (calling i (types args) T q) (listen i T args n q σ))
   unfolding downAs inName Shows
   name-wait x =
       move-to wait (hear (calling i (types args) T q) (listen i T args n q σ)) 1 wait-code
-      (rw (walk-here K t left node (kindQ q) (valueQ q) 1 s (length n) m {o = atWait t node (kindQ q) (valueQ q) m}
+      (rw (walk-here K t left node (kindQ q) (valueQ q) 1 s m {o = atWait t node (kindQ q) (valueQ q) m}
           (rw kd refl)) x)
 
   pub name-reply : (r : Reply (types args)) →
@@ -157,21 +160,21 @@ module _ (K : Numbers) (t : List ℕ) (left node i : ℕ) (n : Context) (T : Ty)
       move-to (reply r) (say (move (at i (suc (r .0))) (answer (r .2))) (to (σ, wait)))
       (2 + positions args + numbered-replies (types args) .code r) (reply-code i T args r)
       (rw (walk-here K t left node (kindQ q) (valueQ q) (2 + positions args + numbered-replies (types args) .code r) s
-          (length n) m {o = saidOf (kindA (r .2)) i (suc (0 + r .0)) (valueA (r .2))}
+          m {o = saidOf (kindA (r .2)) i (suc (0 + r .0)) (valueA (r .2))}
           (at-replies (numbered-replies (types args) .code r)
             ∙ ap (λ (o : Did). Here o) (reply-of ra (omega arith) (omega arith) i r)))
         (ap₂ (λ (a k : ℕ). Say (record { kind =
             kindA (r .2); id = i; arg = a; value = valueA (r .2) }) k) (omega arith)
-          wait-code, refl))
+          wait-code, valued-held rs n σ))
 
   pub name-within : (p : PositionArgs args) →
-    ArgFound K t left node 0 2 (2 + positions args) n args σ s m p →
+    ArgFound K t left node 0 2 (2 + positions args) rs n args σ s m p →
     Goal (within p) (step (name i T args) n q σ (within p))
   unfolding step
   name-within p x =
       move-to (within p) (step (name i T args) n q σ (within p)) (2 + numberedArgs args .code p)
       (within-code i T args p)
-      (rw (walk-in K t left node (kindQ q) (valueQ q) (2 + numberedArgs args .code p) s (length n) m {part = x .part}
+      (rw (walk-in K t left node (kindQ q) (valueQ q) (2 + numberedArgs args .code p) s m {part = x .part}
           {kind = x .kind} {value = x .value} {inner = x .inner} {F = x .frame}
           (at-args (numberedArgs args .code p) (numberedArgs args .bound p) ∙ x .down) (x .plain))
-        (whole K t m n i T args (stored n σ) (stepArgs args n σ p) _ (x .shows)))
+        (whole K t m n i T args (held rs n σ) (stepArgs args n σ p) _ (x .shows)))

@@ -39,9 +39,12 @@ ghost use mathlib.Core.Path.{_≡_};
 ghost use Rattle.automaton.specs.walk.Down.{leavesOf, inFetch, inSeq, inWhile, condIn, inCond, operateIn};
 ghost use Rattle.automaton.specs.walk.Down.{inOperate, assignIn, inAssign, inNew, downOf};
 ghost use Rattle.automaton.specs.walk.Name.{noMove};
-ghost use Rattle.sheet.specs.table.Rep.{word};
+ghost use Rattle.records.specs.Row.{word};
 ghost use mathlib.Core.List.{List};
 ghost use Prim.Native.Nat.{ℕ};
+
+// How many rows a table may have: the places of parts are words of 16 bits.
+const ROWS: usize = 65536;
 
 // The exit with an answer.
 pub(crate) fn leaves(kind: usize, value: usize) -> Spot
@@ -50,7 +53,7 @@ pub(crate) fn leaves(kind: usize, value: usize) -> Spot
     let out = Out::Exit {
         kind,
         value,
-        level: 0,
+        block: 0,
         set: 0,
     };
     Spot::Here { out }
@@ -278,9 +281,9 @@ pub(crate) fn in_assign(t: &[u16], at: usize, k: usize) -> Spot
     assign_in(part_at(t, at, 0), part_at(t, at, 1), w, v, m, k)
 }
 
-// Position k of a block that h blocks enclose.
-pub(crate) fn in_new(t: &[u16], at: usize, q: usize, x: usize, k: usize, h: usize) -> Spot
-    ensures { λ r. ⌜ r ≡ inNew (now (t .entry)) at q x k h ⌝ }
+// Position k of a block.
+pub(crate) fn in_new(t: &[u16], at: usize, q: usize, x: usize, k: usize) -> Spot
+    ensures { λ r. ⌜ r ≡ inNew (now (t .entry)) at q x k ⌝ }
 {
     let w = part_weight(t, at, 0);
     if w == 0 {
@@ -288,7 +291,7 @@ pub(crate) fn in_new(t: &[u16], at: usize, q: usize, x: usize, k: usize, h: usiz
     }
     let v = k / w;
     let part = part_at(t, at, 0);
-    let f = framed(BLOCK, mul_add(v, w, 0), sum(h, 1), w, v, 0);
+    let f = framed(BLOCK, mul_add(v, w, 0), sum(at % ROWS, 1), w, v, 0);
     Spot::Inside {
         part,
         kind: q,
@@ -298,10 +301,10 @@ pub(crate) fn in_new(t: &[u16], at: usize, q: usize, x: usize, k: usize, h: usiz
     }
 }
 
-// Position k of the term at a place, asked the question q of value x, in h blocks, where it is no private variable.
-pub fn down(t: &[u16], at: usize, q: usize, x: usize, k: usize, h: usize) -> Spot
-    ensures { λ r. ⌜ ((s : List ℕ) → (word (now (t .entry)) at 0 ≡ 128 → ⊥)
-        → r ≡ downOf (now (t .entry)) at q x k s h noMove) ⌝ }
+// Position k of the term at a place, asked the question q of value x, where it is no private variable.
+pub fn down(t: &[u16], at: usize, q: usize, x: usize, k: usize) -> Spot
+    ensures { λ r. ⌜ ((s : ℕ → ℕ) → (word (now (t .entry)) at 0 ≡ 128 → ⊥)
+        → r ≡ downOf (now (t .entry)) at q x k s noMove) ⌝ }
 {
     let kind = cell(t, at, KIND);
     match kind {
@@ -314,7 +317,7 @@ pub fn down(t: &[u16], at: usize, q: usize, x: usize, k: usize, h: usize) -> Spo
         SEQUENCE => in_seq(t, at, q, x, k),
         IF => in_cond(t, at, q, x, k),
         WHILE => in_while(t, at, k),
-        NEW => in_new(t, at, q, x, k, h),
+        NEW => in_new(t, at, q, x, k),
         _ => Spot::Here { out: Out::Stuck },
     }
 }

@@ -27,18 +27,18 @@ pub struct Move {
 }
 
 // What is done at a position: a silent step, an exit with an answer, a move that the term says, a wait in which it
-// hears the moves of the name at a place, or nothing. A level is 0 where no private variable is written, else 1 more
-// than the variable's.
+// hears the moves of the name at a place, or nothing. A block is 0 where no private variable is written, else 1 more
+// than the row of the variable's new.
 pub enum Out {
     Go {
         next: usize,
-        level: usize,
+        block: usize,
         set: usize,
     },
     Exit {
         kind: usize,
         value: usize,
-        level: usize,
+        block: usize,
         set: usize,
     },
     Say {
@@ -53,10 +53,10 @@ pub enum Out {
     Stuck,
 }
 
-// A silent step: the position to which it goes, and the private variable that it writes, by a level as in Out.
+// A silent step: the position to which it goes, and the private variable that it writes, by its block as in Out.
 pub struct Silent {
     pub next: usize,
-    pub level: usize,
+    pub block: usize,
     pub set: usize,
 }
 

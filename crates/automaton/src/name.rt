@@ -198,7 +198,7 @@ pub fn hear_answer(t: &[u16], at: usize, q: usize, x: usize, m: Move) -> Out
     Out::Exit {
         kind,
         value,
-        level: 0,
+        block: 0,
         set: 0,
     }
 }
@@ -218,7 +218,7 @@ pub(crate) fn hear_question(t: &[u16], at: usize, j: usize, m: Move) -> Out
     let next = mul_add(i - 1, part_weight(t, at, j), base);
     Out::Go {
         next,
-        level: 0,
+        block: 0,
         set: 0,
     }
 }

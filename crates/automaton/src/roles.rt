@@ -13,5 +13,5 @@ pub(crate) const RIGHT: usize = 4;
 pub(crate) const ASSIGNED: usize = 5;
 // An answer to question d of a type of class b with c values leads to its reply; the replies begin at a.
 pub(crate) const ARGUMENT: usize = 6;
-// The block's variable has the level a - 1 and, in this copy of the block, which weighs b, the value c.
+// The block's new has the row a - 1; its variable has, in this copy of the block, which weighs b, the value c.
 pub const BLOCK: usize = 7;

@@ -7,7 +7,7 @@ use records::row::WEIGHT;
 use records::row::WORDS;
 ghost use mathlib.Core.Path.{_≡_};
 ghost use Prim.Native.Nat.{_+_};
-ghost use Rattle.sheet.specs.table.Rep.{word};
+ghost use Rattle.records.specs.Row.{word};
 ghost use Rattle.automaton.specs.walk.Row.{partWeight, partClass, partValues, nameId, nameCount, sumOf, mulAddOf};
 
 // The detail of a name is its id and this many times the number of its arguments.

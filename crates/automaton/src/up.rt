@@ -35,11 +35,11 @@ const BYTES: usize = 256;
 const CODES: usize = 65536;
 
 // Done leads on.
-pub(crate) fn exit_done(kind: usize, next: usize, level: usize, set: usize) -> Out
-    ensures { λ r. ⌜ r ≡ exitDone kind next level set ⌝ }
+pub(crate) fn exit_done(kind: usize, next: usize, block: usize, set: usize) -> Out
+    ensures { λ r. ⌜ r ≡ exitDone kind next block set ⌝ }
 {
     if kind == DONE {
-        return Out::Go { next, level, set };
+        return Out::Go { next, block, set };
     }
     Out::Stuck
 }
@@ -50,16 +50,16 @@ pub(crate) fn exit_truth(
     value: usize,
     a: usize,
     b: usize,
-    level: usize,
+    block: usize,
     set: usize,
 ) -> Out
-    ensures { λ r. ⌜ r ≡ exitTruth kind value a b level set ⌝ }
+    ensures { λ r. ⌜ r ≡ exitTruth kind value a b block set ⌝ }
 {
     if kind == VALUE {
         if value == TRUE {
             return Out::Go {
                 next: a,
-                level,
+                block,
                 set,
             };
         }
@@ -68,13 +68,13 @@ pub(crate) fn exit_truth(
                 return Out::Exit {
                     kind: DONE,
                     value: 0,
-                    level,
+                    block,
                     set,
                 };
             }
             return Out::Go {
                 next: b,
-                level,
+                block,
                 set,
             };
         }
@@ -83,14 +83,14 @@ pub(crate) fn exit_truth(
 }
 
 // A value leads to its copy of the other part.
-pub(crate) fn exit_value(kind: usize, value: usize, f: Frame, level: usize, set: usize) -> Out
-    ensures { λ r. ⌜ r ≡ exitValue kind value f level set ⌝ }
+pub(crate) fn exit_value(kind: usize, value: usize, f: Frame, block: usize, set: usize) -> Out
+    ensures { λ r. ⌜ r ≡ exitValue kind value f block set ⌝ }
 {
     if kind == VALUE {
         if value < f.c {
             return Out::Go {
                 next: mul_add(value, f.b, f.a),
-                level,
+                block,
                 set,
             };
         }
@@ -104,10 +104,10 @@ pub(crate) fn exit_operate(
     kind: usize,
     value: usize,
     f: Frame,
-    level: usize,
+    block: usize,
     set: usize,
 ) -> Out
-    ensures { λ r. ⌜ r ≡ exitOperate n kind value f level set ⌝ }
+    ensures { λ r. ⌜ r ≡ exitOperate n kind value f block set ⌝ }
 {
     if kind == VALUE {
         if value < f.c {
@@ -119,7 +119,7 @@ pub(crate) fn exit_operate(
                 Outcome::Is { code } => Out::Exit {
                     kind: VALUE,
                     value: code as usize,
-                    level,
+                    block,
                     set,
                 },
                 Outcome::Nothing => Out::Stuck,
@@ -130,14 +130,14 @@ pub(crate) fn exit_operate(
 }
 
 // The answer ok of a variable ends its assignment.
-pub(crate) fn exit_assign(kind: usize, level: usize, set: usize) -> Out
-    ensures { λ r. ⌜ r ≡ exitAssign kind level set ⌝ }
+pub(crate) fn exit_assign(kind: usize, block: usize, set: usize) -> Out
+    ensures { λ r. ⌜ r ≡ exitAssign kind block set ⌝ }
 {
     if kind == OK {
         return Out::Exit {
             kind: DONE,
             value: 0,
-            level,
+            block,
             set,
         };
     }
@@ -145,8 +145,8 @@ pub(crate) fn exit_assign(kind: usize, level: usize, set: usize) -> Out
 }
 
 // An answer to the question of this copy of an argument leads to the reply.
-pub(crate) fn exit_argument(kind: usize, value: usize, f: Frame, level: usize, set: usize) -> Out
-    ensures { λ r. ⌜ r ≡ exitArgument kind value f level set ⌝ }
+pub(crate) fn exit_argument(kind: usize, value: usize, f: Frame, block: usize, set: usize) -> Out
+    ensures { λ r. ⌜ r ≡ exitArgument kind value f block set ⌝ }
 {
     let q = question_kind(f.b, f.d);
     let x = question_value(f.b, f.d);
@@ -154,7 +154,7 @@ pub(crate) fn exit_argument(kind: usize, value: usize, f: Frame, level: usize, s
     if 0 < r {
         return Out::Go {
             next: sum(f.a, r - 1),
-            level,
+            block,
             set,
         };
     }
@@ -162,42 +162,42 @@ pub(crate) fn exit_argument(kind: usize, value: usize, f: Frame, level: usize, s
 }
 
 // A block's own variable ends with it.
-pub(crate) fn exit_new(kind: usize, value: usize, f: Frame, level: usize, set: usize) -> Out
-    ensures { λ r. ⌜ r ≡ exitNew kind value f level set ⌝ }
+pub(crate) fn exit_new(kind: usize, value: usize, f: Frame, block: usize, set: usize) -> Out
+    ensures { λ r. ⌜ r ≡ exitNew kind value f block set ⌝ }
 {
-    if level == f.a {
+    if block == f.a {
         return Out::Exit {
             kind,
             value,
-            level: 0,
+            block: 0,
             set: 0,
         };
     }
     Out::Exit {
         kind,
         value,
-        level,
+        block,
         set,
     }
 }
 
 // A part's exit.
-pub fn exits(n: Numbers, f: Frame, kind: usize, value: usize, level: usize, set: usize) -> Out
-    ensures { λ r. ⌜ r ≡ exitsOf n f kind value level set ⌝ }
+pub fn exits(n: Numbers, f: Frame, kind: usize, value: usize, block: usize, set: usize) -> Out
+    ensures { λ r. ⌜ r ≡ exitsOf n f kind value block set ⌝ }
 {
     let role = f.role;
     match role {
-        THEN => exit_done(kind, f.a, level, set),
-        TEST => exit_truth(kind, value, f.a, f.b, level, set),
-        SELECT => exit_value(kind, value, f, level, set),
-        RIGHT => exit_operate(n, kind, value, f, level, set),
-        ASSIGNED => exit_assign(kind, level, set),
-        ARGUMENT => exit_argument(kind, value, f, level, set),
-        BLOCK => exit_new(kind, value, f, level, set),
+        THEN => exit_done(kind, f.a, block, set),
+        TEST => exit_truth(kind, value, f.a, f.b, block, set),
+        SELECT => exit_value(kind, value, f, block, set),
+        RIGHT => exit_operate(n, kind, value, f, block, set),
+        ASSIGNED => exit_assign(kind, block, set),
+        ARGUMENT => exit_argument(kind, value, f, block, set),
+        BLOCK => exit_new(kind, value, f, block, set),
         _ => Out::Exit {
             kind,
             value,
-            level,
+            block,
             set,
         },
     }
@@ -205,25 +205,25 @@ pub fn exits(n: Numbers, f: Frame, kind: usize, value: usize, level: usize, set:
 
 // A part's silent step: a block whose variable is written moves to the copy of that value.
 pub fn goes(f: Frame, g: Silent) -> Silent
-    ensures { λ r. ⌜ Go (r .next) (r .level) (r .set) ≡ goesOf f (g .next) (g .level) (g .set) ⌝ }
+    ensures { λ r. ⌜ Go (r .next) (r .block) (r .set) ≡ goesOf f (g .next) (g .block) (g .set) ⌝ }
 {
     if f.role == BLOCK {
-        if g.level == f.a {
+        if g.block == f.a {
             return Silent {
                 next: mul_add(g.set, f.b, g.next),
-                level: 0,
+                block: 0,
                 set: 0,
             };
         }
         return Silent {
             next: sum(f.base, g.next),
-            level: g.level,
+            block: g.block,
             set: g.set,
         };
     }
     Silent {
         next: sum(f.base, g.next),
-        level: g.level,
+        block: g.block,
         set: g.set,
     }
 }

@@ -9,7 +9,7 @@ use Rattle.language.specs.Choice.{pick}
 use Rattle.language.specs.Number.{inRange}
 use Rattle.language.specs.declared.Numbers.{Numbers}
 use Rattle.records.specs.Kind.{shapeOf}
-use Rattle.records.specs.Standing.{isVariable, declaredStanding}
+use Rattle.records.specs.Standing.{isNamed, declaredStanding}
 use Rattle.records.specs.Head.{byteOf, onByte, limited, constant, useOf, dataByte, newOf, bodyOf, headOf}
 use Rattle.records.specs.Head.{headOfShape as onPart}
 use Rattle.records.specs.Rule.{acceptsPart}
@@ -105,8 +105,7 @@ module _ (s : List ℕ) where
   unfolding newOf Headed
   new-caused st r =
       on-byte (r .place + 1) 255 _ (λ id.
-        either Headed (eqb (getD st id 0) 1) (omega arith, omega arith)
-        (either Headed (isVariable (getD st id 0)) (data-caused r id) (omega arith, omega arith)))
+        either Headed (isNamed (getD st id 0)) (omega arith, omega arith) (data-caused r id))
 
   body-caused : (R : Rule) (st : List ℕ) (N : Numbers) (r : Record) → Headed (bodyOf R s st N r)
   unfolding bodyOf Headed
@@ -157,14 +156,14 @@ module _ (s : List ℕ) where
       on-bind (partsOf rec N s r (r .parts) 0 0 (r .next)) _ (parts-caused N rec f r (r .parts) 0 0 (r .next))
         (λ ts last v end. tt)
 
-  part-caused : (left : ℕ) (N : Numbers) (st : List ℕ) (level at : ℕ) → Caused (readPart left N s st level at)
+  part-caused : (left : ℕ) (N : Numbers) (st : List ℕ) (at : ℕ) → Caused (readPart left N s st at)
   unfolding readPart scopedOf Caused
-  part-caused zero N st level at = on-head (headOf s st N 0 at) _ (head-caused st N 0 at) (λ r. omega arith)
-  part-caused (suc left) N st level at =
+  part-caused zero N st at = on-head (headOf s st N 0 at) _ (head-caused st N 0 at) (λ r. omega arith)
+  part-caused (suc left) N st at =
       on-head (headOf s st N (suc left) at) _ (head-caused st N (suc left) at) (λ r.
         either Caused (isNew (r .rule))
-          (record-caused N _ (λ at′. part-caused left N (entered st r level) (level + 1) at′) r)
-          (record-caused N _ (λ at′. part-caused left N st level at′) r))
+          (record-caused N _ (λ at′. part-caused left N (entered st r) at′) r)
+          (record-caused N _ (λ at′. part-caused left N st at′) r))
 
   -- the name records
   below-caused : (at limit : ℕ) → Told (below s at limit)
@@ -212,14 +211,14 @@ module _ (s : List ℕ) where
       go : (x : Shape) → Caused (wholeOfShape x
         (λ body. nameOf rec left s st at body (declaredStanding at) (declareOf s st at) (declareAt s at))
         (λ body. nameOf rec left s st at body 1 (retireOf s st at) (retireAt s at))
-        (bind (readPart 32 N s st 0 at) (λ t ty w end. got (whole [] at t) ty w end))
+        (bind (readPart 32 N s st at) (λ t ty w end. got (whole [] at t) ty w end))
         (refused 3 at))
       go (Declare b) =
           name-caused rec f left st at b (declaredStanding at) (declareOf s st at) (declareAt s at)
             (declare-caused st at)
       go (Retire b) =
           name-caused rec f left st at b 1 (retireOf s st at) (retireAt s at) (fresh-caused st (at + 1))
-      go (Part b p R) = on-bind (readPart 32 N s st 0 at) _ (part-caused 32 N st 0 at) (λ t ty w end. tt)
+      go (Part b p R) = on-bind (readPart 32 N s st at) _ (part-caused 32 N st at) (λ t ty w end. tt)
       go Unknown = (omega arith, omega arith)
 
   names-caused : (left : ℕ) (N : Numbers) (st : List ℕ) (at : ℕ) → Caused (namesOf left N s st at)

@@ -16,7 +16,7 @@ use Rattle.sheet.specs.Encoding.{encodeNames}
 use Rattle.sheet.specs.Meaning.{tyOf, termOf, typeOf}
 use Rattle.sheet.specs.Fine.{Accepted}
 use Rattle.sheet.specs.Reader.{Answer, got, refused, Whole, whole, sizeOf, numbersAt, sheetOf}
-use Rattle.sheet.specs.table.Rep.{Rep}
+use Rattle.nodes.specs.Rep.{Rep}
 use Rattle.sheet.specs.table.Fill.{eraseSheet, ReadsSheet}
 use Rattle.sheet.specs.table.Tabled.{Tabled, TabledBy}
 use Rattle.sheet.specs.declared.names.Reading.{Reading}
@@ -107,12 +107,12 @@ pub record Fit (N : Numbers) (ty : ℕ) (s : List ℕ) (root all : ℕ) (t : Lis
   pub term-in : InRange N (termOf sheet)
   pub sized : size (tyOf N ty) (termOf sheet) ≡ all
   pub small : all ≤ 4096
-  pub represents : Rep N t 32 root [] (termOf sheet) (tyOf N ty)
+  pub represents : Rep N t 6144 root [] [] (termOf sheet) (tyOf N ty)
 
 -- an accepted sheet, its numbers and its type by other names
 module _ (S : Sheet) (A : Accepted S) (s t : List ℕ) (root all : ℕ) (h : Holds s S) where
   fits : {N : Numbers} {ty : ℕ} → S .numbers ≡ N → typeOf S ≡ ty → size (tyOf N ty) (termOf S) ≡ all →
-      Rep N t 32 root [] (termOf S) (tyOf N ty) → Fit N ty s root all t
+      Rep N t 6144 root [] [] (termOf S) (tyOf N ty) → Fit N ty s root all t
   fits {N} {ty} e f g r = record
     { sheet = S; held = h; numbers = e; types = f
     ; z-above = rw (← e) (A .z-above)

@@ -8,7 +8,7 @@ use Rattle.language.specs.Typing.{operands}
 use Rattle.language.specs.Operator.{fit, truth, operate}
 use Rattle.language.specs.Move.{kind, valueOf}
 use Rattle.records.specs.Kind.{shapeOf}
-use Rattle.records.specs.Standing.{isVariable, variableStanding, dataOf, declaredStanding, declaredAt}
+use Rattle.records.specs.Standing.{isVariable, isNamed, variableStanding, dataOf, declaredStanding, declaredAt}
 use Rattle.records.specs.Head as head
 use Rattle.records.specs.Head.{byteOf, onByte, withBody, limited, constant, used, useOf, dataByte, newOf, bodyOf}
 use Rattle.records.specs.Head.{blank, headOf}
@@ -45,7 +45,7 @@ table-checked : all rowChecked table ≡ true
 unfolding readSheet checks sheetOf reader.closed bind namesOf namesStep wholeOfShape nameOf onJudged declareOf andThen
   heading.below unused fresh argument declareAt withName readPart scopedOf isNew reader.readRecord partsOf
   onHead sizeOf sheetIn values questions answers operandType resultType acceptsPart partType factor extra own
-  entered shapeOf isVariable variableStanding dataOf declaredStanding declaredAt byteOf onByte withBody limited
+  entered shapeOf isVariable isNamed variableStanding dataOf declaredStanding declaredAt byteOf onByte withBody limited
   constant used useOf dataByte newOf bodyOf blank headOf head.headOfShape numbers inRange reader.first rest build
   written modulo code signed fromByte apply operands fit truth operate kind valueOf outward declared
   meaning.meaning tyOf useType typed byMeaning resolve termOf meaning.typeOf who heard mapNext mapAction when

@@ -2,6 +2,7 @@
 use explicit::Site;
 use explicit::fill::close;
 use explicit::fill::fill;
+use explicit::levels::WORDS;
 use language::Numbers;
 use silent::settle;
 ghost use Prim.Native.Nat.{_+_};
@@ -19,7 +20,8 @@ pub(crate) fn build_one(t: &[u16], n: Numbers, root: usize, all: usize, words: &
         n: states,
         o: 0,
     };
-    let e = fill(t, n, s, words, 0);
+    let mut path = [0usize; WORDS];
+    let e = fill(t, n, s, words, &mut path, 0);
     close(words, states, e);
     settle(words, states);
 }
@@ -45,13 +47,14 @@ pub(crate) fn build_two(
         n: states,
         o: 0,
     };
-    let e = fill(t, n, s, words, 0);
+    let mut path = [0usize; WORDS];
+    let e = fill(t, n, s, words, &mut path, 0);
     let s2 = Site {
         root: other,
         n: states,
         o: all,
     };
-    let e2 = fill(u, n, s2, words, e);
+    let e2 = fill(u, n, s2, words, &mut path, e);
     close(words, states, e2);
     settle(words, states);
 }

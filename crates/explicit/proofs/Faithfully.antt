@@ -5,7 +5,6 @@ use mathlib.Core.List.{List, []}
 use Prim.Native.Nat.{ℕ, zero, suc, _+_, _*_, _-_, _≤_, _<_}
 use native.Mathlib.Omega.{arith}
 use native.Mathlib.Decide.{ℕ-discrete}
-use lib.ListN.{replicate}
 use lib.Dec.{eqb, ltb}
 use borrow.Author.Tests.{lt-ltb, le-ltb, lt-leb, le-leb, eq-eqb, ne-eqb}
 use Rattle.language.specs.Choice.{pick}
@@ -27,7 +26,8 @@ use Rattle.machine.specs.Settle.{Index}
 use Rattle.machine.specs.Sheet.{Spot, start, within, reply, opens as opening-of, sheet, spots, numbered-sheet}
 use Rattle.machine.specs.Sheet.{numbered-spots, index, numbered-step, steps}
 use Rattle.machine.proofs.Unique.{Fits-prop, Answers-prop}
-use Rattle.sheet.specs.table.Rep.{word, Rep}
+use Rattle.records.specs.Row.{word}
+use Rattle.nodes.specs.Rep.{Rep}
 use Rattle.automaton.specs.declared.Move.{Move as Record}
 use Rattle.automaton.specs.declared.Frame.{Frame}
 use Rattle.automaton.specs.declared.Out.{Out as Did}
@@ -38,7 +38,7 @@ use Rattle.automaton.specs.walk.Types.{questionNumber, answerNumber}
 use Rattle.automaton.specs.walk.Name.{framedOf, argHere}
 use Rattle.automaton.specs.walk.Up.{exitArgument, exitsOf, goesOf, riseOf}
 use Rattle.automaton.specs.walk.Step.{onSpot}
-use Rattle.automaton.specs.walk.Shows.{kindQ, valueQ, kindA, valueA, moveOf, GivenMove, Words, HeldStore, stored}
+use Rattle.automaton.specs.walk.Shows.{kindQ, valueQ, kindA, valueA, moveOf, GivenMove, Words, HeldStore, held}
 use Rattle.automaton.specs.walk.Shows.{ShowsNext}
 use Rattle.automaton.specs.walk.Shows.{ShowsSaid, waits as awaits, leads as follows, Shows}
 use Rattle.automaton.proofs.Sums.{map-edge, sum-small, mul-add-small, quotient, remainder, times, factors}
@@ -49,6 +49,7 @@ use Rattle.automaton.proofs.TypeNumbers.{question-of, no-question}
 use Rattle.automaton.proofs.Parts.{row-of, positive, some-question}
 use Rattle.automaton.proofs.Hearing.{entry-zero, stuck, kind-below}
 use Rattle.automaton.proofs.Faithful.{faithful}
+use Rattle.automaton.proofs.Variables.{outside}
 use Rattle.explicit.specs.inner.States.{openedOf, atStart, withinOf, repliedOf, afterOf, spotsOf, sheetAt}
 use Rattle.explicit.specs.inner.Acts.{calls, opens, Leads, SaysMove, Listens, waits, leads, Acts}
 
@@ -78,7 +79,7 @@ dead-leads : {K : ℕ} (x : Next (Index K) (Unit {0})) (o : Did) → x ≡ dead 
 unfolding Leads
 dead-leads x o e d = rw (e, d) refl
 
-module _ (N : Numbers) (t : List ℕ) {root : ℕ} {M : Term} {T : Ty} (r : Rep N t 32 root [] M T)
+module _ (N : Numbers) (t : List ℕ) {root : ℕ} {M : Term} {T : Ty} (r : Rep N t 6144 root [] [] M T)
   (fits : spots T M ≤ 4096) where
   -- the row of the whole term
   weighed : word t root 1 ≡ weight M
@@ -266,7 +267,7 @@ module _ (N : Numbers) (t : List ℕ) {root : ℕ} {M : Term} {T : Ty} (r : Rep 
 
     at-within : Words t → (m : Record) → GivenMove m → (p : Position M) →
       Acts N t m (numbered-step T M (within (q, p))) (sheetAt t N root (numbered-spots T M .code (within (q, p))) m)
-    unfolding sheetAt withinOf onSpot numbered-step sheet stored HeldStore
+    unfolding sheetAt withinOf onSpot numbered-step sheet held HeldStore
     at-within ws m gv p =
         let c = numbered-questions T .code q * weight M + numbered M .code p in
         let d : 1 + numbered-questions T .code q * weight M + numbered M .code p - 1 ≡ c = omega arith in
@@ -276,7 +277,7 @@ module _ (N : Numbers) (t : List ℕ) {root : ℕ} {M : Term} {T : Ty} (r : Rep 
             (omega (arith, times (questions T) (weight M) (numbered-questions T .code q)
               (numbered-questions T .bound q), numbered M .bound p)), d, found p)
         (rise m (step M [] (q .0) tt p) _
-          (faithful N t ws m gv M r (q .0) tt (replicate 32 0) tt refl (omega arith) p))
+          (faithful N t ws m gv M r (q .0) tt (λ row. 0) tt outside p))
 
   at-reply : (m : Record) (y : AnswerOf T) →
     Acts N t m (numbered-step T M (reply y)) (sheetAt t N root (numbered-spots T M .code (reply y)) m)
@@ -298,7 +299,7 @@ module _ (N : Numbers) (t : List ℕ) {root : ℕ} {M : Term} {T : Ty} (r : Rep 
   at-spot ws m gv (reply y) = at-reply m y
 
 -- THEOREM: what the code's definition says of the state k shows the machine's action there
-pub acts : (N : Numbers) (t : List ℕ) {root : ℕ} {M : Term} {T : Ty} → Words t → Rep N t 32 root [] M T →
+pub acts : (N : Numbers) (t : List ℕ) {root : ℕ} {M : Term} {T : Ty} → Words t → Rep N t 6144 root [] [] M T →
   spots T M ≤ 4096 → (m : Record) → GivenMove m → (k : ℕ) (h : k < spots T M) →
   Acts N t m (steps T M (k, h)) (sheetAt t N root k m)
 unfolding steps

@@ -16,7 +16,8 @@ use Rattle.language.specs.Term.{Args, arg, name}
 use Rattle.machine.specs.Action.{Heard, asked, answered, opened, Listen, calling, opening, who, heard, FitsAt, Hears}
 use Rattle.machine.specs.Position.{types}
 use Rattle.machine.specs.Degree.{answersTo, asks, hearings}
-use Rattle.sheet.specs.table.Rep.{word, count, Rep, RepArgs, r-none, r-arg, r-name, TyRow}
+use Rattle.records.specs.Row.{word}
+use Rattle.nodes.specs.Rep.{count, Rep, RepArgs, r-none, r-arg, r-name, TyRow}
 use Rattle.automaton.specs.walk.Row.{partClass, partValues, nameId, nameCount}
 use Rattle.automaton.specs.walk.Shows.{kindQ, valueQ, kindA, valueA, moveOf}
 use Rattle.automaton.proofs.TypeNumbers.{HasType, has-type}
@@ -123,7 +124,7 @@ share-sum (A ∷ (B ∷ (C ∷ []))) = omega arith
 share-sum (A ∷ (B ∷ (C ∷ (D ∷ Ts)))) = omega arith
 
 -- argument i of the arguments from j on, which is argument a of the name
-asked-limit : {K : Numbers} {t n : List ℕ} {left node j : ℕ} {args : Args} → RepArgs K t left node j n args →
+asked-limit : {K : Numbers} {t rs n : List ℕ} {left node j : ℕ} {args : Args} → RepArgs K t left node j rs n args →
     (i a : ℕ) → a ≡ j + i → (q : Question) → FitsAt (types args) i q →
     (i < count args) × (valueQ q < questionLimit (partClass t node a) (partValues t node a) (kindQ q))
 unfolding types FitsAt count
@@ -135,7 +136,7 @@ asked-limit (r-arg {j = j} r rs) (suc i) a e q f =
     let rec = asked-limit rs i a (omega arith) q f in
     (omega (arith, rec .0), rec .1)
 
-asked-sum : {K : Numbers} {t n : List ℕ} {left node j : ℕ} {args : Args} → RepArgs K t left node j n args →
+asked-sum : {K : Numbers} {t rs n : List ℕ} {left node j : ℕ} {args : Args} → RepArgs K t left node j rs n args →
     (i a : ℕ) → a ≡ j + i → i < count args →
     kinds (questionLimit (partClass t node a) (partValues t node a)) ≤ share (types args) i
 unfolding types count share
@@ -190,7 +191,7 @@ module _ (t : List ℕ) (s node : ℕ) (q : Question) where
       rw (not-seven q, ne-eqb (suc j) 0 (omega arith), lt-ltb (nameCount t node) (suc j) (omega arith)) refl
 
   -- the moves at a name
-  module _ {K : Numbers} {n : List ℕ} {left i : ℕ} (T : Ty) {args : Args} (ra : RepArgs K t left node 0 n args)
+  module _ {K : Numbers} {rs n : List ℕ} {left i : ℕ} (T : Ty) {args : Args} (ra : RepArgs K t left node 0 rs n args)
       (pi : nameId t node ≡ i) (pc : nameCount t node ≡ count args) (few : count args ≤ 4)
       (ty : HasType (word t node 2) (word t node 3) T) where
     arg-near : (r : Heard) → Hears (calling i (types args) T q) r →
@@ -229,8 +230,8 @@ module _ (t : List ℕ) (s node : ℕ) (q : Question) where
       few = omega (arith, own, column 0, column 1, column 2, column 3, share-sum (types args))
     }
 
-  name-heeds : {K : Numbers} {n : List ℕ} {left i : ℕ} {T : Ty} {args : Args} →
-      Rep K t left node n (name i T args) T → Heeds t (calling i (types args) T q) (nameWait t s node q)
+  name-heeds : {K : Numbers} {rs n : List ℕ} {left i : ℕ} {T : Ty} {args : Args} →
+      Rep K t left node rs n (name i T args) T → Heeds t (calling i (types args) T q) (nameWait t s node q)
   unfolding nameId nameCount
   name-heeds {T = T} (r-name row i-byte e few ra) =
       heeds-name T ra (omega arith) (omega arith) few (has-type t node T (row .typed))

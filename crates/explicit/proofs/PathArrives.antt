@@ -16,7 +16,7 @@ use Rattle.automaton.specs.declared.Spot.the-variants.{Here}
 use Rattle.automaton.specs.walk.Name.{atWait}
 use Rattle.automaton.specs.walk.Step.{onSpot, stepAt}
 use Rattle.explicit.specs.inner.States.{afterOf, sheetAt}
-use Rattle.explicit.specs.inner.Path.{riseAll, heightOf, storeOf}
+use Rattle.explicit.specs.inner.Path.{riseAll, storeOf}
 use Rattle.explicit.specs.inner.Levels.{framesOf, levelAt}
 use Rattle.automaton.specs.walk.Name.{noMove}
 use Rattle.explicit.specs.inner.Kept.{sheetSpot, spotIn}
@@ -61,42 +61,44 @@ module _ (t : List ℕ) (root : ℕ) where
   spot-waits p zero k at q x K e m = first-waits k at q x e m
   spot-waits p (suc i) k at q x K e m =
       spot-next t root p i k m
-      ∙ listens t (levelAt p i .part) (levelAt p i .kind) (levelAt p i .value) (k - levelAt p i .base) _ _ at q x
+      ∙ listens t (levelAt p i .part) (levelAt p i .kind) (levelAt p i .value) (k - levelAt p i .base) _ at q x
           (sym (spot-next t root p i k noMove) ∙ e) m
       ∙ ap Here (sym (wait-later t root k at q x m
           (omega (arith, K .sound .plain i (omega arith) .some, K .begun i (omega arith)))))
 
   -- THEOREM: where the state is at hand, the path says what it does
-  pub arrives : (p : List ℕ) (c k : ℕ) (o : Out) → c < 33 → KeptPath t root p c k → Covers p c k →
+  pub arrives : (p : List ℕ) (c k : ℕ) (o : Out) → c < 6145 → KeptPath t root p c k → Covers p c k →
     Here o ≡ spotIn t root p c k noMove → Arrived t root p c k o
   arrives p c k o h K C e = record
     { kept = K
     ; at = record
         { does = λ N. path-says t N root p c k noMove h (K .stands) (holds p c k K C)
-            ∙ after-here N (framesOf p c) (32 - c) noMove _ o (sym e)
+            ∙ after-here N (framesOf p c) (6144 - c) noMove _ o (sym e)
         ; hears = λ N m at q x g. path-says t N root p c k m h (K .stands) (holds p c k K C)
-            ∙ after-here N (framesOf p c) (32 - c) m _ _ (spot-waits p c k at q x K (sym e ∙ ap Here g) m) } }
+            ∙ after-here N (framesOf p c) (6144 - c) m _ _ (spot-waits p c k at q x K (sym e ∙ ap Here g) m) } }
 
   -- past the last level nothing is done
-  deep-says : (N : Numbers) (p : List ℕ) (k : ℕ) (m : Move) → Stands t root (framesOf p 32) (levelAt p 32) →
-    levelAt p 32 .base ≤ k → k < levelAt p 32 .end → sheetAt t N root k m ≡ riseAll N (framesOf p 33) Stuck
+  deep-says : (N : Numbers) (p : List ℕ) (k : ℕ) (m : Move) → Stands t root (framesOf p 6144) (levelAt p 6144) →
+    levelAt p 6144 .base ≤ k → k < levelAt p 6144 .end → sheetAt t N root k m ≡ riseAll N (framesOf p 6145) Stuck
   unfolding stepAt
   deep-says N p k m S a b =
-      let e : 32 - length (framesOf p 32) ≡ 0 = omega (arith, frames-length p 32) in
-      rw (frames-next p 32) (subst (λ (y : ℕ). sheetAt t N root k m ≡
-        riseAll N (levelAt p 32 .f ∷ framesOf p 32) (stepAt t N y (levelAt p 32 .part) (levelAt p 32 .kind)
-          (levelAt p 32 .value) (k - levelAt p 32 .base) (storeOf (levelAt p 32 .f ∷ framesOf p 32))
-          (heightOf (levelAt p 32 .f ∷ framesOf p 32)) m)) e (S .says N k m a b))
+      let e : 6144 - length (framesOf p 6144) ≡ 0 = omega (arith, frames-length p 6144) in
+      rw (frames-next p 6144) (subst (λ (y : ℕ). sheetAt t N root k m ≡
+        riseAll N (levelAt p 6144 .f ∷ framesOf p 6144) (stepAt t N y (levelAt p 6144 .part) (levelAt p 6144 .kind)
+          (levelAt p 6144 .value) (k - levelAt p 6144 .base) (storeOf (levelAt p 6144 .f ∷ framesOf p 6144)) m)) e (S
+              .says N k m a b))
 
-  deep-arrives : (p : List ℕ) (k : ℕ) → KeptPath t root p 33 k → Covers p 33 k → Arrived t root p 33 k Stuck
+  deep-arrives : (p : List ℕ) (k : ℕ) → KeptPath t root p 6145 k → Covers p 6145 k → Arrived t root p 6145 k Stuck
   deep-arrives p k K C = record
     { kept = K
     ; at = record
-        { does = λ N. deep-says N p k noMove (K .stands 32 (omega arith)) (K .begun 32 (omega arith)) (C (omega arith))
+        { does = λ N. deep-says N p k noMove (K .stands 6144 (omega arith)) (K .begun 6144 (omega arith)) (C (omega
+            arith))
         ; hears = λ N m at q x g. let z : _≡_ {A = ℕ} 0 1 = cc in absurd (omega arith) } }
 
-  pub arrives-deep : (p : List ℕ) (c k : ℕ) → 33 ≤ c → KeptPath t root p c k → Covers p c k → Arrived t root p c k Stuck
+  pub arrives-deep : (p : List ℕ) (c k : ℕ) → 6145 ≤ c → KeptPath t root p c k → Covers p c k → Arrived t root p c k
+      Stuck
   arrives-deep p c k h K C =
-      let e : c ≡ 33 = omega (arith, K .sound .few) in
+      let e : c ≡ 6145 = omega (arith, K .sound .few) in
       subst (λ (y : ℕ). Arrived t root p y k Stuck) (sym e)
         (deep-arrives p k (subst (λ (y : ℕ). KeptPath t root p y k) e K) (subst (λ (y : ℕ). Covers p y k) e C))

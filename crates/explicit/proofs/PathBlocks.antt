@@ -1,10 +1,10 @@
--- The block of a private variable among the levels: it is the one that is noted, and a write moves to its copy.
+-- The block of a private variable among the levels: it is found from block to block, and a write moves to its copy.
 use mathlib.Core.Path.{_≡_, refl, sym, _∙_, ap, subst}
 use mathlib.Core.List.{List, [], _∷_}
-use Prim.Native.Nat.{ℕ, zero, suc, _+_, _-_, _%_, _≤_, _<_}
+use Prim.Native.Nat.{ℕ, zero, suc, _+_, _-_, _≤_, _<_}
 use native.Mathlib.Omega.{arith}
-use native.Mathlib.Decide.{decLt, ℕ-discrete}
-use lib.ListN.{length, getD}
+use native.Mathlib.Decide.{ℕ-discrete}
+use lib.ListN.{length}
 use borrow.Author.Tests.{eq-eqb, ne-eqb}
 use Rattle.language.specs.declared.Numbers.{Numbers}
 use Rattle.automaton.specs.declared.Frame.{Frame}
@@ -12,10 +12,10 @@ use Rattle.automaton.specs.declared.Out.{Out}
 use Rattle.automaton.specs.declared.Out.the-variants.{Go}
 use Rattle.automaton.specs.walk.Row.{mulAddOf}
 use Rattle.automaton.specs.walk.Up.{goesOf, riseOf}
-use Rattle.explicit.specs.inner.Path.{riseAll, baseOf, heightOf, storeOf, Owned, blockIn}
-use Rattle.explicit.specs.inner.Levels.{frameOf, levelAt, framesOf, holderOf, Sound}
+use Rattle.explicit.specs.inner.Path.{riseAll, baseOf, storeOf, innermostOf, blockIn}
+use Rattle.explicit.specs.inner.Levels.{frameOf, framesOf}
 use Rattle.explicit.proofs.PathWords.{frames-length}
-use Rattle.explicit.proofs.PathValues.{height-low, value-none, value-passed, value-other, value-own}
+use Rattle.explicit.proofs.PathValues.{value-none, value-passed, value-other, value-own}
 use Rattle.explicit.proofs.PathLead.{goes}
 
 -- the frames with one more: the block of the level, or not
@@ -51,6 +51,13 @@ block-found p (suc c) l i e = go (topmost (frameOf p c) (framesOf p c) l) (block
       (i < suc c) × (frameOf p i .role ≡ 7) × (frameOf p i .a ≡ l)
     go (own a b h) rec = here (omega (arith, h, e, frames-length p c)) a b
     go (other n h) rec = let r = rec (sym h ∙ e) in (omega arith, r .1, r .2)
+
+pub block-low : (p : List ℕ) (c l : ℕ) → blockIn (framesOf p c) l ≤ c
+block-low p c l = go (blockIn (framesOf p c) l) refl
+  where
+    go : (m : ℕ) → blockIn (framesOf p c) l ≡ m → blockIn (framesOf p c) l ≤ c
+    go zero e = omega arith
+    go (suc i) e = omega (arith, block-found p c l i e .0)
 
 -- a write of a block's variable at the state `at`, counted from the whole's first, moves to the copy of the value
 abbrev Moves : Numbers → List ℕ → ℕ → ℕ → ℕ → ℕ → List Frame → Type 0
@@ -103,111 +110,124 @@ module _ (N : Numbers) (p : List ℕ) where
             (moves-own c l u next a d)
       go (other n h) rec = moves-other c l u next i n (base-next c next b) (rec (sym h ∙ e) (base-next c next b))
 
--- the block with so many blocks outside is the level that is noted
-module _ (p : List ℕ) (c : ℕ) (S : Sound p c) where
-  -- the level of a block's variable
-  pub block-level : (i : ℕ) → i < c → frameOf p i .role ≡ 7 → frameOf p i .a ≡ suc (heightOf (framesOf p i))
-  unfolding Owned levelAt
-  block-level i b e = S .plain i b .owned .0 e
+-- a block of the row is at the level found or outside it
+pub block-least : (p : List ℕ) (c l i : ℕ) → i < c → frameOf p i .role ≡ 7 → frameOf p i .a ≡ l →
+  suc i ≤ blockIn (framesOf p c) l
+unfolding framesOf
+block-least p zero l i b e a = absurd (omega arith)
+block-least p (suc c) l i b e a =
+    go (ℕ-discrete i c) (topmost (frameOf p c) (framesOf p c) l) (λ h. block-least p c l i h e a)
+  where
+    go : Dec (i ≡ c) → Topmost (frameOf p c) (framesOf p c) l → (i < c → suc i ≤ blockIn (framesOf p c) l) →
+      suc i ≤ blockIn (frameOf p c ∷ framesOf p c) l
+    go d (own x y h) rec = omega (arith, h, frames-length p c)
+    go (yes q) (other x h) rec = absurd (x (ap (λ (y : ℕ). frameOf p y .role) (sym q) ∙ e)
+      (ap (λ (y : ℕ). frameOf p y .a) (sym q) ∙ a))
+    go (no q) (other x h) rec = omega (arith, h, rec (omega arith))
 
-  pub block-held : (i l : ℕ) → i < c → frameOf p i .role ≡ 7 → frameOf p i .a ≡ suc l → holderOf p l ≡ i
-  unfolding levelAt
-  block-held i l b e a =
-      let o : levelAt p i .outer ≡ heightOf (framesOf p i) = S .plain i b .outer-blocks in
-      let q : levelAt p i .outer ≡ l = omega (arith, block-level i b e) in
-      ap (λ (y : ℕ). holderOf p y) (sym q) ∙ S .held i b e
+-- the block found is the same from every level that it encloses
+pub block-same : (p : List ℕ) (c i l : ℕ) → i ≤ c → blockIn (framesOf p c) l ≤ i →
+  blockIn (framesOf p i) l ≡ blockIn (framesOf p c) l
+block-same p c i l b h = go (blockIn (framesOf p i) l) (blockIn (framesOf p c) l) refl refl
+  where
+    go : (m n : ℕ) → blockIn (framesOf p i) l ≡ m → blockIn (framesOf p c) l ≡ n →
+      blockIn (framesOf p i) l ≡ blockIn (framesOf p c) l
+    go zero zero e d = e ∙ sym d
+    go zero (suc j) e d =
+        let f = block-found p c l j d in
+        absurd (omega (arith, block-least p i l j (omega arith) (f .1) (f .2)))
+    go (suc k) n e d =
+        let f = block-found p i l k e in
+        let le = block-least p c l k (omega (arith, f .0)) (f .1) (f .2) in
+        upper n d le
+      where
+        upper : (n : ℕ) → blockIn (framesOf p c) l ≡ n → suc k ≤ blockIn (framesOf p c) l →
+          blockIn (framesOf p i) l ≡ blockIn (framesOf p c) l
+        upper zero d le = absurd (omega arith)
+        upper (suc j) d le =
+            let g = block-found p c l j d in
+            omega (arith, block-least p i l j (omega arith) (g .1) (g .2))
 
-  pub block-low : (l : ℕ) → 33 < l → blockIn (framesOf p c) l ≡ 0
-  block-low l h = go (blockIn (framesOf p c) l) refl
-    where
-      go : (m : ℕ) → blockIn (framesOf p c) l ≡ m → blockIn (framesOf p c) l ≡ 0
-      go zero e = e
-      go (suc i) e =
-          let f = block-found p c l i e in
-          absurd (omega (arith, block-level i (f .0) (f .1), height-low (framesOf p i), frames-length p i, S .few, f .0,
-              f .2))
+-- the innermost block: the frames inside it are no blocks'
+innermost-own : (f : Frame) (fs : List Frame) → f .role ≡ 7 → innermostOf (f ∷ fs) ≡ suc (length fs)
+unfolding innermostOf
+innermost-own f fs e = rw (eq-eqb (f .role) 7 e)
 
-  -- it is the one found
-  found-at : (l i : ℕ) → i < c → frameOf p i .role ≡ 7 → frameOf p i .a ≡ suc l → (n : ℕ) → n ≤ c → i < n →
-    blockIn (framesOf p n) (suc l) ≡ suc i
-  unfolding framesOf
-  found-at l i b e a zero z h = absurd (omega arith)
-  found-at l i b e a (suc n) z h =
-      go (ℕ-discrete i n) (topmost (frameOf p n) (framesOf p n) (suc l)) (found-at l i b e a n (omega arith))
-    where
-      go : Dec (i ≡ n) → Topmost (frameOf p n) (framesOf p n) (suc l) →
-        (i < n → blockIn (framesOf p n) (suc l) ≡ suc i) → blockIn (frameOf p n ∷ framesOf p n) (suc l) ≡ suc i
-      go q (own x y g) rec =
-          let d : holderOf p l ≡ n = block-held n l (omega arith) x (sym y) in
-          let d′ : holderOf p l ≡ i = block-held i l b e a in
-          g ∙ ap suc (frames-length p n ∙ sym d ∙ d′)
-      go (yes q) (other x g) rec = absurd (x (ap (λ (y : ℕ). frameOf p y .role) (sym q) ∙ e)
-        (ap (λ (y : ℕ). frameOf p y .a) (sym q) ∙ a))
-      go (no q) (other x g) rec = g ∙ rec (omega arith)
+innermost-other : (f : Frame) (fs : List Frame) → (f .role ≡ 7 → ⊥) → innermostOf (f ∷ fs) ≡ innermostOf fs
+unfolding innermostOf
+innermost-other f fs e = rw (ne-eqb (f .role) 7 e)
 
-  pub block-is : (l i : ℕ) → i < c → frameOf p i .role ≡ 7 → frameOf p i .a ≡ suc l → blockIn (framesOf p c) (suc l) ≡
-      suc i
-  block-is l i b e a = found-at l i b e a c (omega arith) b
+block-other : (f : Frame) (fs : List Frame) (l : ℕ) → (f .role ≡ 7 → ⊥) → blockIn (f ∷ fs) l ≡ blockIn fs l
+unfolding blockIn
+block-other f fs l e = rw (ne-eqb (f .role) 7 e)
 
-  -- there is none where the noted level is not such a block
-  pub block-not : (l : ℕ) → (holderOf p l < c → frameOf p (holderOf p l) .role ≡ 7 →
-    frameOf p (holderOf p l) .a ≡ suc l → ⊥) → 0 ≡ blockIn (framesOf p c) (suc l)
-  block-not l n = go (blockIn (framesOf p c) (suc l)) refl
-    where
-      go : (m : ℕ) → blockIn (framesOf p c) (suc l) ≡ m → 0 ≡ blockIn (framesOf p c) (suc l)
-      go zero e = sym e
-      go (suc i) e =
-          let f = block-found p c (suc l) i e in
-          let q : holderOf p l ≡ i = block-held i l (f .0) (f .1) (f .2) in
-          absurd (n (omega (arith, q)) (ap (λ (y : ℕ). frameOf p y .role) q ∙ f .1)
-            (ap (λ (y : ℕ). frameOf p y .a) q ∙ f .2))
+innermost-empty : innermostOf [] ≡ 0
+unfolding innermostOf
+innermost-empty = refl
+
+-- the blocks of the rows are at the innermost block or outside it
+pub record Innermost (p : List ℕ) (c l : ℕ) : Type 0 where
+  pub low : innermostOf (framesOf p c) ≤ c
+  pub same : blockIn (framesOf p c) l ≡ blockIn (framesOf p (innermostOf (framesOf p c))) l
+  pub block : (i : ℕ) → innermostOf (framesOf p c) ≡ suc i → frameOf p i .role ≡ 7
+
+pub innermost-is : (p : List ℕ) (c l : ℕ) → Innermost p c l
+unfolding framesOf
+innermost-is p zero l = record
+  { low = omega (arith, innermost-empty)
+  ; same = rw innermost-empty
+  ; block = λ i e. absurd (omega (arith, innermost-empty)) }
+innermost-is p (suc c) l = go (ℕ-discrete (frameOf p c .role) 7) (innermost-is p c l)
+  where
+    go : Dec (frameOf p c .role ≡ 7) → Innermost p c l → Innermost p (suc c) l
+    go (yes e) I =
+        let z : innermostOf (frameOf p c ∷ framesOf p c) ≡ suc c =
+              innermost-own (frameOf p c) (framesOf p c) e ∙ ap suc (frames-length p c) in
+        record
+          { low = omega (arith, z)
+          ; same = ap (λ (y : ℕ). blockIn (framesOf p y) l) (sym z)
+          ; block = λ i d. let q : i ≡ c = omega (arith, z) in rw q e }
+    go (no e) I =
+        let z : innermostOf (frameOf p c ∷ framesOf p c) ≡ innermostOf (framesOf p c) =
+              innermost-other (frameOf p c) (framesOf p c) e in
+        record
+          { low = omega (arith, z, I .low)
+          ; same = block-other (frameOf p c) (framesOf p c) l e ∙ I .same
+              ∙ ap (λ (y : ℕ). blockIn (framesOf p y) l) (sym z)
+          ; block = λ i d. I .block i (sym z ∙ d) }
+
+-- a frame that is not the block of the row
+passed : (p : List ℕ) (c l : ℕ) → (frameOf p c .role ≡ 7 → frameOf p c .a ≡ suc l → ⊥) →
+  storeOf (frameOf p c ∷ framesOf p c) l ≡ storeOf (framesOf p c) l
+passed p c l n = go (ℕ-discrete (frameOf p c .role) 7)
+  where
+    go : Dec (frameOf p c .role ≡ 7) → storeOf (frameOf p c ∷ framesOf p c) l ≡ storeOf (framesOf p c) l
+    go (yes a) = value-other (frameOf p c) (framesOf p c) l a (n a)
+    go (no a) = value-passed (frameOf p c) (framesOf p c) l a
 
 -- the value of a private variable is that of the copy of its block
-pub block-value : (p : List ℕ) (c l i : ℕ) → Sound p c → l < 32 → blockIn (framesOf p c) (suc l) ≡ suc i →
-  frameOf p i .c % 65536 ≡ getD (storeOf (framesOf p c)) l 0
+pub block-value : (p : List ℕ) (c l i : ℕ) → blockIn (framesOf p c) (suc l) ≡ suc i →
+  frameOf p i .c ≡ storeOf (framesOf p c) l
 unfolding framesOf
-block-value p zero l i S b e = absurd (block-empty (suc l) i e)
-block-value p (suc c) l i S b e = go (topmost (frameOf p c) (framesOf p c) (suc l)) (block-value p c l i less b)
+block-value p zero l i e = absurd (block-empty (suc l) i e)
+block-value p (suc c) l i e = go (topmost (frameOf p c) (framesOf p c) (suc l)) (block-value p c l i)
   where
-    less : Sound p c
-    less = record
-      { room = S .room; few = omega (arith, S .few); plain = λ i h. S .plain i (omega arith); held = λ i h. S .held i
-          (omega arith) }
-    level : frameOf p c .role ≡ 7 → frameOf p c .a ≡ suc (heightOf (framesOf p c))
-    level = block-level p (suc c) S c (omega arith)
-    here : i ≡ c → frameOf p c .role ≡ 7 → heightOf (framesOf p c) ≡ l →
-      frameOf p i .c % 65536 ≡ getD (storeOf (frameOf p c ∷ framesOf p c)) l 0
-    here q a h = rw q (value-own (frameOf p c) (framesOf p c) l a h b)
+    here : i ≡ c → frameOf p c .role ≡ 7 → frameOf p c .a ≡ suc l →
+      frameOf p i .c ≡ storeOf (frameOf p c ∷ framesOf p c) l
+    here q a h = rw q (value-own (frameOf p c) (framesOf p c) l a h)
     go : Topmost (frameOf p c) (framesOf p c) (suc l) →
-      (blockIn (framesOf p c) (suc l) ≡ suc i → frameOf p i .c % 65536 ≡ getD (storeOf (framesOf p c)) l 0) →
-      frameOf p i .c % 65536 ≡ getD (storeOf (frameOf p c ∷ framesOf p c)) l 0
-    go (own a d h) rec = here (omega (arith, h, e, frames-length p c)) a (omega (arith, level a))
-    go (other n h) rec = rec (sym h ∙ e) ∙ sym (passed (ℕ-discrete (frameOf p c .role) 7))
-      where
-        passed : Dec (frameOf p c .role ≡ 7) →
-          getD (storeOf (frameOf p c ∷ framesOf p c)) l 0 ≡ getD (storeOf (framesOf p c)) l 0
-        passed (yes a) = value-other (frameOf p c) (framesOf p c) l a (λ z. n a (omega (arith, level a)))
-        passed (no a) = value-passed (frameOf p c) (framesOf p c) l a
+      (blockIn (framesOf p c) (suc l) ≡ suc i → frameOf p i .c ≡ storeOf (framesOf p c) l) →
+      frameOf p i .c ≡ storeOf (frameOf p c ∷ framesOf p c) l
+    go (own a d h) rec = here (omega (arith, h, e, frames-length p c)) a (sym d)
+    go (other n h) rec = rec (sym h ∙ e) ∙ sym (passed p c l n)
 
-pub block-unset : (p : List ℕ) (c l : ℕ) → Sound p c → 0 ≡ blockIn (framesOf p c) (suc l) →
-  0 ≡ getD (storeOf (framesOf p c)) l 0
+pub block-unset : (p : List ℕ) (c l : ℕ) → 0 ≡ blockIn (framesOf p c) (suc l) → 0 ≡ storeOf (framesOf p c) l
 unfolding framesOf
-block-unset p zero l S e = value-none l
-block-unset p (suc c) l S e = go (topmost (frameOf p c) (framesOf p c) (suc l)) (block-unset p c l less)
+block-unset p zero l e = value-none l
+block-unset p (suc c) l e = go (topmost (frameOf p c) (framesOf p c) (suc l)) (block-unset p c l)
   where
-    less : Sound p c
-    less = record
-      { room = S .room; few = omega (arith, S .few); plain = λ i h. S .plain i (omega arith); held = λ i h. S .held i
-          (omega arith) }
-    level : frameOf p c .role ≡ 7 → frameOf p c .a ≡ suc (heightOf (framesOf p c))
-    level = block-level p (suc c) S c (omega arith)
     go : Topmost (frameOf p c) (framesOf p c) (suc l) →
-      (0 ≡ blockIn (framesOf p c) (suc l) → 0 ≡ getD (storeOf (framesOf p c)) l 0) →
-      0 ≡ getD (storeOf (frameOf p c ∷ framesOf p c)) l 0
+      (0 ≡ blockIn (framesOf p c) (suc l) → 0 ≡ storeOf (framesOf p c) l) →
+      0 ≡ storeOf (frameOf p c ∷ framesOf p c) l
     go (own a d h) rec = absurd (omega (arith, h, e))
-    go (other n h) rec = rec (e ∙ h) ∙ sym (passed (ℕ-discrete (frameOf p c .role) 7))
-      where
-        passed : Dec (frameOf p c .role ≡ 7) →
-          getD (storeOf (frameOf p c ∷ framesOf p c)) l 0 ≡ getD (storeOf (framesOf p c)) l 0
-        passed (yes a) = value-other (frameOf p c) (framesOf p c) l a (λ z. n a (omega (arith, level a)))
-        passed (no a) = value-passed (frameOf p c) (framesOf p c) l a
+    go (other n h) rec = rec (e ∙ h) ∙ sym (passed p c l n)

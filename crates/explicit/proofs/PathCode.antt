@@ -9,19 +9,18 @@ use lib.ListN.{getD, set, length, List·getD-eq-default}
 use borrow.Author.Tests.{eq-eqb, ne-eqb}
 use Rattle.language.specs.Choice.{pick}
 use Rattle.language.specs.declared.Numbers.{Numbers}
-use Rattle.sheet.specs.table.Rep.{word}
+use Rattle.records.specs.Row.{word}
 use Rattle.automaton.specs.declared.Move.{Move}
 use Rattle.automaton.specs.declared.Frame.{Frame}
 use Rattle.automaton.specs.declared.Out.{Out}
 use Rattle.automaton.specs.declared.Spot.{Spot}
 use Rattle.automaton.specs.declared.Spot.the-variants.{Here, Inside}
-use Rattle.automaton.specs.walk.Store.{heightIn}
 use Rattle.automaton.specs.walk.Up.{goesOf, riseOf}
 use Rattle.automaton.specs.declared.Silent.{Silent}
 use Rattle.automaton.specs.walk.Down.{inPrivate, downOf}
 use Rattle.explicit.specs.declared.Level.{Level}
 use Rattle.automaton.specs.walk.Row.{sumOf, nameId}
-use Rattle.explicit.specs.inner.Path.{riseAll, heightOf, storeOf, baseOf, passesOf, upOf}
+use Rattle.explicit.specs.inner.Path.{riseAll, storeOf, passesOf, upOf, innermostOf}
 use Rattle.explicit.proofs.PathWords.{frames-length}
 use Rattle.explicit.specs.inner.Levels.{fieldOf, frameOf, levelAt, framesOf, Sound}
 use Rattle.automaton.specs.walk.Name.{noMove}
@@ -49,16 +48,15 @@ unfolding startOf levelAt
 start-less p c h = rw (ne-eqb c 0 (λ z. omega arith))
 
 pub fewer : (p : List ℕ) (c left : ℕ) → Sound p c → left ≤ c → Sound p left
-fewer p c left S h = record { room = S .room; few = omega (arith, S .few); plain = λ i b. S .plain i (omega arith)
-  ; held = λ i b. S .held i (omega arith) }
+fewer p c left S h = record { room = S .room; few = omega (arith, S .few); plain = λ i b. S .plain i (omega arith) }
 
 -- rising
 pub climb-again : (N : Numbers) (p : List ℕ) (c left : ℕ) (f : Frame) (g g₀ : Silent) (out : Silent) → 0 < left →
-  f ≡ frameOf p (left - 1) → Go (out .next) (out .level) (out .set) ≡ goesOf f (g .next) (g .level) (g .set) →
-  riseAll N (framesOf p left) (Go (g .next) (g .level) (g .set)) ≡
-    riseAll N (framesOf p c) (Go (g₀ .next) (g₀ .level) (g₀ .set)) →
-  riseAll N (framesOf p (left - 1)) (Go (out .next) (out .level) (out .set)) ≡
-    riseAll N (framesOf p c) (Go (g₀ .next) (g₀ .level) (g₀ .set))
+  f ≡ frameOf p (left - 1) → Go (out .next) (out .block) (out .set) ≡ goesOf f (g .next) (g .block) (g .set) →
+  riseAll N (framesOf p left) (Go (g .next) (g .block) (g .set)) ≡
+    riseAll N (framesOf p c) (Go (g₀ .next) (g₀ .block) (g₀ .set)) →
+  riseAll N (framesOf p (left - 1)) (Go (out .next) (out .block) (out .set)) ≡
+    riseAll N (framesOf p c) (Go (g₀ .next) (g₀ .block) (g₀ .set))
 unfolding riseAll riseOf
 climb-again N p c left f g g₀ out z e r inv =
     let h = rw (frames-less p left z) at inv in
@@ -71,29 +69,10 @@ climb-last N p c zero out o z inv = inv
 climb-last N p c (suc i) out o z inv = absurd (omega arith)
 
 pub far-leads : (N : Numbers) (s : Site) (p : List ℕ) (c r : ℕ) (out : Silent) (o : Out) →
-  Go (out .next) (out .level) (out .set) ≡ riseAll N (framesOf p c) o → r ≡ sumOf (s .o) (out .next) →
+  Go (out .next) (out .block) (out .set) ≡ riseAll N (framesOf p c) o → r ≡ sumOf (s .o) (out .next) →
   r ≡ targetOf s (riseAll N (framesOf p c) o)
 unfolding targetOf
 far-leads N s p c r out o e h = rw (← e) h
-
--- how many blocks are outside
-pub height-inside : (p : List ℕ) (c o r h : ℕ) → Sound p c → (c ≡ 0 → ⊥) → o ≡ fieldOf p (c - 1) 5 →
-  r ≡ fieldOf p (c - 1) 6 → r ≡ 7 → h ≡ sumOf o 1 → h ≡ heightOf (framesOf p c)
-unfolding heightOf heightIn levelAt frameOf
-height-inside p c o r h S n a b d e =
-    let g : levelAt p (c - 1) .outer ≡ heightOf (framesOf p (c - 1)) = S .plain (c - 1) (omega arith) .outer-blocks in
-    rw (frames-less p c (omega arith), eq-eqb (fieldOf p (c - 1) 6) 7 (sym b ∙ d)) (e ∙ rw (a, g))
-
-pub height-beside : (p : List ℕ) (c o r : ℕ) → Sound p c → (c ≡ 0 → ⊥) → o ≡ fieldOf p (c - 1) 5 →
-  r ≡ fieldOf p (c - 1) 6 → (r ≡ 7 → ⊥) → o ≡ heightOf (framesOf p c)
-unfolding heightOf heightIn levelAt frameOf
-height-beside p c o r S n a b d =
-    let g : levelAt p (c - 1) .outer ≡ heightOf (framesOf p (c - 1)) = S .plain (c - 1) (omega arith) .outer-blocks in
-    rw (frames-less p c (omega arith), ne-eqb (fieldOf p (c - 1) 6) 7 (λ z. d (b ∙ z))) (a ∙ g)
-
-pub height-none : (p : List ℕ) (c : ℕ) → c ≡ 0 → 0 ≡ heightOf (framesOf p c)
-unfolding heightOf framesOf
-height-none p c e = rw e
 
 -- where a state is in the innermost of some levels
 pub spot-private : (t : List ℕ) (root : ℕ) (p : List ℕ) (c k part kind value base : ℕ) (o : Out) → (c ≡ 0 → ⊥) →
@@ -103,15 +82,14 @@ pub spot-private : (t : List ℕ) (root : ℕ) (p : List ℕ) (c k part kind val
 unfolding spotIn levelAt
 spot-private t root p c k part kind value base o n a b d e w h =
     rw (ne-eqb c 0 n, ← a, ← b, ← d, ← e)
-    (ap Here h ∙ sym (down-private t part kind value (k - base) (heightOf (framesOf p c)) (storeOf (framesOf p c))
-        noMove w))
+    (ap Here h ∙ sym (down-private t part kind value (k - base) (storeOf (framesOf p c)) noMove w))
 
-pub spot-down : (t : List ℕ) (root : ℕ) (p : List ℕ) (c k part kind value base h : ℕ) (S : Spot) → (c ≡ 0 → ⊥) →
+pub spot-down : (t : List ℕ) (root : ℕ) (p : List ℕ) (c k part kind value base : ℕ) (S : Spot) → (c ≡ 0 → ⊥) →
   part ≡ fieldOf p (c - 1) 0 → kind ≡ fieldOf p (c - 1) 1 → value ≡ fieldOf p (c - 1) 2 → base ≡ fieldOf p (c - 1) 3 →
-  h ≡ heightOf (framesOf p c) → S ≡ downOf t part kind value (k - base) (storeOf (framesOf p c)) h noMove →
+  S ≡ downOf t part kind value (k - base) (storeOf (framesOf p c)) noMove →
   S ≡ spotIn t root p c k noMove
 unfolding spotIn levelAt
-spot-down t root p c k part kind value base h S n a b d e g q = rw (ne-eqb c 0 n, ← a, ← b, ← d, ← e, ← g) q
+spot-down t root p c k part kind value base S n a b d e q = rw (ne-eqb c 0 n, ← a, ← b, ← d, ← e) q
 
 -- a level that is left
 pub leaves : (p : List ℕ) (c k v : ℕ) → v ≡ fieldOf p (c - 1) 4 → k < v → Covers p c k
@@ -121,7 +99,7 @@ leaves p c k v e h z = omega (arith, e)
 -- the level of a part
 pub child-is : (t : List ℕ) (root : ℕ) (p : List ℕ) (c k part kind value : ℕ) (f : Frame) (s w z e h u : ℕ) →
   s ≡ startOf p c → w ≡ word t part 1 → z ≡ stopOf t root p c → e ≡ untilOf k (s + f .base + w) z →
-  h ≡ heightOf (framesOf p c) → u ≡ pick (passesOf (f .role)) (upOf (framesOf p c)) (suc c) →
+  h ≡ innermostOf (framesOf p c) → u ≡ pick (passesOf (f .role)) (upOf (framesOf p c)) (suc c) →
   (record { part = part; kind = kind; value = value; base = s + f .base; end = e; outer = h; up = u; f = f }) ≡
     childOf t root p c k part kind value f
 unfolding childOf upOf

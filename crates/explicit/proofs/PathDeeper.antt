@@ -11,33 +11,18 @@ use Rattle.automaton.specs.declared.Frame.{Frame}
 use Rattle.automaton.specs.declared.Spot.the-variants.{Inside}
 use Rattle.automaton.specs.walk.Shows.{Words}
 use Rattle.explicit.specs.declared.Level.{Level}
-use Rattle.explicit.specs.inner.Path.{heightOf, Owned}
-use Rattle.explicit.specs.inner.Levels.{frameOf, framesOf, levelAt, holderOf, enteredOf, Plain, Sound}
+use Rattle.explicit.specs.inner.Path.{Owned}
+use Rattle.explicit.specs.inner.Levels.{framesOf, levelAt, withLevel, Plain}
 use Rattle.automaton.specs.walk.Name.{noMove}
 use Rattle.explicit.specs.inner.Kept.{spotIn, stopOf, childOf}
 use Rattle.explicit.specs.inner.Kept.{Stands, KeptPath, Covers}
-use Rattle.explicit.proofs.PathWords.{frames-length, frames-next, entered-length, entered-new, entered-old}
-use Rattle.explicit.proofs.PathWords.{entered-frames, holder-new, holder-old}
-use Rattle.explicit.proofs.PathValues.{height-low}
-use Rattle.explicit.proofs.PathRise.{height-block, height-least}
+use Rattle.explicit.proofs.PathWords.{entered-length, entered-new, entered-old, entered-frames}
 use Rattle.explicit.proofs.PathSays.{start-base, frames-owned}
 use Rattle.explicit.proofs.PathInner.{until-past, Inner, deeper-stands, entered}
 
--- more levels have no fewer blocks
-heights-rise : (p : List ℕ) (i c : ℕ) → i ≤ c → c ≤ 33 → heightOf (framesOf p i) ≤ heightOf (framesOf p c)
-unfolding framesOf
-heights-rise p i zero h b = let e : i ≡ 0 = omega arith in rw e (omega arith)
-heights-rise p i (suc c) h b = go (decLt i (suc c)) (λ l. heights-rise p i c l (omega arith))
-  where
-    go : Dec (i < suc c) → (i ≤ c → heightOf (framesOf p i) ≤ heightOf (framesOf p c)) →
-      heightOf (framesOf p i) ≤ heightOf (frameOf p c ∷ framesOf p c)
-    go (yes l) rec = omega (arith, rec (omega arith), height-least (frameOf p c) (framesOf p c) (omega (arith,
-        frames-length p c)))
-    go (no l) rec = let e : i ≡ suc c = omega arith in rw e (omega arith)
-
 module _ (t : List ℕ) (W : Words t) (root : ℕ) where
   -- the levels with one more
-  module _ (p : List ℕ) (c k part kind value : ℕ) (f : Frame) (s : k < 65536) (h : c < 33) (K : KeptPath t root p c k)
+  module _ (p : List ℕ) (c k part kind value : ℕ) (f : Frame) (s : k < 65536) (h : c < 6145) (K : KeptPath t root p c k)
       (I : Inner t root p c k part kind value f) where
     abbrev l : Level
     l = childOf t root p c k part kind value f
@@ -45,7 +30,7 @@ module _ (t : List ℕ) (W : Words t) (root : ℕ) where
     child-plain : Plain (framesOf p c) l
     unfolding childOf Owned
     child-plain = record
-      { outer-blocks = refl
+      { outer-block = refl
       ; first-state = ap (λ (y : ℕ). y + f .base) (start-base p c (K .sound))
       ; owned = (I .own, frames-owned p c (K .sound))
       ; upper = refl
@@ -68,9 +53,9 @@ module _ (t : List ℕ) (W : Words t) (root : ℕ) where
         go (no a) = inr (omega arith)
 
     abbrev q : List ℕ
-    q = enteredOf p c l
+    q = withLevel p c l
 
-    room : length p ≡ 462
+    room : length p ≡ 79885
     room = K .sound .room
 
     plain-all : (i : ℕ) → (i < c) ⊎ (i ≡ c) → Plain (framesOf q i) (levelAt q i)
@@ -90,68 +75,38 @@ module _ (t : List ℕ) (W : Words t) (root : ℕ) where
     begun-all i (inl a) = rw (entered-old p c l h room i a) (K .begun i a)
     begun-all i (inr e) = rw (e, entered-new p c l h room) child-begins
 
-    outer-low : l .outer < 33
-    unfolding childOf
-    outer-low = omega (arith, height-low (framesOf p c), frames-length p c)
-
-    -- a block before it has fewer outside
-    outer-less : (i : ℕ) → i < c → levelAt p i .f .role ≡ 7 → levelAt p i .outer ≡ l .outer → ⊥
-    unfolding childOf
-    outer-less i a e g =
-        let o : levelAt p i .outer ≡ heightOf (framesOf p i) = K .sound .plain i a .outer-blocks in
-        let s : heightOf (framesOf p (suc i)) ≡ suc (heightOf (framesOf p i)) =
-              ap heightOf (frames-next p i) ∙ height-block (levelAt p i .f) (framesOf p i) e
-                (omega (arith, frames-length p i)) in
-        omega (arith, heights-rise p (suc i) c (omega arith) (omega arith))
-
-    held-all : (i : ℕ) → (i < c) ⊎ (i ≡ c) → levelAt q i .f .role ≡ 7 → holderOf q (levelAt q i .outer) ≡ i
-    held-all i (inl a) = rw (entered-old p c l h room i a) (λ e.
-      holder-old p c l h room (levelAt p i .outer) (λ _ g. outer-less i a e g) ∙ K .sound .held i a e)
-    held-all i (inr d) = rw (d, entered-new p c l h room) (λ e. holder-new p c l h room e outer-low)
-
     -- THEOREM: with the part's level the path is kept
     pub deeper : (p′ : List ℕ) → p′ ≡ q → KeptPath t root p′ (c + 1) k × Covers p′ (c + 1) k
     deeper p′ e = rw (e, add-one) (record
       { sound = record
           { room = entered-length p c l h room
           ; few = omega arith
-          ; plain = λ i b. plain-all i (split i b)
-          ; held = λ i b. held-all i (split i b) }
+          ; plain = λ i b. plain-all i (split i b) }
       ; stands = λ i b. stands-all i (split i b)
       ; begun = λ i b. begun-all i (split i b) }, λ z.
         let d : suc c - 1 ≡ c = omega arith in rw (d, entered-new p c l h room) child-covers)
 
   -- a turn of the code: the part's level is written
-  pub goes-deeper : (p p′ : List ℕ) (c k part kind value inner : ℕ) (f : Frame) (l : Level) → k < 65536 → c < 33 →
+  pub goes-deeper : (p p′ : List ℕ) (c k part kind value inner : ℕ) (f : Frame) (l : Level) → k < 65536 → c < 6145 →
     KeptPath t root p c k → Covers p c k → Inside part kind value inner f ≡ spotIn t root p c k noMove →
-    l ≡ childOf t root p c k part kind value f → p′ ≡ enteredOf p c l → KeptPath t root p′ (c + 1) k × Covers p′
+    l ≡ childOf t root p c k part kind value f → p′ ≡ withLevel p c l → KeptPath t root p′ (c + 1) k × Covers p′
         (c + 1) k
   goes-deeper p p′ c k part kind value inner f l s h K C e g w =
       deeper p c k part kind value f s h K (entered t W root p c k part kind value inner f s h K C e) p′
-        (w ∙ ap (λ (y : Level). enteredOf p c y) g)
-
--- a level has fewer blocks outside than levels can
-pub child-low : (t : List ℕ) (root : ℕ) (p : List ℕ) (c k part kind value : ℕ) (f : Frame) (l : Level) → Sound p c → c <
-    33 →
-  l ≡ childOf t root p c k part kind value f → l .outer < 33
-unfolding childOf
-child-low t root p c k part kind value f l S h e =
-    rw e (omega (arith, height-low (framesOf p c), frames-length p c))
+        (w ∙ ap (λ (y : Level). withLevel p c y) g)
 
 -- fewer levels are kept too, and for a later state
 pub kept-fewer : {t : List ℕ} {root : ℕ} {p : List ℕ} {c k : ℕ} (c′ k′ : ℕ) → KeptPath t root p c k → c′ ≤ c → k ≤ k′ →
   KeptPath t root p c′ k′
 kept-fewer c′ k′ K a b = record
   { sound = record
-      { room = K .sound .room; few = omega (arith, K .sound .few); plain = λ i l. K .sound .plain i (omega arith)
-      ; held = λ i l. K .sound .held i (omega arith) }
+      { room = K .sound .room; few = omega (arith, K .sound .few); plain = λ i l. K .sound .plain i (omega arith) }
   ; stands = λ i l. K .stands i (omega arith)
   ; begun = λ i l. omega (arith, K .begun i (omega arith)) }
 
 -- before the first state
-pub kept-none : (t : List ℕ) (root : ℕ) (p : List ℕ) → length p ≡ 462 → KeptPath t root p 0 0
+pub kept-none : (t : List ℕ) (root : ℕ) (p : List ℕ) → length p ≡ 79885 → KeptPath t root p 0 0
 kept-none t root p e = record
-  { sound = record { room = e; few = omega arith; plain = λ i l. absurd (omega arith); held = λ i l. absurd (omega
-      arith) }
+  { sound = record { room = e; few = omega arith; plain = λ i l. absurd (omega arith) }
   ; stands = λ i l. absurd (omega arith)
   ; begun = λ i l. absurd (omega arith) }

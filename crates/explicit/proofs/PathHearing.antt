@@ -7,7 +7,7 @@ use Prim.Native.Nat.{ℕ, zero, suc, _+_, _-_, _%_}
 use native.Mathlib.Omega.{arith}
 use lib.Dec.{eqb, ltb, leb}
 use Rattle.language.specs.Choice.{pick}
-use Rattle.sheet.specs.table.Rep.{word}
+use Rattle.records.specs.Row.{word}
 use Rattle.automaton.specs.declared.Move.{Move}
 use Rattle.automaton.specs.declared.Out.{Out}
 use Rattle.automaton.specs.declared.Out.the-variants.{Go, Exit, Say, Hear, Stuck}
@@ -126,20 +126,20 @@ module _ (t : List ℕ) where
   unfolding inAssign assignIn StillAt Still
   still-assign at k = spot-pick (ltb k (partWeight t at 1)) _ _ tt (spot-pick (eqb (partWeight t at 0) 0) _ _ tt tt)
 
-  still-new : (at q x k h : ℕ) → StillAt (inNew t at q x k h)
+  still-new : (at q x k : ℕ) → StillAt (inNew t at q x k)
   unfolding inNew StillAt Still
-  still-new at q x k h = spot-pick (eqb (partWeight t at 0) 0) _ _ tt tt
+  still-new at q x k = spot-pick (eqb (partWeight t at 0) 0) _ _ tt tt
 
-  still-private : (at q x k : ℕ) (s : List ℕ) → Still (inPrivate t at q x k s)
+  still-private : (at q x k : ℕ) (s : ℕ → ℕ) → Still (inPrivate t at q x k s)
   unfolding inPrivate Still
   still-private at q x k s =
       still-pick (eqb k 0) _ _ tt (still-pick (eqb q 3) _ _ tt
       (still-pick (eqb q 6) _ _ (still-pick (ltb x (word t at 3)) _ _ tt tt) tt))
 
   -- THEOREM: a position that waits for a move does what the name says when it is given
-  pub listens : (at q x k h : ℕ) (s : List ℕ) → Listens (λ m. downOf t at q x k s h m)
+  pub listens : (at q x k : ℕ) (s : ℕ → ℕ) → Listens (λ m. downOf t at q x k s m)
   unfolding downAs StillAt Still
-  listens at q x k h s =
+  listens at q x k s =
       listens-pick (eqb kind 16) _ _ (still (Here (Exit 1 0 0 0)) tt)
       (listens-pick (eqb kind 18) _ _ (still (Here (Exit 5 (word t at 4) 0 0)) tt)
       (listens-pick (eqb kind 20) _ _ (listens-name at q x k)
@@ -149,7 +149,7 @@ module _ (t : List ℕ) where
       (listens-pick (eqb kind 24) _ _ (still (inSeq t at q x k) (still-seq at q x k))
       (listens-pick (eqb kind 25) _ _ (still (inCond t at q x k) (still-cond at q x k))
       (listens-pick (eqb kind 26) _ _ (still (inWhile t at k) (still-while at k))
-      (listens-pick (eqb kind 27) _ _ (still (inNew t at q x k h) (still-new at q x k h))
+      (listens-pick (eqb kind 27) _ _ (still (inNew t at q x k) (still-new at q x k))
       (listens-pick (eqb kind 128) _ _ (still (Here (inPrivate t at q x k s)) (still-private at q x k s))
         (still (Here Stuck) tt)))))))))))
     where

@@ -8,7 +8,7 @@ use native.Mathlib.Decide.{decLt, ℕ-discrete}
 use lib.ListN.{length}
 use borrow.Author.Tests.{lt-ltb, le-ltb, lt-leb, le-leb, eq-eqb, ne-eqb}
 use Rattle.language.specs.declared.Numbers.{Numbers}
-use Rattle.sheet.specs.table.Rep.{word}
+use Rattle.records.specs.Row.{word}
 use Rattle.automaton.specs.declared.Move.{Move}
 use Rattle.automaton.specs.declared.Frame.{Frame}
 use Rattle.automaton.specs.declared.Out.the-variants.{Stuck}
@@ -19,7 +19,7 @@ use Rattle.automaton.specs.walk.Down.{downOf}
 use Rattle.automaton.specs.walk.Step.{stepAt}
 use Rattle.automaton.specs.walk.Shows.{Words}
 use Rattle.explicit.specs.inner.States.{atStart, afterOf, sheetAt}
-use Rattle.explicit.specs.inner.Path.{Same, SameAt, riseAll, heightOf, storeOf}
+use Rattle.explicit.specs.inner.Path.{Same, SameAt, riseAll, storeOf}
 use Rattle.explicit.specs.inner.Levels.{framesOf, levelAt}
 use Rattle.automaton.specs.walk.Name.{noMove}
 use Rattle.explicit.specs.inner.Kept.{sheetSpot, spotIn, startOf, stopOf, leastOf, untilOf, childOf}
@@ -28,7 +28,6 @@ use Rattle.automaton.specs.walk.Row.{mulAddOf}
 use Rattle.automaton.proofs.Sums.{mul-add-small}
 use Rattle.explicit.proofs.Steady.{in-copy, small-word, steady, steady-argument}
 use Rattle.explicit.proofs.PathWords.{frames-length}
-use Rattle.explicit.proofs.PathValues.{height-low}
 use Rattle.explicit.proofs.PathSays.{path-says, start-next, stop-next, spot-next, stop-low, in-range,
     after-inside}
 
@@ -77,16 +76,16 @@ arg-base part class n w k base after part′ kind value inner f e p a b d =
     let q : f .base ≡ mulAddOf (k / w) w base = ap (λ (y : Frame). y .base) g in
     omega (arith, q, mul-add-small (k / w) w base (omega (arith, in-copy w k p .2)) a (omega arith))
 
-as-same : (t : List ℕ) (outer : ℕ) (F : ℕ → Move → Spot) (k part kind value inner : ℕ) (f : Frame) (S : Spot) →
-  S ≡ Inside part kind value inner f → SameAt t outer F k S → Same t outer F k part kind value inner f
+as-same : (t : List ℕ) (F : ℕ → Move → Spot) (k part kind value inner : ℕ) (f : Frame) (S : Spot) →
+  S ≡ Inside part kind value inner f → SameAt t F k S → Same t F k part kind value inner f
 unfolding SameAt
-as-same t outer F k part kind value inner f S e h = rw e at h
+as-same t F k part kind value inner f S e h = rw e at h
 
 -- a part of the innermost of c levels, steady there
 pub record Inner (t : List ℕ) (root : ℕ) (p : List ℕ) (c k part kind value : ℕ) (f : Frame) : Type 0 where
   pub begins : startOf p c + f .base ≤ k
   pub some : 0 < startOf p c + f .base
-  pub own : f .role ≡ 7 → f .a ≡ suc (heightOf (framesOf p c))
+  pub own : f .role ≡ 7 → 0 < f .a
   pub inside : k < stopOf t root p c
   pub same : (k′ : ℕ) (m : Move) → startOf p c + f .base ≤ k′ → k′ < stopOf t root p c →
     (k′ ≤ k) ⊎ (k′ < startOf p c + f .base + word t part 1) →
@@ -96,7 +95,7 @@ module _ (t : List ℕ) (W : Words t) (root : ℕ) where
   -- of the whole sheet
   inner-first : (p : List ℕ) (k part kind value inner : ℕ) (f : Frame) → k < 65536 →
     sheetSpot t root k noMove ≡ Inside part kind value inner f → Inner t root p 0 k part kind value f
-  unfolding sheetSpot startOf stopOf spotIn heightOf framesOf
+  unfolding sheetSpot startOf stopOf spotIn framesOf
   inner-first p k part kind value inner f s e = go (ℕ-discrete k 0) (decLt k (afterOf t root)) (ℕ-discrete w 0) e
     where
       w : ℕ
@@ -107,7 +106,7 @@ module _ (t : List ℕ) (W : Words t) (root : ℕ) where
       F : ℕ → Move → Spot
       F k m = argHere root (word t root 2) (word t root 3) w (k - 1) 1 (afterOf t root)
       as-inner : (k ≡ 0 → ⊥) → k < afterOf t root → 0 < w → F k noMove ≡ Inside part kind value inner f →
-        Same t 0 F k part kind value inner f → Inner t root p 0 k part kind value f
+        Same t F k part kind value inner f → Inner t root p 0 k part kind value f
       as-inner a b c h S =
           let q : 1 ≤ f .base = arg-base root (word t root 2) (word t root 3) w (k - 1) 1 (afterOf t root) part kind
               value
@@ -139,12 +138,12 @@ module _ (t : List ℕ) (W : Words t) (root : ℕ) where
           let h : F k noMove ≡ Inside part kind value inner f =
                 rw (ne-eqb k 0 a, lt-ltb k (afterOf t root) b) at e in
           as-inner a b (omega arith) h
-            (as-same t 0 F k part kind value inner f (F k noMove) h
-              (steady-argument t W 0 root (word t root 2) (word t root 3) w 1 (afterOf t root) k refl (omega arith) s
+            (as-same t F k part kind value inner f (F k noMove) h
+              (steady-argument t W root (word t root 2) (word t root 3) w 1 (afterOf t root) k refl (omega arith) s
                 (omega arith) F (λ k′ m r d. refl)))
 
   -- of the innermost of some levels
-  inner-next : (p : List ℕ) (i k part kind value inner : ℕ) (f : Frame) → k < 65536 → i < 33 → 0 < levelAt p i .base →
+  inner-next : (p : List ℕ) (i k part kind value inner : ℕ) (f : Frame) → k < 65536 → i < 6145 → 0 < levelAt p i .base →
     levelAt p i .base ≤ k → k < levelAt p i .end →
     spotIn t root p (suc i) k noMove ≡ Inside part kind value inner f → Inner t root p (suc i) k part kind value f
   inner-next p i k part kind value inner f s u o a b e = record
@@ -158,16 +157,14 @@ module _ (t : List ℕ) (W : Words t) (root : ℕ) where
     where
       base : ℕ
       base = levelAt p i .base
-      height : ℕ
-      height = heightOf (framesOf p (suc i))
       F : ℕ → Move → Spot
       F k m = downOf t (levelAt p i .part) (levelAt p i .kind) (levelAt p i .value) k (storeOf (framesOf p (suc i)))
-        (heightOf (framesOf p (suc i))) m
-      S : Same t height F (k - base) part kind value inner f
-      S = as-same t height F (k - base) part kind value inner f (F (k - base) noMove) (sym (spot-next t root p i k
+        m
+      S : Same t F (k - base) part kind value inner f
+      S = as-same t F (k - base) part kind value inner f (F (k - base) noMove) (sym (spot-next t root p i k
           noMove) ∙ e)
-        (steady t W height (levelAt p i .part) (levelAt p i .kind) (levelAt p i .value)
-          (storeOf (framesOf p (suc i))) (omega (arith, height-low (framesOf p (suc i)), frames-length p (suc i)))
+        (steady t W (levelAt p i .part) (levelAt p i .kind) (levelAt p i .value)
+          (storeOf (framesOf p (suc i)))
           (k - base) noMove (omega arith))
       over : (k′ : ℕ) → base + f .base ≤ k′ → (k′ ≤ k) ⊎ (k′ < startOf p (suc i) + f .base + word t part 1) →
         (k′ - base ≤ k - base) ⊎ (k′ - base < f .base + word t part 1)
@@ -175,7 +172,7 @@ module _ (t : List ℕ) (W : Words t) (root : ℕ) where
       over k′ r (inr h) = inr (omega (arith, start-next p i))
 
   -- THEOREM: a part that the path is entered to stands there
-  pub deeper-stands : (p : List ℕ) (c k part kind value : ℕ) (f : Frame) → c < 33 →
+  pub deeper-stands : (p : List ℕ) (c k part kind value : ℕ) (f : Frame) → c < 6145 →
     ((i : ℕ) → i < c → Stands t root (framesOf p i) (levelAt p i)) → Inner t root p c k part kind value f →
     Stands t root (framesOf p c) (childOf t root p c k part kind value f)
   unfolding childOf
@@ -190,18 +187,19 @@ module _ (t : List ℕ) (W : Words t) (root : ℕ) where
       fs : List Frame
       fs = framesOf p c
       says : (N : Numbers) (k′ : ℕ) (m : Move) → base ≤ k′ → k′ < untilOf k past (stopOf t root p c) →
-        sheetAt t N root k′ m ≡ riseAll N (f ∷ fs) (stepAt t N (32 - length fs) part kind value (k′ - base)
-          (storeOf (f ∷ fs)) (heightOf (f ∷ fs)) m)
+        sheetAt t N root k′ m ≡ riseAll N (f ∷ fs) (stepAt t N (6144 - length fs) part kind value (k′ - base)
+          (storeOf (f ∷ fs)) m)
       says N k′ m a b =
           let u = until-within k past (stopOf t root p c) k′ b in
           let e = I .same k′ m a (u .0) (u .1) in
           path-says t N root p c k′ m h S (λ g. in-range t root p c k′ g (omega arith) (u .0))
-          ∙ after-inside t N fs (32 - c) m (spotIn t root p c k′ m) part kind value (k′ - base) f e
-          ∙ ap (λ (y : ℕ). riseAll N (f ∷ fs) (stepAt t N y part kind value (k′ - base) (storeOf (f ∷ fs))
-              (heightOf (f ∷ fs)) m)) (omega (arith, frames-length p c))
+          ∙ after-inside t N fs (6144 - c) m (spotIn t root p c k′ m) part kind value (k′ - base) f e
+          ∙ ap (λ (y : ℕ). riseAll N (f ∷ fs) (stepAt t N y part kind value (k′ - base) (storeOf (f ∷ fs)) m)) (omega
+              (arith, frames-length p c))
 
   -- where the path holds the state k
-  pub entered : (p : List ℕ) (c k part kind value inner : ℕ) (f : Frame) → k < 65536 → c < 33 → KeptPath t root p c k →
+  pub entered : (p : List ℕ) (c k part kind value inner : ℕ) (f : Frame) → k < 65536 → c < 6145 → KeptPath t root p c
+      k →
     Covers p c k → Inside part kind value inner f ≡ spotIn t root p c k noMove → Inner t root p c k part kind value f
   unfolding spotIn
   entered p zero k part kind value inner f s h K C e = inner-first p k part kind value inner f s (sym e)

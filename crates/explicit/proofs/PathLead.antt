@@ -16,11 +16,11 @@ use Rattle.automaton.specs.declared.Out.the-variants.{Go, Exit, Say, Hear, Stuc
 use Rattle.automaton.specs.walk.Row.{sumOf, mulAddOf}
 use Rattle.automaton.specs.walk.Up.{goesOf, riseOf}
 use Rattle.automaton.proofs.Sums.{sum-small}
-use Rattle.explicit.specs.inner.Path.{riseAll, baseOf, heightOf, Owned, blockIn}
+use Rattle.explicit.specs.inner.Path.{riseAll, baseOf, Owned, blockIn}
 use Rattle.explicit.specs.inner.Levels.{frameOf, framesOf}
 use Rattle.explicit.proofs.PathWords.{frames-length}
 
--- a frame that is not the block of the level
+-- a frame that is not the block
 none-here : (f : Frame) (fs : List Frame) (l : ℕ) → blockIn (f ∷ fs) l ≡ 0 →
   (f .role ≡ 7 → f .a ≡ l → ⊥) × (blockIn fs l ≡ 0)
 unfolding blockIn
@@ -43,14 +43,14 @@ goes f next l u own b = go (ℕ-discrete (f .role) 7)
     go (yes e) = simp (eq-eqb (f .role) 7 e, ne-eqb l (f .a) (λ z. own e (sym z)), sum-small (f .base) next b)
     go (no e) = simp (ne-eqb (f .role) 7 e, sum-small (f .base) next b)
 
--- no block has the level 0
+-- no block is 0
 pub block-none : (fs : List Frame) → Owned fs → blockIn fs 0 ≡ 0
 unfolding blockIn Owned
 block-none [] w = refl
 block-none (f ∷ fs) w = go (ℕ-discrete (f .role) 7) (block-none fs (w .1))
   where
     go : Dec (f .role ≡ 7) → blockIn fs 0 ≡ 0 → blockIn (f ∷ fs) 0 ≡ 0
-    go (yes e) h = let a : f .a ≡ suc (heightOf fs) = w .0 e in
+    go (yes e) h = let a : 0 < f .a = w .0 e in
         rw (eq-eqb (f .role) 7 e, ne-eqb 0 (f .a) (λ z. omega arith)) h
     go (no e) h = rw (ne-eqb (f .role) 7 e) h
 
@@ -77,7 +77,7 @@ module _ (N : Numbers) where
     where
       go : {to : ℕ} → Dec (f .role ≡ 7) → riseAll N fs (Go (sumOf (f .base) next) 0 0) ≡ Go to 0 0 →
         riseAll N (f ∷ fs) (Go next 0 0) ≡ Go to 0 0
-      go (yes e) h = let a : f .a ≡ suc (heightOf fs) = w .0 e in
+      go (yes e) h = let a : 0 < f .a = w .0 e in
           rw (eq-eqb (f .role) 7 e, ne-eqb 0 (f .a) (λ z. omega arith)) h
       go (no e) h = rw (ne-eqb (f .role) 7 e) h
 

@@ -1,16 +1,13 @@
--- What a step of the innermost part becomes in the whole sheet: a silent step that writes no block's variable is
--- moved by the first state of the part, and an exit that no block of its variable is left to see leads where it leads
--- without it.
-use mathlib.Core.Path.{_≡_, refl, sym, _∙_, ap}
+-- What a step becomes in the part above and in the whole sheet: what is silent, an exit or none is so, and what an exit
+-- writes is handed on as it is.
+use mathlib.Core.Path.{_≡_, refl}
 use mathlib.Core.Bool.{Bool, true, false}
 use mathlib.Core.List.{List, [], _∷_}
-use Prim.Native.Nat.{ℕ, zero, suc, _+_, _-_, _%_, _≤_, _<_}
+use Prim.Native.Nat.{ℕ, _-_, _%_}
 use native.Mathlib.Omega.{arith}
-use native.Mathlib.Decide.{decLt, ℕ-discrete}
 use lib.Dec.{eqb, ltb}
-use lib.ListN.{length}
 use mathlib.Core.Option.{Option, none, some}
-use borrow.Author.Tests.{eq-eqb, ne-eqb, ltb-true, eqb-true, lt-ltb}
+use borrow.Author.Tests.{ne-eqb}
 use Rattle.language.specs.Choice.{pick}
 use Rattle.language.specs.declared.Numbers.{Numbers}
 use Rattle.automaton.specs.declared.Move.{Move}
@@ -20,26 +17,21 @@ use Rattle.automaton.specs.declared.Out.the-variants.{Go, Exit, Say, Hear, Stuc
 use Rattle.language.specs.Operator.{operate}
 use Rattle.automaton.specs.walk.Row.{sumOf, mulAddOf}
 use Rattle.automaton.specs.walk.Types.{questionKind, questionValue, answerNumber}
-use Rattle.automaton.specs.walk.Store.{heightIn}
 use Rattle.automaton.specs.walk.Up.{exitDone, exitTruth, exitValue, exitResult, exitOperate, exitAssign, exitArgument}
 use Rattle.automaton.specs.walk.Up.{exitNew, goesOf, exitsOf, riseOf}
-use Rattle.automaton.proofs.Sums.{sum-small}
-use Rattle.explicit.specs.declared.Site.{Site}
-use Rattle.explicit.specs.inner.Moves.{targetOf}
-use Rattle.explicit.specs.inner.Path.{riseAll, baseOf, heightOf, Owned, blockIn}
-use Rattle.explicit.proofs.PathValues.{height-low}
+use Rattle.explicit.specs.inner.Path.{riseAll}
 
 -- a step is silent, an exit or none
 pub data Quiet : Out → Type 0 where
-  q-go : (next level set : ℕ) → Quiet (Go next level set)
-  q-exit : (kind value level set : ℕ) → Quiet (Exit kind value level set)
+  q-go : (next block set : ℕ) → Quiet (Go next block set)
+  q-exit : (kind value block set : ℕ) → Quiet (Exit kind value block set)
   q-stuck : Quiet Stuck
 
--- two such steps, the one of which writes u to a variable at the level and the other nothing
-pub data Alike (level u : ℕ) : Out → Out → Type 0 where
-  a-go : (next v : ℕ) → Alike level u (Go next level u) (Go next 0 v)
-  a-exit : (kind value v : ℕ) → Alike level u (Exit kind value level u) (Exit kind value 0 v)
-  a-stuck : Alike level u Stuck Stuck
+-- two such steps, the one of which writes u to the variable of a block and the other nothing
+pub data Alike (block u : ℕ) : Out → Out → Type 0 where
+  a-go : (next v : ℕ) → Alike block u (Go next block u) (Go next 0 v)
+  a-exit : (kind value v : ℕ) → Alike block u (Exit kind value block u) (Exit kind value 0 v)
+  a-stuck : Alike block u Stuck Stuck
 
 quiet-pick : (b : Bool) {x y : Out} → Quiet x → Quiet y → Quiet (pick b x y)
 quiet-pick true p q = p
@@ -101,95 +93,23 @@ module _ (N : Numbers) where
   quiet-all [] o q = q
   quiet-all (f ∷ fs) o q = quiet-all fs (riseOf N f o) (quiet-rise f o q)
 
-  pub alike-exits : (f : Frame) (k x l u v : ℕ) → (f .role ≡ 7 → (f .a ≡ l → ⊥) × (f .a ≡ 0 → ⊥)) →
+  -- what an exit writes is handed on by a frame that is no block's
+  pub alike-exits : (f : Frame) (k x l u v : ℕ) → (f .role ≡ 7 → ⊥) →
     Alike l u (exitsOf N f k x l u) (exitsOf N f k x 0 v)
   unfolding exitsOf exitDone exitTruth exitValue exitOperate exitAssign exitArgument exitNew
-  alike-exits f k x l u v own = go (ℕ-discrete (f .role) 7)
-    where
-      go : Dec (f .role ≡ 7) → Alike l u (exitsOf N f k x l u) (exitsOf N f k x 0 v)
-      go (yes e) =
-          let h = own e in
-          rw (e, ne-eqb l (f .a) (λ z. h .0 (sym z)), ne-eqb 0 (f .a) (λ z. h .1 (sym z))) (a-exit k x v)
-      go (no e) =
-          rw (ne-eqb (f .role) 7 e)
-          (alike-pick (eqb (f .role) 1) (alike-pick (eqb k 1) (a-go (f .a) v) a-stuck)
-          (alike-pick (eqb (f .role) 2) (alike-pick (eqb k 5) (alike-pick (eqb x 1) (a-go (f .a) v)
-            (alike-pick (eqb x 0) (alike-pick (eqb (f .b) 0) (a-exit 1 0 v) (a-go (f .b) v)) a-stuck)) a-stuck)
-          (alike-pick (eqb (f .role) 3) (alike-pick (eqb k 5) (alike-pick (ltb x (f .c)) (a-go (copy f x) v) a-stuck)
-              a-stuck)
-          (alike-pick (eqb (f .role) 4)
-            (alike-pick (eqb k 5) (alike-pick (ltb x (f .c)) (alike-result (result N f x) l u v) a-stuck) a-stuck)
-          (alike-pick (eqb (f .role) 5) (alike-pick (eqb k 4) (a-exit 1 0 v) a-stuck)
-          (alike-pick (eqb (f .role) 6)
-            (alike-pick (ltb 0 (answered f k x)) (a-go (sumOf (f .a) (answered f k x - 1)) v) a-stuck) (a-exit k x
-                v)))))))
-
-  alike-goes : (f : Frame) (next l u v : ℕ) → (f .role ≡ 7 → (f .a ≡ l → ⊥) × (f .a ≡ 0 → ⊥)) →
-    Alike l u (goesOf f next l u) (goesOf f next 0 v)
-  unfolding goesOf
-  alike-goes f next l u v own = go (ℕ-discrete (f .role) 7)
-    where
-      go : Dec (f .role ≡ 7) → Alike l u (goesOf f next l u) (goesOf f next 0 v)
-      go (yes e) =
-          let h = own e in
-          rw (eq-eqb (f .role) 7 e, ne-eqb l (f .a) (λ z. h .0 (sym z)), ne-eqb 0 (f .a) (λ z. h .1 (sym z)))
-          (a-go (sumOf (f .base) next) v)
-      go (no e) = rw (ne-eqb (f .role) 7 e) (a-go (sumOf (f .base) next) v)
-
-  alike-rise : (f : Frame) (l u : ℕ) (o o′ : Out) → (f .role ≡ 7 → (f .a ≡ l → ⊥) × (f .a ≡ 0 → ⊥)) → Alike l u o o′ →
-    Alike l u (riseOf N f o) (riseOf N f o′)
-  unfolding riseOf
-  alike-rise f l u o o′ own (a-go next v) = alike-goes f next l u v own
-  alike-rise f l u o o′ own (a-exit k x v) = alike-exits f k x l u v own
-  alike-rise f l u o o′ own a-stuck = a-stuck
-
--- the blocks outside, with one more
-pub height-block : (f : Frame) (fs : List Frame) → f .role ≡ 7 → length fs < 4294967295 →
-  heightOf (f ∷ fs) ≡ suc (heightOf fs)
-unfolding heightOf heightIn
-height-block f fs e l =
-    rw (eq-eqb (f .role) 7 e)
-    (sum-small (heightOf fs) 1 (omega (arith, height-low fs)) ∙ (omega arith))
-
-height-other : (f : Frame) (fs : List Frame) → (f .role ≡ 7 → ⊥) → heightOf (f ∷ fs) ≡ heightOf fs
-unfolding heightOf heightIn
-height-other f fs e = rw (ne-eqb (f .role) 7 e)
-
--- a level above the blocks outside is no block's
-above : (f : Frame) (fs : List Frame) (l : ℕ) → heightOf (f ∷ fs) < l → length fs < 4294967295 → Owned (f ∷ fs) →
-  f .role ≡ 7 → (f .a ≡ l → ⊥) × (f .a ≡ 0 → ⊥)
-unfolding Owned
-above f fs l h b w e =
-    let a : f .a ≡ suc (heightOf fs) = w .0 e in
-    let q = height-block f fs e b in
-    (λ z. omega arith, λ z. omega arith)
-
-pub height-least : (f : Frame) (fs : List Frame) → length fs < 4294967295 → heightOf fs ≤ heightOf (f ∷ fs)
-height-least f fs b = go (ℕ-discrete (f .role) 7)
-  where
-    go : Dec (f .role ≡ 7) → heightOf fs ≤ heightOf (f ∷ fs)
-    go (yes e) = omega (arith, height-block f fs e b)
-    go (no e) = omega (arith, height-other f fs e)
-
-pub owned-rest : (f : Frame) (fs : List Frame) → Owned (f ∷ fs) → Owned fs
-unfolding Owned
-owned-rest f fs w = w .1
-
-module _ (N : Numbers) where
-  -- THEOREM: where the block of a variable is left, it does not matter that the variable is written
-  pub alike-all : (fs : List Frame) (l u : ℕ) (o o′ : Out) → heightOf fs < l → length fs < 4294967295 → Owned fs →
-    Alike l u o o′ → Alike l u (riseAll N fs o) (riseAll N fs o′)
-  unfolding riseAll
-  alike-all [] l u o o′ h b w a = a
-  alike-all (f ∷ fs) l u o o′ h b w a =
-      alike-all fs l u (riseOf N f o) (riseOf N f o′) (omega (arith, height-least f fs (omega arith))) (omega arith)
-        (owned-rest f fs w) (alike-rise N f l u o o′ (above f fs l h (omega arith) w) a)
-
-pub alike-target : (s : Site) (l u : ℕ) (o o′ : Out) → Alike l u o o′ → targetOf s o ≡ targetOf s o′
-unfolding targetOf
-alike-target s l u o o′ (a-go next v) = refl
-alike-target s l u o o′ (a-exit k x v) = refl
-alike-target s l u o o′ a-stuck = refl
+  alike-exits f k x l u v e =
+      rw (ne-eqb (f .role) 7 e)
+      (alike-pick (eqb (f .role) 1) (alike-pick (eqb k 1) (a-go (f .a) v) a-stuck)
+      (alike-pick (eqb (f .role) 2) (alike-pick (eqb k 5) (alike-pick (eqb x 1) (a-go (f .a) v)
+        (alike-pick (eqb x 0) (alike-pick (eqb (f .b) 0) (a-exit 1 0 v) (a-go (f .b) v)) a-stuck)) a-stuck)
+      (alike-pick (eqb (f .role) 3) (alike-pick (eqb k 5) (alike-pick (ltb x (f .c)) (a-go (copy f x) v) a-stuck)
+          a-stuck)
+      (alike-pick (eqb (f .role) 4)
+        (alike-pick (eqb k 5) (alike-pick (ltb x (f .c)) (alike-result (result N f x) l u v) a-stuck) a-stuck)
+      (alike-pick (eqb (f .role) 5) (alike-pick (eqb k 4) (a-exit 1 0 v) a-stuck)
+      (alike-pick (eqb (f .role) 6)
+        (alike-pick (ltb 0 (answered f k x)) (a-go (sumOf (f .a) (answered f k x - 1)) v) a-stuck) (a-exit k x
+            v)))))))
 
 -- what the one is, where the other is known
 pub alike-go : {l u next l′ v′ : ℕ} {o o′ : Out} → Alike l u o o′ → o′ ≡ Go next l′ v′ → o ≡ Go next l u

@@ -4,14 +4,11 @@ use mathlib.Core.List.{List, [], _∷_}
 use Prim.Native.Nat.{ℕ, zero, suc, _+_, _*_, _≤_, _<_}
 use native.Mathlib.Omega.{arith}
 use native.Mathlib.Numerals.{add-one}
-use native.Mathlib.Decide.{ℕ-discrete}
-use borrow.Author.Tests.{eq-eqb, ne-eqb}
 use lib.ListN.{getD, set, length, length-set}
 use lib.Seq.{getD-set-same, getD-set-other}
 use Rattle.automaton.specs.declared.Frame.{Frame}
 use Rattle.explicit.specs.declared.Level.{Level}
 use Rattle.explicit.specs.inner.Levels.{fieldOf, frameOf, levelAt, framesOf, setAll, levelWords, withLevel}
-use Rattle.explicit.specs.inner.Levels.{holderOf, enteredOf}
 
 set-length : (p : List ℕ) (x : ℕ) (vs : List ℕ) → length (setAll p x vs) ≡ length p
 unfolding setAll
@@ -79,93 +76,19 @@ unfolding framesOf
 frames-length p zero = refl
 frames-length p (suc i) = ap suc (frames-length p i)
 
--- words past the levels
-set-above : (p : List ℕ) (x : ℕ) (vs : List ℕ) (y : ℕ) → x + length vs ≤ y → getD (setAll p x vs) y 0 ≡ getD p y 0
-unfolding setAll
-set-above p x [] y h = refl
-set-above p x (v ∷ vs) y h =
-    set-above (set p x v) (suc x) vs y (omega arith) ∙ getD-set-other p x y v 0 (λ e. omega arith)
+-- the level that is entered, and those before it
+module _ (p : List ℕ) (c : ℕ) (l : Level) (h : c < 6145) (r : length p ≡ 79885) where
+  pub entered-length : length (withLevel p c l) ≡ 79885
+  entered-length = set-length p (13 * c) (levelWords l) ∙ r
 
-module _ (p : List ℕ) (o v : ℕ) where
-  field-far : (i j : ℕ) → i < 33 → j < 13 → fieldOf (set p (429 + o) v) i j ≡ fieldOf p i j
-  unfolding fieldOf
-  field-far i j h b = getD-set-other p (429 + o) (13 * i + j) v 0 (λ e. omega arith)
+  pub entered-new : levelAt (withLevel p c l) c ≡ l
+  entered-new = level-new p c l (omega (arith, r))
 
-  frame-far : (i : ℕ) → i < 33 → frameOf (set p (429 + o) v) i ≡ frameOf p i
-  unfolding frameOf
-  frame-far i h =
-      simp (field-far i 6 h (omega arith), field-far i 7 h (omega arith), field-far i 8 h (omega arith),
-        field-far i 9 h (omega arith), field-far i 10 h (omega arith), field-far i 11 h (omega arith))
+  pub entered-old : (i : ℕ) → i < c → levelAt (withLevel p c l) i ≡ levelAt p i
+  entered-old i b = level-old p c l i b
 
-  level-far : (i : ℕ) → i < 33 → levelAt (set p (429 + o) v) i ≡ levelAt p i
-  unfolding levelAt
-  level-far i h =
-      simp (frame-far i h, field-far i 0 h (omega arith), field-far i 1 h (omega arith), field-far i 2 h (omega arith),
-        field-far i 3 h (omega arith), field-far i 4 h (omega arith), field-far i 5 h (omega arith),
-        field-far i 12 h (omega arith))
-
-  frames-far : (i : ℕ) → i ≤ 33 → framesOf (set p (429 + o) v) i ≡ framesOf p i
-  unfolding framesOf
-  frames-far zero h = refl
-  frames-far (suc i) h = rw (frame-far i (omega arith), frames-far i (omega arith))
-
--- the level that is entered, those before it, and the blocks that are noted
-module _ (p : List ℕ) (c : ℕ) (l : Level) (h : c < 33) (r : length p ≡ 462) where
-  pub entered-length : length (enteredOf p c l) ≡ 462
-  unfolding enteredOf
-  entered-length = go (ℕ-discrete (l .f .role) 7)
-    where
-      w : length (withLevel p c l) ≡ 462
-      w = set-length p (13 * c) (levelWords l) ∙ r
-      go : Dec (l .f .role ≡ 7) → length (enteredOf p c l) ≡ 462
-      go (yes e) = rw (eq-eqb (l .f .role) 7 e) (length-set (withLevel p c l) (429 + l .outer) c ∙ w)
-      go (no e) = rw (ne-eqb (l .f .role) 7 e) w
-
-  pub entered-new : levelAt (enteredOf p c l) c ≡ l
-  unfolding enteredOf
-  entered-new = go (ℕ-discrete (l .f .role) 7)
-    where
-      go : Dec (l .f .role ≡ 7) → levelAt (enteredOf p c l) c ≡ l
-      go (yes e) =
-          rw (eq-eqb (l .f .role) 7 e)
-          (level-far (withLevel p c l) (l .outer) c c h ∙ level-new p c l (omega (arith, r)))
-      go (no e) = rw (ne-eqb (l .f .role) 7 e) (level-new p c l (omega (arith, r)))
-
-  pub entered-old : (i : ℕ) → i < c → levelAt (enteredOf p c l) i ≡ levelAt p i
-  unfolding enteredOf
-  entered-old i b = go (ℕ-discrete (l .f .role) 7)
-    where
-      go : Dec (l .f .role ≡ 7) → levelAt (enteredOf p c l) i ≡ levelAt p i
-      go (yes e) =
-          rw (eq-eqb (l .f .role) 7 e) (level-far (withLevel p c l) (l .outer) c i (omega arith) ∙ level-old p c l i b)
-      go (no e) = rw (ne-eqb (l .f .role) 7 e) (level-old p c l i b)
-
-  pub entered-frames : (i : ℕ) → i ≤ c → framesOf (enteredOf p c l) i ≡ framesOf p i
-  unfolding enteredOf
-  entered-frames i b = go (ℕ-discrete (l .f .role) 7)
-    where
-      go : Dec (l .f .role ≡ 7) → framesOf (enteredOf p c l) i ≡ framesOf p i
-      go (yes e) =
-          rw (eq-eqb (l .f .role) 7 e) (frames-far (withLevel p c l) (l .outer) c i (omega arith) ∙ frames-old p c l i
-              b)
-      go (no e) = rw (ne-eqb (l .f .role) 7 e) (frames-old p c l i b)
-
-  pub holder-new : l .f .role ≡ 7 → l .outer < 33 → holderOf (enteredOf p c l) (l .outer) ≡ c
-  unfolding enteredOf holderOf
-  holder-new e b =
-      rw (eq-eqb (l .f .role) 7 e)
-      (getD-set-same (withLevel p c l) (429 + l .outer) c 0 (omega (arith, set-length p (13 * c) (levelWords l))))
-
-  pub holder-old : (o : ℕ) → (l .f .role ≡ 7 → o ≡ l .outer → ⊥) → holderOf (enteredOf p c l) o ≡ holderOf p o
-  unfolding enteredOf holderOf levelWords
-  holder-old o n = go (ℕ-discrete (l .f .role) 7)
-    where
-      go : Dec (l .f .role ≡ 7) → holderOf (enteredOf p c l) o ≡ holderOf p o
-      go (yes e) =
-          rw (eq-eqb (l .f .role) 7 e)
-          (getD-set-other (withLevel p c l) (429 + l .outer) (429 + o) c 0 (λ q. n e (omega arith))
-          ∙ set-above p (13 * c) (levelWords l) (429 + o) (omega arith))
-      go (no e) = rw (ne-eqb (l .f .role) 7 e) (set-above p (13 * c) (levelWords l) (429 + o) (omega arith))
+  pub entered-frames : (i : ℕ) → i ≤ c → framesOf (withLevel p c l) i ≡ framesOf p i
+  entered-frames i b = frames-old p c l i b
 
 -- four words, and a level of thirteen
 pub four : (p p₁ p₂ p₃ p₄ : List ℕ) (i a b c d : ℕ) → p₁ ≡ set p i a → p₂ ≡ set p₁ (i + 1) b → p₃ ≡ set p₂ (i + 2) c →

@@ -11,7 +11,7 @@ use lib.Dec.{eqb, ltb, leb}
 use borrow.Author.Tests.{lt-ltb, le-ltb, lt-leb, le-leb, eq-eqb, ne-eqb}
 use Rattle.language.specs.Choice.{pick}
 use Rattle.records.specs.Row.{cell}
-use Rattle.sheet.specs.table.Rep.{word}
+use Rattle.records.specs.Row.{word}
 use Rattle.automaton.specs.declared.Move.{Move}
 use Rattle.automaton.specs.declared.Frame.{Frame}
 use Rattle.automaton.specs.declared.Out.{Out}
@@ -46,18 +46,18 @@ pub small-word : (t : List ℕ) → Words t → (at i : ℕ) → word t at i < 6
 unfolding word
 small-word t W at i = W (cell at i)
 
-module _ (t : List ℕ) (W : Words t) (outer : ℕ) where
+module _ (t : List ℕ) (W : Words t) where
   -- a choice that does not depend on the position
-  steady-pick : (b : Bool) (F G : ℕ → Move → Spot) → Steady t outer F → Steady t outer G → Steady t outer (λ k m. pick b
+  steady-pick : (b : Bool) (F G : ℕ → Move → Spot) → Steady t F → Steady t G → Steady t (λ k m. pick b
       (F k m) (G k m))
   steady-pick true F G f g = f
   steady-pick false F G f g = g
 
-  steady-here : (o : ℕ → Move → Out) → Steady t outer (λ k m. Here (o k m))
+  steady-here : (o : ℕ → Move → Out) → Steady t (λ k m. Here (o k m))
   unfolding SameAt
   steady-here o k m l = tt
 
-  steady-fetch : (at : ℕ) → Steady t outer (λ k m. inFetch t at k)
+  steady-fetch : (at : ℕ) → Steady t (λ k m. inFetch t at k)
   unfolding inFetch SameAt
   steady-fetch at k m l = record
     { whole = omega arith
@@ -67,7 +67,7 @@ module _ (t : List ℕ) (W : Words t) (outer : ℕ) where
   -- the first of several parts, and the last
   first : (F : ℕ → Move → Spot) (k m-part kind value w : ℕ) (f : Frame) → f .base ≡ 0 → (f .role ≡ 7 → ⊥) →
     word t m-part 1 ≡ w → k < w → ((k′ : ℕ) (m : Move) → k′ < w → F k′ m ≡ Inside m-part kind value k′ f) →
-    Same t outer F k m-part kind value k f
+    Same t F k m-part kind value k f
   first F k part kind value w f z r e l h = record
     { whole = omega arith
     ; own = λ s. absurd (r s)
@@ -79,19 +79,19 @@ module _ (t : List ℕ) (W : Words t) (outer : ℕ) where
 
   rest : (F : ℕ → Move → Spot) (k part kind value w : ℕ) (f : Frame) → f .base ≡ w → (f .role ≡ 7 → ⊥) → w ≤ k →
     ((k′ : ℕ) (m : Move) → w ≤ k′ → F k′ m ≡ Inside part kind value (k′ - w) f) →
-    Same t outer F k part kind value (k - w) f
+    Same t F k part kind value (k - w) f
   rest F k part kind value w f z r l h = record
     { whole = omega arith
     ; own = λ s. absurd (r s)
     ; same = λ k′ m′ b c. h k′ m′ (omega arith) ∙ ap (λ (y : ℕ). Inside part kind value y f) (omega arith) }
 
-  steady-seq : (at q x : ℕ) → Steady t outer (λ k m. inSeq t at q x k)
+  steady-seq : (at q x : ℕ) → Steady t (λ k m. inSeq t at q x k)
   unfolding inSeq SameAt partWeight
   steady-seq at q x k m l = go (decLt k w)
     where
       w : ℕ
       w = partWeight t at 0
-      go : Dec (k < w) → SameAt t outer (λ k m. inSeq t at q x k) k (inSeq t at q x k)
+      go : Dec (k < w) → SameAt t (λ k m. inSeq t at q x k) k (inSeq t at q x k)
       go (yes h) =
           rw (lt-ltb k w h) (first (λ k m. inSeq t at q x k) k (word t at 5) 0 0 w (framedOf 1 0 w 0 0 0) refl
             (λ e. omega arith) refl h (λ k′ m′ h′. rw (lt-ltb k′ w h′)))
@@ -99,13 +99,13 @@ module _ (t : List ℕ) (W : Words t) (outer : ℕ) where
           rw (le-ltb k w (omega arith)) (rest (λ k m. inSeq t at q x k) k (word t at 6) q x w (framedOf 0 w 0 0 0 0)
             refl (λ e. omega arith) (omega arith) (λ k′ m′ h′. rw (le-ltb k′ w h′)))
 
-  steady-while : (at : ℕ) → Steady t outer (λ k m. inWhile t at k)
+  steady-while : (at : ℕ) → Steady t (λ k m. inWhile t at k)
   unfolding inWhile SameAt partWeight
   steady-while at k m l = go (decLt k w)
     where
       w : ℕ
       w = partWeight t at 0
-      go : Dec (k < w) → SameAt t outer (λ k m. inWhile t at k) k (inWhile t at k)
+      go : Dec (k < w) → SameAt t (λ k m. inWhile t at k) k (inWhile t at k)
       go (yes h) =
           rw (lt-ltb k w h) (first (λ k m. inWhile t at k) k (word t at 5) 2 0 w (framedOf 2 0 w 0 0 0) refl
             (λ e. omega arith) refl h (λ k′ m′ h′. rw (lt-ltb k′ w h′)))
@@ -117,7 +117,7 @@ module _ (t : List ℕ) (W : Words t) (outer : ℕ) where
   middle : (F : ℕ → Move → Spot) (k part kind value w v : ℕ) (f : Frame) → f .base ≡ w → (f .role ≡ 7 → ⊥) → w ≤ k →
     word t part 1 ≡ v → k - w < v →
     ((k′ : ℕ) (m : Move) → w ≤ k′ → k′ - w < v → F k′ m ≡ Inside part kind value (k′ - w) f) →
-    Same t outer F k part kind value (k - w) f
+    Same t F k part kind value (k - w) f
   middle F k part kind value w v f z r l e j h = record
     { whole = omega arith
     ; own = λ s. absurd (r s)
@@ -128,13 +128,13 @@ module _ (t : List ℕ) (W : Words t) (outer : ℕ) where
       below k′ b (inl a) = omega arith
       below k′ b (inr a) = omega arith
 
-  steady-cond : (b m n w v q x : ℕ) → word t b 1 ≡ w → word t m 1 ≡ v → Steady t outer (λ k o. condIn b m n w v q x k)
+  steady-cond : (b m n w v q x : ℕ) → word t b 1 ≡ w → word t m 1 ≡ v → Steady t (λ k o. condIn b m n w v q x k)
   unfolding condIn SameAt
   steady-cond b m n w v q x e d k o l = go (decLt k w) (decLt (k - w) v)
     where
       small : sumOf w v ≡ w + v
       small = sum-small w v (omega (arith, small-word t W b 1, small-word t W m 1))
-      go : Dec (k < w) → Dec (k - w < v) → SameAt t outer (λ k o. condIn b m n w v q x k) k (condIn b m n w v q x k)
+      go : Dec (k < w) → Dec (k - w < v) → SameAt t (λ k o. condIn b m n w v q x k) k (condIn b m n w v q x k)
       go (yes h) g =
           rw (lt-ltb k w h) (first (λ k o. condIn b m n w v q x k) k b 2 0 w (framedOf 2 0 w (sumOf w v) 0 0) refl
             (λ e. omega arith) e h (λ k′ m′ h′. rw (lt-ltb k′ w h′)))
@@ -151,11 +151,10 @@ module _ (t : List ℕ) (W : Words t) (outer : ℕ) where
 
   -- a part that is copied for each value, after w positions
   copied : (F : ℕ → Move → Spot) (k part w v : ℕ) (kind value : ℕ → ℕ) (f : ℕ → Frame) → w ≤ k → k < 65536 →
-    word t part 1 ≡ v → 0 < v → ((y : ℕ) → y < 65536 → f y .base ≡ y * v + w) → ((y : ℕ) → f y .role ≡ 7 → f y .a ≡ suc
-        outer) →
+    word t part 1 ≡ v → 0 < v → ((y : ℕ) → y < 65536 → f y .base ≡ y * v + w) → ((y : ℕ) → f y .role ≡ 7 → 0 < f y .a) →
     ((k′ : ℕ) (m : Move) → w ≤ k′ →
       F k′ m ≡ Inside part (kind ((k′ - w) / v)) (value ((k′ - w) / v)) ((k′ - w) % v) (f ((k′ - w) / v))) →
-    Same t outer F k part (kind ((k - w) / v)) (value ((k - w) / v)) ((k - w) % v) (f ((k - w) / v))
+    Same t F k part (kind ((k - w) / v)) (value ((k - w) / v)) ((k - w) % v) (f ((k - w) / v))
   copied F k part w v kind value f l s e p base own h = record
     { whole = omega (arith, base y small, c .0)
     ; own = own y
@@ -178,15 +177,15 @@ module _ (t : List ℕ) (W : Words t) (outer : ℕ) where
           h k′ m′ (omega (arith, base y small)) ∙ rw (z .0, z .1, r)
 
   inside : (F : ℕ → Move → Spot) (k part kind value inner : ℕ) (f : Frame) (S : Spot) →
-    Same t outer F k part kind value inner f → S ≡ Inside part kind value inner f → SameAt t outer F k S
+    Same t F k part kind value inner f → S ≡ Inside part kind value inner f → SameAt t F k S
   unfolding SameAt
   inside F k part kind value inner f S h e = rw e h
 
-  steady-operate : (a b w v o n : ℕ) → word t a 1 ≡ w → word t b 1 ≡ v → Steady t outer (λ k m. operateIn a b w v o n k)
+  steady-operate : (a b w v o n : ℕ) → word t a 1 ≡ w → word t b 1 ≡ v → Steady t (λ k m. operateIn a b w v o n k)
   unfolding operateIn SameAt
   steady-operate a b w v o n e d k m l = go (decLt k w) (ℕ-discrete v 0)
     where
-      go : Dec (k < w) → Dec (v ≡ 0) → SameAt t outer (λ k m. operateIn a b w v o n k) k (operateIn a b w v o n k)
+      go : Dec (k < w) → Dec (v ≡ 0) → SameAt t (λ k m. operateIn a b w v o n k) k (operateIn a b w v o n k)
       go (yes h) g =
           rw (lt-ltb k w h) (first (λ k m. operateIn a b w v o n k) k a 2 0 w (framedOf 3 0 w v n 0) refl
             (λ e. omega arith) e h (λ k′ m′ h′. rw (lt-ltb k′ w h′)))
@@ -199,11 +198,11 @@ module _ (t : List ℕ) (W : Words t) (outer : ℕ) where
             (λ y s. omega arith) (λ k′ m′ h′. rw (le-ltb k′ w h′, ne-eqb v 0 g)))
             (rw (le-ltb k w (omega arith), ne-eqb v 0 g))
 
-  steady-assign : (a b w v n : ℕ) → word t b 1 ≡ w → word t a 1 ≡ v → Steady t outer (λ k m. assignIn a b w v n k)
+  steady-assign : (a b w v n : ℕ) → word t b 1 ≡ w → word t a 1 ≡ v → Steady t (λ k m. assignIn a b w v n k)
   unfolding assignIn SameAt
   steady-assign a b w v n e d k m l = go (decLt k w) (ℕ-discrete v 0)
     where
-      go : Dec (k < w) → Dec (v ≡ 0) → SameAt t outer (λ k m. assignIn a b w v n k) k (assignIn a b w v n k)
+      go : Dec (k < w) → Dec (v ≡ 0) → SameAt t (λ k m. assignIn a b w v n k) k (assignIn a b w v n k)
       go (yes h) g =
           rw (lt-ltb k w h) (first (λ k m. assignIn a b w v n k) k b 2 0 w (framedOf 3 0 w v n 0) refl
             (λ e. omega arith) e h (λ k′ m′ h′. rw (lt-ltb k′ w h′)))
@@ -216,26 +215,26 @@ module _ (t : List ℕ) (W : Words t) (outer : ℕ) where
             (λ y s. omega arith) (λ k′ m′ h′. rw (le-ltb k′ w h′, ne-eqb v 0 g)))
             (rw (le-ltb k w (omega arith), ne-eqb v 0 g))
 
-  steady-new : (at q x : ℕ) → outer < 4294967295 → Steady t outer (λ k m. inNew t at q x k outer)
+  steady-new : (at q x : ℕ) → Steady t (λ k m. inNew t at q x k)
   unfolding inNew SameAt partWeight
-  steady-new at q x d k m l = go (ℕ-discrete w 0)
+  steady-new at q x k m l = go (ℕ-discrete w 0)
     where
       w : ℕ
       w = word t (word t at 5) 1
-      as-new : (w ≡ 0 → ⊥) → (k : ℕ) → inNew t at q x k outer ≡
-        Inside (word t at 5) q x ((k - 0) % w) (framedOf 7 (mulAddOf ((k - 0) / w) w 0) (sumOf outer 1) w ((k - 0) / w)
+      as-new : (w ≡ 0 → ⊥) → (k : ℕ) → inNew t at q x k ≡
+        Inside (word t at 5) q x ((k - 0) % w) (framedOf 7 (mulAddOf ((k - 0) / w) w 0) (sumOf (at % 65536) 1) w ((k -
+            0) / w)
             0)
       as-new g k = let z : k - 0 ≡ k = omega arith in rw (ne-eqb w 0 g, z)
-      go : Dec (w ≡ 0) → SameAt t outer (λ k m. inNew t at q x k outer) k (inNew t at q x k outer)
+      go : Dec (w ≡ 0) → SameAt t (λ k m. inNew t at q x k) k (inNew t at q x k)
       go (yes g) = rw (eq-eqb w 0 g) tt
       go (no g) =
-          inside (λ k m. inNew t at q x k outer) k _ _ _ _ _ (inNew t at q x k outer) (copied (λ k m. inNew t at q x k
-              outer) k
+          inside (λ k m. inNew t at q x k) k _ _ _ _ _ (inNew t at q x k) (copied (λ k m. inNew t at q x k) k
               (word t at 5) 0 w
             (λ y. q) (λ y. x)
-            (λ y. framedOf 7 (mulAddOf y w 0) (sumOf outer 1) w y 0) (omega arith) l refl (omega arith)
+            (λ y. framedOf 7 (mulAddOf y w 0) (sumOf (at % 65536) 1) w y 0) (omega arith) l refl (omega arith)
             (λ y s. mul-add-small y w 0 s (small-word t W (word t at 5) 1) (omega arith))
-            (λ y s. omega (arith, sum-small outer 1 (omega arith)))
+            (λ y s. omega (arith, sum-small (at % 65536) 1 (omega arith)))
             (λ k′ m′ h′. as-new g k′)) (as-new g k)
 
   -- an argument whose positions begin at b
@@ -243,7 +242,7 @@ module _ (t : List ℕ) (W : Words t) (outer : ℕ) where
     (F : ℕ → Move → Spot) →
     ((k′ : ℕ) (m : Move) → b ≤ k′ → (k′ ≤ k) ⊎ (k′ - b < (k - b) / w * w + w) →
       F k′ m ≡ argHere part class n w (k′ - b) b after) →
-    SameAt t outer F k (argHere part class n w (k - b) b after)
+    SameAt t F k (argHere part class n w (k - b) b after)
   unfolding argHere SameAt
   steady-argument part class n w b after k e l s p F h =
       rw (ne-eqb w 0 (λ e. omega arith)) (record
@@ -316,7 +315,7 @@ module _ (t : List ℕ) (W : Words t) (outer : ℕ) where
   -- n arguments from argument j on, which begin at b
   arg-first : (at j n b after k : ℕ) → b ≤ k → k < 65536 → (F : ℕ → Move → Spot) →
     ((k′ : ℕ) (m : Move) → b ≤ k′ → k′ - b < copiesOf t at j → F k′ m ≡ inArgs t at j (suc n) (k′ - b) b after) →
-    k - b < copiesOf t at j → SameAt t outer F k (inArgs t at j (suc n) (k - b) b after)
+    k - b < copiesOf t at j → SameAt t F k (inArgs t at j (suc n) (k - b) b after)
   unfolding inArgs copiesOf partWeight
   arg-first at j n b after k l s F h y =
       rw (lt-leb c (k - b) y) (steady-argument part (partClass t at j) (partValues t at j) w b after k refl l s p F
@@ -340,7 +339,7 @@ module _ (t : List ℕ) (W : Words t) (outer : ℕ) where
 
   args : (at j n b after k : ℕ) → b ≤ k → k < 65536 → k - b < argSpots t at j n → (F : ℕ → Move → Spot) →
     ((k′ : ℕ) (m : Move) → b ≤ k′ → k′ - b < argSpots t at j n → F k′ m ≡ inArgs t at j n (k′ - b) b after) →
-    SameAt t outer F k (inArgs t at j n (k - b) b after)
+    SameAt t F k (inArgs t at j n (k - b) b after)
   unfolding inArgs SameAt argSpots
   args at j zero b after k l s i F h = tt
   args at j (suc n) b after k l s i F h =
@@ -357,8 +356,8 @@ module _ (t : List ℕ) (W : Words t) (outer : ℕ) where
       go : Dec (k - b < c) → (b + c ≤ k → k - (b + c) < more →
         ((k′ : ℕ) (m : Move) → b + c ≤ k′ → k′ - (b + c) < more →
           F k′ m ≡ inArgs t at (sumOf j 1) n (k′ - (b + c)) (b + c) next) →
-        SameAt t outer F k (inArgs t at (sumOf j 1) n (k - (b + c)) (b + c) next)) →
-        SameAt t outer F k (inArgs t at j (suc n) (k - b) b after)
+        SameAt t F k (inArgs t at (sumOf j 1) n (k - (b + c)) (b + c) next)) →
+        SameAt t F k (inArgs t at j (suc n) (k - b) b after)
       go (yes y) rec = arg-first at j n b after k l s F (λ k′ m r v. h k′ m r (omega (arith, both))) y
       go (no y) rec =
           let e : k - b - c ≡ k - (b + c) = omega arith in
@@ -368,13 +367,13 @@ module _ (t : List ℕ) (W : Words t) (outer : ℕ) where
             h k′ m (omega arith) (omega (arith, both)) ∙
             rw (le-leb c (k′ - b) (omega arith), sum-small b c (omega arith), e′)))
 
-  steady-name : (at q x : ℕ) → Steady t outer (λ k m. inName t at q x k m)
+  steady-name : (at q x : ℕ) → Steady t (λ k m. inName t at q x k m)
   unfolding inName SameAt
   steady-name at q x k m l = go (ℕ-discrete k 0) (ℕ-discrete k 1) (decLt (k - 2) all)
     where
       all : ℕ
       all = argSpots t at 0 (nameCount t at)
-      go : Dec (k ≡ 0) → Dec (k ≡ 1) → Dec (k - 2 < all) → SameAt t outer (λ k m. inName t at q x k m) k (inName t at q
+      go : Dec (k ≡ 0) → Dec (k ≡ 1) → Dec (k - 2 < all) → SameAt t (λ k m. inName t at q x k m) k (inName t at q
           x k m)
       go (yes a) b c = rw (eq-eqb k 0 a) tt
       go (no a) (yes b) c = rw (ne-eqb k 0 a, eq-eqb k 1 b) tt
@@ -385,27 +384,27 @@ module _ (t : List ℕ) (W : Words t) (outer : ℕ) where
             (λ k m. inName t at q x k m) (λ k′ m′ r v.
             rw (ne-eqb k′ 0 (λ e. omega arith), ne-eqb k′ 1 (λ e. omega arith), lt-ltb (k′ - 2) all v)))
 
-  steady-operate-at : (at : ℕ) → Steady t outer (λ k m. inOperate t at k)
+  steady-operate-at : (at : ℕ) → Steady t (λ k m. inOperate t at k)
   unfolding inOperate partWeight
   steady-operate-at at =
       steady-operate (word t at 5) (word t at 6) (partWeight t at 0) (partWeight t at 1) (word t at 4) (partValues t
           at 0)
         refl refl
 
-  steady-assign-at : (at : ℕ) → Steady t outer (λ k m. inAssign t at k)
+  steady-assign-at : (at : ℕ) → Steady t (λ k m. inAssign t at k)
   unfolding inAssign partWeight
   steady-assign-at at =
       steady-assign (word t at 5) (word t at 6) (partWeight t at 1) (partWeight t at 0) (partValues t at 0) refl refl
 
-  steady-cond-at : (at q x : ℕ) → Steady t outer (λ k m. inCond t at q x k)
+  steady-cond-at : (at q x : ℕ) → Steady t (λ k m. inCond t at q x k)
   unfolding inCond partWeight
   steady-cond-at at q x =
       steady-cond (word t at 5) (word t at 6) (word t at 7) (partWeight t at 0) (partWeight t at 1) q x refl refl
 
   -- THEOREM: descending is steady
-  pub steady : (at q x : ℕ) (s : List ℕ) → outer < 4294967295 → Steady t outer (λ k m. downOf t at q x k s outer m)
+  pub steady : (at q x : ℕ) (s : ℕ → ℕ) → Steady t (λ k m. downOf t at q x k s m)
   unfolding downAs
-  steady at q x s d =
+  steady at q x s =
       steady-pick (eqb kind 16) _ _ (steady-here (λ k m. Exit 1 0 0 0))
       (steady-pick (eqb kind 18) _ _ (steady-here (λ k m. Exit 5 (word t at 4) 0 0))
       (steady-pick (eqb kind 20) _ _ (steady-name at q x)
@@ -415,7 +414,7 @@ module _ (t : List ℕ) (W : Words t) (outer : ℕ) where
       (steady-pick (eqb kind 24) _ _ (steady-seq at q x)
       (steady-pick (eqb kind 25) _ _ (steady-cond-at at q x)
       (steady-pick (eqb kind 26) _ _ (steady-while at)
-      (steady-pick (eqb kind 27) _ _ (steady-new at q x d)
+      (steady-pick (eqb kind 27) _ _ (steady-new at q x)
       (steady-pick (eqb kind 128) _ _ (steady-here (λ k m. inPrivate t at q x k s)) (steady-here (λ k m.
           Stuck))))))))))))
     where

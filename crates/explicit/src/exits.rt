@@ -15,10 +15,10 @@ use automaton::up::exits;
 use automaton::up::goes;
 use language::Numbers;
 ghost use mathlib.Core.Path.{_≡_};
-ghost use Prim.Native.Nat.{_-_, _<_};
+ghost use Prim.Native.Nat.{_-_, _≤_, _<_};
 ghost use Rattle.automaton.specs.declared.Out.the-variants.{Go, Exit};
 ghost use Rattle.language.specs.declared.Numbers.{Numbers};
-ghost use Rattle.explicit.specs.inner.Path.{riseAll, blockIn};
+ghost use Rattle.explicit.specs.inner.Path.{riseAll, blockIn, leftOf};
 ghost use Rattle.explicit.specs.inner.Levels.{framesOf, Sound};
 ghost use Rattle.explicit.specs.inner.Moves.{targetOf};
 
@@ -38,8 +38,8 @@ pub(crate) fn dead(n: usize) -> usize
 // A silent step inside c levels, seen in the whole sheet, level by level.
 fn climb(p: &[usize; WORDS], c: usize, g: Silent) -> Silent
     requires { ⌜ Sound (now p) c ⌝ }
-    ensures { λ r. ⌜ ((N : Numbers) → Go (r .next) (r .level) (r .set)
-        ≡ riseAll N (framesOf (now (p .entry)) c) (Go (g .next) (g .level) (g .set))) ⌝ }
+    ensures { λ r. ⌜ ((N : Numbers) → Go (r .next) (r .block) (r .set)
+        ≡ riseAll N (framesOf (now (p .entry)) c) (Go (g .next) (g .block) (g .set))) ⌝ }
 {
     let mut left = c;
     let mut out = g;
@@ -51,12 +51,12 @@ fn climb(p: &[usize; WORDS], c: usize, g: Silent) -> Silent
 }
 
 // Where a silent step inside c levels leads, level by level.
-fn far(s: Site, p: &[usize; WORDS], c: usize, next: usize, level: usize, set: usize) -> usize
+fn far(s: Site, p: &[usize; WORDS], c: usize, next: usize, block: usize, set: usize) -> usize
     requires { ⌜ Sound (now p) c ⌝ }
     ensures { λ r. ⌜ ((N : Numbers) → r
-        ≡ targetOf s (riseAll N (framesOf (now (p .entry)) c) (Go next level set))) ⌝ }
+        ≡ targetOf s (riseAll N (framesOf (now (p .entry)) c) (Go next block set))) ⌝ }
 {
-    let o = climb(p, c, Silent { next, level, set });
+    let o = climb(p, c, Silent { next, block, set });
     sum(s.o, o.next)
 }
 
@@ -67,13 +67,13 @@ fn moved(
     p: &[usize; WORDS],
     c: usize,
     next: usize,
-    level: usize,
+    block: usize,
     set: usize,
     m: usize,
 ) -> usize
-    requires { ⌜ Sound (now p) c × ((next < 4294901760) × ((m ≡ blockIn (framesOf (now p) c) level) × (0 < m))) ⌝ }
+    requires { ⌜ Sound (now p) c × ((next < 4294901760) × ((m ≡ blockIn (framesOf (now p) c) block) × (0 < m))) ⌝ }
     ensures { λ r. ⌜ ((N : Numbers) → r
-        ≡ targetOf s (riseAll N (framesOf (now (p .entry)) c) (Go next level set))) ⌝ }
+        ≡ targetOf s (riseAll N (framesOf (now (p .entry)) c) (Go next block set))) ⌝ }
 {
     let copy = mul_add(
         set,
@@ -81,33 +81,70 @@ fn moved(
         start_at(p, c) + next - start_at(p, m),
     );
     if FAR <= copy {
-        return far(s, p, c, next, level, set);
+        return far(s, p, c, next, block, set);
     }
     sum(s.o, start_at(p, m - 1) + copy)
 }
 
-// Where a silent step inside c levels leads: its state is counted from the first state of the innermost, or of the copy
-// of a block whose variable it writes.
+// Where a silent step inside c levels leads that writes the variable of the block at the level m - 1, or no block's where m
+// is 0: its state is counted from the first state of the innermost, or of the block's copy of the value written.
+fn lead_at(
+    s: Site,
+    p: &[usize; WORDS],
+    c: usize,
+    next: usize,
+    block: usize,
+    set: usize,
+    m: usize,
+) -> usize
+    requires { ⌜ Sound (now p) c × (m ≡ blockIn (framesOf (now p) c) block) ⌝ }
+    ensures { λ r. ⌜ ((N : Numbers) → r
+        ≡ targetOf s (riseAll N (framesOf (now (p .entry)) c) (Go next block set))) ⌝ }
+{
+    if FAR <= next {
+        return far(s, p, c, next, block, set);
+    }
+    if m == 0 {
+        return sum(s.o, start_at(p, c) + next);
+    }
+    moved(s, p, c, next, block, set, m)
+}
+
+// Where a silent step inside c levels leads.
 pub(crate) fn lead(
     s: Site,
     p: &[usize; WORDS],
     c: usize,
     next: usize,
-    level: usize,
+    block: usize,
     set: usize,
 ) -> usize
     requires { ⌜ Sound (now p) c ⌝ }
     ensures { λ r. ⌜ ((N : Numbers) → r
-        ≡ targetOf s (riseAll N (framesOf (now (p .entry)) c) (Go next level set))) ⌝ }
+        ≡ targetOf s (riseAll N (framesOf (now (p .entry)) c) (Go next block set))) ⌝ }
 {
-    if FAR <= next {
-        return far(s, p, c, next, level, set);
+    lead_at(s, p, c, next, block, set, block_at(p, c, block))
+}
+
+// Where a silent step inside i levels leads that follows an exit: what it writes is forgotten where the block of the
+// variable, at the level own - 1, is left.
+fn led(
+    s: Site,
+    p: &[usize; WORDS],
+    i: usize,
+    next: usize,
+    own: usize,
+    block: usize,
+    set: usize,
+) -> usize
+    requires { ⌜ Sound (now p) i × (own ≤ i → own ≡ blockIn (framesOf (now p) i) block) ⌝ }
+    ensures { λ r. ⌜ ((N : Numbers) → r
+        ≡ targetOf s (riseAll N (framesOf (now (p .entry)) i) (Go next (leftOf i own block) (leftOf i own set)))) ⌝ }
+{
+    if i < own {
+        return lead(s, p, i, next, 0, 0);
     }
-    let m = block_at(p, c, level);
-    if m == 0 {
-        return sum(s.o, start_at(p, c) + next);
-    }
-    moved(s, p, c, next, level, set, m)
+    lead_at(s, p, i, next, block, set, own)
 }
 
 // Where an exit of what is inside c levels leads: a frame that does not pass it on hands on what is written as it is.
@@ -118,12 +155,13 @@ pub(crate) fn exit(
     c: usize,
     kind: usize,
     value: usize,
-    level: usize,
+    block: usize,
     set: usize,
 ) -> usize
     requires { ⌜ Sound (now p) c ⌝ }
-    ensures { λ r. ⌜ r ≡ targetOf s (riseAll n (framesOf (now (p .entry)) c) (Exit kind value level set)) ⌝ }
+    ensures { λ r. ⌜ r ≡ targetOf s (riseAll n (framesOf (now (p .entry)) c) (Exit kind value block set)) ⌝ }
 {
+    let own = block_at(p, c, block);
     let mut up = up_at(p, c);
     let mut answer = kind;
     let mut result = value;
@@ -133,15 +171,15 @@ pub(crate) fn exit(
         match o {
             Out::Go {
                 next,
-                level: _,
+                block: _,
                 set: _,
             } => {
-                return lead(s, p, i, next, level, set);
+                return led(s, p, i, next, own, block, set);
             }
             Out::Exit {
                 kind: k,
                 value: x,
-                level: _,
+                block: _,
                 set: _,
             } => {
                 answer = k;
@@ -172,13 +210,13 @@ pub(crate) fn reach(n: Numbers, s: Site, p: &[usize; WORDS], c: usize, o: Out) -
     ensures { λ r. ⌜ r ≡ targetOf s (riseAll n (framesOf (now (p .entry)) c) o) ⌝ }
 {
     match o {
-        Out::Go { next, level, set } => lead(s, p, c, next, level, set),
+        Out::Go { next, block, set } => lead(s, p, c, next, block, set),
         Out::Exit {
             kind,
             value,
-            level,
+            block,
             set,
-        } => exit(n, s, p, c, kind, value, level, set),
+        } => exit(n, s, p, c, kind, value, block, set),
         Out::Say { said: _, next: _ } => dead(s.n),
         Out::Hear {
             at: _,

@@ -20,6 +20,7 @@ use automaton::row::sum;
 use language::Numbers;
 ghost use mathlib.Core.Path.{_≡_};
 ghost use Prim.Native.Nat.{_≤_};
+ghost use lib.ListN.{length};
 ghost use Rattle.explicit.specs.inner.States.{spotsOf};
 ghost use Rattle.explicit.specs.inner.Path.{riseAll};
 ghost use Rattle.explicit.specs.inner.Levels.{framesOf, Sound};
@@ -36,13 +37,13 @@ fn silent_at(n: Numbers, s: Site, p: &[usize; WORDS], c: usize, o: Out) -> usize
     match o {
         Out::Go {
             next: _,
-            level: _,
+            block: _,
             set: _,
         } => sum(reach(n, s, p, c, o), 1),
         Out::Exit {
             kind: _,
             value: _,
-            level: _,
+            block: _,
             set: _,
         } => sum(reach(n, s, p, c, o), 1),
         Out::Say { said: _, next: _ } => 0,
@@ -77,13 +78,13 @@ fn write_row(
     match o {
         Out::Go {
             next: _,
-            level: _,
+            block: _,
             set: _,
         } => e,
         Out::Exit {
             kind: _,
             value: _,
-            level: _,
+            block: _,
             set: _,
         } => e,
         Out::Say { said, next } => {
@@ -100,21 +101,28 @@ fn write_row(
 }
 
 // The automaton of a sheet: the states from s.o on, the end last, their edges from edge e on. Gives the edge after
-// them.
-pub fn fill(t: &[u16], n: Numbers, s: Site, words: &mut [u32], e: usize) -> usize
-    requires { ⌜ spotsOf (now t) (s .root) ≤ 65536 ⌝ }
+// them. The path is kept in words that are lent, whatever they hold.
+pub fn fill(
+    t: &[u16],
+    n: Numbers,
+    s: Site,
+    words: &mut [u32],
+    p: &mut [usize; WORDS],
+    e: usize,
+) -> usize
+    requires { ⌜ (spotsOf (now t) (s .root) ≤ 65536) × (length (now p) ≡ 79885) ⌝ }
     ensures returned { λ x. ⌜ x ≡ edgesAfter (now (t .entry)) n s e ⌝ }
     ensures written { λ x. ⌜ now (words .exit) ≡ filledOf (now (t .entry)) n s (now (words .entry)) e ⌝ }
+    ensures lent { λ x. ⌜ length (now (p .exit)) ≡ 79885 ⌝ }
 {
     let root = s.root;
     let all = spots_of(t, root);
-    let mut p = [0usize; WORDS];
     let mut c = 0;
     let mut k = 0;
     let mut next = e;
     while k < all {
-        let at = go_to(t, root, &mut p, c, k);
-        next = write_row(t, n, s, words, &p, at, k, next);
+        let at = go_to(t, root, p, c, k);
+        next = write_row(t, n, s, words, p, at, k, next);
         c = at.levels;
         k += 1;
     }

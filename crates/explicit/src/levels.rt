@@ -1,20 +1,18 @@
-// The words of a path: thirteen for each level; then, for each number of blocks outside, the last level that was
-// entered as a block with so many outside.
+// The words of a path: thirteen for each level.
 use crate::Level;
 use automaton::Frame;
 use automaton::roles::BLOCK;
 use automaton::roles::SAME;
-use automaton::row::sum;
 ghost use mathlib.Core.Path.{_≡_};
 ghost use mathlib.Core.List.{[], _∷_};
 ghost use Prim.Native.Nat.{suc, _+_, _<_, _≤_};
 ghost use Rattle.language.specs.Choice.{pick};
-ghost use Rattle.explicit.specs.inner.Path.{heightOf, passesOf, upOf, blockIn};
-ghost use Rattle.explicit.specs.inner.Levels.{fieldOf, frameOf, framesOf, setAll, withLevel, enteredOf, Sound};
+ghost use Rattle.explicit.specs.inner.Path.{innermostOf, passesOf, upOf, blockIn};
+ghost use Rattle.explicit.specs.inner.Levels.{fieldOf, frameOf, framesOf, setAll, withLevel, Sound};
 ghost use Rattle.explicit.specs.inner.Kept.{startOf};
 
 // How many levels a path has at most: those of a term, and the whole.
-pub(crate) const LEVELS: usize = 33;
+pub(crate) const LEVELS: usize = 6145;
 // The words of a level.
 pub(crate) const FIELDS: usize = 13;
 
@@ -43,14 +41,12 @@ pub(crate) const C: usize = 10;
 pub(crate) const D: usize = 11;
 
 pub(crate) const UP: usize = 12;
-// The first of the words that say which level is a block's.
-pub(crate) const HOLDERS: usize = 429;
 // All words.
-pub(crate) const WORDS: usize = 462;
+pub const WORDS: usize = 79885;
 
 // Word j of level i.
 pub(crate) fn field(p: &[usize; WORDS], i: usize, j: usize) -> usize
-    requires { ⌜ (i < 33) × (j < 13) ⌝ }
+    requires { ⌜ (i < 6145) × (j < 13) ⌝ }
     ensures { λ r. ⌜ r ≡ fieldOf (now (p .entry)) i j ⌝ }
 {
     let at = FIELDS * i + j;
@@ -59,7 +55,7 @@ pub(crate) fn field(p: &[usize; WORDS], i: usize, j: usize) -> usize
 
 // The frame of level i.
 pub(crate) fn frame_at(p: &[usize; WORDS], i: usize) -> Frame
-    requires { ⌜ i < 33 ⌝ }
+    requires { ⌜ i < 6145 ⌝ }
     ensures { λ r. ⌜ r ≡ frameOf (now (p .entry)) i ⌝ }
 {
     let role = field(p, i, ROLE);
@@ -80,7 +76,7 @@ pub(crate) fn frame_at(p: &[usize; WORDS], i: usize) -> Frame
 
 // Four words from i on.
 fn put_four(p: &mut [usize; WORDS], i: usize, a: usize, b: usize, c: usize, d: usize)
-    requires { ⌜ i + 4 ≤ 462 ⌝ }
+    requires { ⌜ i + 4 ≤ 79885 ⌝ }
     ensures { λ r. ⌜ now (p .exit) ≡ setAll (now (p .entry)) i (a ∷ b ∷ c ∷ d ∷ []) ⌝ }
 {
     p[i] = a;
@@ -90,8 +86,8 @@ fn put_four(p: &mut [usize; WORDS], i: usize, a: usize, b: usize, c: usize, d: u
 }
 
 // Level i becomes l.
-fn put_level(p: &mut [usize; WORDS], i: usize, l: Level)
-    requires { ⌜ i < 33 ⌝ }
+pub(crate) fn put_level(p: &mut [usize; WORDS], i: usize, l: Level)
+    requires { ⌜ i < 6145 ⌝ }
     ensures { λ r. ⌜ now (p .exit) ≡ withLevel (now (p .entry)) i l ⌝ }
 {
     let at = FIELDS * i;
@@ -100,19 +96,6 @@ fn put_level(p: &mut [usize; WORDS], i: usize, l: Level)
     put_four(p, at + END, l.end, l.outer, f.role, f.base);
     put_four(p, at + A, f.a, f.b, f.c, f.d);
     p[at + UP] = l.up;
-}
-
-// Level i becomes l and, where that is a block's, is noted.
-pub(crate) fn push(p: &mut [usize; WORDS], i: usize, l: Level)
-    requires { ⌜ (i < 33) × (l .outer < 33) ⌝ }
-    ensures { λ r. ⌜ now (p .exit) ≡ enteredOf (now (p .entry)) i l ⌝ }
-{
-    let outer = l.outer;
-    let role = l.f.role;
-    put_level(p, i, l);
-    if role == BLOCK {
-        p[HOLDERS + outer] = i;
-    }
 }
 
 // The first state of the innermost of c levels.
@@ -126,19 +109,18 @@ pub(crate) fn start_at(p: &[usize; WORDS], c: usize) -> usize
     field(p, c - 1, BASE)
 }
 
-// How many blocks enclose what is inside c levels.
-pub(crate) fn height_at(p: &[usize; WORDS], c: usize) -> usize
+// How many of c levels there are up to the innermost block's; 0 where there is none.
+pub(crate) fn innermost(p: &[usize; WORDS], c: usize) -> usize
     requires { ⌜ Sound (now p) c ⌝ }
-    ensures { λ r. ⌜ r ≡ heightOf (framesOf (now (p .entry)) c) ⌝ }
+    ensures { λ r. ⌜ r ≡ innermostOf (framesOf (now (p .entry)) c) ⌝ }
 {
     if c == 0 {
         return 0;
     }
-    let outer = field(p, c - 1, OUTER);
     if field(p, c - 1, ROLE) == BLOCK {
-        return sum(outer, 1);
+        return c;
     }
-    outer
+    field(p, c - 1, OUTER)
 }
 
 // How many levels there are up to the innermost whose frame does not pass an exit on; 0 where all do.
@@ -166,27 +148,21 @@ pub(crate) fn up_with(p: &[usize; WORDS], c: usize, role: usize) -> usize
     c + 1
 }
 
-// How many of c levels there are up to that of the block whose variable has the level `level - 1`; 0 where there is
-// none.
-pub(crate) fn block_at(p: &[usize; WORDS], c: usize, level: usize) -> usize
+// How many of c levels there are up to the innermost block whose new has the row `block - 1`; 0 where there is none. A
+// block's body is copied for each value of its variable, so that few blocks enclose a part: they are looked at one by one.
+pub(crate) fn block_at(p: &[usize; WORDS], c: usize, block: usize) -> usize
     requires { ⌜ Sound (now p) c ⌝ }
-    ensures { λ r. ⌜ r ≡ blockIn (framesOf (now (p .entry)) c) level ⌝ }
+    ensures { λ r. ⌜ r ≡ blockIn (framesOf (now (p .entry)) c) block ⌝ }
 {
-    if level == 0 {
+    if block == 0 {
         return 0;
     }
-    if LEVELS < level {
-        return 0;
+    let mut m = innermost(p, c);
+    while 0 < m {
+        if field(p, m - 1, A) == block {
+            return m;
+        }
+        m = field(p, m - 1, OUTER);
     }
-    let i = p[HOLDERS + level - 1];
-    if c <= i {
-        return 0;
-    }
-    if field(p, i, ROLE) != BLOCK {
-        return 0;
-    }
-    if field(p, i, A) != level {
-        return 0;
-    }
-    i + 1
+    0
 }

@@ -8,7 +8,7 @@
 // What a state of a whole sheet does.
 pub mod whole;
 // The words of a path: the parts in which a state lies, from the whole term down.
-mod levels;
+pub mod levels;
 // From the path to a state to the path to the next, and what is done there.
 mod path;
 // Where a step leads in the whole sheet.
@@ -44,8 +44,8 @@ pub struct Wait {
 }
 
 // A level of the path to a state: a part, asked the question of this kind and value, whose first state is base and
-// which is the same up to the state `end`; the blocks outside it, the levels up to the one where its exits lead, and
-// what its steps become in the part above it.
+// which is the same up to the state `end`; the levels up to the innermost block outside it, those up to the one where
+// its exits lead, and what its steps become in the part above it.
 pub struct Level {
     pub part: usize,
     pub kind: usize,

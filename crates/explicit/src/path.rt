@@ -12,8 +12,8 @@ use crate::levels::QUESTION_VALUE;
 use crate::levels::WORDS;
 use crate::levels::block_at;
 use crate::levels::field;
-use crate::levels::height_at;
-use crate::levels::push;
+use crate::levels::innermost;
+use crate::levels::put_level;
 use crate::levels::start_at;
 use crate::levels::up_with;
 use crate::whole::after_of;
@@ -35,7 +35,6 @@ use records::row::VALUES;
 use records::row::WEIGHT;
 ghost use mathlib.Core.Path.{_≡_};
 ghost use Prim.Native.Nat.{_+_, _<_, _≤_};
-ghost use lib.ListN.{getD};
 ghost use Rattle.automaton.specs.walk.Name.{noMove};
 ghost use Rattle.automaton.specs.walk.Down.{inPrivate};
 ghost use Rattle.explicit.specs.inner.Path.{storeOf};
@@ -43,24 +42,16 @@ ghost use Rattle.explicit.specs.inner.Levels.{framesOf, Sound};
 ghost use Rattle.explicit.specs.inner.Kept.{spotIn, startOf, stopOf, leastOf, untilOf, childOf};
 ghost use Rattle.explicit.specs.inner.Kept.{KeptPath, Covers, Arrived};
 
-// How many blocks enclose a part at most, and how many numbers a value can be.
-const HEIGHT: usize = 32;
-
-const CODES: usize = 65536;
-
-// The value of the private variable of level l, inside c levels.
-fn value_at(p: &[usize; WORDS], c: usize, l: usize) -> usize
-    requires { ⌜ Sound (now p) c ⌝ }
-    ensures { λ r. ⌜ r ≡ getD (storeOf (framesOf (now (p .entry)) c)) l 0 ⌝ }
+// The value of the private variable of the new at a row, inside c levels.
+fn value_at(p: &[usize; WORDS], c: usize, row: usize) -> usize
+    requires { ⌜ Sound (now p) c × (row < 65536) ⌝ }
+    ensures { λ r. ⌜ r ≡ storeOf (framesOf (now (p .entry)) c) row ⌝ }
 {
-    if HEIGHT <= l {
-        return 0;
-    }
-    let m = block_at(p, c, l + 1);
+    let m = block_at(p, c, row + 1);
     if m == 0 {
         return 0;
     }
-    field(p, m - 1, C) % CODES
+    field(p, m - 1, C)
 }
 
 // Position k of a private variable inside c levels: its own step, then the exit.
@@ -76,19 +67,19 @@ fn private_at(
     requires { ⌜ Sound (now p) c ⌝ }
     ensures { λ r. ⌜ r ≡ inPrivate (now (t .entry)) at q x k (storeOf (framesOf (now (p .entry)) c)) ⌝ }
 {
-    let l = cell(t, at, DETAIL);
+    let row = cell(t, at, DETAIL);
     if k == 0 {
         return Out::Go {
             next: 1,
-            level: 0,
+            block: 0,
             set: 0,
         };
     }
     if q == READ {
         return Out::Exit {
             kind: VALUE,
-            value: value_at(p, c, l),
-            level: 0,
+            value: value_at(p, c, row),
+            block: 0,
             set: 0,
         };
     }
@@ -97,7 +88,7 @@ fn private_at(
             return Out::Exit {
                 kind: OK,
                 value: 0,
-                level: sum(l, 1),
+                block: sum(row, 1),
                 set: x,
             };
         }
@@ -123,7 +114,7 @@ fn spot_at(t: &[u16], root: usize, p: &[usize; WORDS], c: usize, k: usize) -> Sp
             out: private_at(t, p, c, part, kind, value, inner),
         };
     }
-    down(t, part, kind, value, inner, height_at(p, c))
+    down(t, part, kind, value, inner)
 }
 
 // The end of the states of the innermost of c levels.
@@ -175,7 +166,7 @@ fn child(
 {
     let base = start_at(p, c) + f.base;
     let end = until(k, base + cell(t, part, WEIGHT), stop_at(t, root, p, c));
-    let outer = height_at(p, c);
+    let outer = innermost(p, c);
     let up = up_with(p, c, f.role);
     Level {
         part,
@@ -224,7 +215,7 @@ fn enter(t: &[u16], root: usize, p: &mut [usize; WORDS], c: usize, k: usize) -> 
                 f,
             } => {
                 let l = child(t, root, p, at, k, part, kind, value, f);
-                push(p, at, l);
+                put_level(p, at, l);
             }
         }
         at += 1;

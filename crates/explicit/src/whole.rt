@@ -44,7 +44,7 @@ fn opened(t: &[u16], root: usize, m: Move) -> Out
     }
     Out::Go {
         next: mul_add(i - 1, cell(t, root, WEIGHT), 1),
-        level: 0,
+        block: 0,
         set: 0,
     }
 }

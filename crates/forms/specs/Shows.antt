@@ -9,6 +9,13 @@ use lib.ListN.{getD}
 use Rattle.procedures.specs.Form.{Form}
 use Rattle.procedures.specs.Held.{held}
 
+-- how many rows there are, and how many words
+abbrev pub formRows : ℕ
+formRows = 161
+
+abbrev pub formWords : ℕ
+formWords = 20769
+
 -- word i of a row
 unfoldable pub wordOf : List ℕ → ℕ → ℕ → ℕ
 wordOf F row i = getD F (129 * row + i) 0

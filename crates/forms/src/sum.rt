@@ -11,6 +11,7 @@ ghost use lib.ListN.{length};
 ghost use Rattle.procedures.specs.Held.{held};
 ghost use Rattle.forms.specs.Become.{Become, summed};
 ghost use Rattle.forms.specs.Contract.{Added, ConstantAdded};
+ghost use Rattle.forms.specs.Shows.{formRows, formWords};
 
 // x + factor * y, held at 4,097.
 fn sum_of(x: u32, factor: u32, y: u32) -> u32
@@ -21,7 +22,7 @@ fn sum_of(x: u32, factor: u32, y: u32) -> u32
 
 // The first n words of a row become themselves and `factor` times those of another.
 fn add_words(s: &mut [u16], to: usize, from: usize, factor: u32, n: usize)
-    requires { ⌜ (to < 72) × ((from < 72) × ((n ≤ 129) × (9288 ≤ length (now s)))) ⌝ }
+    requires { ⌜ (to < formRows) × ((from < formRows) × ((n ≤ 129) × (formWords ≤ length (now s)))) ⌝ }
     ensures { λ r. ⌜ Become (now (s .entry)) (now (s .exit)) (129 * to) n (summed (now (s .entry)) to from factor) ⌝ }
 {
     let b = WIDTH * to;
@@ -38,7 +39,7 @@ fn add_words(s: &mut [u16], to: usize, from: usize, factor: u32, n: usize)
 
 // A row becomes itself and `factor` times another.
 pub fn add(f: &mut [u16; WORDS], to: usize, from: usize, factor: u32, m: usize)
-    requires { ⌜ (to < 72) × ((from < 72) × (m ≤ 128)) ⌝ }
+    requires { ⌜ (to < formRows) × ((from < formRows) × (m ≤ 128)) ⌝ }
     ensures { λ r. ⌜ Added (now (f .entry)) (now (f .exit)) to from factor m ⌝ }
 {
     add_words(f, to, from, factor, 1 + m);
@@ -46,7 +47,7 @@ pub fn add(f: &mut [u16; WORDS], to: usize, from: usize, factor: u32, m: usize)
 
 // A row becomes itself and the constant c.
 pub fn add_constant(f: &mut [u16; WORDS], to: usize, c: u32)
-    requires { ⌜ to < 72 ⌝ }
+    requires { ⌜ to < formRows ⌝ }
     ensures { λ r. ⌜ ConstantAdded (now (f .entry)) (now (f .exit)) to c ⌝ }
 {
     let b = WIDTH * to;

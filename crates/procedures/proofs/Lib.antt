@@ -44,3 +44,4 @@ pub mod Hidings
 pub mod Listing
 pub mod Renumbering
 pub mod WorkedRenumbering
+pub mod Reach

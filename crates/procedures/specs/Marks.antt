@@ -13,7 +13,7 @@ use Rattle.procedures.specs.Come.{come}
 use Rattle.procedures.specs.Context.{Context, whole, in-block, in-procedure, in-scope, binders, downs, uses}
 use Rattle.procedures.specs.Made.{sign}
 use Rattle.procedures.specs.PartKind.{PARTS}
-use Rattle.procedures.specs.Table.{word}
+use Rattle.records.specs.Row.{word}
 
 -- which of four arguments are used: a bit each, the first lowest
 unfoldable pub bits : (ℕ → ℕ) → ℕ

@@ -10,11 +10,11 @@
 use Prim.Native.Nat.{ℕ, suc, _+_, _*_, _≤_, _<_}
 use mathlib.Core.Path.{_≡_}
 use mathlib.Core.List.{List, [], _∷_}
-use lib.ListN.{length, getD}
+use lib.ListN.{length}
 use Rattle.language.specs.Number.{code, fromByte}
 use Rattle.language.specs.declared.Numbers.{Numbers}
 use Rattle.records.specs.Rule.{values}
-use Rattle.records.specs.Row.{cell, classOf}
+use Rattle.records.specs.Row.{word, classOf}
 use Rattle.procedures.specs.Environment.{beyond}
 use Rattle.procedures.specs.Written.{Written, skip, diverge, truth, number, call, fetch, operate, assign}
 use Rattle.procedures.specs.Written.{sequence, while, choose, new, procedure, Parameter, Writtens, none, more}
@@ -25,10 +25,6 @@ use Rattle.procedures.specs.Context.{Context, whole, in-block, in-proced
 use Rattle.procedures.specs.PartKind.{SKIP, DIVERGE, CONSTANT, NAME, FETCH, OPERATE, ASSIGN, SEQUENCE, IF, WHILE}
 use Rattle.procedures.specs.PartKind.{NEW, PROCEDURE, PRIVATE, PARAMETER, USE, KIND, END, CLASS, VALUES, DETAIL}
 use Rattle.procedures.specs.PartKind.{PARTS}
-
--- word i of the row at a place
-unfoldable pub word : List ℕ → ℕ → ℕ → ℕ
-word t at i = getD t (cell at i) 0
 
 -- the place of a procedure's record and how many arguments a use of it has
 unfoldable pub useDetail : ℕ → ℕ → ℕ

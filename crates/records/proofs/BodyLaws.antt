@@ -2,14 +2,14 @@
 use Prim.Native.Nat.{ℕ, _+_, _≤_, _<_}
 use native.Mathlib.Omega.{arith}
 use mathlib.Core.Path.{_≡_, refl, sym, ap, _∙_}
-use mathlib.Core.Bool.{true}
+use mathlib.Core.Bool.{true, false}
 use mathlib.Core.List.{List}
 use lib.ListN.{length, getD}
 use lib.Dec.{eqb}
 use borrow.Author.Tests.{eqb-false}
 use Rattle.language.specs.Number.{inRange}
 use Rattle.language.specs.declared.Numbers.{Numbers}
-use Rattle.records.specs.Standing.{isVariable}
+use Rattle.records.specs.Standing.{isNamed}
 use Rattle.records.specs.Head.{withBody, limited, constant, used, useOf, dataByte, newOf, bodyOf}
 use Rattle.records.specs.declared.kind.Rule.{Rule}
 use Rattle.records.specs.declared.kind.Rule.the-variants.{Skip, Diverge, Truth, Number, Use, Fetch}
@@ -66,16 +66,14 @@ module _ (s : List ℕ) (b r : Record) where
   pub new-body :
       (st : List ℕ) (id d c : ℕ) →
       id ≡ getD s (b .place + 1) 0 → d ≡ getD s (b .place + 2) 0 → c ≡ getD st id 0 → newOf s st b ≡ Good r →
-      (b .place + 2 < length s) × (id < 255) × (0 < d) × (d ≤ 2) × (c ≡ 1 → ⊥) × (isVariable c ≡ true)
-      × (r ≡ withBody b id d)
+      (b .place + 2 < length s) × (id < 255) × (0 < d) × (d ≤ 2) × (isNamed c ≡ false) × (r ≡ withBody b id d)
   unfolding newOf
   new-body st id d c e e₁ e₂ h =
       let g = byte-good s (b .place + 1) 255 _ r h in
-      let p = pick-false (eqb c 1) bad-good (rw (← e, ← e₂) at (g .2)) in
-      let v = pick-true (isVariable c) bad-good (p .1) in
+      let v = pick-false (isNamed c) bad-good (rw (← e, ← e₂) at (g .2)) in
       let q = data-body id d e₁ (v .1) in
       let n = q .2 in
-      (q .0, rw e (g .1), omega arith, omega arith, eqb-false c 1 (p .0), v .0, q .3)
+      (q .0, rw e (g .1), omega arith, omega arith, v .0, q .3)
 
 -- what every body leaves, and that it stands in the list
 pub record Kept (R : Rule) (s : List ℕ) (b r : Record) : Type 0 where
@@ -127,4 +125,4 @@ module _ (s st : List ℕ) (N : Numbers) (b r : Record) (i : b .place < length s
   body-kept While h = plain While refl h
   body-kept New h =
       let g = new-body s b r st _ _ _ refl refl refl h in
-      kept-as New s b r (g .0) (g .6) refl refl refl refl
+      kept-as New s b r (g .0) (g .5) refl refl refl refl

@@ -2,13 +2,13 @@
 use Prim.Native.Nat.{ℕ, _+_, _≤_, _<_}
 use native.Mathlib.Omega.{arith}
 use mathlib.Core.Path.{_≡_, _∙_}
-use mathlib.Core.Bool.{true}
+use mathlib.Core.Bool.{true, false}
 use mathlib.Core.List.{List}
 use lib.ListN.{length, getD}
 use borrow.Author.Tests.{lt-leb, ne-eqb}
 use Rattle.language.specs.Number.{inRange}
 use Rattle.language.specs.declared.Numbers.{Numbers}
-use Rattle.records.specs.Standing.{isVariable}
+use Rattle.records.specs.Standing.{isNamed}
 use Rattle.records.specs.Head.{withBody, limited, constant, used, useOf, dataByte, newOf}
 use Rattle.records.specs.Head.{headOfShape, bodyOf, blank, headOf}
 use Rattle.records.specs.declared.kind.Rule.{Rule}
@@ -92,9 +92,9 @@ module _ (s st : List ℕ) (N : Numbers) (left at : ℕ) (d : left ≡ 0 → ⊥
   -- a new on an id whose standing is c
   pub made-new :
       (id holds c : ℕ) → at + 2 < length s → getD s at 0 ≡ 27 → getD s (at + 1) 0 ≡ id → id < 255 →
-      getD st id 0 ≡ c → (c ≡ 1 → ⊥) → isVariable c ≡ true → getD s (at + 2) 0 ≡ holds → 0 < holds → holds ≤ 2 →
+      getD st id 0 ≡ c → isNamed c ≡ false → getD s (at + 2) 0 ≡ holds → 0 < holds → holds ≤ 2 →
       headOf s st N left at ≡ Good (withBody (start at New) id holds)
   unfolding bodyOf newOf blank
-  made-new id holds c i k e l f n v e₁ p q =
+  made-new id holds c i k e l f v e₁ p q =
       made New (omega arith) k ∙ (byte-made s (at + 1) 255 _ (omega arith) (omega arith) ∙
-      rw (e, f, ne-eqb c 1 n, v) (data-made id holds i e₁ p q))
+      rw (e, f, v) (data-made id holds i e₁ p q))

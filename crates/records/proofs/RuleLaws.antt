@@ -2,13 +2,13 @@
 use Prim.Native.Nat.{ℕ, _+_, _≤_, _<_}
 use native.Mathlib.Omega.{arith}
 use mathlib.Core.Path.{_≡_, refl, sym, ap, ap₂, _∙_}
-use mathlib.Core.Bool.{true}
+use mathlib.Core.Bool.{true, false}
 use mathlib.Core.List.{List}
 use lib.ListN.{length, getD}
 use Rattle.language.specs.Choice.{pick}
 use Rattle.language.specs.Number.{inRange}
 use Rattle.language.specs.declared.Numbers.{Numbers}
-use Rattle.records.specs.Standing.{isVariable, declaredAt}
+use Rattle.records.specs.Standing.{isVariable, isNamed, declaredAt}
 use Rattle.records.specs.Head.{withBody, limited, used, bodyOf, blank, headOf}
 use Rattle.records.specs.declared.kind.Rule.{Rule}
 use Rattle.records.specs.declared.kind.Rule.the-variants.{Skip, Diverge, Truth, Number, Use, Fetch}
@@ -62,8 +62,7 @@ pub record NewGood (s st : List ℕ) (at : ℕ) (r : Record) : Type 0 where
   pub b : r .b ≡ getD s (at + 2) 0
   pub positive : 0 < r .b
   pub small : r .b ≤ 2
-  pub not-retired : getD st (r .a) 0 ≡ 1 → ⊥
-  pub variable : isVariable (getD st (r .a) 0) ≡ true
+  pub unnamed : isNamed (getD st (r .a) 0) ≡ false
   pub parts : r .parts ≡ 1
   pub next : r .next ≡ at + 3
   pub same : r ≡ withBody (start at New) (r .a) (r .b)
@@ -173,7 +172,7 @@ module _ (s st : List ℕ) (N : Numbers) (left at : ℕ) (r : Record) (h : headO
   new-good e =
       let o = opened-as s st N left at r h New e in
       let g = new-body s (start at New) r st _ _ _ refl refl refl (o .body) in
-      let w = g .6 in
+      let w = g .5 in
       let ea : r .a ≡ getD s (at + 1) 0 = ap (λ (x : Record). x .a) w in
       let eb : r .b ≡ getD s (at + 2) 0 = ap (λ (x : Record). x .b) w in
       record {
@@ -184,8 +183,7 @@ module _ (s st : List ℕ) (N : Numbers) (left at : ℕ) (r : Record) (h : headO
         b = eb;
         positive = rw eb (g .2);
         small = rw eb (g .3);
-        not-retired = rw ea (g .4);
-        variable = rw ea (g .5);
+        unnamed = rw ea (g .4);
         parts = ap (λ (x : Record). x .parts) w;
         next = ap (λ (x : Record). x .next) w ∙ omega arith;
         same = w ∙ ap₂ (λ (x y : ℕ). withBody (start at New) x y) (sym ea) (sym eb);

@@ -10,7 +10,7 @@ use Rattle.language.specs.Choice.{pick}
 use Rattle.language.specs.Number.{inRange}
 use Rattle.language.specs.declared.Numbers.{Numbers}
 use Rattle.records.specs.Kind.{shapeOf}
-use Rattle.records.specs.Standing.{free, retired, isVariable, declaredAt}
+use Rattle.records.specs.Standing.{free, retired, isVariable, isNamed, declaredAt}
 use Rattle.records.specs.Refusal.{refusal, cut-short, out-of-range, id-taken, id-unknown, id-retired, too-deep}
 use Rattle.records.specs.declared.kind.Rule.{Rule}
 use Rattle.records.specs.declared.kind.Rule.the-variants.{Skip, Diverge, Truth, Number, Use, Fetch, Operate}
@@ -72,8 +72,7 @@ dataByte s r id =
 unfoldable pub newOf : List ℕ → List ℕ → Record → Head
 newOf s st r =
     onByte (byteOf s (r .place + 1) 255) (λ id.
-      pick (eqb (getD st id 0) retired) (Refused (refusal id-taken (r .place + 1)))
-      (pick (isVariable (getD st id 0)) (dataByte s r id) (Refused (refusal id-taken (r .place + 1)))))
+      pick (isNamed (getD st id 0)) (Refused (refusal id-taken (r .place + 1))) (dataByte s r id))
 
 -- the body of a record
 unfoldable pub bodyOf : Rule → List ℕ → List ℕ → Numbers → Record → Head

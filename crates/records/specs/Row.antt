@@ -3,26 +3,30 @@
 --
 -- The row of the part at a place: 0 kind (18 for every constant, 128 for the use of a private variable), 1 weight, held at
 -- 4,097, 2 class of its type (0 command, 1 expression, 2 variable), 3 number of values of its data, 4 detail, 5 to 8 places of
--- its parts. The detail of a constant is its code, of an operation its operator, of a private variable its level, of a name
--- its id and 256 times the number of its arguments, of a new the number of values of its variable.
+-- its parts. The detail of a constant is its code, of an operation its operator, of a private variable the place of
+-- its new, of a name its id and 256 times the number of its arguments, of a new the number of values of its variable.
 use Prim.Native.Nat.{ℕ, _+_, _*_, min}
 use mathlib.Core.Bool.{Bool}
 use mathlib.Core.List.{List}
-use lib.ListN.{set}
+use lib.ListN.{getD, set}
 use lib.Dec.{eqb, ltb}
 use Rattle.language.specs.Choice.{pick}
 use Rattle.language.specs.Number.{code, fromByte}
 use Rattle.language.specs.declared.Numbers.{Numbers}
-use Rattle.records.specs.Standing.{isVariable, levelOf}
+use Rattle.records.specs.Standing.{isVariable, newAt}
 use Rattle.records.specs.Rule.{values}
 use Rattle.records.specs.declared.kind.Rule.{Rule}
 use Rattle.records.specs.declared.kind.Rule.the-variants.{Skip, Diverge, Truth, Number, Use, Fetch, Operate}
 use Rattle.records.specs.declared.kind.Rule.the-variants.{Assign, Sequence, If, While, New}
 use Rattle.records.specs.declared.head.Record.{Record}
 
--- word i of the row at a place
+-- where word i of the row at a place stands
 unfoldable pub cell : ℕ → ℕ → ℕ
 cell place i = 9 * place + i
+
+-- word i of the row at a place
+unfoldable pub word : List ℕ → ℕ → ℕ → ℕ
+word t at i = getD t (cell at i) 0
 
 unfoldable pub rowKind : Rule → Record → ℕ
 rowKind Skip r = r .kind
@@ -42,7 +46,7 @@ unfoldable pub classOf : ℕ → ℕ
 classOf ty = pick (eqb ty 0) 0 (pick (ltb ty 3) 1 2)
 
 abbrev pub useDetail : Record → ℕ
-useDetail r = pick (isVariable (r .b)) (levelOf (r .b)) (r .a + 256 * r .parts)
+useDetail r = pick (isVariable (r .b)) (newAt (r .b)) (r .a + 256 * r .parts)
 
 unfoldable pub detail : Rule → Numbers → Record → ℕ
 detail Skip N r = 0

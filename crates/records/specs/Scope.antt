@@ -6,6 +6,6 @@ use lib.ListN.{set}
 use Rattle.records.specs.Standing.{variableStanding}
 use Rattle.records.specs.declared.head.Record.{Record}
 
--- the standings inside a new that `level` news enclose
-unfoldable pub entered : List ℕ → Record → ℕ → List ℕ
-entered st r level = set st (r .a) (variableStanding level (r .b))
+-- the standings inside a new
+unfoldable pub entered : List ℕ → Record → List ℕ
+entered st r = set st (r .a) (variableStanding (r .place) (r .b))

@@ -1,12 +1,13 @@
 -- The standing of an id. Document 01, "Required forms by place": "An array [0; 255] holds each id's standing: free, retired,
 -- declared record or enclosing variable". SHEETS 2.6.
 --
--- A standing is a number: free, retired, `declared` + p where the record at place p declares the id; the variable of an
--- enclosing new has 1 + 2 * level + holds, which is below `declared`: level is how many news enclose that new, and holds is
--- its data, 1 truth or 2 number.
+-- A standing is a number: free, retired, `declared` + p where the record at place p declares the id, and
+-- `private` * holds + p where it is the variable of the enclosing new at place p: holds is its data, 1 truth or
+-- 2 number. Places are below 4,096.
 use Prim.Native.Nat.{ℕ, _+_, _-_, _*_, _/_, _%_}
-use mathlib.Core.Bool.{Bool}
-use lib.Dec.{ltb}
+use mathlib.Core.Bool.{Bool, false}
+use lib.Dec.{eqb, leb, ltb}
+use Rattle.language.specs.Choice.{pick}
 
 abbrev pub free : ℕ
 free = 0
@@ -17,18 +18,26 @@ retired = 1
 abbrev pub declared : ℕ
 declared = 256
 
--- of an id that is neither free nor retired: whether it is an enclosing variable, and not declared
+abbrev pub private : ℕ
+private = 8192
+
+-- whether an id is an enclosing variable
 unfoldable pub isVariable : ℕ → Bool
-isVariable c = ltb c declared
+isVariable c = leb private c
+
+-- whether a name record has the id: it is retired or declared
+unfoldable pub isNamed : ℕ → Bool
+isNamed c = pick (eqb c free) false (ltb c private)
 
 unfoldable pub variableStanding : ℕ → ℕ → ℕ
-variableStanding level holds = 1 + 2 * level + holds
+variableStanding place holds = private * holds + place
 
-unfoldable pub levelOf : ℕ → ℕ
-levelOf c = (c - 2) / 2
+-- the place of an enclosing variable's new, and the variable's data
+unfoldable pub newAt : ℕ → ℕ
+newAt c = c % private
 
 unfoldable pub dataOf : ℕ → ℕ
-dataOf c = 1 + c % 2
+dataOf c = c / private
 
 unfoldable pub declaredStanding : ℕ → ℕ
 declaredStanding p = declared + p

@@ -210,13 +210,10 @@ pub(crate) fn new_body(s: &[u8], st: &[u16; 255], r: Record) -> Head
         Byte::Refused(refusal) => Head::Refused(refusal),
         Byte::Is { byte } => {
             let standing = standing_of(st, byte);
-            if standing == RETIRED {
+            if crate::standing::is_named(standing) {
                 return Head::Refused(refuse(ID_TAKEN, id_at));
             }
-            if crate::standing::is_variable(standing) {
-                return data_body(s, r, byte);
-            }
-            Head::Refused(refuse(ID_TAKEN, id_at))
+            data_body(s, r, byte)
         }
     }
 }

@@ -2,7 +2,7 @@
 use crate::head::Record;
 use crate::kind::Rule;
 use crate::standing::is_variable;
-use crate::standing::level_of;
+use crate::standing::new_at;
 use crate::typing::COMMAND;
 use crate::typing::TRUTH_VARIABLE;
 use crate::weight::HELD;
@@ -106,13 +106,14 @@ pub(crate) fn class_of(ty: u8) -> u16
     }
 }
 
-// The detail of a use: of a private variable its level, of a name its id and 256 times the number of its arguments.
+// The detail of a use: of a private variable the place of its new, of a name its id and 256 times the number of its
+// arguments.
 pub(crate) fn use_detail(r: Record) -> u16
     ensures { λ x. ⌜ x ≡ useDetail r ⌝ }
 {
     let b = r.b;
     if is_variable(b) {
-        return level_of(b);
+        return new_at(b);
     }
     r.a as u16 + 256 * (r.parts as u16)
 }

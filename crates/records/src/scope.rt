@@ -3,7 +3,7 @@ use crate::head::Record;
 use crate::row::put;
 use crate::standing::variable_standing;
 ghost use mathlib.Core.Path.{_≡_};
-ghost use Prim.Native.Nat.{_≤_};
+ghost use Prim.Native.Nat.{_≤_, _<_};
 ghost use lib.ListN.{set};
 ghost use Rattle.records.specs.Scope.{entered};
 
@@ -19,10 +19,10 @@ pub fn with_standing(st: [u16; 255], id: u8, standing: u16) -> [u16; 255]
     st
 }
 
-// Makes of the standings those inside a new that `level` news enclose: its id is its variable's.
-pub fn enter(st: &mut [u16; 255], r: Record, level: u8)
-    requires { ⌜ r .b ≤ 2 ⌝ }
-    ensures { λ x. ⌜ now (st .exit) ≡ entered (now (st .entry)) r level ⌝ }
+// Makes of the standings those inside a new: its id is its variable's.
+pub fn enter(st: &mut [u16; 255], r: Record)
+    requires { ⌜ (r .place < 4096) × (r .b ≤ 2) ⌝ }
+    ensures { λ x. ⌜ now (st .exit) ≡ entered (now (st .entry)) r ⌝ }
 {
-    put(st, r.a as usize, variable_standing(level, r.b));
+    put(st, r.a as usize, variable_standing(r.place, r.b));
 }

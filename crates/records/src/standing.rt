@@ -1,43 +1,55 @@
 // The standing of an id: free, retired, the variable of an enclosing new, or declared.
 ghost use mathlib.Core.Path.{_≡_};
 ghost use Prim.Native.Nat.{_+_, _≤_, _<_};
-ghost use Rattle.records.specs.Standing.{isVariable, variableStanding, levelOf, dataOf, declaredStanding, declaredAt};
+ghost use Rattle.records.specs.Standing.{isVariable, isNamed, variableStanding, newAt, dataOf};
+ghost use Rattle.records.specs.Standing.{declaredStanding, declaredAt};
 
 pub const FREE: u16 = 0;
 
 pub const RETIRED: u16 = 1;
 
-// The first standing of a declared id; those below are of variables.
+// The first standing of a declared id, and of a variable.
 pub const DECLARED: u16 = 256;
 
-// Of an id that is neither free nor retired: whether it is an enclosing variable.
+const PRIVATE: u16 = 8192;
+
+// Whether an id is an enclosing variable.
 pub(crate) fn is_variable(c: u16) -> bool
     ensures { λ r. ⌜ r ≡ isVariable c ⌝ }
 {
-    c < DECLARED
+    PRIVATE <= c
 }
 
-// The variable of a new that `level` news enclose; it holds truths, 1, or numbers, 2.
-pub(crate) fn variable_standing(level: u8, holds: u16) -> u16
-    requires { ⌜ holds ≤ 2 ⌝ }
-    ensures { λ r. ⌜ r ≡ variableStanding level holds ⌝ }
+// Whether a name record has the id: it is retired or declared.
+pub(crate) fn is_named(c: u16) -> bool
+    ensures { λ r. ⌜ r ≡ isNamed c ⌝ }
 {
-    1 + 2 * (level as u16) + holds
-}
-
-pub(crate) fn level_of(c: u16) -> u16
-    ensures { λ r. ⌜ r ≡ levelOf c ⌝ }
-{
-    if c < 2 {
-        return 0;
+    if c == FREE {
+        return false;
     }
-    (c - 2) / 2
+    c < PRIVATE
 }
 
+// The variable of the new at a place; it holds truths, 1, or numbers, 2.
+pub(crate) fn variable_standing(place: usize, holds: u16) -> u16
+    requires { ⌜ (place < 4096) × (holds ≤ 2) ⌝ }
+    ensures { λ r. ⌜ r ≡ variableStanding place holds ⌝ }
+{
+    PRIVATE * holds + place as u16
+}
+
+// The place of an enclosing variable's new.
+pub(crate) fn new_at(c: u16) -> u16
+    ensures { λ r. ⌜ r ≡ newAt c ⌝ }
+{
+    c % PRIVATE
+}
+
+// What an enclosing variable holds.
 pub(crate) fn data_of(c: u16) -> u16
     ensures { λ r. ⌜ r ≡ dataOf c ⌝ }
 {
-    1 + c % 2
+    c / PRIVATE
 }
 
 // Declared by the record at place p.

@@ -81,23 +81,23 @@ module _ (N : Numbers) (s : List ℕ) where
   headed at (Unheaded x) k f = tt
 
   scoped-next :
-      (rec : List ℕ → ℕ → ℕ → Answer Tree) → ((st : List ℕ) (level at : ℕ) → Whole at (rec st level at)) →
-      (st : List ℕ) (level at : ℕ) (r : Record) → at < r .next → r .next ≤ length s →
-      Whole at (scopedOf rec N s st level r)
+      (rec : List ℕ → ℕ → Answer Tree) → ((st : List ℕ) (at : ℕ) → Whole at (rec st at)) →
+      (st : List ℕ) (at : ℕ) (r : Record) → at < r .next → r .next ≤ length s →
+      Whole at (scopedOf rec N s st r)
   unfolding scopedOf
-  scoped-next rec f st level at r h k =
+  scoped-next rec f st at r h k =
       next-pick (After at (length s)) (isNew (r .rule)) _ _
-      (later at (r .next) h (readRecord (rec (entered st r level) (level + 1)) N s r)
-        (record-next _ (f (entered st r level) (level + 1)) r k))
-      (later at (r .next) h (readRecord (rec st level) N s r) (record-next _ (f st level) r k))
+      (later at (r .next) h (readRecord (rec (entered st r)) N s r)
+        (record-next _ (f (entered st r)) r k))
+      (later at (r .next) h (readRecord (rec st) N s r) (record-next _ (f st) r k))
 
-  part-next : (left : ℕ) (st : List ℕ) (level at : ℕ) → Whole at (readPart left N s st level at)
+  part-next : (left : ℕ) (st : List ℕ) (at : ℕ) → Whole at (readPart left N s st at)
   unfolding readPart Next
-  part-next zero st level at = headed at (headOf s st N 0 at) (λ r. refused 8 at) (λ r e. tt)
-  part-next (suc left) st level at =
+  part-next zero st at = headed at (headOf s st N 0 at) (λ r. refused 8 at) (λ r e. tt)
+  part-next (suc left) st at =
       headed at (headOf s st N (suc left) at) _ (λ r e.
         let g = head-good s st N (suc left) at r e in
-        scoped-next (readPart left N s) (λ st′ level′ at′. part-next left st′ level′ at′) st level at r
+        scoped-next (readPart left N s) (λ st′ at′. part-next left st′ at′) st at r
           (g .next-beyond) (g .next-inside))
 
 beyond-of : {X : Type 0} (at n : ℕ) (A : Answer X) → Next (After at n) A → Beyond at n (erase A)
@@ -107,10 +107,10 @@ beyond-of at n (refused a b) p = tt
 
 -- so is the place that the code answers
 pub part-beyond :
-    (left : ℕ) (N : Numbers) (s st : List ℕ) (level at : ℕ) {x : Part} → x ≡ erase (readPart left N s st level at) →
+    (left : ℕ) (N : Numbers) (s st : List ℕ) (at : ℕ) {x : Part} → x ≡ erase (readPart left N s st at) →
     Beyond at (length s) x
-part-beyond left N s st level at e =
-    rw e (beyond-of at (length s) (readPart left N s st level at) (part-next N s left st level at))
+part-beyond left N s st at e =
+    rw e (beyond-of at (length s) (readPart left N s st at) (part-next N s left st at))
 
 pub beyond-within : (at n : ℕ) {ty w next : ℕ} {x : Part} → Beyond at n x → x ≡ Read ty w next → next ≤ n
 unfolding Beyond

@@ -1,7 +1,6 @@
 -- Every term that is in order is read.
 use Prim.Native.Nat.{ℕ, zero, suc, _+_, _*_, _≤_, _<_}
 use native.Mathlib.Omega.{arith}
-use native.Mathlib.Numerals.{add-one}
 use native.Mathlib.Nat.{add-zero, zero-add}
 use mathlib.Core.Path.{_≡_, refl, sym, ap, ap₂, _∙_, subst}
 use mathlib.Core.Bool.{true, false}
@@ -75,19 +74,19 @@ reading {A} {t} {W} {ty} {ty′} {w} {w′} {n} {n′} e f a b c =
 
 module _ (N : Numbers) (s : List ℕ) (ns : List Name) (left : ℕ) (bs : List Block) (st : List ℕ) (at : ℕ) where
   abbrev rec : ℕ → Answer Tree
-  rec = readPart left N s st (length bs)
+  rec = readPart left N s st
 
   abbrev Part : ℕ → Written → Type 0
   Part p W = Read (rec p) W (typed ns bs W) (weight (resolve N ns bs W)) (p + length (encode W))
 
   abbrev Whole : Written → Type 0
   Whole W =
-      Read (readPart (suc left) N s st (length bs) at) W (typed ns bs W) (weight (resolve N ns bs W))
+      Read (readPart (suc left) N s st at) W (typed ns bs W) (weight (resolve N ns bs W))
         (at + length (encode W))
 
   record-read :
       {r : Record} → Heads s st N at r → isNew (r .rule) ≡ false →
-      readPart (suc left) N s st (length bs) at ≡ readRecord rec N s r
+      readPart (suc left) N s st at ≡ readRecord rec N s r
   unfolding readPart onHead scopedOf
   record-read {r} h e = rw (head-is s st N at left r h, e) refl
 
@@ -203,10 +202,9 @@ module _ (N : Numbers) (s : List ℕ) (ns : List Name) (left : ℕ) (bs : List B
       (omega (arith, length-append (encode l) (encode r)))
 
   complete-new :
-      (a d : ℕ) (c : Written) → Byte s at 27 → Byte s (at + 1) a → Byte s (at + 2) d → Matches s ns bs st →
-      Fine N ns bs (new a d c) →
-      Read (readPart left N s (entered st (made s at New 1 a d (at + 1 + 2)) (length bs)) (suc (length bs))
-        (at + 1 + 2)) c
+      (a d : ℕ) (c : Written) → Byte s at 27 → Byte s (at + 1) a → Byte s (at + 2) d → {rs : List ℕ} →
+      Matches s ns rs bs st → Fine N ns bs (new a d c) →
+      Read (readPart left N s (entered st (made s at New 1 a d (at + 1 + 2))) (at + 1 + 2)) c
         (typed ns (record { id = a; holds = d } ∷ bs) c) (weight (resolve N ns (record { id = a; holds = d } ∷ bs) c))
         (at + 1 + 2 + length (encode c)) → Whole (new a d c)
   unfolding Fine isNew partsOf acceptsPart factor extra partType own encode typed weight resolve written writtens build
@@ -215,11 +213,11 @@ module _ (N : Numbers) (s : List ℕ) (ns : List Name) (left : ℕ) (bs : List B
   complete-new a d c b b′ b″ M f p =
       let x = made s at New 1 a d (at + 1 + 2) in
       let k = new-standing M a (f .0) (f .1) in
-      let rec′ = readPart left N s (entered st x (length bs)) (length bs + 1) in
-      let e : readPart (suc left) N s st (length bs) at ≡ readRecord rec′ N s x =
-          rw (head-is s st N at left x (h-new b b′ (f .0) (k .0) (k .1) b″ (f .2) (f .3))) refl in
+      let rec′ = readPart left N s (entered st x) in
+      let e : readPart (suc left) N s st at ≡ readRecord rec′ N s x =
+          rw (head-is s st N at left x (h-new b b′ (f .0) k b″ (f .2) (f .3))) refl in
       reading (e ∙ record-step rec′ N s x
-        (part-step rec′ N s x 0 0 0 (at + 1 + 2) (rw (← add-one (length bs)) at (p .reads)) (eq-eqb _ 0 (f .5)) refl))
+        (part-step rec′ N s x 0 0 0 (at + 1 + 2) (p .reads) (eq-eqb _ 0 (f .5)) refl))
       (ap (λ (x : Written). new a d x) (p .writes)) refl (omega arith) (omega arith)
 
   -- arguments j, j + 1, .. of a use
@@ -256,13 +254,12 @@ module _ (N : Numbers) (s : List ℕ) (ns : List Name) (left : ℕ) (bs : List B
           writes = ap₂ (λ (u : Written) (v : Writtens). more u v) (P .writes) (A .writes) }
 
   complete-private :
-      (a : ℕ) {i h : ℕ} → Byte s at 20 → Byte s (at + 1) a → a < 255 → length bs ≤ 32 → meaning ns bs a ≡ private i h
-        →
-      Variable (length bs) (declared ns a) i h (getD st a 0) → Whole (call a none)
+      (a : ℕ) {i h : ℕ} → Byte s at 20 → Byte s (at + 1) a → a < 255 → meaning ns bs a ≡ private i h →
+      {rs : List ℕ} → Variable rs (declared ns a) i h (getD st a 0) → Whole (call a none)
   unfolding isNew partsOf partType own encode encodes typed useType weight resolve byMeaning written writtens build
     variableStanding
-  complete-private a {i} {h} b b′ l n e v =
-      let d = variable-private v n in
+  complete-private a {i} {h} b b′ l e v =
+      let d = variable-private v in
       let u = record-read (h-use b b′ l (λ z. omega (arith, v .stands, v .above))
         (λ z. omega (arith, v .stands, v .above))) refl in
       reading ((rw d at u) ∙ record-step rec N s (made s at Use 0 a (getD st a 0) (at + 1 + 1)) refl) refl
@@ -301,29 +298,30 @@ module _ (N : Numbers) (s : List ℕ) (ns : List Name) where
   -- every part of at most so many levels is read
   abbrev Reads : ℕ → Type 0
   Reads left =
-      (W : Written) (bs : List Block) (st : List ℕ) (at : ℕ) (rest : List ℕ) → Fine N ns bs W → depth W ≤ left →
-      drop at s ≡ encode W ++ rest → Matches s ns bs st → length bs + left ≤ 32 →
-      Read (readPart left N s st (length bs) at) W (typed ns bs W) (weight (resolve N ns bs W))
+      (W : Written) (rs : List ℕ) (bs : List Block) (st : List ℕ) (at : ℕ) (rest : List ℕ) → Fine N ns bs W → depth W
+          ≤ left →
+      drop at s ≡ encode W ++ rest → Matches s ns rs bs st →
+      Read (readPart left N s st at) W (typed ns bs W) (weight (resolve N ns bs W))
         (at + length (encode W))
 
   complete-args :
-      (left : ℕ) (bs : List Block) (st : List ℕ) (at m a c : ℕ) → Reads left → Matches s ns bs st →
-      length bs + left ≤ 32 →
-      (ws : Writtens) (tys : List ℕ) (j prev p : ℕ) (rest : List ℕ) → FineArgs N ns bs ws tys → depths ws ≤ left →
+      (left : ℕ) (rs : List ℕ) (bs : List Block) (st : List ℕ) (at m a c : ℕ) → Reads left →
+      Matches s ns rs bs st → (ws : Writtens) (tys : List ℕ) (j prev p : ℕ) (rest : List ℕ) → FineArgs N ns bs ws tys
+          → depths ws ≤ left →
       drop p s ≡ encodes ws ++ rest →
       ((k : ℕ) → k < length tys → getD s (standing.declaredAt c + 4 + (j + k)) 0 ≡ getD tys k 0) →
       Args N s ns left bs st at m a c ws tys j prev p
   unfolding FineArgs depths encodes
-  complete-args left bs st at m a c R M l none [] j prev p rest f d e g =
+  complete-args left rs bs st at m a c R M none [] j prev p rest f d e g =
       complete-none N s ns left bs st at m a c j prev p
-  complete-args left bs st at m a c R M l none (ty ∷ tys) j prev p rest f d e g = absurd f
-  complete-args left bs st at m a c R M l (more w ws) [] j prev p rest f d e g = absurd f
-  complete-args left bs st at m a c R M l (more w ws) (ty ∷ tys) j prev p rest f d e g =
+  complete-args left rs bs st at m a c R M none (ty ∷ tys) j prev p rest f d e g = absurd f
+  complete-args left rs bs st at m a c R M (more w ws) [] j prev p rest f d e g = absurd f
+  complete-args left rs bs st at m a c R M (more w ws) (ty ∷ tys) j prev p rest f d e g =
       let e′ : drop p s ≡ encode w ++ (encodes ws ++ rest) = e ∙ append-assoc (encode w) (encodes ws) rest in
       complete-more N s ns left bs st at m a c w ws ty tys j prev p (f .1)
         (ap (λ (x : ℕ). getD s (standing.declaredAt c + 4 + x) 0) (sym (add-zero j)) ∙ g 0 (omega arith))
-        (R w bs st p (encodes ws ++ rest) (f .0) (omega arith) e′ M l)
-        (complete-args left bs st at m a c R M l ws tys (j + 1) (typed ns bs w) (p + length (encode w)) rest (f .2)
+        (R w rs bs st p (encodes ws ++ rest) (f .0) (omega arith) e′ M)
+        (complete-args left rs bs st at m a c R M ws tys (j + 1) (typed ns bs w) (p + length (encode w)) rest (f .2)
           (omega arith)
           (past s p (encode w) (encodes ws ++ rest) e′)
           (λ k u. ap (λ (x : ℕ). getD s (standing.declaredAt c + 4 + x) 0) (shift j k) ∙ g (suc k) (omega arith)))
@@ -333,87 +331,86 @@ module _ (N : Numbers) (s : List ℕ) (ns : List Name) where
 
   -- a use, by what its id means
   complete-call :
-      (left : ℕ) (bs : List Block) (st : List ℕ) (at a : ℕ) (ws : Writtens) (rest : List ℕ) → Reads left → a < 255 →
-      depths ws ≤ left → drop at s ≡ 20 ∷ a ∷ (encodes ws ++ rest) → Matches s ns bs st → length bs + left ≤ 32 →
+      (left : ℕ) (rs : List ℕ) (bs : List Block) (st : List ℕ) (at a : ℕ) (ws : Writtens) (rest : List ℕ) → Reads left
+          → a < 255 →
+      depths ws ≤ left → drop at s ≡ 20 ∷ a ∷ (encodes ws ++ rest) → Matches s ns rs bs st →
       (m : Meaning) → meaning ns bs a ≡ m → FineUse m (ws ≡ none) (λ tys. FineArgs N ns bs ws tys) →
-      Agrees s (length bs) (declared ns a) m (getD st a 0) → Whole N s ns left bs st at (call a ws)
+      Agrees s rs (declared ns a) m (getD st a 0) → Whole N s ns left bs st at (call a ws)
   unfolding FineUse Agrees
-  complete-call left bs st at a ws rest R l d e M k (private i h) q f v =
+  complete-call left rs bs st at a ws rest R l d e M (private i h) q f v =
       let o = open-one s at 20 a _ e in
       subst (λ (x : Writtens). Whole N s ns left bs st at (call a x)) (sym f)
-      (complete-private N s ns left bs st at a (o .0) (o .1) l (M .nested) q v)
-  complete-call left bs st at a ws rest R l d e M k (named ty tys) q f v =
+      (complete-private N s ns left bs st at a (o .0) (o .1) l q v)
+  complete-call left rs bs st at a ws rest R l d e M (named ty tys) q f v =
       let o = open-one s at 20 a _ e in
       complete-name N s ns left bs st at a ws (o .0) (o .1) l q v
-        (complete-args left bs st at (length tys) a (getD st a 0) R M k ws tys 0 0 (at + 1 + 1) rest f d (o .2)
+        (complete-args left rs bs st at (length tys) a (getD st a 0) R M ws tys 0 0 (at + 1 + 1) rest f d (o .2)
           (λ j u. ap₂ (λ (x y : ℕ). getD s (x + 4 + y) 0) (naming-place v) (zero-add j) ∙ v .bytes .argument j u))
-  complete-call left bs st at a ws rest R l d e M k retired q f v = absurd f
-  complete-call left bs st at a ws rest R l d e M k free q f v = absurd f
+  complete-call left rs bs st at a ws rest R l d e M retired q f v = absurd f
+  complete-call left rs bs st at a ws rest R l d e M free q f v = absurd f
 
   -- THEOREM: every part that is in order is read
   pub complete-part : (left : ℕ) → Reads left
   unfolding Fine encode depth
-  complete-part zero W bs st at rest f d e M l = absurd (omega (arith, depth-above W))
-  complete-part (suc left) skip bs st at rest f d e M l =
+  complete-part zero W rs bs st at rest f d e M = absurd (omega (arith, depth-above W))
+  complete-part (suc left) skip rs bs st at rest f d e M =
       complete-skip N s ns left bs st at (open-none s at 16 _ e .0)
-  complete-part (suc left) (diverge a) bs st at rest f d e M l =
+  complete-part (suc left) (diverge a) rs bs st at rest f d e M =
       let o = open-one s at 17 a _ e in complete-diverge N s ns left bs st at a (o .0) (o .1) f
-  complete-part (suc left) (truth a) bs st at rest f d e M l =
+  complete-part (suc left) (truth a) rs bs st at rest f d e M =
       let o = open-one s at 18 a _ e in complete-truth N s ns left bs st at a (o .0) (o .1) f
-  complete-part (suc left) (number a) bs st at rest f d e M l =
+  complete-part (suc left) (number a) rs bs st at rest f d e M =
       let o = open-one s at 19 a _ e in complete-number N s ns left bs st at a (o .0) (o .1) (f .0) (f .1)
-  complete-part (suc left) (call a ws) bs st at rest f d e M l =
+  complete-part (suc left) (call a ws) rs bs st at rest f d e M =
       let R = complete-part left in
-      complete-call left bs st at a ws rest R (f .0) (omega arith) e M (omega arith) (meaning ns bs a) refl (f .1)
+      complete-call left rs bs st at a ws rest R (f .0) (omega arith) e M (meaning ns bs a) refl (f .1)
         (M .standing a (f .0))
-  complete-part (suc left) (fetch v) bs st at rest f d e M l =
+  complete-part (suc left) (fetch v) rs bs st at rest f d e M =
       let R = complete-part left in
       let o = open-none s at 21 _ e in
       complete-fetch N s ns left bs st at v (o .0) f
-        (R v bs st (at + 1 + 0) rest (f .0) (omega arith) (o .1) M (omega arith))
-  complete-part (suc left) (operate op x y) bs st at rest f d e M l =
+        (R v rs bs st (at + 1 + 0) rest (f .0) (omega arith) (o .1) M)
+  complete-part (suc left) (operate op x y) rs bs st at rest f d e M =
       let R = complete-part left in
       let o = open-one s at 22 op _ e in
       let t = two-parts s (at + 1 + 1) (encode x) (encode y) rest (o .2) in
       complete-operate N s ns left bs st at op x y (o .0) (o .1) f
-        (R x bs st (at + 1 + 1) (encode y ++ rest) (f .1) (omega arith) (t .0) M (omega arith))
-        (R y bs st (at + 1 + 1 + length (encode x)) rest (f .3) (omega arith) (t .1) M (omega arith))
-  complete-part (suc left) (assign x y) bs st at rest f d e M l =
+        (R x rs bs st (at + 1 + 1) (encode y ++ rest) (f .1) (omega arith) (t .0) M)
+        (R y rs bs st (at + 1 + 1 + length (encode x)) rest (f .3) (omega arith) (t .1) M)
+  complete-part (suc left) (assign x y) rs bs st at rest f d e M =
       let R = complete-part left in
       let o = open-none s at 23 _ e in
       let t = two-parts s (at + 1 + 0) (encode x) (encode y) rest (o .1) in
       complete-assign N s ns left bs st at x y (o .0) f
-        (R x bs st (at + 1 + 0) (encode y ++ rest) (f .0) (omega arith) (t .0) M (omega arith))
-        (R y bs st (at + 1 + 0 + length (encode x)) rest (f .2) (omega arith) (t .1) M (omega arith))
-  complete-part (suc left) (sequence x y) bs st at rest f d e M l =
+        (R x rs bs st (at + 1 + 0) (encode y ++ rest) (f .0) (omega arith) (t .0) M)
+        (R y rs bs st (at + 1 + 0 + length (encode x)) rest (f .2) (omega arith) (t .1) M)
+  complete-part (suc left) (sequence x y) rs bs st at rest f d e M =
       let R = complete-part left in
       let o = open-none s at 24 _ e in
       let t = two-parts s (at + 1 + 0) (encode x) (encode y) rest (o .1) in
       complete-sequence N s ns left bs st at x y (o .0) f
-        (R x bs st (at + 1 + 0) (encode y ++ rest) (f .0) (omega arith) (t .0) M (omega arith))
-        (R y bs st (at + 1 + 0 + length (encode x)) rest (f .2) (omega arith) (t .1) M (omega arith))
-  complete-part (suc left) (choose b x y) bs st at rest f d e M l =
+        (R x rs bs st (at + 1 + 0) (encode y ++ rest) (f .0) (omega arith) (t .0) M)
+        (R y rs bs st (at + 1 + 0 + length (encode x)) rest (f .2) (omega arith) (t .1) M)
+  complete-part (suc left) (choose b x y) rs bs st at rest f d e M =
       let R = complete-part left in
       let o = open-none s at 25 _ e in
       let t = two-parts s (at + 1 + 0) (encode b) (encode x ++ encode y) rest (o .1) in
       let u = two-parts s (at + 1 + 0 + length (encode b)) (encode x) (encode y) rest (t .1) in
       complete-choose N s ns left bs st at b x y (o .0) f
-        (R b bs st (at + 1 + 0) ((encode x ++ encode y) ++ rest) (f .0) (omega arith) (t .0) M (omega arith))
-        (R x bs st (at + 1 + 0 + length (encode b)) (encode y ++ rest) (f .2) (omega arith) (u .0) M (omega arith))
-        (R y bs st (at + 1 + 0 + length (encode b) + length (encode x)) rest (f .3) (omega arith) (u .1) M
-          (omega arith))
-  complete-part (suc left) (while x y) bs st at rest f d e M l =
+        (R b rs bs st (at + 1 + 0) ((encode x ++ encode y) ++ rest) (f .0) (omega arith) (t .0) M)
+        (R x rs bs st (at + 1 + 0 + length (encode b)) (encode y ++ rest) (f .2) (omega arith) (u .0) M)
+        (R y rs bs st (at + 1 + 0 + length (encode b) + length (encode x)) rest (f .3) (omega arith) (u .1) M)
+  complete-part (suc left) (while x y) rs bs st at rest f d e M =
       let R = complete-part left in
       let o = open-none s at 26 _ e in
       let t = two-parts s (at + 1 + 0) (encode x) (encode y) rest (o .1) in
       complete-while N s ns left bs st at x y (o .0) f
-        (R x bs st (at + 1 + 0) (encode y ++ rest) (f .0) (omega arith) (t .0) M (omega arith))
-        (R y bs st (at + 1 + 0 + length (encode x)) rest (f .2) (omega arith) (t .1) M (omega arith))
-  complete-part (suc left) (new a k c) bs st at rest f d e M l =
+        (R x rs bs st (at + 1 + 0) (encode y ++ rest) (f .0) (omega arith) (t .0) M)
+        (R y rs bs st (at + 1 + 0 + length (encode x)) rest (f .2) (omega arith) (t .1) M)
+  complete-part (suc left) (new a k c) rs bs st at rest f d e M =
       let R = complete-part left in
       let o = open-two s at 27 a k _ e in
       let r = made s at New 1 a k (at + 1 + 2) in
       complete-new N s ns left bs st at a k c (o .0) (o .1) (o .2) M f
-        (R c (record { id = a; holds = k } ∷ bs) (entered st r (length bs)) (at + 1 + 2) rest (f .4) (omega arith)
-          (o .3)
-          (matches-entered r M (omega arith) (f .0) (f .1) (f .2) (f .3)) (omega arith))
+        (R c (at ∷ rs) (record { id = a; holds = k } ∷ bs) (entered st r) (at + 1 + 2) rest (f .4) (omega arith) (o .3)
+          (matches-entered r M (o .0 .0) (f .0) (f .1) (f .2) (f .3)))

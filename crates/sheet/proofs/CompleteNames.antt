@@ -74,13 +74,13 @@ module _ (N : Numbers) (s : List ℕ) (names : List Name) (W : Written) (fine : 
       (at + length (encodeNames ns ++ encode W))
 
   complete-term :
-      (rec : List ℕ → ℕ → Answer Whole) (n : ℕ) (st : List ℕ) (at : ℕ) → Matches s names [] st → drop at s ≡ encode W
+      (rec : List ℕ → ℕ → Answer Whole) (n : ℕ) (st : List ℕ) (at : ℕ) → Matches s names [] [] st → drop at s ≡ encode W
         →
       Rest [] (namesStep rec n N s st at) at
   unfolding namesStep wholeOfShape bind encodeNames
   complete-term rec n st at M e =
       let R =
-          complete-part N s names 32 W [] st at [] fine shallow (e ∙ sym (append-nil (encode W))) M (omega arith) in
+          complete-part N s names 32 W [] [] st at [] fine shallow (e ∙ sym (append-nil (encode W))) M in
       let K = kind-of W in
       let b = byte-there s at (K .kind) (K .tail) (e ∙ K .bytes) in
       record {
@@ -127,7 +127,7 @@ module _ (N : Numbers) (s : List ℕ) (names : List Name) (W : Written) (fine : 
 
   -- THEOREM: the rest of a sheet that is in order is read
   pub complete-names :
-      (ns : List Name) (n : ℕ) (earlier : List Name) (st : List ℕ) (at : ℕ) → Matches s earlier [] st →
+      (ns : List Name) (n : ℕ) (earlier : List Name) (st : List ℕ) (at : ℕ) → Matches s earlier [] [] st →
       Extends names earlier ns → FineNames earlier ns → length ns ≤ n → drop at s ≡ encodeNames ns ++ encode W →
       Rest ns (namesOf n N s st at) at
   unfolding namesOf FineNames encodeNames encodeName
@@ -141,7 +141,7 @@ module _ (N : Numbers) (s : List ℕ) (names : List Name) (W : Written) (fine : 
       let G = declared-good s st at id ty tys _ D (f .0) (free-standing M id (f .0) (f .1)) (f .2) (f .3) (f .4) in
       complete-declare (namesOf n N s) n st at id ty tys ns D G (f .3)
         (complete-names ns n (declare id ty tys ∷ earlier) (set st id (declaredStanding at)) (at + 1 + 7)
-          (matches-declare M (f .0) (declared-declares s st at id ty tys _ D (f .2) (f .3)))
+          (matches-declare M (f .0) (D .kind .0) (declared-declares s st at id ty tys _ D (f .2) (f .3)))
           (extends-declare id ty tys ns (f .1) E) (f .5) (omega arith) (declared-past s st at id ty tys _ D))
   complete-names (retire id ∷ ns) (suc n) earlier st at M E f l e =
       let o = open-one s at 2 id (encodeNames ns ++ encode W)

@@ -77,12 +77,12 @@ reads-then (refused n p) k R e h = let z : _≡_ {A = ℕ} 0 1 = cc (R .answer) 
 
 -- one step of reading a part
 pub part-step :
-    (left : ℕ) (N : Numbers) (s st : List ℕ) (level at : ℕ) →
-    readPart left N s st level at ≡ onHead (headOf s st N left at) (λ r.
-      pick (eqb left 0) (refused 8 at) (scopedOf (readPart (left - 1) N s) N s st level r))
+    (left : ℕ) (N : Numbers) (s st : List ℕ) (at : ℕ) →
+    readPart left N s st at ≡ onHead (headOf s st N left at) (λ r.
+      pick (eqb left 0) (refused 8 at) (scopedOf (readPart (left - 1) N s) N s st r))
 unfolding readPart
-part-step zero N s st level at = refl
-part-step (suc left) N s st level at = simp (sub-one, eqb·suc-zero)
+part-step zero N s st at = refl
+part-step (suc left) N s st at = simp (sub-one, eqb·suc-zero)
 
 -- one step of reading parts
 pub parts-step :

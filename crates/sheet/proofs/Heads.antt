@@ -2,7 +2,7 @@
 use Prim.Native.Nat.{ℕ, suc, _+_, _<_}
 use native.Mathlib.Omega.{arith}
 use mathlib.Core.Path.{_≡_, refl}
-use mathlib.Core.Bool.{true}
+use mathlib.Core.Bool.{true, false}
 use mathlib.Core.List.{List}
 use lib.ListN.{length, getD}
 use lib.Dec.{eqb, leb, eqb·suc-zero}
@@ -11,7 +11,7 @@ use Rattle.language.specs.Choice.{pick}
 use Rattle.language.specs.Number.{inRange}
 use Rattle.language.specs.declared.Numbers.{Numbers}
 use Rattle.records.specs.Kind.{shapeOf}
-use Rattle.records.specs.Standing.{isVariable, declaredAt}
+use Rattle.records.specs.Standing.{isVariable, isNamed, declaredAt}
 use Rattle.records.specs.Head.{byteOf, onByte, withBody, limited, constant, used, useOf, dataByte, newOf, bodyOf}
 use Rattle.records.specs.Head.{blank}
 use Rattle.records.specs.Head.{headOfShape, headOf}
@@ -79,8 +79,7 @@ pub data Heads (s st : List ℕ) (N : Numbers) (at : ℕ) : Record → Type 0 wh
   h-sequence : Byte s at 24 → Heads s st N at (made s at Sequence 2 0 0 (at + 1 + 0))
   h-if : Byte s at 25 → Heads s st N at (made s at If 3 0 0 (at + 1 + 0))
   h-while : Byte s at 26 → Heads s st N at (made s at While 2 0 0 (at + 1 + 0))
-  h-new : {a d : ℕ} → Byte s at 27 → Byte s (at + 1) a → a < 255 → (getD st a 0 ≡ 1 → ⊥) →
-    isVariable (getD st a 0) ≡ true →
+  h-new : {a d : ℕ} → Byte s at 27 → Byte s (at + 1) a → a < 255 → isNamed (getD st a 0) ≡ false →
     Byte s (at + 2) d → 0 < d → d < 3 → Heads s st N at (made s at New 1 a d (at + 1 + 2))
 
 -- a body byte that was read
@@ -114,12 +113,10 @@ module _ (s st : List ℕ) (N : Numbers) (at : ℕ) where
   unfolding newOf HeadAll blank withBody dataByte
   new-fit h =
       byte-all _ s (at + 1) 255 _ (λ a b l.
-        pick-all Fit (eqb (getD st a 0) 1) (λ e. tt)
-        (λ e. pick-all Fit (isVariable (getD st a 0))
-          (λ e′. byte-all _ s (at + 2) 3 _ (λ d b′ l′.
-            pick-all Fit (eqb d 0) (λ e″. tt)
-            (λ e″. h-new h b l (eqb-false (getD st a 0) 1 e) e′ b′ (omega (arith, above d (eqb-false d 0 e″))) l′)))
-          (λ e′. tt)))
+        pick-all Fit (isNamed (getD st a 0)) (λ e. tt)
+        (λ e. byte-all _ s (at + 2) 3 _ (λ d b′ l′.
+          pick-all Fit (eqb d 0) (λ e′. tt)
+          (λ e′. h-new h b l e b′ (omega (arith, above d (eqb-false d 0 e′))) l′))))
     where
       above : (d : ℕ) → (d ≡ 0 → ⊥) → 0 < d
       above d h = omega arith
@@ -179,7 +176,7 @@ head-is s st N at left r (h-assign (l, e)) = rw (lt-leb (length s) at l, e, eqb�
 head-is s st N at left r (h-sequence (l, e)) = rw (lt-leb (length s) at l, e, eqb·suc-zero left) refl
 head-is s st N at left r (h-if (l, e)) = rw (lt-leb (length s) at l, e, eqb·suc-zero left) refl
 head-is s st N at left r (h-while (l, e)) = rw (lt-leb (length s) at l, e, eqb·suc-zero left) refl
-head-is s st N at left r (h-new {a = a} {d = d} (l, e) b h f v b′ k k′) =
-    rw (lt-leb (length s) at l, e, eqb·suc-zero left, byte-is s (at + 1) 255 b h, ne-eqb (getD st a 0) 1 f, v,
+head-is s st N at left r (h-new {a = a} {d = d} (l, e) b h v b′ k k′) =
+    rw (lt-leb (length s) at l, e, eqb·suc-zero left, byte-is s (at + 1) 255 b h, v,
       byte-is s (at + 2) 3 b′ k′,
       ne-eqb d 0 (λ z. omega arith)) refl

@@ -1,60 +1,86 @@
--- The variable of an enclosing block: its level, its standing and the number of its values.
-use Prim.Native.Nat.{ℕ, suc, _+_, _*_, _<_}
+-- The blocks that enclose a part: the numbers of values of their variables, the places of their news, and the
+-- standings.
+use Prim.Native.Nat.{ℕ, _+_, _*_, _≤_, _<_}
 use native.Mathlib.Omega.{arith}
-use mathlib.Core.Path.{_≡_, refl, ap}
-use mathlib.Core.Bool.{Bool, true, false}
+use mathlib.Core.Path.{_≡_, subst}
+use mathlib.Core.Bool.{true}
 use mathlib.Core.List.{List, [], _∷_}
-use lib.ListN.{length}
 use lib.Dec.{eqb}
-use borrow.Author.Tests.{lt-ltb}
-use Rattle.language.specs.Choice.{pick}
+use borrow.Author.Tests.{le-leb}
+use Rattle.language.specs.Typing.{Scope, here, there}
 use Rattle.language.specs.declared.Numbers.{Numbers}
 use Rattle.records.specs.Rule.{values}
-use Rattle.records.specs.Standing.{isVariable, variableStanding, levelOf}
-use Rattle.sheet.specs.Written.{Name}
-use Rattle.sheet.specs.Meaning.{Block, Meaning, private, named, retired, free, meaning, outward}
-use Rattle.sheet.specs.table.Rep.{Level, here, there}
+use Rattle.records.specs.Standing.{isVariable, variableStanding, newAt}
+use Rattle.sheet.specs.Written.{Name, declare, retire}
+use Rattle.sheet.specs.Meaning.{Block, Meaning, private, named, retired, free, declared, meaning, outward}
+use Rattle.nodes.specs.Rep.{Fresh}
+use Rattle.sheet.proofs.Standings.{by-test}
 
 -- how many values the blocks' variables have, the innermost first
 unfoldable pub blockValues : Numbers → List Block → List ℕ
 blockValues N [] = []
 blockValues N (b ∷ bs) = values N (b .holds) ∷ blockValues N bs
 
-pub length-values : (N : Numbers) (bs : List Block) → length (blockValues N bs) ≡ length bs
-unfolding blockValues
-length-values N [] = refl
-length-values N (b ∷ bs) = ap suc (length-values N bs)
-
-pub variable-standing : (level h : ℕ) → level < 32 → h < 3 → isVariable (variableStanding level h) ≡ true
+pub variable-standing : (place h : ℕ) → 0 < h → isVariable (variableStanding place h) ≡ true
 unfolding isVariable variableStanding
-variable-standing level h g l = lt-ltb (1 + 2 * level + h) 256 (omega arith)
+variable-standing place h g = le-leb 8192 (8192 * h + place) (omega arith)
 
-pub level-standing : (level h : ℕ) → 0 < h → h < 3 → levelOf (variableStanding level h) ≡ level
-unfolding levelOf variableStanding
-level-standing level h g l = omega arith
+pub standing-place : (place h : ℕ) → place < 4096 → newAt (variableStanding place h) ≡ place
+unfolding newAt variableStanding
+standing-place place h g = omega arith
 
--- one block inwards
-inwards : (N : Numbers) (b : Block) (bs : List Block) (m : Meaning) (c : Bool) (i h l : ℕ) →
-    pick c (private 0 (b .holds)) (outward m) ≡ private i h → l + suc i ≡ suc (length bs) →
-    ((k : ℕ) → m ≡ private k h → l + suc k ≡ length bs → Level (blockValues N bs) k (values N h) l) →
-    Level (values N (b .holds) ∷ blockValues N bs) i (values N h) l
-unfolding outward
-inwards N b bs m true i h l e g rec =
-    let p : i ≡ 0 = cc in
-    let q : h ≡ b .holds = cc in
-    let z : l ≡ length (blockValues N bs) = omega (arith, length-values N bs) in
-    rw (p, q, z) here
-inwards N b bs (private k d) false i h l e g rec =
-    let p : i ≡ suc k = cc in
-    let q : private k d ≡ private k h = cc in
-    rw p (there (rec k q (omega arith)))
-inwards N b bs (named ty tys) false i h l e g rec = let z : _≡_ {A = ℕ} 0 1 = cc in absurd (omega arith)
-inwards N b bs retired false i h l e g rec = let z : _≡_ {A = ℕ} 0 1 = cc in absurd (omega arith)
-inwards N b bs free false i h l e g rec = let z : _≡_ {A = ℕ} 0 1 = cc in absurd (omega arith)
+-- every one of the places is before a place
+pub record Before (rs : List ℕ) (at : ℕ) : Type 0 where
+  pub each : (i r : ℕ) → Scope rs i r → r < at
 
-pub level-of : (N : Numbers) (ns : List Name) (bs : List Block) (id i h l : ℕ) → meaning ns bs id ≡ private i h →
-    l + suc i ≡ length bs → Level (blockValues N bs) i (values N h) l
-unfolding meaning blockValues
-level-of N ns [] id i h l e g = absurd (omega arith)
-level-of N ns (b ∷ bs) id i h l e g =
-    inwards N b bs (meaning ns bs id) (eqb (b .id) id) i h l e g (λ k f m. level-of N ns bs id k h l f m)
+pub before-none : (at : ℕ) → Before [] at
+before-none at = record { each = λ i r. elim [ ] }
+
+pub before-later : {rs : List ℕ} (p q : ℕ) → p ≤ q → Before rs p → Before rs q
+before-later p q l b = record { each = λ i r h. omega (arith, b .each i r h) }
+
+pub before-inside : {rs : List ℕ} (p q : ℕ) → p < q → Before rs p → Before (p ∷ rs) q
+before-inside {rs} p q l b = record { each = each }
+  where
+    each : (i r : ℕ) → Scope (p ∷ rs) i r → r < q
+    each i r here = l
+    each i r (there h) = omega (arith, b .each _ r h)
+
+pub before-fresh : {rs : List ℕ} (p : ℕ) → Before rs p → Fresh rs p
+unfolding Fresh
+before-fresh p b i h = omega (arith, b .each i p h)
+
+-- what an id means: the variable of an enclosing block has as many values as its data
+unfoldable Valued : Numbers → List Block → Meaning → Type 0
+Valued N bs (private i h) = Scope (blockValues N bs) i (values N h)
+Valued N bs (named ty tys) = Unit
+Valued N bs retired = Unit
+Valued N bs free = Unit
+
+valued-declared : (N : Numbers) (ns : List Name) (id : ℕ) → Valued N [] (declared ns id)
+unfolding Valued declared
+valued-declared N [] id = tt
+valued-declared N (declare j ty tys ∷ ns) id =
+    by-test (eqb j id) (λ t. rw t tt) (λ t. rw t (valued-declared N ns id))
+valued-declared N (retire j ∷ ns) id = by-test (eqb j id) (λ t. rw t tt) (λ t. rw t (valued-declared N ns id))
+
+valued-outward : (N : Numbers) (b : Block) (bs : List Block) (m : Meaning) → Valued N bs m →
+    Valued N (b ∷ bs) (outward m)
+unfolding Valued outward blockValues
+valued-outward N b bs (private i h) s = there s
+valued-outward N b bs (named ty tys) s = tt
+valued-outward N b bs retired s = tt
+valued-outward N b bs free s = tt
+
+valued : (N : Numbers) (ns : List Name) (bs : List Block) (id : ℕ) → Valued N bs (meaning ns bs id)
+unfolding Valued meaning blockValues
+valued N ns [] id = valued-declared N ns id
+valued N ns (b ∷ bs) id =
+    by-test (eqb (b .id) id)
+    (λ t. rw t here)
+    (λ t. rw t (valued-outward N b bs (meaning ns bs id) (valued N ns bs id)))
+
+pub values-of : (N : Numbers) (ns : List Name) (bs : List Block) (id : ℕ) {i h : ℕ} → meaning ns bs id ≡ private i h →
+    Scope (blockValues N bs) i (values N h)
+unfolding Valued
+values-of N ns bs id e = subst (λ m. Valued N bs m) e (valued N ns bs id)

@@ -12,6 +12,7 @@ pub mod Parse
 pub mod Bytes
 pub mod Types
 pub mod Levels
+pub mod Raise
 pub mod Sound
 pub mod Complete
 pub mod Judgement

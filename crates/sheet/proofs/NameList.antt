@@ -77,18 +77,18 @@ extends-retire {names} {earlier} k ns f E = record { same = λ id.
 -- name records that say the same
 pub matches-same :
     {s st : List ℕ} {names earlier : List Name} → ((id : ℕ) → declared names id ≡ declared earlier id) →
-    Matches s earlier [] st → Matches s names [] st
+    Matches s earlier [] [] st → Matches s names [] [] st
 unfolding meaning
-matches-same E M = record { sized = M .sized; nested = M .nested; standing = λ id b. rw (E id) (M .standing id b) }
+matches-same E M = record { sized = M .sized; short = M .short; standing = λ id b. rw (E id) (M .standing id b) }
 
 -- an id is free by its standing exactly if it is free by the name records
-module _ {s st : List ℕ} {ns : List Name} (M : Matches s ns [] st) (id : ℕ) (b : id < 255) where
+module _ {s st : List ℕ} {ns : List Name} (M : Matches s ns [] [] st) (id : ℕ) (b : id < 255) where
   pub standing-free : getD st id 0 ≡ 0 → declared ns id ≡ free
   unfolding meaning Agrees variableStanding declaredStanding
   standing-free e = go (declared ns id) (M .standing id b)
     where
-      go : (m : Meaning) → Agrees s 0 (declared ns id) m (getD st id 0) → m ≡ free
-      go (private i h) v = absurd (omega (arith, v .stands))
+      go : (m : Meaning) → Agrees s [] (declared ns id) m (getD st id 0) → m ≡ free
+      go (private i h) v = absurd (omega (arith, v .stands, v .above))
       go (named ty tys) v = absurd (omega (arith, v .stands))
       go retired v = absurd (omega arith)
       go free v = refl
@@ -103,7 +103,7 @@ pub data NamesRead (N : Numbers) (s : List ℕ) (n : ℕ) (earlier : List Name) 
   names-read :
       {ns : List Name} {root : ℕ} {t : Tree} {ty w end : ℕ} → length ns ≤ n → FineNames earlier ns →
       drop at s ≡ encodeNames ns ++ drop root s →
-      ((names : List Name) → Extends names earlier ns → Parsed N s names 32 [] root t ty w end) →
+      ((names : List Name) → Extends names earlier ns → Parsed N s names 32 [] [] root t ty w end) →
       NamesRead N s n earlier at (whole ns root t) ty w end
 
 judged-onto :
@@ -139,9 +139,9 @@ module _ (N : Numbers) (s : List ℕ) where
 
   -- the name records and the term from a place on, where rec reads what follows a name record
   module _
-      (n : ℕ) (earlier : List Name) (st : List ℕ) (at : ℕ) (M : Matches s earlier [] st)
+      (n : ℕ) (earlier : List Name) (st : List ℕ) (at : ℕ) (M : Matches s earlier [] [] st)
       (rec : List ℕ → ℕ → Answer Whole)
-      (sub : (m : ℕ) → n ≡ suc m → (ns : List Name) (st′ : List ℕ) (at′ : ℕ) → Matches s ns [] st′ →
+      (sub : (m : ℕ) → n ≡ suc m → (ns : List Name) (st′ : List ℕ) (at′ : ℕ) → Matches s ns [] [] st′ →
         All (λ x ty w end. NamesRead N s m ns at′ x ty w end) (rec st′ at′)) where
     abbrev Here : Whole → ℕ → ℕ → ℕ → Type 0
     Here x ty w end = NamesRead N s n earlier at x ty w end
@@ -158,7 +158,7 @@ module _ (N : Numbers) (s : List ℕ) where
             let f = standing-free M (getD s (at + 1) 0) (F .below) (F .free) in
             bind-all _ Here _ _
               (sub (n - 1) k (declareAt s at ∷ earlier) _ (at + 1 + 7)
-                (matches-declare M (F .below) (good-declares s st at D)))
+                (matches-declare M (F .below) (b .0) (good-declares s st at D)))
               (λ x ty w end q. one (with-name (declareAt s at) k (good-bytes s st at D b)
                 (λ ns q. (F .below, f, D .type-known, good-declares s st at D .few, good-types s st at D, q))
                 (λ names ns E. extends-declare _ _ _ ns f E) q))))
@@ -176,13 +176,13 @@ module _ (N : Numbers) (s : List ℕ) where
               (λ x ty w end q. one (with-name (retireAt s at) k (retire-bytes s st at F b) (λ ns q. (F .below, f, q))
                 (λ names ns E. extends-retire _ ns f E) q))))
 
-    reads-term : All Here (bind (readPart 32 N s st 0 at) (λ t ty w end. got (whole [] at t) ty w end))
+    reads-term : All Here (bind (readPart 32 N s st at) (λ t ty w end. got (whole [] at t) ty w end))
     unfolding encodeNames FineNames
     reads-term =
-        bind-all _ Here (readPart 32 N s st 0 at) _
+        bind-all _ Here (readPart 32 N s st at) _
           (all-each {I = (names : List Name) × Extends names earlier []}
-            (λ i t ty w end. Parsed N s (i .0) 32 [] at t ty w end) (readPart 32 N s st 0 at)
-            (λ i. parse-all N s (i .0) 32 [] st at (matches-same (extends-last (i .1)) M) (omega arith)))
+            (λ i t ty w end. Parsed N s (i .0) 32 [] [] at t ty w end) (readPart 32 N s st at)
+            (λ i. parse-all N s (i .0) 32 [] [] st at (matches-same (extends-last (i .1)) M)))
           (λ t ty w end p. one (names-read {ns = []} (omega arith) tt refl (λ names E. p (names, E))))
 
     reads-step : All Here (namesStep rec n N s st at)
@@ -194,7 +194,7 @@ module _ (N : Numbers) (s : List ℕ) where
         go : (x : Shape) → at < length s → Shaped (getD s at 0) x → All Here (wholeOfShape x
           (λ body. nameOf rec n s st at body (declaredStanding at) (declareOf s st at) (declareAt s at))
           (λ body. nameOf rec n s st at body 1 (retireOf s st at) (retireAt s at))
-          (bind (readPart 32 N s st 0 at) (λ t ty w end. got (whole [] at t) ty w end))
+          (bind (readPart 32 N s st at) (λ t ty w end. got (whole [] at t) ty w end))
           (refused 3 at))
         go (Part body parts rule) l h = reads-term
         go (Declare body) l (s-declare e) = reads-declare (l, e)
@@ -203,7 +203,7 @@ module _ (N : Numbers) (s : List ℕ) where
 
   -- THEOREM: the rest of a sheet, as it is read
   pub names-all :
-      (n : ℕ) (earlier : List Name) (st : List ℕ) (at : ℕ) → Matches s earlier [] st →
+      (n : ℕ) (earlier : List Name) (st : List ℕ) (at : ℕ) → Matches s earlier [] [] st →
       All (λ x ty w end. NamesRead N s n earlier at x ty w end) (namesOf n N s st at)
   unfolding namesOf
   names-all zero earlier st at M = reads-step 0 earlier st at M _ (λ m e. absurd (omega arith))

@@ -1,7 +1,6 @@
 -- What the reader reads is a reading spelled out.
 use Prim.Native.Nat.{ℕ, zero, suc, _+_, _*_, _≤_, _<_}
 use native.Mathlib.Omega.{arith}
-use native.Mathlib.Numerals.{add-one}
 use mathlib.Core.Path.{_≡_, refl, sym, ap, _∙_}
 use mathlib.Core.Bool.{true}
 use mathlib.Core.List.{List, [], _∷_}
@@ -47,12 +46,12 @@ after-two : (at : ℕ) → at + 1 + 2 ≡ at + 3
 after-two at = omega arith
 
 -- the record at a place, whose parts rec reads in the blocks bs
-module _ (N : Numbers) (s : List ℕ) (ns : List Name) (left : ℕ) (bs : List Block) (at : ℕ) where
+module _ (N : Numbers) (s : List ℕ) (ns : List Name) (left : ℕ) (rs : List ℕ) (bs : List Block) (at : ℕ) where
   abbrev Part : ℕ → Tree → ℕ → ℕ → ℕ → Type 0
-  Part p t ty w n = Parsed N s ns left bs p t ty w n
+  Part p t ty w n = Parsed N s ns left rs bs p t ty w n
 
   abbrev Whole : Tree → ℕ → ℕ → ℕ → Type 0
-  Whole t ty w n = Parsed N s ns (suc left) bs at t ty w n
+  Whole t ty w n = Parsed N s ns (suc left) rs bs at t ty w n
 
   module _ (rec : ℕ → Answer Tree) (sub : (p : ℕ) → All (Part p) (rec p)) where
     part :
@@ -128,7 +127,7 @@ module _ (N : Numbers) (s : List ℕ) (ns : List Name) (left : ℕ) (bs : List B
     reads-args :
         (m a c n : ℕ) (tys : List ℕ) (j prev p : ℕ) →
         ((k : ℕ) → k < length tys → getD s (standing.declaredAt c + 4 + (j + k)) 0 ≡ getD tys k 0) →
-        All (λ ts last v n. ParsedArgs N s ns left bs p ts tys v n)
+        All (λ ts last v n. ParsedArgs N s ns left rs bs p ts tys v n)
           (partsOf rec N s (made s at Use m a c n) (length tys) j prev p)
     unfolding acceptsPart factor extra partsOf
     reads-args m a c n [] j prev p f = one p-none
@@ -161,20 +160,19 @@ module _ (N : Numbers) (s : List ℕ) (ns : List Name) (left : ℕ) (bs : List B
               rw o (ap (λ (x : ℕ). getD s (v .place + 4 + x) 0) (omega arith) ∙ v .bytes .argument j u)))))
 
     reads-private :
-        (c a : ℕ) {i h : ℕ} → Byte s at 20 → Byte s (at + 1) a → a < 255 → length bs ≤ 32 →
-        meaning ns bs a ≡ private i h →
-        Variable (length bs) (declared ns a) i h c →
+        (c a : ℕ) {i h : ℕ} → Byte s at 20 → Byte s (at + 1) a → a < 255 → meaning ns bs a ≡ private i h →
+        Variable rs (declared ns a) i h c →
         All Whole (readRecord rec N s
           (made s at Use (pick (isVariable c) 0 (getD s (standing.declaredAt c + 3) 0)) a c (at + 1 + 1)))
     unfolding partType own partsOf
-    reads-private c a {i} {h} z b l n e v =
+    reads-private c a {i} {h} z b l e v =
         let r = made s at Use 0 a c (at + 2) in
         let S : Stands s r at 20 1 Use = stands 1 z (omega arith) in
-        let d = variable-private v n in
+        let d = variable-private v in
         let k : pick (isVariable c) (2 + dataOf c) (getD s (standing.declaredAt c + 2) 0) ≡ 2 + h =
           rw (d, variable-data v) refl in
         rw (d, after-one at) (record-all Part rec N s r Whole (one (rw k
-          (p-private S b l e (v .above) (v .below) (v .depth) (omega (arith, v .depth)) (v .stands)))))
+          (p-private S b l e (v .above) (v .below) (v .index) (v .inside) (v .stands)))))
 
     -- records without parts
     reads-skip : Byte s at 16 → All Whole (readRecord rec N s (made s at Skip 0 0 0 (at + 1 + 0)))
@@ -210,72 +208,70 @@ module _ (N : Numbers) (s : List ℕ) (ns : List Name) (left : ℕ) (bs : List B
   -- a new, whose part rec reads in one block more
   reads-new :
       (a d : ℕ) (rec : ℕ → Answer Tree) →
-      ((p : ℕ) → All (λ t ty w n. Parsed N s ns left (record { id = a; holds = d } ∷ bs) p t ty w n) (rec p)) →
+      ((p : ℕ) → All (λ t ty w n. Parsed N s ns left (at ∷ rs) (record { id = a; holds = d } ∷ bs) p t ty w n) (rec
+          p)) →
       Byte s at 27 → Byte s (at + 1) a → a < 255 → declared ns a ≡ free → Byte s (at + 2) d → 0 < d → d < 3 →
       All Whole (readRecord rec N s (made s at New 1 a d (at + 1 + 2)))
   unfolding acceptsPart partType factor extra own partsOf
   reads-new a d rec sub h b l e b′ l′ l″ =
       let r = made s at New 1 a d (at + 3) in
       let inner : List Block = record { id = a; holds = d } ∷ bs in
-      let Q : ℕ → Tree → ℕ → ℕ → ℕ → Type 0 = λ p t ty w n. Parsed N s ns left inner p t ty w n in
+      let Q : ℕ → Tree → ℕ → ℕ → ℕ → Type 0 = λ p t ty w n. Parsed N s ns left (at ∷ rs) inner p t ty w n in
       rw (after-two at) (record-all Q rec N s r Whole (parts-more Q rec N s r _ 0 0 0 (at + 3) (sub (at + 3))
         (λ t ty w next p f. one
           (p-new (stands 2 h (sym (after-two at))) b l e b′ l′ l″ (rw (eqb-true ty 0 f) at p) (omega arith)))))
 
   -- a record, whose parts the reader reads
   reads-record :
-      (st : List ℕ) (r : Record) (rec : List ℕ → ℕ → ℕ → Answer Tree) → Matches s ns bs st → length bs < 32 →
-      ((bs′ : List Block) (st′ : List ℕ) → Matches s ns bs′ st′ → length bs′ ≤ suc (length bs) → (p : ℕ) →
-        All (λ t ty w n. Parsed N s ns left bs′ p t ty w n) (rec st′ (length bs′) p)) →
-      Heads s st N at r → All Whole (scopedOf rec N s st (length bs) r)
+      (st : List ℕ) (r : Record) (rec : List ℕ → ℕ → Answer Tree) → Matches s ns rs bs st →
+      ((rs′ : List ℕ) (bs′ : List Block) (st′ : List ℕ) → Matches s ns rs′ bs′ st′ → (p : ℕ) →
+        All (λ t ty w n. Parsed N s ns left rs′ bs′ p t ty w n) (rec st′ p)) →
+      Heads s st N at r → All Whole (scopedOf rec N s st r)
   unfolding scopedOf isNew
-  reads-record st r rec M d sub (h-skip h) = reads-skip (rec st (length bs)) (sub bs st M (omega arith)) h
-  reads-record st r rec M d sub (h-diverge h b l) =
-      reads-diverge (rec st (length bs)) (sub bs st M (omega arith)) _ h b l
-  reads-record st r rec M d sub (h-truth h b l) = reads-truth (rec st (length bs)) (sub bs st M (omega arith)) _ h b l
-  reads-record st r rec M d sub (h-number h b l e) =
-      reads-number (rec st (length bs)) (sub bs st M (omega arith)) _ h b l e
-  reads-record st r rec M d sub (h-use {a = a} h b l f g) =
+  reads-record st r rec M sub (h-skip h) = reads-skip (rec st) (sub rs bs st M) h
+  reads-record st r rec M sub (h-diverge h b l) =
+      reads-diverge (rec st) (sub rs bs st M) _ h b l
+  reads-record st r rec M sub (h-truth h b l) = reads-truth (rec st) (sub rs bs st M) _ h b l
+  reads-record st r rec M sub (h-number h b l e) =
+      reads-number (rec st) (sub rs bs st M) _ h b l e
+  reads-record st r rec M sub (h-use {a = a} h b l f g) =
       go (meaning ns bs a) refl
-        (used-id s (length bs) (declared ns a) (meaning ns bs a) (getD st a 0) (M .standing a l) f g)
+        (used-id s rs (declared ns a) (meaning ns bs a) (getD st a 0) (M .standing a l) f g)
     where
-      go : (m : Meaning) → meaning ns bs a ≡ m → Used s (length bs) (declared ns a) (getD st a 0) m →
-        All Whole (readRecord (rec st (length bs)) N s (made s at Use
+      go : (m : Meaning) → meaning ns bs a ≡ m → Used s rs (declared ns a) (getD st a 0) m →
+        All Whole (readRecord (rec st) N s (made s at Use
           (pick (isVariable (getD st a 0)) 0 (getD s (standing.declaredAt (getD st a 0) + 3) 0)) a (getD st a 0)
             (at + 1 + 1)))
       go m e (used-private v) =
-          reads-private (rec st (length bs)) (sub bs st M (omega arith)) (getD st a 0) a h b l (M .nested) e v
-      go m e (used-name v) = reads-name (rec st (length bs)) (sub bs st M (omega arith)) (getD st a 0) a h b l e v
-  reads-record st r rec M d sub (h-fetch h) = reads-fetch (rec st (length bs)) (sub bs st M (omega arith)) h
-  reads-record st r rec M d sub (h-operate h b l) =
-      reads-operate (rec st (length bs)) (sub bs st M (omega arith)) h b l
-  reads-record st r rec M d sub (h-assign h) = reads-assign (rec st (length bs)) (sub bs st M (omega arith)) h
-  reads-record st r rec M d sub (h-sequence h) = reads-sequence (rec st (length bs)) (sub bs st M (omega arith)) h
-  reads-record st r rec M d sub (h-if h) = reads-if (rec st (length bs)) (sub bs st M (omega arith)) h
-  reads-record st r rec M d sub (h-while h) = reads-while (rec st (length bs)) (sub bs st M (omega arith)) h
-  reads-record st r rec M d sub (h-new {a = a} {d = k} h b l f v b′ l′ l″) =
-      let e = new-id M a l f v in
-      rw (add-one (length bs)) (reads-new a k _
-        (sub (record { id = a; holds = k } ∷ bs) _ (matches-entered (made s at New 1 a k (at + 1 + 2)) M d l e l′ l″)
-          (omega arith))
-        h b l e b′ l′ l″)
+          reads-private (rec st) (sub rs bs st M) (getD st a 0) a h b l e v
+      go m e (used-name v) = reads-name (rec st) (sub rs bs st M) (getD st a 0) a h b l e v
+  reads-record st r rec M sub (h-fetch h) = reads-fetch (rec st) (sub rs bs st M) h
+  reads-record st r rec M sub (h-operate h b l) =
+      reads-operate (rec st) (sub rs bs st M) h b l
+  reads-record st r rec M sub (h-assign h) = reads-assign (rec st) (sub rs bs st M) h
+  reads-record st r rec M sub (h-sequence h) = reads-sequence (rec st) (sub rs bs st M) h
+  reads-record st r rec M sub (h-if h) = reads-if (rec st) (sub rs bs st M) h
+  reads-record st r rec M sub (h-while h) = reads-while (rec st) (sub rs bs st M) h
+  reads-record st r rec M sub (h-new {a = a} {d = k} h b l v b′ l′ l″) =
+      let e = new-id M a l v in
+      reads-new a k _
+        (sub (at ∷ rs) (record { id = a; holds = k } ∷ bs) _
+          (matches-entered (made s at New 1 a k (at + 1 + 2)) M (h .0) l e l′ l″))
+        h b l e b′ l′ l″
 
 -- THEOREM: what the reader reads is a reading spelled out
 pub parse-all :
-    (N : Numbers) (s : List ℕ) (ns : List Name) (left : ℕ) (bs : List Block) (st : List ℕ) (at : ℕ) →
-    Matches s ns bs st →
-    length bs + left ≤ 32 → All (λ t ty w n. Parsed N s ns left bs at t ty w n) (readPart left N s st (length bs) at)
+    (N : Numbers) (s : List ℕ) (ns : List Name) (left : ℕ) (rs : List ℕ) (bs : List Block) (st : List ℕ) (at : ℕ) →
+    Matches s ns rs bs st → All (λ t ty w n. Parsed N s ns left rs bs at t ty w n) (readPart left N s st at)
 unfolding readPart
-parse-all N s ns zero bs st at M l = head-refused _ (headOf s st N 0 at) 8 at
-parse-all N s ns (suc left) bs st at M l =
+parse-all N s ns zero rs bs st at M = head-refused _ (headOf s st N 0 at) 8 at
+parse-all N s ns (suc left) rs bs st at M =
     let sub = parse-all N s ns left in
     head-all (Heads s st N at) _ (headOf s st N (suc left) at) _ (heads s st N at left)
-    (λ r h. reads-record N s ns left bs at st r (readPart left N s) M (omega arith)
-      (λ bs′ st′ M′ l′ p. sub bs′ st′ p M′ (omega arith)) h)
+    (λ r h. reads-record N s ns left rs bs at st r (readPart left N s) M (λ rs′ bs′ st′ M′ p. sub rs′ bs′ st′ p M′) h)
 
 pub parse :
-    {N : Numbers} {s : List ℕ} {ns : List Name} {left : ℕ} {bs : List Block} {st : List ℕ} {at : ℕ} {t : Tree}
-      {ty w next : ℕ} →
-    readPart left N s st (length bs) at ≡ got t ty w next → Matches s ns bs st → length bs + left ≤ 32 →
-    Parsed N s ns left bs at t ty w next
-parse {N} {s} {ns} {left} {bs} {st} {at} e M l = all-got _ (parse-all N s ns left bs st at M l) e
+    {N : Numbers} {s : List ℕ} {ns : List Name} {left : ℕ} {rs : List ℕ} {bs : List Block} {st : List ℕ} {at : ℕ}
+      {t : Tree} {ty w next : ℕ} →
+    readPart left N s st at ≡ got t ty w next → Matches s ns rs bs st → Parsed N s ns left rs bs at t ty w next
+parse {N} {s} {ns} {left} {rs} {bs} {st} {at} e M = all-got _ (parse-all N s ns left rs bs st at M) e

@@ -11,7 +11,7 @@ use Rattle.language.specs.Choice.{pick}
 use Rattle.language.specs.Number.{inRange}
 use Rattle.language.specs.declared.Numbers.{Numbers}
 use Rattle.records.specs.Kind.{shapeOf}
-use Rattle.records.specs.Standing.{isVariable, declaredStanding}
+use Rattle.records.specs.Standing.{isNamed, declaredStanding}
 use Rattle.records.specs.Head.{byteOf, onByte, limited, constant, useOf, dataByte, newOf, bodyOf, headOf}
 use Rattle.records.specs.Head.{headOfShape as onPart}
 use Rattle.records.specs.Rule.{acceptsPart}
@@ -116,8 +116,7 @@ module _ (s : List ℕ) where
   unfolding newOf HeadIn
   new-in st r =
       byte-in (r .place + 1) 255 _ (λ h id.
-        either Headed (eqb (getD st id 0) 1) (λ e. omega arith) (λ e.
-          either Headed (isVariable (getD st id 0)) (λ d. data-in r id) (λ d. omega arith)))
+        either Headed (isNamed (getD st id 0)) (λ e. omega arith) (λ e. data-in r id))
 
   body-in : (R : Rule) (st : List ℕ) (N : Numbers) (r : Record) → Headed (bodyOf R s st N r)
   unfolding bodyOf HeadIn
@@ -172,17 +171,17 @@ module _ (s : List ℕ) where
       in-bind n (partsOf rec N s r (r .parts) 0 0 (r .next)) _ (parts-in N rec f r (r .parts) 0 0 (r .next) h)
         (λ ts last v end q. q)
 
-  part-in : (left : ℕ) (N : Numbers) (st : List ℕ) (level at : ℕ) → Within (readPart left N s st level at)
+  part-in : (left : ℕ) (N : Numbers) (st : List ℕ) (at : ℕ) → Within (readPart left N s st at)
   unfolding readPart scopedOf In
-  part-in zero N st level at =
+  part-in zero N st at =
       in-head n (headOf s st N 0 at) _ (head-in st N 0 at) (λ r e.
         let g = head-good s st N 0 at r e in absurd (g .depth refl))
-  part-in (suc left) N st level at =
+  part-in (suc left) N st at =
       in-head n (headOf s st N (suc left) at) _ (head-in st N (suc left) at) (λ r e.
         let g = head-good s st N (suc left) at r e in
         either Within (isNew (r .rule))
-          (λ d. record-in N _ (λ at′. part-in left N (entered st r level) (level + 1) at′) r (g .next-inside))
-          (λ d. record-in N _ (λ at′. part-in left N st level at′) r (g .next-inside)))
+          (λ d. record-in N _ (λ at′. part-in left N (entered st r) at′) r (g .next-inside))
+          (λ d. record-in N _ (λ at′. part-in left N st at′) r (g .next-inside)))
 
   -- the name records
   abbrev Told : Judged → Type 0
@@ -236,14 +235,14 @@ module _ (s : List ℕ) where
       go : at < n → (x : Shape) → Within (wholeOfShape x
         (λ body. nameOf rec left s st at body (declaredStanding at) (declareOf s st at) (declareAt s at))
         (λ body. nameOf rec left s st at body 1 (retireOf s st at) (retireAt s at))
-        (bind (readPart 32 N s st 0 at) (λ t ty w end. got (whole [] at t) ty w end))
+        (bind (readPart 32 N s st at) (λ t ty w end. got (whole [] at t) ty w end))
         (refused 3 at))
       go h (Declare b) =
           name-in rec (f h) left st at b (declaredStanding at) (declareOf s st at) (declareAt s at) h (declare-in st
               at h)
       go h (Retire b) =
           name-in rec (f h) left st at b 1 (retireOf s st at) (retireAt s at) h (fresh-in st (at + 1) (omega arith))
-      go h (Part b p R) = in-bind n (readPart 32 N s st 0 at) _ (part-in 32 N st 0 at) (λ t ty w end q. q)
+      go h (Part b p R) = in-bind n (readPart 32 N s st at) _ (part-in 32 N st at) (λ t ty w end q. q)
       go h Unknown = omega arith
 
   names-in : (left : ℕ) (N : Numbers) (st : List ℕ) (at : ℕ) → Within (namesOf left N s st at)

@@ -51,7 +51,8 @@ sheet-all s =
     pick-all A (ltb 7 (getD s 0 0)) (λ e. none′) (λ e₄.
     pick-all A (leb (length s) 1) (λ e. none′) (λ e₅.
     pick-all A (ltb 1 (getD s 1 0)) (λ e. none′) (λ e₆.
-    bind-all _ (SheetRead s) _ _ (names-all (numbersAt s) s 32 [] nothing 2 (matches-nothing s)) (λ x ty w end q.
+    bind-all _ (SheetRead s) _ _ (names-all (numbersAt s) s 32 [] nothing 2 (matches-nothing s (ltb-false 4096 (length
+        s) e₁))) (λ x ty w end q.
     pick-all A (ltb end (length s)) (λ e. none′) (λ e₇.
     pick-all A (ltb 4096 (sizeOf (numbersAt s) ty w)) (λ e. none′) (λ e₈.
     one (record {
@@ -152,13 +153,16 @@ module _ (S : Sheet) (A : Accepted S) (s : List ℕ) (b : s ≡ encodeSheet S) w
   unfolding encodeSheet
   read-length = ap length b ∙ omega arith
 
+  read-short : length s ≤ 4096
+  read-short = subst (λ (x : List ℕ). length x ≤ 4096) (sym b) (A .short)
+
   read-names :
       RestRead (namesOf 32 (S .numbers) s nothing 2) (S .names) (S .term) (typeOf S) (weight (termOf S)) (length s)
   unfolding typeOf termOf
   read-names =
       rw read-length (complete-names (S .numbers) s (S .names) (S .term) (A .fine-term) (A .shallow)
         (S .names) 32 [] nothing 2
-        (matches-nothing s) (extends-first (S .names)) (A .fine-names) (A .few-names) read-rest)
+        (matches-nothing s read-short) (extends-first (S .names)) (A .fine-names) (A .few-names) read-rest)
 
   read-closed : sizeOf (S .numbers) (typeOf S) (weight (termOf S)) ≤ 4096
   read-closed = rw (size-same (S .numbers) (typeOf S) S (weight (termOf S)) refl) (A .small)
@@ -170,7 +174,7 @@ module _ (S : Sheet) (A : Accepted S) (s : List ℕ) (b : s ≡ encodeSheet S) w
       let R = read-names in
       let l : 1 < length s = omega (arith, read-length) in
       rw
-        (read-first, read-second, le-ltb 4096 (length s) (subst (λ (x : List ℕ). length x ≤ 4096) (sym b) (A .short)),
+        (read-first, read-second, le-ltb 4096 (length s) read-short,
         lt-leb (length s) 0 (omega arith), ne-eqb (S .numbers .z) 0 (λ e. omega (arith, A .z-above)),
         le-ltb 7 (S .numbers .z) (omega (arith, A .z-below)), lt-leb (length s) 1 l,
         le-ltb 1 (S .numbers .rule) (omega (arith, A .rule-below)), R .reads,

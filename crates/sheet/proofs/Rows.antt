@@ -10,7 +10,7 @@ use Rattle.records.specs.Rule as rule
 use Rattle.records.specs.Row as row
 use Rattle.records.specs.Row.{cell, rowKind, classOf, rowWritten, linked}
 use Rattle.records.specs.declared.head.Record.{Record}
-use Rattle.sheet.specs.table.Rep.{word}
+use Rattle.records.specs.Row.{word}
 
 -- one word set: that word, and what another holds
 set-same : (t : List ℕ) (p i v : ℕ) → i < 9 → 9 * p + 9 ≤ length t → word (set t (cell p i) v) p i ≡ v

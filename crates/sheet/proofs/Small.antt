@@ -11,7 +11,7 @@ use Rattle.records.specs.Rule.{questions}
 use Rattle.sheet.specs.Written.{Name}
 use Rattle.sheet.specs.Meaning.{Block, typed, useType, resolve, resolveArgs, byMeaning}
 use Rattle.sheet.specs.Reader.{Tree, Trees, sizeOf, written, writtens, build, first, rest}
-use Rattle.sheet.specs.table.Rep.{count}
+use Rattle.nodes.specs.Rep.{count}
 use Rattle.sheet.proofs.Parsed.{Parsed, p-skip, p-diverge, p-truth, p-number, p-private, p-name, p-fetch}
 use Rattle.sheet.proofs.Parsed.{p-operate, p-assign, p-sequence, p-if, p-while, p-new}
 use Rattle.sheet.proofs.Parsed.{ParsedArgs, p-none, p-more}
@@ -37,12 +37,12 @@ pub record MeansArgs (N : Numbers) (ns : List Name) (bs : List Block) (ts : Tree
   pub counts : count (resolveArgs N ns bs (writtens ts) tys) ≡ length tys
 
 module _ (N : Numbers) (s : List ℕ) (ns : List Name) where
-  pub means : {left at ty w next : ℕ} {bs : List Block} {t : Tree} →
-      Parsed N s ns left bs at t ty w next → Means N ns bs t ty w
+  pub means : {rs : List ℕ} {left at ty w next : ℕ} {bs : List Block} {t : Tree} →
+      Parsed N s ns left rs bs at t ty w next → Means N ns bs t ty w
   unfolding written writtens build first rest typed useType resolve resolveArgs byMeaning weight weightArgs count
   means d =
-    elim d as (λ left bs at t ty w next d. Means N ns bs t ty w)
-      (λ left bs at ts tys v next ds. MeansArgs N ns bs ts tys v) [
+    elim d as (λ left rs bs at t ty w next d. Means N ns bs t ty w)
+      (λ left rs bs at ts tys v next ds. MeansArgs N ns bs ts tys v) [
       p-skip st ↦ record { below = omega arith; types = rw (st .ruled); weighs = rw (st .ruled) }
     | p-diverge st b h ↦ record { below = h; types = rw (st .ruled); weighs = rw (st .ruled) }
     | p-truth st b h ↦ record { below = omega arith; types = rw (st .ruled); weighs = rw (st .ruled) }
@@ -73,8 +73,8 @@ module _ (N : Numbers) (s : List ℕ) (ns : List Name) where
           weigh = rw (questions-of N ty, answers-of N ty, x .weighs, xs .weigh) (sym e);
           counts = ap suc (xs .counts) } ]
 
-  pub means-args : {left at v next : ℕ} {bs : List Block} {ts : Trees} {tys : List ℕ} →
-      ParsedArgs N s ns left bs at ts tys v next → MeansArgs N ns bs ts tys v
+  pub means-args : {rs : List ℕ} {left at v next : ℕ} {bs : List Block} {ts : Trees} {tys : List ℕ} →
+      ParsedArgs N s ns left rs bs at ts tys v next → MeansArgs N ns bs ts tys v
   unfolding writtens resolveArgs weightArgs count
   means-args p-none = record { weigh = refl; counts = refl }
   means-args (p-more {ty = ty} d ds e) =

@@ -220,18 +220,18 @@ built r rule ty w ts e = ap (λ (x : Rule). build x r (writtens ts)) e
 -- THEOREM: a reading spelled out is sound
 module _ (N : Numbers) (s : List ℕ) (ns : List Name) where
   pub sounds :
-      (left : ℕ) → ((bs : List Block) (at : ℕ) (t : Tree) (ty w next : ℕ) → Parsed N s ns left bs at t ty w next →
-        Sound N s ns left bs at (written t) ty w next) →
-      {bs : List Block} {at : ℕ} {ts : Trees} {tys : List ℕ} {v next : ℕ} →
-      ParsedArgs N s ns left bs at ts tys v next → SoundArgs N s ns left bs at (writtens ts) tys v next
+      (left : ℕ) → ((rs : List ℕ) (bs : List Block) (at : ℕ) (t : Tree) (ty w next : ℕ) →
+        Parsed N s ns left rs bs at t ty w next → Sound N s ns left bs at (written t) ty w next) →
+      {rs : List ℕ} {bs : List Block} {at : ℕ} {ts : Trees} {tys : List ℕ} {v next : ℕ} →
+      ParsedArgs N s ns left rs bs at ts tys v next → SoundArgs N s ns left bs at (writtens ts) tys v next
   unfolding writtens
   sounds left f (p-none {at = at} {bs = bs}) = sound-none N s ns left bs at
   sounds left f (p-more {at =
-      at} {bs = bs} p q e) = sound-more N s ns left bs at (f _ _ _ _ _ _ p) (sounds left f q) e
+      at} {bs = bs} p q e) = sound-more N s ns left bs at (f _ _ _ _ _ _ _ p) (sounds left f q) e
 
   pub sound :
-      (left : ℕ) {bs : List Block} {at : ℕ} {t : Tree} {ty w next : ℕ} → Parsed N s ns left bs at t ty w next →
-      Sound N s ns left bs at (written t) ty w next
+      (left : ℕ) {rs : List ℕ} {bs : List Block} {at : ℕ} {t : Tree} {ty w next : ℕ} →
+      Parsed N s ns left rs bs at t ty w next → Sound N s ns left bs at (written t) ty w next
   unfolding writtens build first rest
   sound (suc left) (p-skip {at = at} {bs = bs} {r = r} S) =
       rw (built r Skip 0 1 leaf (S .ruled)) (sound-skip N s ns left bs at (S .byte))
@@ -245,7 +245,7 @@ module _ (N : Numbers) (s : List ℕ) (ns : List Name) where
       rw (built r Use (2 + h) 2 leaf (S .ruled)) (sound-private N s ns left bs at (S .byte) b l e k′)
   sound (suc left) (p-name {at = at} {ty = ty} {v = v} {bs = bs} {r = r} {ts = ts} S b l e k f g i q) =
       rw (built r Use ty (2 + v) ts (S .ruled))
-        (sound-name N s ns left bs at (S .byte) b l e k (sounds left (λ bs′ at′ t ty w n p. sound left p) q))
+        (sound-name N s ns left bs at (S .byte) b l e k (sounds left (λ rs′ bs′ at′ t ty w n p. sound left p) q))
   sound (suc left) (p-fetch {at = at} {ty = ty} {x = x} {bs = bs} {r = r} {t = t} S p l e) =
       rw (built r Fetch (ty - 2) x (branch (at + 1) t leaf) (S .ruled))
         (sound-fetch N s ns left bs at (S .byte) (sound left p) l e)

@@ -11,7 +11,7 @@ use Rattle.sheet.specs.Written.{Name}
 use Rattle.sheet.specs.Meaning.{Block}
 use Rattle.sheet.specs.Reader.{Tree, node, Trees, leaf, branch}
 use Rattle.sheet.specs.table.Fill.{fill, fills}
-use Rattle.sheet.specs.table.Rep.{word}
+use Rattle.records.specs.Row.{word}
 use Rattle.sheet.proofs.Parsed.{Parsed, p-skip, p-diverge, p-truth, p-number, p-private, p-name, p-fetch}
 use Rattle.sheet.proofs.Parsed.{p-operate, p-assign, p-sequence, p-if, p-while, p-new}
 use Rattle.sheet.proofs.Parsed.{ParsedArgs, p-none, p-more}
@@ -54,11 +54,11 @@ pub record Placed (s : List ℕ) (at next : ℕ) (t : Tree) : Type 0 where
   pub within : next ≤ length s
 
 module _ (N : Numbers) (s : List ℕ) (ns : List Name) where
-  pub placed : {left at ty w next : ℕ} {bs : List Block} {t : Tree} →
-      Parsed N s ns left bs at t ty w next → Placed s at next t
+  pub placed : {rs : List ℕ} {left at ty w next : ℕ} {bs : List Block} {t : Tree} →
+      Parsed N s ns left rs bs at t ty w next → Placed s at next t
   placed d =
-    elim d as (λ left bs at t ty w next d. Placed s at next t)
-      (λ left bs at ts tys v next ds.
+    elim d as (λ left rs bs at t ty w next d. Placed s at next t)
+      (λ left rs bs at ts tys v next ds.
         ((j : ℕ) → j + length tys ≤ 4 → Parts j at next ts) × (at ≤ length s → next ≤ length s)) [
       p-skip {at = a} st ↦ record { span = span {from = a + 1} (st .place) end (omega arith); within = omega arith }
     | p-diverge {at = a} st b h ↦
@@ -89,13 +89,13 @@ module _ (N : Numbers) (s : List ℕ) (ns : List Name) where
           (λ j h. part {j = j} (omega arith) (x .span) (xs .0 (j + 1) (omega arith))),
           (λ h. xs .1 (x .within))) ]
 
-  pub placed-args : {left at v next : ℕ} {bs : List Block} {ts : Trees} {tys : List ℕ} →
-      ParsedArgs N s ns left bs at ts tys v next → (j : ℕ) → j + length tys ≤ 4 → Parts j at next ts
+  pub placed-args : {rs : List ℕ} {left at v next : ℕ} {bs : List Block} {ts : Trees} {tys : List ℕ} →
+      ParsedArgs N s ns left rs bs at ts tys v next → (j : ℕ) → j + length tys ≤ 4 → Parts j at next ts
   placed-args p-none j h = end
   placed-args (p-more d ds e) j h = part {j = j} (omega arith) (placed d .span) (placed-args ds (j + 1) (omega arith))
 
-  pub within-args : {left at v next : ℕ} {bs : List Block} {ts : Trees} {tys : List ℕ} →
-      ParsedArgs N s ns left bs at ts tys v next → at ≤ length s → next ≤ length s
+  pub within-args : {rs : List ℕ} {left at v next : ℕ} {bs : List Block} {ts : Trees} {tys : List ℕ} →
+      ParsedArgs N s ns left rs bs at ts tys v next → at ≤ length s → next ≤ length s
   within-args p-none h = h
   within-args (p-more d ds e) h = within-args ds (placed d .within)
 
@@ -149,7 +149,8 @@ module _ (N : Numbers) where
         rest ∙ (own ∙ linked-else q j at t p i lt h (λ e f. let l : i < 5 + j = n e in omega arith))
 
 -- the frame of a reading
-pub frame : (N : Numbers) (s : List ℕ) (ns : List Name) {left at ty w next : ℕ} {bs : List Block} {x : Tree} →
-    Parsed N s ns left bs at x ty w next → (t : List ℕ) (p i : ℕ) → i < 9 → Outside at next p →
+pub frame : (N : Numbers) (s : List ℕ) (ns : List Name) {rs : List ℕ} {left at ty w next : ℕ} {bs : List Block} {x :
+    Tree} →
+    Parsed N s ns left rs bs at x ty w next → (t : List ℕ) (p i : ℕ) → i < 9 → Outside at next p →
     word (fill N x t) p i ≡ word t p i
 frame N s ns d t p i h o = fill-else N (placed N s ns d .span) t p i h o

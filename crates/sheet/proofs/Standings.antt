@@ -7,9 +7,10 @@ use mathlib.Core.List.{List, [], _∷_}
 use lib.ListN.{length, getD, set, length-set, length-replicate, getD-replicate}
 use lib.Seq.{getD-set-same, getD-set-other}
 use lib.Dec.{eqb}
-use borrow.Author.Tests.{eqb-true, eqb-false, eq-eqb, ltb-true, lt-ltb, le-ltb}
+use borrow.Author.Tests.{eqb-true, eqb-false, eq-eqb, ne-eqb, lt-ltb, le-ltb, lt-leb, le-leb}
 use Rattle.language.specs.Choice.{pick}
-use Rattle.records.specs.Standing.{isVariable, variableStanding, declaredStanding, dataOf}
+use Rattle.language.specs.Typing.{Scope, here, there}
+use Rattle.records.specs.Standing.{isVariable, isNamed, variableStanding, declaredStanding, dataOf}
 use Rattle.records.specs.Standing as standing
 use Rattle.records.specs.Scope.{entered}
 use Rattle.records.specs.declared.head.Record.{Record}
@@ -25,32 +26,37 @@ pub record Declares (s : List ℕ) (p ty : ℕ) (tys : List ℕ) : Type 0 where
   pub known : ty < 5
   pub few : length tys < 5
 
--- the standing c of a private variable: n blocks enclose its use, and d is what the name records say of its id
-pub record Variable (n : ℕ) (d : Meaning) (i h c : ℕ) : Type 0 where
-  pub level : ℕ
-  pub depth : level + suc i ≡ n
+-- the standing c of a private variable: rs are the places of the news that enclose its use, and d is what the name
+-- records say
+-- of its id
+pub record Variable (rs : List ℕ) (d : Meaning) (i h c : ℕ) : Type 0 where
+  pub place : ℕ
+  pub index : Scope rs i place
+  pub inside : place < 4096
   pub above : 0 < h
   pub below : h < 3
-  pub stands : c ≡ variableStanding level h
+  pub stands : c ≡ variableStanding place h
   pub unnamed : d ≡ free
 
 -- the standing c of a name
 pub record Naming (s : List ℕ) (ty : ℕ) (tys : List ℕ) (c : ℕ) : Type 0 where
   pub place : ℕ
+  pub inside : place < 4096
   pub stands : c ≡ declaredStanding place
   pub bytes : Declares s place ty tys
 
 -- the standing c of an id, by what the id means
-unfoldable pub Agrees : List ℕ → ℕ → Meaning → Meaning → ℕ → Type 0
-Agrees s n d (private i h) c = Variable n d i h c
-Agrees s n d (named ty tys) c = Naming s ty tys c
-Agrees s n d retired c = c ≡ 1
-Agrees s n d free c = c ≡ 0
+unfoldable pub Agrees : List ℕ → List ℕ → Meaning → Meaning → ℕ → Type 0
+Agrees s rs d (private i h) c = Variable rs d i h c
+Agrees s rs d (named ty tys) c = Naming s ty tys c
+Agrees s rs d retired c = c ≡ 1
+Agrees s rs d free c = c ≡ 0
 
-pub record Matches (s : List ℕ) (ns : List Name) (bs : List Block) (st : List ℕ) : Type 0 where
+-- in the blocks bs, whose news stand at the places rs
+pub record Matches (s : List ℕ) (ns : List Name) (rs : List ℕ) (bs : List Block) (st : List ℕ) : Type 0 where
   pub sized : length st ≡ 255
-  pub nested : length bs ≤ 32
-  pub standing : (id : ℕ) → id < 255 → Agrees s (length bs) (declared ns id) (meaning ns bs id) (getD st id 0)
+  pub short : length s ≤ 4096
+  pub standing : (id : ℕ) → id < 255 → Agrees s rs (declared ns id) (meaning ns bs id) (getD st id 0)
 
 -- a test by its value
 pub by-test : {P : Type 0} (t : Bool) → (t ≡ true → P) → (t ≡ false → P) → P
@@ -58,80 +64,82 @@ by-test true f g = f refl
 by-test false f g = g refl
 
 -- at first nothing is known
-pub matches-nothing : (s : List ℕ) → Matches s [] [] nothing
+pub matches-nothing : (s : List ℕ) → length s ≤ 4096 → Matches s [] [] [] nothing
 unfolding Agrees meaning declared
-matches-nothing s = record {
+matches-nothing s short = record {
     sized = length-replicate {A = ℕ} 255 0;
-    nested = omega arith;
+    short = short;
     standing = λ id h. getD-replicate {A = ℕ} 255 id 0 0 h }
 
 -- a standing set, and the others
 set-standing :
-    (s st : List ℕ) (n k c : ℕ) (d m : ℕ → Meaning) → length st ≡ 255 → k < 255 → Agrees s n (d k) (m k) c →
-    ((id : ℕ) → id < 255 → eqb k id ≡ false → Agrees s n (d id) (m id) (getD st id 0)) →
-    (id : ℕ) → id < 255 → Agrees s n (d id) (m id) (getD (set st k c) id 0)
-set-standing s st n k c d m l b h f id b′ =
+    (s st rs : List ℕ) (k c : ℕ) (d m : ℕ → Meaning) → length st ≡ 255 → k < 255 → Agrees s rs (d k) (m k) c →
+    ((id : ℕ) → id < 255 → eqb k id ≡ false → Agrees s rs (d id) (m id) (getD st id 0)) →
+    (id : ℕ) → id < 255 → Agrees s rs (d id) (m id) (getD (set st k c) id 0)
+set-standing s st rs k c d m l b h f id b′ =
     by-test (eqb k id)
     (λ t. let e : k ≡ id = eqb-true k id t in
-      subst (λ (x : ℕ). Agrees s n (d x) (m x) (getD (set st k c) x 0)) e
+      subst (λ (x : ℕ). Agrees s rs (d x) (m x) (getD (set st k c) x 0)) e
       (rw (getD-set-same st k c 0 (omega arith)) h))
     (λ t. rw (getD-set-other st k id c 0 (λ e. eqb-false k id t (sym e))) (f id b′ t))
 
 -- a name record more
 pub matches-declare :
-    {s st tys : List ℕ} {ns : List Name} {id ty p : ℕ} → Matches s ns [] st → id < 255 → Declares s p ty tys →
-    Matches s (declare id ty tys ∷ ns) [] (set st id (declaredStanding p))
+    {s st tys : List ℕ} {ns : List Name} {id ty p : ℕ} → Matches s ns [] [] st → id < 255 → p < length s →
+    Declares s p ty tys →
+    Matches s (declare id ty tys ∷ ns) [] [] (set st id (declaredStanding p))
 unfolding Agrees meaning declared
-matches-declare {s} {st} {tys} {ns} {id} {ty} {p} M b D =
+matches-declare {s} {st} {tys} {ns} {id} {ty} {p} M b l D =
     let d : ℕ → Meaning = declared (declare id ty tys ∷ ns) in
     record {
       sized = length-set st id _ ∙ M .sized;
-      nested = M .nested;
-      standing = set-standing s st 0 id (declaredStanding p) d d (M .sized) b
-        (rw (eq-eqb id id refl) (record { place = p; stands = refl; bytes = D }))
+      short = M .short;
+      standing = set-standing s st [] id (declaredStanding p) d d (M .sized) b
+        (rw (eq-eqb id id refl) (record { place = p; inside = omega (arith, M .short); stands = refl; bytes = D }))
         (λ k b′ t. rw t (M .standing k b′)) }
 
 pub matches-retire :
-    {s st : List ℕ} {ns : List Name} {id : ℕ} → Matches s ns [] st → id < 255 →
-    Matches s (retire id ∷ ns) [] (set st id 1)
+    {s st : List ℕ} {ns : List Name} {id : ℕ} → Matches s ns [] [] st → id < 255 →
+    Matches s (retire id ∷ ns) [] [] (set st id 1)
 unfolding Agrees meaning declared
 matches-retire {s} {st} {ns} {id} M b =
     let d : ℕ → Meaning = declared (retire id ∷ ns) in
     record {
       sized = length-set st id _ ∙ M .sized;
-      nested = M .nested;
-      standing = set-standing s st 0 id 1 d d (M .sized) b
+      short = M .short;
+      standing = set-standing s st [] id 1 d d (M .sized) b
         (rw (eq-eqb id id refl) refl)
         (λ k b′ t. rw t (M .standing k b′)) }
 
 -- one block further in
 agrees-outward :
-    (s : List ℕ) (n : ℕ) (d m : Meaning) (c : ℕ) → Agrees s n d m c → Agrees s (suc n) d (outward m) c
+    (s rs : List ℕ) (p : ℕ) (d m : Meaning) (c : ℕ) → Agrees s rs d m c → Agrees s (p ∷ rs) d (outward m) c
 unfolding Agrees outward
-agrees-outward s n d (private i h) c v = record {
-    level = v .level; depth = omega (arith, v .depth); above = v .above; below = v .below; stands = v .stands;
+agrees-outward s rs p d (private i h) c v = record {
+    place = v .place; index = there (v .index); inside = v .inside; above = v .above; below = v .below; stands = v
+        .stands;
     unnamed = v .unnamed }
-agrees-outward s n d (named ty tys) c v = v
-agrees-outward s n d retired c v = v
-agrees-outward s n d free c v = v
+agrees-outward s rs p d (named ty tys) c v = v
+agrees-outward s rs p d retired c v = v
+agrees-outward s rs p d free c v = v
 
 -- inside a new
 pub matches-entered :
-    {s st : List ℕ} {ns : List Name} {bs : List Block} (r : Record) → Matches s ns bs st → length bs < 32 → r .a < 255
-      →
-    declared ns (r .a) ≡ free → 0 < r .b → r .b < 3 →
-    Matches s ns (record { id = r .a; holds = r .b } ∷ bs) (entered st r (length bs))
+    {s st rs : List ℕ} {ns : List Name} {bs : List Block} (r : Record) → Matches s ns rs bs st → r .place < length s →
+    r .a < 255 → declared ns (r .a) ≡ free → 0 < r .b → r .b < 3 →
+    Matches s ns (r .place ∷ rs) (record { id = r .a; holds = r .b } ∷ bs) (entered st r)
 unfolding Agrees meaning entered
-matches-entered {s} {st} {ns} {bs} r M l b e d d′ =
+matches-entered {s} {st} {rs} {ns} {bs} r M l b e d d′ =
     let m : ℕ → Meaning = meaning ns (record { id = r .a; holds = r .b } ∷ bs) in
     record {
       sized = length-set st (r .a) _ ∙ M .sized;
-      nested = l;
-      standing = set-standing s st (suc (length bs)) (r .a) (variableStanding (length bs) (r .b)) (declared ns) m
+      short = M .short;
+      standing = set-standing s st (r .place ∷ rs) (r .a) (variableStanding (r .place) (r .b)) (declared ns) m
         (M .sized) b
         (rw (eq-eqb (r .a) (r .a) refl) (record {
-          level = length bs; depth = omega arith; above = d; below = d′; stands = refl; unnamed = e }))
-        (λ k b′ t. rw t (agrees-outward s (length bs) (declared ns k) (meaning ns bs k) (getD st k 0)
+          place = r .place; index = here; inside = omega (arith, M .short); above = d; below = d′; stands = refl;
+              unnamed = e }))
+        (λ k b′ t. rw t (agrees-outward s rs (r .place) (declared ns k) (meaning ns bs k) (getD st k 0)
           (M .standing k b′))) }
 
 -- an id that means nothing is in no name record
@@ -149,30 +157,39 @@ free-declared ns (b ∷ bs) id e = go (eqb (b .id) id) (meaning ns bs id) refl (
     go false free q f h = f q
 
 -- the id of a use: neither free nor retired
-pub data Used (s : List ℕ) (n : ℕ) (d : Meaning) (c : ℕ) : Meaning → Type 0 where
-  used-private : {i h : ℕ} → Variable n d i h c → Used s n d c (private i h)
-  used-name : {ty : ℕ} {tys : List ℕ} → Naming s ty tys c → Used s n d c (named ty tys)
+pub data Used (s rs : List ℕ) (d : Meaning) (c : ℕ) : Meaning → Type 0 where
+  used-private : {i h : ℕ} → Variable rs d i h c → Used s rs d c (private i h)
+  used-name : {ty : ℕ} {tys : List ℕ} → Naming s ty tys c → Used s rs d c (named ty tys)
 
 pub used-id :
-    (s : List ℕ) (n : ℕ) (d m : Meaning) (c : ℕ) → Agrees s n d m c → (c ≡ 0 → ⊥) → (c ≡ 1 → ⊥) → Used s n d c m
+    (s rs : List ℕ) (d m : Meaning) (c : ℕ) → Agrees s rs d m c → (c ≡ 0 → ⊥) → (c ≡ 1 → ⊥) → Used s rs d c m
 unfolding Agrees
-used-id s n d (private i h) c a f g = used-private a
-used-id s n d (named ty tys) c a f g = used-name a
-used-id s n d retired c a f g = absurd (g a)
-used-id s n d free c a f g = absurd (f a)
+used-id s rs d (private i h) c a f g = used-private a
+used-id s rs d (named ty tys) c a f g = used-name a
+used-id s rs d retired c a f g = absurd (g a)
+used-id s rs d free c a f g = absurd (f a)
+
+-- a standing that is neither free nor a variable's
+named-so : (c : ℕ) → 0 < c → c < 8192 → isNamed c ≡ false → ⊥
+unfolding isNamed
+named-so c h g e =
+    let t : true ≡ false = sym (rw (ne-eqb c 0 (λ z. omega arith)) (lt-ltb c 8192 g)) ∙ e in
+    let z : _≡_ {A = ℕ} 0 1 = cc in
+    absurd (omega arith)
 
 -- the id of a new: in no name record
 pub new-id :
-    {s st : List ℕ} {ns : List Name} {bs : List Block} → Matches s ns bs st → (id : ℕ) → id < 255 →
-    (getD st id 0 ≡ 1 → ⊥) → isVariable (getD st id 0) ≡ true → declared ns id ≡ free
-unfolding Agrees isVariable declaredStanding
-new-id {s} {st} {ns} {bs} M id b f v = go (meaning ns bs id) refl (M .standing id b)
+    {s st rs : List ℕ} {ns : List Name} {bs : List Block} → Matches s ns rs bs st → (id : ℕ) → id < 255 →
+    isNamed (getD st id 0) ≡ false → declared ns id ≡ free
+unfolding Agrees declaredStanding
+new-id {s} {st} {rs} {ns} {bs} M id b v = go (meaning ns bs id) refl (M .standing id b)
   where
-    go : (m : Meaning) → meaning ns bs id ≡ m → Agrees s (length bs) (declared ns id) m (getD st id 0) →
+    go : (m : Meaning) → meaning ns bs id ≡ m → Agrees s rs (declared ns id) m (getD st id 0) →
       declared ns id ≡ free
     go (private i h) e a = a .unnamed
-    go (named ty tys) e a = absurd (omega (arith, ltb-true (getD st id 0) 256 v, a .stands))
-    go retired e a = absurd (f a)
+    go (named ty tys) e a = absurd (named-so (getD st id 0) (omega (arith, a .stands)) (omega (arith, a .stands, a
+        .inside)) v)
+    go retired e a = absurd (named-so (getD st id 0) (omega arith) (omega arith) v)
     go free e a = free-declared ns bs id e
 
 -- the other way round: an id in no name record can be taken by a new
@@ -198,21 +215,19 @@ unnamed-meaning ns (b ∷ bs) id e =
     (λ t. rw t (unnamed-outward (meaning ns bs id) (unnamed-meaning ns bs id e)))
 
 pub new-standing :
-    {s st : List ℕ} {ns : List Name} {bs : List Block} → Matches s ns bs st → (id : ℕ) → id < 255 →
-    declared ns id ≡ free →
-    (getD st id 0 ≡ 1 → ⊥) × (isVariable (getD st id 0) ≡ true)
-unfolding Agrees Unnamed isVariable variableStanding
-new-standing {s} {st} {ns} {bs} M id b e =
+    {s st rs : List ℕ} {ns : List Name} {bs : List Block} → Matches s ns rs bs st → (id : ℕ) → id < 255 →
+    declared ns id ≡ free → isNamed (getD st id 0) ≡ false
+unfolding Agrees Unnamed isNamed variableStanding
+new-standing {s} {st} {rs} {ns} {bs} M id b e =
     go (meaning ns bs id) (unnamed-meaning ns bs id e) (M .standing id b)
   where
-    go : (m : Meaning) → Unnamed m → Agrees s (length bs) (declared ns id) m (getD st id 0) →
-      (getD st id 0 ≡ 1 → ⊥) × (isVariable (getD st id 0) ≡ true)
+    go : (m : Meaning) → Unnamed m → Agrees s rs (declared ns id) m (getD st id 0) → isNamed (getD st id 0) ≡ false
     go (private i h) u v =
-        (λ z. omega (arith, v .stands, v .above),
-          lt-ltb (getD st id 0) 256 (omega (arith, M .nested, v .stands, v .depth, v .below)))
+        rw (ne-eqb (getD st id 0) 0 (λ z. omega (arith, v .stands, v .above)))
+        (le-ltb (getD st id 0) 8192 (omega (arith, v .stands, v .above)))
     go (named ty tys) u v = absurd u
     go retired u v = absurd u
-    go free u v = (λ z. omega arith, lt-ltb (getD st id 0) 256 (omega arith))
+    go free u v = rw v refl
 
 -- the standings of names and of variables
 module _ {s : List ℕ} {c ty : ℕ} {tys : List ℕ} (v : Naming s ty tys c) where
@@ -222,13 +237,13 @@ module _ {s : List ℕ} {c ty : ℕ} {tys : List ℕ} (v : Naming s ty tys c) wh
 
   pub naming-declared : isVariable c ≡ false
   unfolding isVariable declaredStanding
-  naming-declared = le-ltb c 256 (omega (arith, v .stands))
+  naming-declared = lt-leb 8192 c (omega (arith, v .stands, v .inside))
 
-module _ {n i h c : ℕ} {d : Meaning} (v : Variable n d i h c) where
-  pub variable-private : n ≤ 32 → isVariable c ≡ true
+module _ {i h c : ℕ} {rs : List ℕ} {d : Meaning} (v : Variable rs d i h c) where
+  pub variable-private : isVariable c ≡ true
   unfolding isVariable variableStanding
-  variable-private l = lt-ltb c 256 (omega (arith, v .stands, v .depth, v .below))
+  variable-private = le-leb 8192 c (omega (arith, v .stands, v .above))
 
   pub variable-data : dataOf c ≡ h
   unfolding dataOf variableStanding
-  variable-data = omega (arith, v .stands, v .above, v .below)
+  variable-data = omega (arith, v .stands, v .inside)

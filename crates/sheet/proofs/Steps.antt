@@ -26,21 +26,21 @@ use Rattle.sheet.specs.declared.part.Part.the-variants.{Read, Refused}
 use Rattle.sheet.proofs.Bare.{core, parts-core}
 use Rattle.sheet.proofs.Core.{reads-hand, reads-then, part-step, parts-step, sat-part, closes}
 
-module _ (left : ℕ) (N : Numbers) (s st : List ℕ) (level at : ℕ) where
+module _ (left : ℕ) (N : Numbers) (s st : List ℕ) (at : ℕ) where
   -- read_part
   pub part-bad : {x : Refusal} {t : List ℕ} → headOf s st N left at ≡ Unheaded x →
-      Reads (fill N) (readPart left N s st level at) (Refused x) t t
+      Reads (fill N) (readPart left N s st at) (Refused x) t t
   unfolding onHead erase Leaves
   part-bad e = rw part-step (rw e (record { answer = refl; table = tt }))
 
   pub part-deep : {r : Record} {t : List ℕ} → headOf s st N left at ≡ Good r → left ≡ 0 →
-      Reads (fill N) (readPart left N s st level at) (Refused (refusal 8 at)) t t
+      Reads (fill N) (readPart left N s st at) (Refused (refusal 8 at)) t t
   unfolding onHead erase Leaves
   part-deep e z = rw part-step (rw (e, eq-eqb left 0 z) (record { answer = refl; table = tt }))
 
   pub part-good : {r : Record} {x : Part} {t u : List ℕ} → headOf s st N left at ≡ Good r → (left ≡ 0 → ⊥) →
-      Reads (fill N) (scopedOf (readPart (left - 1) N s) N s st level r) x t u →
-      Reads (fill N) (readPart left N s st level at) x t u
+      Reads (fill N) (scopedOf (readPart (left - 1) N s) N s st r) x t u →
+      Reads (fill N) (readPart left N s st at) x t u
   unfolding onHead
   part-good e z R = rw part-step (rw (e, ne-eqb left 0 z) R)
 
@@ -50,30 +50,30 @@ pick-bind :
 pick-bind true A B k = refl
 pick-bind false A B k = refl
 
-module _ (rec : List ℕ → ℕ → ℕ → Answer Tree) (N : Numbers) (s st : List ℕ) (level : ℕ) (r : Record) where
+module _ (rec : List ℕ → ℕ → Answer Tree) (N : Numbers) (s st : List ℕ) (r : Record) where
   -- read_scope
   abbrev Scope : Part → List ℕ → List ℕ → Type 0
-  Scope = Reads (λ ts. fills N ts (r .place) 0) (scopeParts rec N s st level r)
+  Scope = Reads (λ ts. fills N ts (r .place) 0) (scopeParts rec N s st r)
 
-  abbrev Core : List ℕ → ℕ → Part → List ℕ → List ℕ → Type 0
-  Core st′ l =
-      Reads (λ ts. fills N ts (r .place) 0) (partsOf (rec st′ l) N s (core r) (r .parts) 0 0 (r .next))
+  abbrev Core : List ℕ → Part → List ℕ → List ℕ → Type 0
+  Core st′ =
+      Reads (λ ts. fills N ts (r .place) 0) (partsOf (rec st′) N s (core r) (r .parts) 0 0 (r .next))
 
-  pub scope-new : {x : Part} {t u : List ℕ} → isNew (r .rule) ≡ true → Core (entered st r level) (level + 1) x t u →
+  pub scope-new : {x : Part} {t u : List ℕ} → isNew (r .rule) ≡ true → Core (entered st r) x t u →
       Scope x t u
   unfolding scopeParts
   scope-new n R =
-      rw (n, ← parts-core (rec (entered st r level) (level + 1)) N s r (r .parts) 0 0 (r .next)) R
+      rw (n, ← parts-core (rec (entered st r)) N s r (r .parts) 0 0 (r .next)) R
 
-  pub scope-plain : {x : Part} {t u : List ℕ} → isNew (r .rule) ≡ false → Core st level x t u → Scope x t u
+  pub scope-plain : {x : Part} {t u : List ℕ} → isNew (r .rule) ≡ false → Core st x t u → Scope x t u
   unfolding scopeParts
-  scope-plain n R = rw (n, ← parts-core (rec st level) N s r (r .parts) 0 0 (r .next)) R
+  scope-plain n R = rw (n, ← parts-core (rec st) N s r (r .parts) 0 0 (r .next)) R
 
   -- read_record
   pub record-closes : {parts x : Part} {t u v : List ℕ} → Scope parts t u → x ≡ closedAnswer s r parts →
-      v ≡ closedTable N s r parts u → Reads (fill N) (scopedOf rec N s st level r) x t v
+      v ≡ closedTable N s r parts u → Reads (fill N) (scopedOf rec N s st r) x t v
   unfolding scopedOf scopeParts readRecord
-  record-closes R e d = rw (pick-bind (isNew (r .rule))) (closes N s r (scopeParts rec N s st level r) R e d)
+  record-closes R e d = rw (pick-bind (isNew (r .rule))) (closes N s r (scopeParts rec N s st r) R e d)
 
 -- the parts of a record, the first of which is A
 abbrev Parts :

@@ -9,7 +9,7 @@ use Rattle.records.specs.Row.{rowWritten, linked}
 use Rattle.records.specs.declared.head.Record.{Record}
 use Rattle.sheet.specs.Reader.{Tree, node, Trees, leaf, branch}
 use Rattle.sheet.specs.table.Fill.{fill, fills}
-use Rattle.sheet.specs.table.Rep.{word}
+use Rattle.records.specs.Row.{word}
 use Rattle.sheet.proofs.Rows.{Holds, length-linked, written-row, written-else, linked-same}
 use Rattle.sheet.proofs.Spans.{Span, span, Parts, end, part, forward, onward, before}
 use Rattle.sheet.proofs.Spans.{length-fill, length-fills, fill-else, fills-else}

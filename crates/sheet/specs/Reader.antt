@@ -85,18 +85,16 @@ isNew Sequence = false
 isNew If = false
 isNew While = false
 
--- the same, where rec reads in given standings and at a given level: inside a new its id is its variable's
-unfoldable pub scopedOf : (List ℕ → ℕ → ℕ → Answer Tree) → Numbers → List ℕ → List ℕ → ℕ → Record → Answer Tree
-scopedOf rec N s st level r =
-    pick (isNew (r .rule))
-    (readRecord (rec (entered st r level) (level + 1)) N s r)
-    (readRecord (rec st level) N s r)
+-- the same, where rec reads in given standings: inside a new its id is its variable's
+unfoldable pub scopedOf : (List ℕ → ℕ → Answer Tree) → Numbers → List ℕ → List ℕ → Record → Answer Tree
+scopedOf rec N s st r =
+    pick (isNew (r .rule)) (readRecord (rec (entered st r)) N s r) (readRecord (rec st) N s r)
 
--- the part at a place, with `left` levels of depth left, in standings st, inside `level` news
-unfoldable pub readPart : ℕ → Numbers → List ℕ → List ℕ → ℕ → ℕ → Answer Tree
-readPart zero N s st level at = onHead (headOf s st N 0 at) (λ r. refused too-deep at)
-readPart (suc left) N s st level at =
-    onHead (headOf s st N (suc left) at) (λ r. scopedOf (readPart left N s) N s st level r)
+-- the part at a place, with `left` levels of depth left, in standings st
+unfoldable pub readPart : ℕ → Numbers → List ℕ → List ℕ → ℕ → Answer Tree
+readPart zero N s st at = onHead (headOf s st N 0 at) (λ r. refused too-deep at)
+readPart (suc left) N s st at =
+    onHead (headOf s st N (suc left) at) (λ r. scopedOf (readPart left N s) N s st r)
 
 -- the name records, the place of the term and the term
 pub data Whole : Type 0 where
@@ -126,7 +124,7 @@ namesStep rec n N s st at =
     (wholeOfShape (shapeOf (getD s at 0))
       (λ body. nameOf rec n s st at body (declaredStanding at) (declareOf s st at) (declareAt s at))
       (λ body. nameOf rec n s st at body retired (retireOf s st at) (retireAt s at))
-      (bind (readPart 32 N s st 0 at) (λ t ty w end. got (whole [] at t) ty w end))
+      (bind (readPart 32 N s st at) (λ t ty w end. got (whole [] at t) ty w end))
       (refused out-of-range at))
 
 unfoldable pub namesOf : ℕ → Numbers → List ℕ → List ℕ → ℕ → Answer Whole

@@ -1,4 +1,3 @@
 -- The table of parts: cited by inner contracts only.
 pub mod Fill
-pub mod Rep
 pub mod Tabled

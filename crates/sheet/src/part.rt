@@ -85,18 +85,10 @@ fn close_record(s: &[u8], t: &mut [u16], n: Numbers, r: Record, parts: Part) -> 
     }
 }
 
-// Reads the part at a place, with `left` levels of depth left, inside `level` news.
-fn read_part(
-    s: &[u8],
-    st: &[u16; 255],
-    t: &mut [u16],
-    n: Numbers,
-    level: u8,
-    left: u8,
-    at: usize,
-) -> Part
-    requires { ⌜ (length (now s) ≤ 4096) × (level + left ≤ 32) ⌝ }
-    ensures reads { λ x. ⌜ Reads (fill n) (readPart left n (now (s .entry)) (now (st .entry)) level at) x
+// Reads the part at a place, with `left` levels of depth left.
+fn read_part(s: &[u8], st: &[u16; 255], t: &mut [u16], n: Numbers, left: u8, at: usize) -> Part
+    requires { ⌜ length (now s) ≤ 4096 ⌝ }
+    ensures reads { λ x. ⌜ Reads (fill n) (readPart left n (now (s .entry)) (now (st .entry)) at) x
         (now (t .entry)) (now (t .exit)) ⌝ }
     ensures beyond { λ x. ⌜ Beyond at (length (now (s .entry))) x ⌝ }
 {
@@ -107,57 +99,40 @@ fn read_part(
             if left == 0 {
                 return Part::Refused(refuse(TOO_DEEP, at));
             }
-            read_record(s, st, t, n, level, left - 1, record)
+            read_record(s, st, t, n, left - 1, record)
         }
     }
 }
 
 // Reads a record whose head is judged: a use with its arguments, or another with its parts.
-fn read_record(
-    s: &[u8],
-    st: &[u16; 255],
-    t: &mut [u16],
-    n: Numbers,
-    level: u8,
-    left: u8,
-    r: Record,
-) -> Part
-    requires { ⌜ (length (now s) ≤ 4096) × (level + left < 32) × (r .place < 4096) × (r .next ≤ length (now s))
+fn read_record(s: &[u8], st: &[u16; 255], t: &mut [u16], n: Numbers, left: u8, r: Record) -> Part
+    requires { ⌜ (length (now s) ≤ 4096) × (r .place < 4096) × (r .next ≤ length (now s))
         × (isNew (r .rule) ≡ true → r .b ≤ 2) ⌝ }
     ensures { λ x. ⌜ Reads (fill n)
-        (scopedOf (readPart left n (now (s .entry))) n (now (s .entry)) (now (st .entry)) level r) x
+        (scopedOf (readPart left n (now (s .entry))) n (now (s .entry)) (now (st .entry)) r) x
         (now (t .entry)) (now (t .exit)) ⌝ }
 {
-    let parts = read_scope(s, st, t, n, level, left, r);
+    let parts = read_scope(s, st, t, n, left, r);
     close_record(s, t, n, r, parts)
 }
 
 // Reads the parts of a record; the block of a new lies in a scope of its own.
-fn read_scope(
-    s: &[u8],
-    st: &[u16; 255],
-    t: &mut [u16],
-    n: Numbers,
-    level: u8,
-    left: u8,
-    r: Record,
-) -> Part
-    requires { ⌜ (length (now s) ≤ 4096) × (level + left < 32) × (r .place < 4096) × (r .next ≤ length (now s))
+fn read_scope(s: &[u8], st: &[u16; 255], t: &mut [u16], n: Numbers, left: u8, r: Record) -> Part
+    requires { ⌜ (length (now s) ≤ 4096) × (r .place < 4096) × (r .next ≤ length (now s))
         × (isNew (r .rule) ≡ true → r .b ≤ 2) ⌝ }
     ensures { λ x. ⌜ Reads (λ ts. fills n ts (r .place) 0)
-        (scopeParts (readPart left n (now (s .entry))) n (now (s .entry)) (now (st .entry)) level r) x
+        (scopeParts (readPart left n (now (s .entry))) n (now (s .entry)) (now (st .entry)) r) x
         (now (t .entry)) (now (t .exit)) ⌝ }
 {
     let rule = r.rule;
     if is_new(rule) {
         let mut inner = *st;
-        enter(&mut inner, r, level);
+        enter(&mut inner, r);
         return read_parts(
             s,
             &inner,
             t,
             n,
-            level + 1,
             left,
             r.place,
             rule,
@@ -174,7 +149,6 @@ fn read_scope(
         st,
         t,
         n,
-        level,
         left,
         r.place,
         rule,
@@ -194,7 +168,6 @@ fn read_parts(
     st: &[u16; 255],
     t: &mut [u16],
     n: Numbers,
-    level: u8,
     left: u8,
     place: usize,
     rule: Rule,
@@ -205,10 +178,10 @@ fn read_parts(
     prev: u8,
     at: usize,
 ) -> Part
-    requires { ⌜ (length (now s) ≤ 4096) × (level + left ≤ 32) × (place < 4096) × (at ≤ length (now s))
+    requires { ⌜ (length (now s) ≤ 4096) × (place < 4096) × (at ≤ length (now s))
         × (j + count ≤ 255) ⌝ }
     ensures { λ x. ⌜ Reads (λ ts. fills n ts place j)
-        (partsOf (readPart left n (now (s .entry)) (now (st .entry)) level) n (now (s .entry)) (bare place rule a b)
+        (partsOf (readPart left n (now (s .entry)) (now (st .entry))) n (now (s .entry)) (bare place rule a b)
         count j prev at) x
         (now (t .entry)) (now (t .exit)) ⌝ }
 {
@@ -220,22 +193,7 @@ fn read_parts(
         };
     }
     link(t, place, j, at);
-    read_next(
-        s,
-        st,
-        t,
-        n,
-        level,
-        left,
-        place,
-        rule,
-        a,
-        b,
-        count,
-        j,
-        prev,
-        at,
-    )
+    read_next(s, st, t, n, left, place, rule, a, b, count, j, prev, at)
 }
 
 // Reads the first of these parts, whose place is in the row already, and the others.
@@ -244,7 +202,6 @@ fn read_next(
     st: &[u16; 255],
     t: &mut [u16],
     n: Numbers,
-    level: u8,
     left: u8,
     place: usize,
     rule: Rule,
@@ -255,14 +212,14 @@ fn read_next(
     prev: u8,
     at: usize,
 ) -> Part
-    requires { ⌜ (length (now s) ≤ 4096) × (level + left ≤ 32) × (place < 4096) × (j + count ≤ 255) × (0 < count) ⌝ }
+    requires { ⌜ (length (now s) ≤ 4096) × (place < 4096) × (j + count ≤ 255) × (0 < count) ⌝ }
     ensures { λ x. ⌜ Reads (λ ts. fillsNext n ts place j)
-        (partsOf (readPart left n (now (s .entry)) (now (st .entry)) level) n (now (s .entry)) (bare place rule a b)
+        (partsOf (readPart left n (now (s .entry)) (now (st .entry))) n (now (s .entry)) (bare place rule a b)
         count j prev at) x
         (now (t .entry)) (now (t .exit)) ⌝ }
 {
     let r = bare_record(place, rule, a, b);
-    let p = read_part(s, st, t, n, level, left, at);
+    let p = read_part(s, st, t, n, left, at);
     let Part::Read { ty, weight, next } = p else {
         return p;
     };
@@ -275,7 +232,6 @@ fn read_next(
         st,
         t,
         n,
-        level,
         left,
         place,
         rule,
@@ -305,7 +261,7 @@ fn read_next(
 // adds its weight and nothing else.
 pub(crate) fn read_root(s: &[u8], st: &[u16; 255], t: &mut [u16], n: Numbers, at: usize) -> Part
     requires { ⌜ length (now s) ≤ 4096 ⌝ }
-    ensures { λ x. ⌜ Reads (fill n) (readPart 32 n (now (s .entry)) (now (st .entry)) 0 at) x
+    ensures { λ x. ⌜ Reads (fill n) (readPart 32 n (now (s .entry)) (now (st .entry)) at) x
         (now (t .entry)) (now (t .exit)) ⌝ }
 {
     read_next(
@@ -313,7 +269,6 @@ pub(crate) fn read_root(s: &[u8], st: &[u16; 255], t: &mut [u16], n: Numbers, at
         st,
         t,
         n,
-        0,
         DEPTH,
         0,
         Rule::Sequence,

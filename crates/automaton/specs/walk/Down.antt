@@ -2,10 +2,9 @@
 -- each value has its positions at the value times its weight.
 use Prim.Native.Nat.{ℕ, _-_, _/_, _%_}
 use mathlib.Core.List.{List}
-use lib.ListN.{getD}
 use lib.Dec.{eqb, ltb}
 use Rattle.language.specs.Choice.{pick}
-use Rattle.sheet.specs.table.Rep.{word}
+use Rattle.records.specs.Row.{word}
 use Rattle.automaton.specs.declared.Move.{Move}
 use Rattle.automaton.specs.declared.Out.{Out}
 use Rattle.automaton.specs.declared.Out.the-variants.{Go, Exit, Stuck}
@@ -75,24 +74,25 @@ unfoldable pub inAssign : List ℕ → ℕ → ℕ → Spot
 inAssign t at k =
     assignIn (partOf t at 0) (partOf t at 1) (partWeight t at 1) (partWeight t at 0) (partValues t at 0) k
 
--- position k of a block that h blocks enclose
-unfoldable pub inNew : List ℕ → ℕ → ℕ → ℕ → ℕ → ℕ → Spot
-inNew t at q x k h =
+-- position k of a block; a row is a number below 65,536
+unfoldable pub inNew : List ℕ → ℕ → ℕ → ℕ → ℕ → Spot
+inNew t at q x k =
     pick (eqb (partWeight t at 0) 0) (Here Stuck)
     (Inside (partOf t at 0) q x (k % partWeight t at 0)
-      (framedOf BLOCK (mulAddOf (k / partWeight t at 0) (partWeight t at 0) 0) (sumOf h 1) (partWeight t at 0)
+      (framedOf BLOCK (mulAddOf (k / partWeight t at 0) (partWeight t at 0) 0) (sumOf (at % 65536) 1) (partWeight t at
+          0)
         (k / partWeight t at 0) 0))
 
 -- position k of a private variable: its own step, then the exit
-unfoldable pub inPrivate : List ℕ → ℕ → ℕ → ℕ → ℕ → List ℕ → Out
+unfoldable pub inPrivate : List ℕ → ℕ → ℕ → ℕ → ℕ → (ℕ → ℕ) → Out
 inPrivate t at q x k s =
     pick (eqb k 0) (Go 1 0 0)
-    (pick (eqb q READ) (Exit VALUE (getD s (word t at DETAIL) 0) 0 0)
+    (pick (eqb q READ) (Exit VALUE (s (word t at DETAIL)) 0 0)
     (pick (eqb q WRITE) (pick (ltb x (word t at VALUES)) (Exit OK 0 (sumOf (word t at DETAIL) 1) x) Stuck) Stuck))
 
 -- position k of the term of a kind
-unfoldable pub downAs : ℕ → List ℕ → ℕ → ℕ → ℕ → ℕ → List ℕ → ℕ → Move → Spot
-downAs kind t at q x k s h m =
+unfoldable pub downAs : ℕ → List ℕ → ℕ → ℕ → ℕ → ℕ → (ℕ → ℕ) → Move → Spot
+downAs kind t at q x k s m =
     pick (eqb kind SKIP) (leavesOf DONE 0)
     (pick (eqb kind CONSTANT) (leavesOf VALUE (word t at DETAIL))
     (pick (eqb kind NAME) (inName t at q x k m)
@@ -102,9 +102,9 @@ downAs kind t at q x k s h m =
     (pick (eqb kind SEQUENCE) (inSeq t at q x k)
     (pick (eqb kind IF) (inCond t at q x k)
     (pick (eqb kind WHILE) (inWhile t at k)
-    (pick (eqb kind NEW) (inNew t at q x k h)
+    (pick (eqb kind NEW) (inNew t at q x k)
     (pick (eqb kind PRIVATE) (Here (inPrivate t at q x k s)) (Here Stuck)))))))))))
 
 -- position k of the term at a place
-abbrev pub downOf : List ℕ → ℕ → ℕ → ℕ → ℕ → List ℕ → ℕ → Move → Spot
-downOf t at q x k s h m = downAs (word t at KIND) t at q x k s h m
+abbrev pub downOf : List ℕ → ℕ → ℕ → ℕ → ℕ → (ℕ → ℕ) → Move → Spot
+downOf t at q x k s m = downAs (word t at KIND) t at q x k s m

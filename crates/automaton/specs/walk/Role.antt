@@ -29,6 +29,6 @@ ASSIGNED = 5
 abbrev pub ARGUMENT : ℕ
 ARGUMENT = 6
 
--- the block's variable has the level a - 1 and, in this copy of the block, which weighs b, the value c
+-- the block's new has the row a - 1; its variable has, in this copy of the block, which weighs b, the value c
 abbrev pub BLOCK : ℕ
 BLOCK = 7

@@ -3,7 +3,7 @@ use mathlib.Core.Path.{_≡_}
 use mathlib.Core.Logic.{_⊎_}
 use mathlib.Core.List.{List, [], _∷_}
 use Prim.Native.Nat.{ℕ, suc, _+_, _<_}
-use lib.ListN.{getD, length}
+use lib.ListN.{getD}
 use lib.Dec.{eqb}
 use Rattle.language.specs.Choice.{pick}
 use Rattle.language.specs.Ty.{Ty, Question, run, ask, read, write, Answer, done, ok, value}
@@ -14,7 +14,7 @@ use Rattle.machine.specs.Action.{Next, to, out, dead, Heard, Listen, calling, H
 use Rattle.machine.specs.Edge.{edge-hear}
 use Rattle.machine.specs.Position.{Context, Store, types, State, Exit as ExitOf, StateArgs, ExitArgs}
 use Rattle.machine.specs.Numbering.{numbered, numberedArgs, numbered-replies}
-use Rattle.sheet.specs.table.Rep.{Rep}
+use Rattle.nodes.specs.Rep.{Rep}
 use Rattle.automaton.specs.declared.Move.{Move as Record}
 use Rattle.automaton.specs.walk.MoveKind.{RUN, DONE, ASK, READ, OK, VALUE, WRITE, NO-MOVE}
 use Rattle.automaton.specs.walk.Name.{noMove}
@@ -63,18 +63,33 @@ unfoldable pub stored : (n : Context) → Store n → List ℕ
 stored [] σ = []
 stored (m ∷ n) σ = σ .0 .0 ∷ stored n (σ .1)
 
--- the values with u at the variable of level l - 1, and unchanged where l is 0
-unfoldable pub updated : List ℕ → ℕ → ℕ → List ℕ
-updated [] l u = []
-updated (v ∷ vs) l u = pick (eqb l (suc (length vs))) (u ∷ vs) (v ∷ updated vs l u)
+-- the variables of the enclosing blocks, the innermost first: the row of the block's new, and the value
+abbrev pub Variables : Type 0
+Variables = List (ℕ × ℕ)
 
--- the code holds the values, each at its level
-unfoldable pub HeldStore : List ℕ → List ℕ → Type 0
+-- the variables of a store, by the rows of the blocks
+unfoldable pub held : List ℕ → (n : Context) → Store n → Variables
+held rs [] σ = []
+held [] (m ∷ n) σ = (0, σ .0 .0) ∷ held [] n (σ .1)
+held (r ∷ rs) (m ∷ n) σ = (r, σ .0 .0) ∷ held rs n (σ .1)
+
+-- their values
+unfoldable pub valued : Variables → List ℕ
+valued [] = []
+valued (v ∷ vs) = v .1 ∷ valued vs
+
+-- the values with u at the innermost variable of the row b - 1, and unchanged where b is 0
+unfoldable pub updated : Variables → ℕ → ℕ → List ℕ
+updated [] b u = []
+updated (v ∷ vs) b u = pick (eqb b (suc (v .0))) (u ∷ valued vs) (v .1 ∷ updated vs b u)
+
+-- the code holds the values, each at its row
+unfoldable pub HeldStore : (ℕ → ℕ) → Variables → Type 0
 HeldStore s [] = Unit
-HeldStore s (v ∷ vs) = (getD s (length vs) 0 ≡ v) × HeldStore s vs
+HeldStore s (v ∷ vs) = (s (v .0) ≡ v .1) × HeldStore s vs
 
 -- the steps of a term M in a context, from a state whose variables have the values vs
-module _ (n : Context) (M : Term) (vs : List ℕ) where
+module _ (n : Context) (M : Term) (vs : Variables) where
   -- a silent step, an exit, or none: the position and the answer by number, and the variable that is written
   unfoldable pub ShowsNext : Next (State n M) (ExitOf n) → Did → Type 0
   ShowsNext (to s) o = (l : ℕ) × (u : ℕ) × (o ≡ Go (numbered M .code (s .1)) l u) × (stored n (s .0) ≡ updated vs l u)
@@ -84,7 +99,7 @@ module _ (n : Context) (M : Term) (vs : List ℕ) where
 
   -- a move that is said, which writes no variable
   unfoldable pub ShowsSaid : Move → Next (State n M) (ExitOf n) → Did → Type 0
-  ShowsSaid x (to s) o = (o ≡ Say (moveOf x) (numbered M .code (s .1))) × (stored n (s .0) ≡ vs)
+  ShowsSaid x (to s) o = (o ≡ Say (moveOf x) (numbered M .code (s .1))) × (stored n (s .0) ≡ valued vs)
   ShowsSaid x (out e) o = ⊥
   ShowsSaid x dead o = ⊥
 
@@ -92,17 +107,18 @@ module _ (n : Context) (M : Term) (vs : List ℕ) where
 -- value
 pub record Awaits (K : Numbers) (t : List ℕ) (l : Listen) (node kind value : ℕ) : Type 0 where
   pub left : ℕ
+  pub rows : List ℕ
   pub within : Context
   pub id : ℕ
   pub result : Ty
   pub args : Args
-  pub part : Rep K t left node within (name id result args) result
+  pub part : Rep K t left node rows within (name id result args) result
   pub asked : Question
   pub listens : l ≡ calling id (types args) result asked
   pub kinded : kind ≡ kindQ asked
   pub valued : value ≡ valueQ asked
 
-module _ (K : Numbers) (t : List ℕ) (n : Context) (M : Term) (vs : List ℕ) where
+module _ (K : Numbers) (t : List ℕ) (n : Context) (M : Term) (vs : Variables) where
   -- a wait: where no move is given the step says whom it waits for, and where one is given it shows what follows
   -- the move
   pub data ShowsHeard (m : Record) (l : Listen) (k : (r : Heard) → Hears l r → Next (State n M) (ExitOf n))
@@ -117,7 +133,7 @@ module _ (K : Numbers) (t : List ℕ) (n : Context) (M : Term) (vs : List ℕ) w
   Shows m (hear l k) o = ShowsHeard m l k o
 
 -- the same for the arguments of a name, whose positions begin at base and whose replies at after
-module _ (n : Context) (args : Args) (base after : ℕ) (vs : List ℕ) where
+module _ (n : Context) (args : Args) (base after : ℕ) (vs : Variables) where
   unfoldable pub ArgsNext : Next (StateArgs n args) (ExitArgs n (types args)) → Did → Type 0
   ArgsNext (to s) o = (l : ℕ) × (u : ℕ) × (o ≡ Go (base + numberedArgs args .code (s .1)) l u)
     × (stored n (s .0) ≡ updated vs l u)
@@ -126,11 +142,11 @@ module _ (n : Context) (args : Args) (base after : ℕ) (vs : List ℕ) where
   ArgsNext dead o = o ≡ Stuck
 
   unfoldable pub ArgsSaid : Move → Next (StateArgs n args) (ExitArgs n (types args)) → Did → Type 0
-  ArgsSaid x (to s) o = (o ≡ Say (moveOf x) (base + numberedArgs args .code (s .1))) × (stored n (s .0) ≡ vs)
+  ArgsSaid x (to s) o = (o ≡ Say (moveOf x) (base + numberedArgs args .code (s .1))) × (stored n (s .0) ≡ valued vs)
   ArgsSaid x (out e) o = ⊥
   ArgsSaid x dead o = ⊥
 
-module _ (K : Numbers) (t : List ℕ) (n : Context) (args : Args) (base after : ℕ) (vs : List ℕ) where
+module _ (K : Numbers) (t : List ℕ) (n : Context) (args : Args) (base after : ℕ) (vs : Variables) where
   pub data ArgsHeard (m : Record) (l : Listen)
     (k : (r : Heard) → Hears l r → Next (StateArgs n args) (ExitArgs n (types args))) (o : Did) : Type 0 where
     a-waits : {node q x : ℕ} → m .kind ≡ NO-MOVE → Awaits K t l node q x → o ≡ Hear node q x → ArgsHeard m l k o

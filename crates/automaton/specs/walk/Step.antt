@@ -8,7 +8,7 @@ use Rattle.automaton.specs.declared.Out.{Out}
 use Rattle.automaton.specs.declared.Out.the-variants.{Stuck}
 use Rattle.automaton.specs.declared.Spot.{Spot}
 use Rattle.automaton.specs.declared.Spot.the-variants.{Here, Inside}
-use Rattle.automaton.specs.walk.Store.{storeIn, heightIn}
+use Rattle.automaton.specs.walk.Store.{storeIn}
 use Rattle.automaton.specs.walk.Down.{downOf}
 use Rattle.automaton.specs.walk.Up.{riseOf}
 
@@ -18,8 +18,8 @@ onSpot (Here o) g = o
 onSpot (Inside part kind value k f) g = g part kind value k f
 
 -- the step at position k of the term at a place, of at most `left` levels
-unfoldable pub stepAt : List ℕ → Numbers → ℕ → ℕ → ℕ → ℕ → ℕ → List ℕ → ℕ → Move → Out
-stepAt t N zero at q x k s h m = Stuck
-stepAt t N (suc left) at q x k s h m =
-    onSpot (downOf t at q x k s h m)
-    (λ part kind value inner f. riseOf N f (stepAt t N left part kind value inner (storeIn s h f) (heightIn h f) m))
+unfoldable pub stepAt : List ℕ → Numbers → ℕ → ℕ → ℕ → ℕ → ℕ → (ℕ → ℕ) → Move → Out
+stepAt t N zero at q x k s m = Stuck
+stepAt t N (suc left) at q x k s m =
+    onSpot (downOf t at q x k s m)
+    (λ part kind value inner f. riseOf N f (stepAt t N left part kind value inner (storeIn s f) m))

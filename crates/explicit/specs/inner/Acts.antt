@@ -9,7 +9,7 @@ use Rattle.language.specs.Move.{Event, at, Move, move}
 use Rattle.machine.specs.Action.{Next, to, out, dead, Heard, Listen, calling, opening, Hears, Action, go, say, hear}
 use Rattle.machine.specs.Edge.{edge-hear}
 use Rattle.machine.specs.Settle.{Index}
-use Rattle.sheet.specs.table.Rep.{TyRow}
+use Rattle.nodes.specs.Rep.{TyRow}
 use Rattle.automaton.specs.declared.Move.{Move as Record}
 use Rattle.automaton.specs.declared.Out.{Out}
 use Rattle.automaton.specs.declared.Out.the-variants.{Go, Exit, Say, Hear, Stuck}

@@ -3,12 +3,13 @@ use Prim.Native.Nat.{ℕ}
 
 -- how many levels a path has at most, and how many words a level has
 abbrev pub LEVELS : ℕ
-LEVELS = 33
+LEVELS = 6145
 
 abbrev pub FIELDS : ℕ
 FIELDS = 13
 
--- the part, the question that it is asked, its first state, the end of its states, and how many blocks are outside it
+-- the part, the question that it is asked, its first state, the end of its states, and the innermost block outside
+-- it
 abbrev pub PART : ℕ
 PART = 0
 
@@ -50,9 +51,6 @@ D = 11
 abbrev pub UP : ℕ
 UP = 12
 
--- the first of the words that say which level is a block's, and all words
-abbrev pub HOLDERS : ℕ
-HOLDERS = 429
-
+-- all words
 abbrev pub WORDS : ℕ
-WORDS = 462
+WORDS = 79885

@@ -6,7 +6,7 @@ use lib.ListN.{length}
 use lib.Dec.{eqb, ltb, leb}
 use Rattle.language.specs.Choice.{pick}
 use Rattle.language.specs.declared.Numbers.{Numbers}
-use Rattle.sheet.specs.table.Rep.{word}
+use Rattle.records.specs.Row.{word}
 use Rattle.automaton.specs.declared.Move.{Move}
 use Rattle.automaton.specs.declared.Frame.{Frame}
 use Rattle.automaton.specs.declared.Out.{Out}
@@ -24,7 +24,7 @@ use Rattle.automaton.specs.walk.Step.{stepAt}
 use Rattle.explicit.specs.declared.Level.{Level}
 use Rattle.explicit.specs.declared.Wait.{Wait}
 use Rattle.explicit.specs.inner.States.{atStart, repliedOf, afterOf, spotsOf, sheetAt}
-use Rattle.explicit.specs.inner.Path.{riseAll, heightOf, storeOf, upOf}
+use Rattle.explicit.specs.inner.Path.{riseAll, storeOf, innermostOf, upOf}
 use Rattle.explicit.specs.inner.Levels.{framesOf, levelAt, Plain, Sound}
 
 -- where the state k is: the start, a copy of the term, or an answer
@@ -41,7 +41,7 @@ spotIn t root p c k m =
     pick (eqb c 0) (sheetSpot t root k m)
     (downOf t (levelAt p (c - 1) .part) (levelAt p (c - 1) .kind) (levelAt p (c - 1) .value)
       (k - levelAt p (c - 1) .base)
-      (storeOf (framesOf p c)) (heightOf (framesOf p c)) m)
+      (storeOf (framesOf p c)) m)
 
 -- the first state of the innermost of c levels, and the end of its states
 unfoldable pub startOf : List ℕ → ℕ → ℕ
@@ -62,15 +62,14 @@ unfoldable pub childOf : List ℕ → ℕ → List ℕ → ℕ → ℕ → ℕ �
 childOf t root p c k part kind value f =
     record { part = part; kind = kind; value = value; base = startOf p c + f .base
            ; end = untilOf k (startOf p c + f .base + word t part WEIGHT) (stopOf t root p c)
-           ; outer = heightOf (framesOf p c); up = upOf (f ∷ framesOf p c); f = f }
+           ; outer = innermostOf (framesOf p c); up = upOf (f ∷ framesOf p c); f = f }
 
 -- a level, inside others, says what its states do
 pub record Stands (t : List ℕ) (root : ℕ) (fs : List Frame) (l : Level) : Type 0 where
   pub before-answers : l .end ≤ afterOf t root
   pub says : (N : Numbers) (k : ℕ) (m : Move) → l .base ≤ k → k < l .end → sheetAt t N root k m ≡
-    riseAll N (l .f ∷ fs) (stepAt t N (32 - length fs) (l .part) (l .kind) (l .value) (k - l .base) 
-      (storeOf (l .f ∷ fs))
-      (heightOf (l .f ∷ fs)) m)
+    riseAll N (l .f ∷ fs) (stepAt t N (6144 - length fs) (l .part) (l .kind) (l .value) (k - l .base)
+      (storeOf (l .f ∷ fs)) m)
 
 -- the words hold c levels that say so, and their states begin at k or before
 pub record KeptPath (t : List ℕ) (root : ℕ) (p : List ℕ) (c k : ℕ) : Type 0 where

@@ -1,18 +1,14 @@
--- A path in words: thirteen for each level, and then for each number of blocks outside the last level that is a block's
--- there.
+-- A path in words: thirteen for each level.
 use mathlib.Core.Path.{_≡_}
 use mathlib.Core.List.{List, [], _∷_}
 use Prim.Native.Nat.{ℕ, zero, suc, _+_, _*_, _≤_, _<_}
 use lib.ListN.{getD, set, length}
-use lib.Dec.{eqb}
-use Rattle.language.specs.Choice.{pick}
 use Rattle.automaton.specs.declared.Frame.{Frame}
 use Rattle.explicit.specs.declared.Level.{Level}
-use Rattle.automaton.specs.walk.Role.{BLOCK}
 use Rattle.explicit.specs.inner.Field.{LEVELS, FIELDS, PART, QUESTION, QUESTION-VALUE, BASE, END, OUTER, ROLE}
 use Rattle.explicit.specs.inner.Field.{OFFSET, A, B, C, D, UP}
-use Rattle.explicit.specs.inner.Field.{HOLDERS, WORDS}
-use Rattle.explicit.specs.inner.Path.{heightOf, baseOf, Owned, upOf}
+use Rattle.explicit.specs.inner.Field.{WORDS}
+use Rattle.explicit.specs.inner.Path.{innermostOf, baseOf, Owned, upOf}
 
 -- word j of level i
 unfoldable pub fieldOf : List ℕ → ℕ → ℕ → ℕ
@@ -47,17 +43,9 @@ levelWords l =
 abbrev pub withLevel : List ℕ → ℕ → Level → List ℕ
 withLevel p i l = setAll p (FIELDS * i) (levelWords l)
 
--- the level that is a block's with so many blocks outside
-unfoldable pub holderOf : List ℕ → ℕ → ℕ
-holderOf p outer = getD p (HOLDERS + outer) 0
-
--- a level is entered: it is written and, where it is a block's, noted
-unfoldable pub enteredOf : List ℕ → ℕ → Level → List ℕ
-enteredOf p i l = pick (eqb (l .f .role) BLOCK) (set (withLevel p i l) (HOLDERS + l .outer) i) (withLevel p i l)
-
 -- a level inside others
 pub record Plain (fs : List Frame) (l : Level) : Type 0 where
-  pub outer-blocks : l .outer ≡ heightOf fs
+  pub outer-block : l .outer ≡ innermostOf fs
   pub first-state : l .base ≡ baseOf fs + l .f .base
   pub owned : Owned (l .f ∷ fs)
   pub upper : l .up ≡ upOf (l .f ∷ fs)
@@ -69,4 +57,3 @@ pub record Sound (p : List ℕ) (c : ℕ) : Type 0 where
   pub room : length p ≡ WORDS
   pub few : c ≤ LEVELS
   pub plain : (i : ℕ) → i < c → Plain (framesOf p i) (levelAt p i)
-  pub held : (i : ℕ) → i < c → levelAt p i .f .role ≡ BLOCK → holderOf p (levelAt p i .outer) ≡ i

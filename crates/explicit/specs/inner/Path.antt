@@ -4,11 +4,11 @@ use mathlib.Core.Logic.{_⊎_}
 use mathlib.Core.Bool.{Bool, true, false}
 use mathlib.Core.List.{List, [], _∷_}
 use Prim.Native.Nat.{ℕ, zero, suc, _+_, _-_, _≤_, _<_}
-use lib.ListN.{replicate, getD, length}
-use lib.Dec.{eqb}
+use lib.ListN.{length}
+use lib.Dec.{eqb, ltb}
 use Rattle.language.specs.Choice.{pick}
 use Rattle.language.specs.declared.Numbers.{Numbers}
-use Rattle.sheet.specs.table.Rep.{word}
+use Rattle.records.specs.Row.{word}
 use Rattle.automaton.specs.declared.Move.{Move}
 use Rattle.automaton.specs.declared.Frame.{Frame}
 use Rattle.automaton.specs.declared.Out.{Out}
@@ -17,46 +17,42 @@ use Rattle.automaton.specs.declared.Spot.{Spot}
 use Rattle.automaton.specs.declared.Spot.the-variants.{Here, Inside}
 use Rattle.automaton.specs.walk.Role.{SAME, BLOCK}
 use Rattle.automaton.specs.walk.Column.{WEIGHT}
-use Rattle.automaton.specs.walk.Store.{storeIn, heightIn}
+use Rattle.automaton.specs.walk.Store.{storeIn}
 use Rattle.automaton.specs.walk.Up.{riseOf}
 
--- descending by F from position k, in `outer` blocks, comes to a part, and to the same part from each of its positions
-pub record Same (t : List ℕ) (outer : ℕ) (F : ℕ → Move → Spot) (k part kind value inner : ℕ) (f : Frame) : Type 0 where
+-- descending by F from position k comes to a part, and to the same part from each of its positions
+pub record Same (t : List ℕ) (F : ℕ → Move → Spot) (k part kind value inner : ℕ) (f : Frame) : Type 0 where
   pub whole : f .base + inner ≡ k
-  pub own : f .role ≡ BLOCK → f .a ≡ suc outer
+  pub own : f .role ≡ BLOCK → 0 < f .a
   pub same : (k′ : ℕ) (m : Move) → f .base ≤ k′ → (k′ ≤ k) ⊎ (k′ < f .base + word t part WEIGHT) →
     F k′ m ≡ Inside part kind value (k′ - f .base) f
 
-unfoldable pub SameAt : List ℕ → ℕ → (ℕ → Move → Spot) → ℕ → Spot → Type 0
-SameAt t outer F k (Here o) = Unit
-SameAt t outer F k (Inside part kind value inner f) = Same t outer F k part kind value inner f
+unfoldable pub SameAt : List ℕ → (ℕ → Move → Spot) → ℕ → Spot → Type 0
+SameAt t F k (Here o) = Unit
+SameAt t F k (Inside part kind value inner f) = Same t F k part kind value inner f
 
-abbrev pub Steady : List ℕ → ℕ → (ℕ → Move → Spot) → Type 0
-Steady t outer F = (k : ℕ) (m : Move) → k < 65536 → SameAt t outer F k (F k m)
+abbrev pub Steady : List ℕ → (ℕ → Move → Spot) → Type 0
+Steady t F = (k : ℕ) (m : Move) → k < 65536 → SameAt t F k (F k m)
 
 -- a step of the innermost part, seen in the whole sheet
 unfoldable pub riseAll : Numbers → List Frame → Out → Out
 riseAll N [] o = o
 riseAll N (f ∷ fs) o = riseAll N fs (riseOf N f o)
 
--- how many blocks enclose it, and the values of their variables
-unfoldable pub heightOf : List Frame → ℕ
-heightOf [] = 0
-heightOf (f ∷ fs) = heightIn (heightOf fs) f
-
-unfoldable pub storeOf : List Frame → List ℕ
-storeOf [] = replicate 32 0
-storeOf (f ∷ fs) = storeIn (storeOf fs) (heightOf fs) f
+-- the values of the variables of the blocks that enclose it, by the rows of their news
+unfoldable pub storeOf : List Frame → ℕ → ℕ
+storeOf [] = λ row. 0
+storeOf (f ∷ fs) = storeIn (storeOf fs) f
 
 -- its first state
 unfoldable pub baseOf : List Frame → ℕ
 baseOf [] = 0
 baseOf (f ∷ fs) = baseOf fs + f .base
 
--- a block's variable has the level that the blocks outside leave it
+-- a block is 1 more than a row
 unfoldable pub Owned : List Frame → Type 0
 Owned [] = Unit
-Owned (f ∷ fs) = (f .role ≡ BLOCK → f .a ≡ suc (heightOf fs)) × Owned fs
+Owned (f ∷ fs) = (f .role ≡ BLOCK → 0 < f .a) × Owned fs
 
 -- whether a frame of a role passes an exit on: the whole exits so, or a block does
 unfoldable pub passesOf : ℕ → Bool
@@ -68,9 +64,18 @@ unfoldable pub upOf : List Frame → ℕ
 upOf [] = 0
 upOf (f ∷ fs) = pick (passesOf (f .role)) (upOf fs) (suc (length fs))
 
--- how many frames there are up to that of the block whose variable has the level `level - 1`; 0 where there is none
+-- how many frames there are up to the innermost block's, counted from the outermost; 0 where there is none
+unfoldable pub innermostOf : List Frame → ℕ
+innermostOf [] = 0
+innermostOf (f ∷ fs) = pick (eqb (f .role) BLOCK) (suc (length fs)) (innermostOf fs)
+
+-- the same up to the innermost block whose new has the row `block - 1`
 unfoldable pub blockIn : List Frame → ℕ → ℕ
-blockIn [] level = 0
-blockIn (f ∷ fs) level =
-    pick (eqb (f .role) BLOCK) (pick (eqb level (f .a)) (suc (length fs)) (blockIn fs level))
-    (blockIn fs level)
+blockIn [] block = 0
+blockIn (f ∷ fs) block =
+    pick (eqb (f .role) BLOCK) (pick (eqb block (f .a)) (suc (length fs)) (blockIn fs block))
+    (blockIn fs block)
+
+-- what is written of a block, found at the level own - 1, is forgotten inside i levels where the block is left
+unfoldable pub leftOf : ℕ → ℕ → ℕ → ℕ
+leftOf i own v = pick (ltb i own) 0 v

@@ -7,7 +7,7 @@ use Rattle.language.specs.Term.{Term}
 use Rattle.language.specs.Typing.{Typed}
 use Rattle.language.specs.Weight.{size}
 use Rattle.machine.specs.Range.{TyIn, InRange}
-use Rattle.sheet.specs.table.Rep.{Rep}
+use Rattle.nodes.specs.Rep.{Rep}
 use Rattle.automaton.specs.walk.Shows.{Words}
 
 -- the table represents the term M of type T at the root, and all numbers are in range
@@ -15,7 +15,7 @@ pub record Ready (N : Numbers) (t : List ℕ) (root : ℕ) (T : Ty) (M : Term) :
   pub z-above : 0 < N .z
   pub z-below : N .z ≤ 7
   pub words : Words t
-  pub represents : Rep N t 32 root [] M T
+  pub represents : Rep N t 6144 root [] [] M T
   pub small : size T M ≤ 4096
   pub typed : Typed [] M T
   pub type-in : TyIn N T

@@ -62,16 +62,16 @@ unfoldable pub closedTable : Numbers → List ℕ → Record → Part → List �
 closedTable N s r (Read last w next) t = row.rowWritten N r (partType (r .rule) s r last) (own (r .rule) + w) t
 closedTable N s r (Refused x) t = t
 
--- the parts of a record, rec reading in given standings and at a given level: those of a new in the scope that it opens
-unfoldable pub scopeParts : (List ℕ → ℕ → ℕ → Answer Tree) → Numbers → List ℕ → List ℕ → ℕ → Record → Answer Trees
-scopeParts rec N s st level r =
+-- the parts of a record, rec reading in given standings: those of a new in the scope that it opens
+unfoldable pub scopeParts : (List ℕ → ℕ → Answer Tree) → Numbers → List ℕ → List ℕ → Record → Answer Trees
+scopeParts rec N s st r =
     pick (isNew (r .rule))
-    (partsOf (rec (entered st r level) (level + 1)) N s r (r .parts) 0 0 (r .next))
-    (partsOf (rec st level) N s r (r .parts) 0 0 (r .next))
+    (partsOf (rec (entered st r)) N s r (r .parts) 0 0 (r .next))
+    (partsOf (rec st) N s r (r .parts) 0 0 (r .next))
 
 -- the term of a sheet, without name records
 abbrev pub termAt : Numbers → List ℕ → List ℕ → ℕ → Answer Whole
-termAt N s st at = bind (readPart 32 N s st 0 at) (λ t ty w end. got (whole [] at t) ty w end)
+termAt N s st at = bind (readPart 32 N s st at) (λ t ty w end. got (whole [] at t) ty w end)
 
 -- a whole sheet: the answer and the table
 unfoldable pub eraseSheet : Answer Whole → Reading

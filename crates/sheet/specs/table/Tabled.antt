@@ -6,7 +6,7 @@ use Rattle.language.specs.Weight.{weight}
 use Rattle.sheet.specs.Written as written
 use Rattle.sheet.specs.Meaning.{tyOf, termOf}
 use Rattle.sheet.specs.Reader.{numbersAt, sizeOf, readSheet, accepted}
-use Rattle.sheet.specs.table.Rep.{Rep}
+use Rattle.nodes.specs.Rep.{Rep}
 use Rattle.sheet.specs.declared.names.Reading.{Reading}
 use Rattle.sheet.specs.declared.names.Reading.the-variants.{Sheet, Refused}
 
@@ -16,7 +16,7 @@ pub record Tabled (s : List ℕ) (root ty w : ℕ) (u : List ℕ) : Type 0 where
   pub accepts : readSheet s ≡ accepted sheet ty (sizeOf (numbersAt s) ty w)
   pub numbered : sheet .numbers ≡ numbersAt s
   pub weighs : weight (termOf sheet) ≡ w
-  pub represents : Rep (numbersAt s) u 32 root [] (termOf sheet) (tyOf (numbersAt s) ty)
+  pub represents : Rep (numbersAt s) u 6144 root [] [] (termOf sheet) (tyOf (numbersAt s) ty)
 
 unfoldable pub TabledBy : List ℕ → Reading → List ℕ → Type 0
 TabledBy s (Sheet root ty w next) u = Tabled s root ty w u

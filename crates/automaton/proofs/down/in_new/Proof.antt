@@ -26,8 +26,8 @@ sum-requires c κs = search needs
 framed-requires : tie.Need-framed-requires
 framed-requires c κs = search needs
 
-rem-t13 : tie.Need-rem-t13
-rem-t13 c = search needs
+rem-t12 : tie.Need-rem-t12
+rem-t12 c = search needs
 
 returns-2 : tie.Need-returns-2
 unfolding inNew
@@ -39,4 +39,4 @@ returns-2 c =
 pub in-new-spec : {M : Type 1} → statement M
 in-new-spec =
     tie.close (tie.spec part-weight-requires returns div-v part-at-requires mul-add-requires sum-requires
-    framed-requires rem-t13 returns-2)
+    framed-requires rem-t12 returns-2)

@@ -5,7 +5,7 @@ use denote.Ref.{now}
 use Rattle.automaton.proofs.Facts.{past}
 use mathlib.Core.Path.{refl}
 use Rattle.records.specs.Row.{cell}
-use Rattle.sheet.specs.table.Rep.{word}
+use Rattle.records.specs.Row.{word}
 use Rattle.automaton.proofs.row.cell.Statement.{statement}
 use Rattle.automaton.proofs.row.cell.Tie as tie
 

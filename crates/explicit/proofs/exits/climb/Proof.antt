@@ -12,8 +12,8 @@ use Rattle.explicit.proofs.exits.climb.Tie as tie
 
 abbrev Inv-loop : tie.InvT-loop
 Inv-loop p c left₀ out₀ left out =
-    (left ≤ c) × ((N : Numbers) → riseAll N (framesOf p left) (Go (out .next) (out .level) (out .set))
-      ≡ riseAll N (framesOf p c) (Go (out₀ .next) (out₀ .level) (out₀ .set)))
+    (left ≤ c) × ((N : Numbers) → riseAll N (framesOf p left) (Go (out .next) (out .block) (out .set))
+      ≡ riseAll N (framesOf p c) (Go (out₀ .next) (out₀ .block) (out₀ .set)))
 
 abbrev μ-loop : tie.MeasureT-loop
 μ-loop p c left₀ out₀ left out = left

@@ -1,40 +1,15 @@
 use borrow.Author.Needs.{needs}
-use native.Mathlib.Omega.{arith}
-use Rattle.explicit.proofs.PathSteps.{lead-plain, lead-low}
 use Rattle.explicit.proofs.exits.lead.Statement.{statement}
 use Rattle.explicit.proofs.exits.lead.Tie as tie
-
-far-requires : tie.Need-far-requires
-far-requires c κs = search needs
-
-returns : tie.Need-returns
-returns c = c .far .ensures
 
 block-at-requires : tie.Need-block-at-requires
 block-at-requires c κs = search needs
 
-start-at-requires : tie.Need-start-at-requires
-start-at-requires c κs = search needs
+lead-at-requires : tie.Need-lead-at-requires
+lead-at-requires c κs = (c .before .pre, c .block-at .ensures)
 
-add-sum : tie.Need-add-sum
-add-sum c = omega (arith, lead-low _ _ _ (c .before .before .before .before .pre) (c .start-at .ensures), c .before
-    .before .before .if1 .left)
-
-sum-requires : tie.Need-sum-requires
-sum-requires c κs = search needs
-
-returns-2 : tie.Need-returns-2
-returns-2 c = λ N. lead-plain N _ _ _ _ _ _ _ _ (c .before .before .before .before .before .pre) (c .before .before
-    .before .before .if1 .left) (c .before .start-at .ensures) (c .before .before .before .block-at .ensures) _ (c
-    .before .before .if2 .taken) (c .sum .ensures)
-
-moved-requires : tie.Need-moved-requires
-moved-requires c κs = (c .before .before .before .pre, (c .before .before .if1 .left, (c .before .block-at .ensures,
-    omega (arith, c .if2 .left))))
-
-returns-3 : tie.Need-returns-3
-returns-3 c = c .moved .ensures
+returns : tie.Need-returns
+returns c = c .lead-at .ensures
 
 pub lead-spec : {M : Type 1} → statement M
-lead-spec = tie.close (tie.spec far-requires returns block-at-requires start-at-requires add-sum sum-requires returns-2
-    moved-requires returns-3)
+lead-spec = tie.close (tie.spec block-at-requires lead-at-requires returns)

@@ -11,21 +11,21 @@ use Rattle.explicit.proofs.fill.fill.Statement.{statement}
 use Rattle.explicit.proofs.fill.fill.Tie as tie
 
 abbrev Inv-loop : tie.InvT-loop
-Inv-loop t n s words₀ e root all p₀ c₀ k₀ next₀ words p c k next = (k ≤ all) × ((length words ≡ length words₀) ×
+Inv-loop t n s words₀ p₀ e root all c₀ k₀ next₀ words p c k next = (k ≤ all) × ((length words ≡ length words₀) ×
     (KeptPath t root p c k × Filled (rowOf t n s) (s .n) (s .o) e words₀ k next words))
 
 abbrev μ-loop : tie.MeasureT-loop
-μ-loop t n s words₀ e root all p₀ c₀ k₀ next₀ words p c k next = all - k
+μ-loop t n s words₀ p₀ e root all c₀ k₀ next₀ words p c k next = all - k
 
 spots-of-requires : tie.Need-spots-of-requires Inv-loop μ-loop
 spots-of-requires c κs = search needs
 
 loop-holds : tie.Need-loop-holds Inv-loop μ-loop
-loop-holds c = (omega arith, (refl, (kept-none _ _ _ refl, filled-first _ _ _ _ _)))
+loop-holds c = (omega arith, (refl, (kept-none _ _ _ (c .before .before .before .pre .1), filled-first _ _ _ _ _)))
 
 go-to-requires : tie.Need-go-to-requires Inv-loop μ-loop
 go-to-requires c κs = (c .before .before .loop .inv .1 .1 .0, omega (arith, c .before .loop-test .taken, c .before
-    .before .before .spots-of .ensures, c .before .before .before .before .before .before .pre))
+    .before .before .spots-of .ensures, c .before .before .before .before .before .before .pre .0))
 
 write-row-requires : tie.Need-write-row-requires Inv-loop μ-loop
 write-row-requires c κs = c .before .before .go-to .ensures
@@ -51,10 +51,13 @@ same-length : tie.Need-same-length Inv-loop μ-loop
 same-length c = search needs
 
 returns : tie.Need-returns Inv-loop μ-loop
-returns c = filled-last _ _ _ _ _ _ _ _ _ _ _ (c .before .before .before .before .before .before .loop .inv .1 .1
-    .1) (omega (arith, c .before .before .before .before .before .before .loop .inv .0, c .before .before .before
-        .before .before .loop-test .left)) (c .before .before .before .before .before .before .before .spots-of
-    .ensures) (c .before .before .before .sum .ensures) (c .before .before .write-head .ensures)
+returns c =
+    let r = filled-last _ _ _ _ _ _ _ _ _ _ _ (c .before .before .before .before .before .before .loop .inv .1 .1 .1)
+        (omega (arith, c .before .before .before .before .before .before .loop .inv .0, c .before .before .before
+        .before .before .loop-test .left))
+          (c .before .before .before .before .before .before .before .spots-of .ensures) (c .before .before .before
+              .sum .ensures) (c .before .before .write-head .ensures) in
+    (r .0, (r .1, c .before .before .before .before .before .before .loop .inv .1 .1 .0 .sound .room))
 
 pub fill-spec : {M : Type 1} → statement M
 fill-spec = tie.close (tie.spec Inv-loop μ-loop spots-of-requires loop-holds go-to-requires

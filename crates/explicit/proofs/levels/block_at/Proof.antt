@@ -1,57 +1,56 @@
 use borrow.Author.Needs.{needs}
 use native.Mathlib.Omega.{arith}
-use Rattle.explicit.proofs.PathSteps.{block-zero, block-past, block-outside, block-unlike, block-other,
-    block-there}
-use mathlib.Core.Path.{refl, sym, _∙_}
-use borrow.Author.Tests.{le-leb, lt-leb, lt-ltb, le-ltb, eq-eqb, ne-eqb}
+use Rattle.explicit.proofs.PathSteps.{block-zero, Looking, look-first, look-within, look-found, look-again}
+use Rattle.explicit.proofs.PathSteps.{look-less, look-last}
 use Rattle.explicit.proofs.levels.block_at.Statement.{statement}
 use Rattle.explicit.proofs.levels.block_at.Tie as tie
 
-returns : tie.Need-returns
+abbrev Inv-loop : tie.InvT-loop
+Inv-loop p c block m₀ m = Looking p c block m
+
+abbrev μ-loop : tie.MeasureT-loop
+μ-loop p c block m₀ m = m
+
+returns : tie.Need-returns Inv-loop μ-loop
 returns c = block-zero _ _ _ (c .before .pre) (c .if1 .taken)
 
-returns-2 : tie.Need-returns-2
-returns-2 c = block-past _ _ _ (c .before .before .pre) (c .if2 .taken)
+innermost-requires : tie.Need-innermost-requires Inv-loop μ-loop
+innermost-requires c κs = search needs
 
-add-i : tie.Need-add-i
-add-i c = search needs
+loop-holds : tie.Need-loop-holds Inv-loop μ-loop
+loop-holds c = look-first _ _ _ _ (c .innermost .ensures)
 
-sub-i : tie.Need-sub-i
-sub-i c = search needs
+sub-field : tie.Need-sub-field Inv-loop μ-loop
+sub-field c = search needs
 
-mul-i : tie.Need-mul-i
-mul-i c = search needs
+field-requires : tie.Need-field-requires Inv-loop μ-loop
+field-requires c κs = (omega (arith, c .before .before .before .before .pre .few, look-within _ _ _ _ (c .before .loop
+    .inv), c .loop-test .taken), omega arith)
 
-element-copy-out-i : tie.Need-element-copy-out-i
-element-copy-out-i c = search needs
+returns-2 : tie.Need-returns-2 Inv-loop μ-loop
+returns-2 c = look-found _ _ _ _ (c .before .before .before .before .before .before .pre) (c .before .before .before
+    .loop .inv) (c .before .before .loop-test .taken) _ (c .before .field .ensures) (c .if2 .taken)
 
-returns-3 : tie.Need-returns-3
-returns-3 c = block-outside _ _ _ _ (c .before .before .before .before .pre) (c .before .before .before .if1 .left) refl
-    (c .if3 .taken)
+sub-field-2 : tie.Need-sub-field-2 Inv-loop μ-loop
+sub-field-2 c = search needs
 
-field-requires : tie.Need-field-requires
-field-requires c κs = (omega (arith, c .before .before .before .before .pre .few), omega arith)
+field-requires-2 : tie.Need-field-requires-2 Inv-loop μ-loop
+field-requires-2 c κs = (omega (arith, c .before .before .before .before .before .before .pre .few, look-within _ _ _
+    _ (c .before .before .before .loop .inv), c .before .before .loop-test .taken), omega arith)
 
-returns-4 : tie.Need-returns-4
-returns-4 c = block-unlike _ _ _ _ (c .before .before .before .before .before .before .pre) (c .before .before .before
-    .before .before .if1 .left) refl _ (c .before .field .ensures) (c .if4 .taken)
+loop-less : tie.Need-loop-less Inv-loop μ-loop
+loop-less c = look-less _ _ _ _ (c .before .before .before .before .before .before .before .pre) (c .before .before
+    .before .before .loop .inv) (c .before .before .before .loop-test .taken) _ (c .field2 .ensures)
 
-field-requires-2 : tie.Need-field-requires-2
-field-requires-2 c κs = (omega (arith, c .before .before .before .before .before .before .pre .few), omega arith)
+loop-again : tie.Need-loop-again Inv-loop μ-loop
+loop-again c = look-again _ _ _ _ (c .before .before .before .before .before .before .before .pre) (c .before .before
+    .before .before .loop .inv) (c .before .before .before .loop-test .taken) _ _ (c .before .before .field .ensures)
+    (c .before .if2 .left)
+    (c .field2 .ensures)
 
-returns-5 : tie.Need-returns-5
-returns-5 c = block-other _ _ _ _ (c .before .before .before .before .before .before .before .before .pre) (c .before
-    .before .before .before .before .before .before .if1 .left) refl _ (c .before .field2 .ensures) (c .if5 .taken)
-
-add-result : tie.Need-add-result
-add-result c = omega (arith, c .before .before .before .before .before .before .before .before .pre .few)
-
-returns-6 : tie.Need-returns-6
-returns-6 c = block-there _ _ _ _ (c .before .before .before .before .before .before .before .before .pre) (c .before
-    .before .before .before .before .before .before .if1 .left) refl _ _ (c .before .before .before .before .if3 .left)
-    (c .before .before .before .field .ensures) (c .before .before .if4 .left) (c .before .field2 .ensures) (c .if5
-    .left)
+returns-3 : tie.Need-returns-3 Inv-loop μ-loop
+returns-3 c = look-last _ _ _ _ (c .before .loop .inv) (c .loop-test .left)
 
 pub block-at-spec : {M : Type 1} → statement M
-block-at-spec = tie.close (tie.spec returns returns-2 add-i sub-i mul-i element-copy-out-i returns-3 field-requires
-    returns-4 field-requires-2 returns-5 add-result returns-6)
+block-at-spec = tie.close (tie.spec Inv-loop μ-loop returns innermost-requires loop-holds sub-field field-requires
+    returns-2 sub-field-2 field-requires-2 loop-less loop-again returns-3)

@@ -29,8 +29,8 @@ stop-at-requires c κs = search needs
 until-requires : tie.Need-until-requires
 until-requires c κs = search needs
 
-height-at-requires : tie.Need-height-at-requires
-height-at-requires c κs = search needs
+innermost-requires : tie.Need-innermost-requires
+innermost-requires c κs = search needs
 
 up-with-requires : tie.Need-up-with-requires
 up-with-requires c κs = search needs
@@ -38,8 +38,8 @@ up-with-requires c κs = search needs
 returns : tie.Need-returns
 returns c = child-is _ _ _ _ _ _ _ _ _ _ _ _ _ _ _ (c .before .before .before .before .before .before .start-at
     .ensures) (c .before .before .before .before .cell .ensures) (c .before .before .before .stop-at .ensures) (c
-    .before .before .until .ensures) (c .before .height-at .ensures) (c .up-with .ensures)
+    .before .before .until .ensures) (c .before .innermost .ensures) (c .up-with .ensures)
 
 pub child-spec : {M : Type 1} → statement M
 child-spec = tie.close (tie.spec start-at-requires add-base cell-requires add-until stop-at-requires until-requires
-    height-at-requires up-with-requires returns)
+    innermost-requires up-with-requires returns)

@@ -4,7 +4,7 @@ use mathlib.Core.Path.{_≡_, refl, sym, _∙_}
 use Prim.Native.Nat.{_-_}
 use Rattle.explicit.specs.inner.Kept.{KeptPath, Covers}
 use Rattle.explicit.proofs.PathInner.{entered}
-use Rattle.explicit.proofs.PathDeeper.{goes-deeper, child-low}
+use Rattle.explicit.proofs.PathDeeper.{goes-deeper}
 use Rattle.explicit.proofs.PathArrives.{arrives, arrives-deep}
 use borrow.Author.Tests.{le-leb, lt-leb, lt-ltb, le-ltb, eq-eqb, ne-eqb}
 use Rattle.explicit.proofs.path.enter.Statement.{statement}
@@ -15,7 +15,7 @@ Inv-loop t root p₀ c k at₀ p at =
     KeptPath t root p at k × Covers p at k
 
 abbrev μ-loop : tie.MeasureT-loop
-μ-loop t root p₀ c k at₀ p at = 33 - at
+μ-loop t root p₀ c k at₀ p at = 6145 - at
 
 loop-holds : tie.Need-loop-holds Inv-loop μ-loop
 loop-holds c = (c .before .pre .0, c .before .pre .1 .0)
@@ -43,10 +43,8 @@ child-requires c κs = (c .before .before .before .before .before .before .befor
         .before .before .loop .inv .0) (c .before .before .before .before .before .before .before .loop .inv .1)
     (sym (c .before .before .d2 .given .1) ∙ c .before .before .before .before .spot-at .ensures) .begins))
 
-push-requires : tie.Need-push-requires Inv-loop μ-loop
-push-requires c κs = (c .before .before .before .before .before .before .before .before .loop-test .taken, child-low _ _
-    _ _ _ _ _ _ _ _ (c .before .before .before .before .before .before .before .before .before .loop .inv .0 .sound) (c
-    .before .before .before .before .before .before .before .before .loop-test .taken) (c .before .child .ensures))
+put-level-requires : tie.Need-put-level-requires Inv-loop μ-loop
+put-level-requires c κs = c .before .before .before .before .before .before .before .before .loop-test .taken
 
 add-at : tie.Need-add-at Inv-loop μ-loop
 add-at c = search needs
@@ -62,11 +60,11 @@ loop-again c = goes-deeper _ (λ i. omega (arith, c .before .before .before .bef
     .before .before .before .before .loop .inv .0) (c .before .before .before .before .before .before .before .before
     .before .before .loop .inv .1) (sym (c .before .before .before .before .before .d2
     .given .1) ∙ c .before .before .before .before .before .before .before .spot-at .ensures) (c .before .before .child
-        .ensures) (c .push .ensures)
+        .ensures) (c .put-level .ensures)
 
 returns-2 : tie.Need-returns-2 Inv-loop μ-loop
 returns-2 c = arrives-deep _ _ _ _ _ (c .loop-test .left) (c .before .loop .inv .0) (c .before .loop .inv .1)
 
 pub enter-spec : {M : Type 1} → statement M
 enter-spec = tie.close (tie.spec Inv-loop μ-loop loop-holds spot-at-requires enum-known-d returns
-    enum-known-d-2 child-requires push-requires add-at loop-less loop-again returns-2)
+    enum-known-d-2 child-requires put-level-requires add-at loop-less loop-again returns-2)

@@ -1,5 +1,7 @@
 use borrow.Author.Needs.{needs}
 use native.Mathlib.Omega.{arith}
+use denote.Ref.{now}
+use Rattle.explicit.proofs.Steady.{small-word}
 use Rattle.automaton.specs.walk.Down.{inPrivate}
 use borrow.Author.Tests.{le-leb, lt-leb, lt-ltb, le-ltb, eq-eqb, ne-eqb}
 use Rattle.explicit.proofs.path.private_at.Statement.{statement}
@@ -13,7 +15,9 @@ unfolding inPrivate
 returns c = simp (eq-eqb _ _ (c .if1 .taken))
 
 value-at-requires : tie.Need-value-at-requires
-value-at-requires c κs = search needs
+value-at-requires c κs = (c .before .before .before .before .pre, omega (arith, c .before .before .cell .ensures,
+    small-word (now (c .before .before .before .before .args .t)) (λ i. omega (arith,
+    c .before .before .before .shared-slice-known .given i)) (c .before .before .before .before .args .at) 4))
 
 returns-2 : tie.Need-returns-2
 unfolding inPrivate

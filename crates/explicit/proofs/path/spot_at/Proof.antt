@@ -49,20 +49,17 @@ returns-2 c = spot-private _ _ _ _ _ _ _ _ _ _ (c .before .before .before .befor
         .before .field2 .ensures) (c .before .before .before .before .field3 .ensures) (c .before .before .before
         .field4 .ensures) (sym (c .before .before .cell .ensures) ∙ c .before .if2 .taken) (c .private-at .ensures)
 
-height-at-requires : tie.Need-height-at-requires
-height-at-requires c κs = c .before .before .before .before .before .before .before .before .pre .sound
-
 down-requires : tie.Need-down-requires
 down-requires c κs = search needs
 
 returns-3 : tie.Need-returns-3
-returns-3 c = spot-down _ _ _ _ _ _ _ _ _ _ _ (c .before .before .before .before .before .before .before .before .if1
-    .left) (c .before .before .before .before .before .before .before .field .ensures) (c .before .before .before
-    .before .before .before .field2 .ensures) (c .before .before .before .before .before .field3 .ensures)
-    (c .before .before .before .before .field4 .ensures) (c .before .height-at .ensures) (c .down .ensures _ (λ e. c
-        .before .before .if2 .left (c .before .before .before .cell .ensures ∙ e)))
+returns-3 c = spot-down _ _ _ _ _ _ _ _ _ _ (c .before .before .before .before .before .before .before .if1
+    .left) (c .before .before .before .before .before .before .field .ensures) (c .before .before .before
+    .before .before .field2 .ensures) (c .before .before .before .before .field3 .ensures)
+    (c .before .before .before .field4 .ensures) (c .down .ensures _ (λ e. c
+        .before .if2 .left (c .before .before .cell .ensures ∙ e)))
 
 pub spot-at-spec : {M : Type 1} → statement M
 spot-at-spec = tie.close (tie.spec sheet-spot-requires returns sub-i field-requires field-requires-2
-    field-requires-3 field-requires-4 sub-inner cell-requires private-at-requires returns-2 height-at-requires
+    field-requires-3 field-requires-4 sub-inner cell-requires private-at-requires returns-2
     down-requires returns-3)

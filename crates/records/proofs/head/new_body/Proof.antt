@@ -1,6 +1,5 @@
 -- The id is judged before the data.
 use borrow.Author.Needs.{needs}
-use borrow.Author.Tests.{eq-eqb, ne-eqb}
 use mathlib.Core.Path.{_∙_, sym}
 use Rattle.records.specs.Head.{newOf, onByte}
 use Rattle.records.proofs.head.new_body.Statement.{statement}
@@ -21,6 +20,9 @@ enum-known-found-2 c = search needs
 standing-of-requires : tie.Need-standing-of-requires
 standing-of-requires c κs = search needs
 
+is-named-requires : tie.Need-is-named-requires
+is-named-requires c κs = search needs
+
 refuse-requires : tie.Need-refuse-requires
 refuse-requires c κs = search needs
 
@@ -29,14 +31,12 @@ unfolding newOf onByte
 returns c =
     simp (
       ← c .refuse .ensures,
-      sym (c .before .before .before .before .before .before .byte-below .ensures)
-        ∙ c .before .before .before .before .found2 .given .1,
-      ← c .before .before .standing-of .ensures,
-      eq-eqb _ _ (c .before .if1 .taken),
+      sym (c .before .before .before .before .before .before .before .byte-below .ensures)
+        ∙ c .before .before .before .before .before .found2 .given .1,
+      ← c .before .before .before .standing-of .ensures,
+      ← c .before .before .is-named .ensures,
+      c .before .if1 .taken,
     )
-
-is-variable-requires : tie.Need-is-variable-requires
-is-variable-requires c κs = search needs
 
 data-body-requires : tie.Need-data-body-requires
 data-body-requires c κs = search needs
@@ -44,39 +44,22 @@ data-body-requires c κs = search needs
 returns-2 : tie.Need-returns-2
 unfolding newOf onByte
 returns-2 c =
-    simp (
-      sym (c .before .before .before .before .before .before .before .before .byte-below .ensures)
-        ∙ c .before .before .before .before .before .before .found2 .given .1,
-      ← c .before .before .before .before .standing-of .ensures,
-      ne-eqb _ _ (c .before .before .before .if1 .left),
-      ← c .before .before .is-variable .ensures,
-      c .before .if2 .taken,
-      ← c .data-body .ensures,
-    )
-
-refuse-requires-2 : tie.Need-refuse-requires-2
-refuse-requires-2 c κs = search needs
+    simp (sym (c .before .before .before .byte-below .ensures) ∙ c .before .found .given .1)
 
 returns-3 : tie.Need-returns-3
 unfolding newOf onByte
 returns-3 c =
-    simp (sym (c .before .before .before .byte-below .ensures) ∙ c .before .found .given .1)
-
-returns-4 : tie.Need-returns-4
-unfolding newOf onByte
-returns-4 c =
     simp (
-      ← c .refuse2 .ensures,
-      sym (c .before .before .before .before .before .before .before .before .byte-below .ensures)
-        ∙ c .before .before .before .before .before .before .found2 .given .1,
-      ← c .before .before .before .before .standing-of .ensures,
-      ne-eqb _ _ (c .before .before .before .if1 .left),
-      ← c .before .before .is-variable .ensures,
-      c .before .if2 .left,
+      sym (c .before .before .before .before .before .before .before .byte-below .ensures)
+        ∙ c .before .before .before .before .before .found2 .given .1,
+      ← c .before .before .before .standing-of .ensures,
+      ← c .before .before .is-named .ensures,
+      c .before .if1 .left,
+      ← c .data-body .ensures,
     )
 
 pub new-body-spec : {M : Type 1} → statement M
 new-body-spec =
     tie.close (tie.spec
-    add-id-at byte-below-requires enum-known-found enum-known-found-2 standing-of-requires refuse-requires
-    returns is-variable-requires data-body-requires returns-2 refuse-requires-2 returns-3 returns-4)
+    add-id-at byte-below-requires enum-known-found enum-known-found-2 standing-of-requires is-named-requires
+    refuse-requires returns data-body-requires returns-2 returns-3)

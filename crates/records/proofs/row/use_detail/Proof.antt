@@ -1,4 +1,4 @@
--- A variable by its level, a name by its id and its arguments.
+-- A variable by the place of its new, a name by its id and its arguments.
 use borrow.Author.Needs.{needs}
 use Rattle.records.specs.Row.{useDetail}
 use Rattle.records.proofs.row.use_detail.Statement.{statement}
@@ -7,12 +7,12 @@ use Rattle.records.proofs.row.use_detail.Tie as tie
 is-variable-requires : tie.Need-is-variable-requires
 is-variable-requires c κs = search needs
 
-level-of-requires : tie.Need-level-of-requires
-level-of-requires c κs = search needs
+new-at-requires : tie.Need-new-at-requires
+new-at-requires c κs = search needs
 
 returns : tie.Need-returns
 unfolding useDetail
-returns c = simp (← c .before .before .is-variable .ensures, c .before .if1 .taken, ← c .level-of .ensures)
+returns c = simp (← c .before .before .is-variable .ensures, c .before .if1 .taken, ← c .new-at .ensures)
 
 cast-result : tie.Need-cast-result
 cast-result c = search needs
@@ -33,4 +33,4 @@ returns-2 c = simp (← c .before .before .before .is-variable .ensures, c .befo
 pub use-detail-spec : {M : Type 1} → statement M
 use-detail-spec =
     tie.close (tie.spec
-    is-variable-requires level-of-requires returns cast-result cast-result-2 mul-result add-result returns-2)
+    is-variable-requires new-at-requires returns cast-result cast-result-2 mul-result add-result returns-2)

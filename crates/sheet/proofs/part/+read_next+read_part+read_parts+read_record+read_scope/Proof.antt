@@ -41,19 +41,19 @@ use Rattle.sheet.proofs.part.+read_next+read_part+read_parts+read_recor
 use Rattle.sheet.proofs.part.+read_next+read_part+read_parts+read_record+read_scope.Tie.{close}
 
 abbrev μ-read-next : Measures 3 read-next-kinds.ps ℕ
-μ-read-next κs a = a .1 .1 .1 .1 .1 .0 * 2048 + 2 * a .1 .1 .1 .1 .1 .1 .1 .1 .1 .1 .0
+μ-read-next κs a = a .1 .1 .1 .1 .0 * 2048 + 2 * a .1 .1 .1 .1 .1 .1 .1 .1 .1 .0
 
 abbrev μ-read-part : Measures 3 read-part-kinds.ps ℕ
-μ-read-part κs a = a .1 .1 .1 .1 .1 .0 * 2048
+μ-read-part κs a = a .1 .1 .1 .1 .0 * 2048
 
 abbrev μ-read-parts : Measures 3 read-parts-kinds.ps ℕ
-μ-read-parts κs a = a .1 .1 .1 .1 .1 .0 * 2048 + 2 * a .1 .1 .1 .1 .1 .1 .1 .1 .1 .1 .0 + 1
+μ-read-parts κs a = a .1 .1 .1 .1 .0 * 2048 + 2 * a .1 .1 .1 .1 .1 .1 .1 .1 .1 .0 + 1
 
 abbrev μ-read-record : Measures 3 read-record-kinds.ps ℕ
-μ-read-record κs a = a .1 .1 .1 .1 .1 .0 * 2048 + 700
+μ-read-record κs a = a .1 .1 .1 .1 .0 * 2048 + 700
 
 abbrev μ-read-scope : Measures 3 read-scope-kinds.ps ℕ
-μ-read-scope κs a = a .1 .1 .1 .1 .1 .0 * 2048 + 600
+μ-read-scope κs a = a .1 .1 .1 .1 .0 * 2048 + 600
 
 abbrev read-next-at : ℕ → In 3 read-next-kinds.ps
 read-next-at t = and 3 read-next-kinds.ps (is 3 read-next-kinds.ps μ-read-next t) read-next.Pre
@@ -133,7 +133,7 @@ module _ (t : ℕ) where
   unfolding bare
   read-next-returns c =
       let x = c .before .before .before .before .before .before .before .before .before .args in
-      let o = c .before .before .before .before .before .before .before .before .before .pre .1 .4 in
+      let o = c .before .before .before .before .before .before .before .before .before .pre .1 .3 in
       next-refused _ _ _ (bare (x .place) (x .rule) (x .a) (x .b)) _ _ _ _ (λ e. omega (arith, e, o))
       (c .before .before .before .before .read-part .ensures .0) (c .enum-told .given .1)
 
@@ -153,7 +153,7 @@ module _ (t : ℕ) where
       let x = c .before .before .before .before .before .before .before .before .before .before .before .before
         .before .args in
       let o = c .before .before .before .before .before .before .before .before .before .before .before .before
-        .before .pre .1 .4 in
+        .before .pre .1 .3 in
       let b = c .before .before .before .before .before .before .before .before .before .before .bare-record
         .ensures in
       rw (c .refuse .ensures)
@@ -169,13 +169,13 @@ module _ (t : ℕ) where
   read-next-sub-read-parts : read-next-lts.Need-sub-read-parts (read-next-calls t) (read-next-at t) read-next.Post
   read-next-sub-read-parts c =
       search (needs, c .before .before .before .before .before .before .before .before .before .before .before
-        .before .before .before .pre .1 .4)
+        .before .before .before .pre .1 .3)
 
   read-next-add-read-parts : read-next-lts.Need-add-read-parts (read-next-calls t) (read-next-at t) read-next.Post
   read-next-add-read-parts c =
       let q = c .before .before .before .before .before .before .before .before .before .before .before .before
         .before .before .pre .1 in
-      search (needs, q .3, q .4)
+      search (needs, q .2, q .3)
 
   read-next-read-parts-requires : read-next-lts.Need-read-parts-requires (read-next-calls t) (read-next-at t)
     read-next.Post
@@ -184,7 +184,7 @@ module _ (t : ℕ) where
         .read-part .ensures .1) (c .before .before .before .before .before .p .given .1) in
       let q = c .before .before .before .before .before .before .before .before .before .before .before .before
         .before .before .pre in
-      omega (arith, h, q .0, q .1 .0, q .1 .1, q .1 .2, q .1 .3, q .1 .4)
+      omega (arith, h, q .0, q .1 .0, q .1 .1, q .1 .2, q .1 .3)
 
   read-next-enum-known-q : read-next-lts.Need-enum-known-q (read-next-calls t) (read-next-at t) read-next.Post
   read-next-enum-known-q c = search needs
@@ -201,7 +201,7 @@ module _ (t : ℕ) where
       let x = c .before .before .before .before .before .before .before .before .before .before .before .before
         .before .before .before .before .before .before .before .args in
       let o = c .before .before .before .before .before .before .before .before .before .before .before .before
-        .before .before .before .before .before .before .before .pre .1 .4 in
+        .before .before .before .before .before .before .before .pre .1 .3 in
       let b = c .before .before .before .before .before .before .before .before .before .before .before .before
         .before .before .before .before .bare-record .ensures in
       next-later _ _ _ (bare (x .place) (x .rule) (x .a) (x .b)) _ _ _ _ (λ e. omega (arith, e, o))
@@ -224,7 +224,7 @@ module _ (t : ℕ) where
       let x = c .before .before .before .before .before .before .before .before .before .before .before .before
         .before .before .before .before .before .before .before .before .before .args in
       let o = c .before .before .before .before .before .before .before .before .before .before .before .before
-        .before .before .before .before .before .before .before .before .before .pre .1 .4 in
+        .before .before .before .before .before .before .before .before .before .pre .1 .3 in
       let b = c .before .before .before .before .before .before .before .before .before .before .before .before
         .before .before .before .before .before .before .bare-record .ensures in
       next-more _ _ _ (bare (x .place) (x .rule) (x .a) (x .b)) _ _ _ _ (λ e. omega (arith, e, o))
@@ -256,9 +256,9 @@ module _ (t : ℕ) where
   read-part-returns : read-part-lts.Need-returns (read-part-calls t) (read-part-at t) read-part.Post
   read-part-returns c =
       rw (c .refuse .ensures)
-      (let R = part-deep _ _ _ _ _ _ (sym (c .before .before .before .before .before .head-at .ensures) ∙ c .before
+      (let R = part-deep _ _ _ _ _ (sym (c .before .before .before .before .before .head-at .ensures) ∙ c .before
         .before .before .h2 .given .1) (c .before .if1 .taken) in
-      (R, part-beyond _ _ _ _ _ _ (R .answer)))
+      (R, part-beyond _ _ _ _ _ (R .answer)))
 
   read-part-sub-read-record : read-part-lts.Need-sub-read-record (read-part-calls t) (read-part-at t) read-part.Post
   read-part-sub-read-record c = search needs
@@ -272,23 +272,22 @@ module _ (t : ℕ) where
       let i = g .inside in
       let p = g .place in
       let n = g .next-inside in
-      (omega (arith, p, i, n), (omega (arith, p, i, n), omega (arith, p, i, n), omega (arith, p, i, n), n,
-        new-small _ _ _ _ _ _ e))
+      (omega (arith, p, i, n), (omega (arith, p, i, n), omega (arith, p, i, n), n, new-small _ _ _ _ _ _ e))
 
   read-part-returns-2 : read-part-lts.Need-returns-2 (read-part-calls t) (read-part-at t) read-part.Post
   read-part-returns-2 c =
-      let R = part-bad _ _ _ _ _ _ (sym (c .before .before .before .head-at .ensures) ∙ c .before .h .given .1) in
-      (R, part-beyond _ _ _ _ _ _ (R .answer))
+      let R = part-bad _ _ _ _ _ (sym (c .before .before .before .head-at .ensures) ∙ c .before .h .given .1) in
+      (R, part-beyond _ _ _ _ _ (R .answer))
 
   read-part-same-length : read-part-lts.Need-same-length (read-part-calls t) (read-part-at t) read-part.Post
   read-part-same-length c = search needs
 
   read-part-returns-3 : read-part-lts.Need-returns-3 (read-part-calls t) (read-part-at t) read-part.Post
   read-part-returns-3 c =
-      let R = part-good _ _ _ _ _ _ (sym (c .before .before .before .before .before .before .before .before
+      let R = part-good _ _ _ _ _ (sym (c .before .before .before .before .before .before .before .before
         .head-at .ensures) ∙ c .before .before .before .before .before .before .h2 .given .1) (c .before .before
         .before .before .if1 .left) (c .before .before .read-record .ensures) in
-      (R, part-beyond _ _ _ _ _ _ (R .answer))
+      (R, part-beyond _ _ _ _ _ (R .answer))
 
 -- read_parts
 module _ (t : ℕ) where
@@ -332,7 +331,7 @@ module _ (t : ℕ) where
 
   read-record-returns : read-record-lts.Need-returns (read-record-calls t) (read-record-at t) read-record.Post
   read-record-returns c =
-      record-closes _ _ _ _ _ _ (c .before .before .before .before .before .before .read-scope .ensures) (c .before
+      record-closes _ _ _ _ _ (c .before .before .before .before .before .before .read-scope .ensures) (c .before
         .before .close-record .ensures .0) (c .before .before .close-record .ensures .1)
 
 -- read_scope
@@ -344,12 +343,8 @@ module _ (t : ℕ) where
   read-scope-enter-requires : read-scope-lts.Need-enter-requires (read-scope-calls t) (read-scope-at t)
     read-scope.Post
   read-scope-enter-requires c κs =
-      c .before .before .before .before .before .before .pre .1 .4 (sym (c .before .before .before .is-new
-        .ensures) ∙ c .before .before .if1 .taken)
-
-  read-scope-add-read-parts : read-scope-lts.Need-add-read-parts (read-scope-calls t) (read-scope-at t)
-    read-scope.Post
-  read-scope-add-read-parts c = search needs
+      let q = c .before .before .before .before .before .before .pre .1 in
+      (q .1, q .3 (sym (c .before .before .before .is-new .ensures) ∙ c .before .before .if1 .taken))
 
   read-scope-read-parts-requires : read-scope-lts.Need-read-parts-requires (read-scope-calls t) (read-scope-at t)
     read-scope.Post
@@ -360,7 +355,7 @@ module _ (t : ℕ) where
 
   read-scope-returns : read-scope-lts.Need-returns (read-scope-calls t) (read-scope-at t) read-scope.Post
   read-scope-returns c =
-      scope-new _ _ _ _ _ _ (sym (c .before .before .before .before .before .before .before .before .before .is-new
+      scope-new _ _ _ _ _ (sym (c .before .before .before .before .before .before .before .before .before .is-new
         .ensures) ∙ c .before .before .before .before .before .before .before .before .if1 .taken) (rw
         (← c .before .before .before .before .before .enter .ensures) (c .before .before .read-parts
         .ensures))
@@ -374,7 +369,7 @@ module _ (t : ℕ) where
 
   read-scope-returns-2 : read-scope-lts.Need-returns-2 (read-scope-calls t) (read-scope-at t) read-scope.Post
   read-scope-returns-2 c =
-      scope-plain _ _ _ _ _ _ (sym (c .before .before .before .before .before .is-new .ensures) ∙ c .before .before
+      scope-plain _ _ _ _ _ (sym (c .before .before .before .before .before .is-new .ensures) ∙ c .before .before
         .before .before .if1 .left) (c .before .before .read-parts2 .ensures)
 
 pub +read-next+read-part+read-parts+read-record+read-scope-spec : {M : Type 1} → statement M
@@ -398,6 +393,6 @@ pub +read-next+read-part+read-parts+read-record+read-scope-spec : {M : Type 1} �
       (read-record-read-scope-requires t) (read-record-close-record-requires t) (read-record-same-length t)
       (read-record-returns t))
     (λ t. read-scope-lts.spec (read-scope-calls t) (read-scope-at t) read-scope.Post (read-scope-is-new-requires t)
-      (read-scope-enter-requires t) (read-scope-add-read-parts t) (read-scope-read-parts-requires t)
+      (read-scope-enter-requires t) (read-scope-read-parts-requires t)
       (read-scope-same-length t) (read-scope-returns t) (read-scope-read-parts-requires-2 t)
       (read-scope-same-length-2 t) (read-scope-returns-2 t))

@@ -1,0 +1,112 @@
+-- What the functions of the cycle say, from what those say that they call, over plain variables.
+use Prim.Native.Nat.{ℕ, zero, suc, _+_, _/_, _%_, _<_}
+use native.Mathlib.Omega.{arith}
+use mathlib.Core.Path.{_≡_, refl, sym, _∙_}
+use mathlib.Core.List.{List}
+use lib.ListN.{set, getD}
+use Rattle.procedures.specs.PartKind.{PROCEDURE, USE, NEW, KIND, DETAIL, PARTS}
+use Rattle.records.specs.Row.{word}
+use Rattle.expand.specs.Rows.{ROWS}
+use Rattle.expand.specs.Close.{usedOf, bitOf, moreOf, partsOf, closedRow, passedSlots}
+use Rattle.expand.specs.Contract.{Expanding, Piece, Pieces, Closed, Used, ByKind}
+
+-- one of five by its number
+by-five {ℓ} : {X : Type ℓ} → X → X → X → X → X → ℕ → X
+by-five a b c d e zero = a
+by-five a b c d e (suc zero) = b
+by-five a b c d e (suc (suc zero)) = c
+by-five a b c d e (suc (suc (suc zero))) = d
+by-five a b c d e (suc (suc (suc (suc n)))) = e
+
+module _ (t marks slots : List ℕ) where
+  -- one part
+  pub piece-none : (level left at wants j : ℕ) (rows : List ℕ) (n : ℕ) → wants ≡ 0 →
+      Piece t marks slots level left at wants j rows rows n ROWS n
+  piece-none level left at wants j rows n e = record {
+      wanted = λ h. absurd (omega arith); unwanted = λ h. (refl, refl, refl) }
+
+  pub piece-some : (level left at wants j : ℕ) (rows after : List ℕ) (n r m p : ℕ) → (wants ≡ 0 → ⊥) →
+      p ≡ word t at (PARTS + j) → Expanding t marks slots level left p rows after n r m →
+      Piece t marks slots level left at wants j rows after n r m
+  piece-some level left at wants j rows after n r m p h e x = record {
+      wanted = λ g. rw e at x; unwanted = λ g. absurd (h g) }
+
+  -- all four
+  pub pieces-four : (level left at w : ℕ) (r₀ r₁ r₂ r₃ r₄ : List ℕ) (n a b c d n₁ n₂ n₃ m : ℕ) →
+      Piece t marks slots level left at (w % 2) 0 r₀ r₁ n a n₁ →
+      Piece t marks slots level left at (w / 2 % 2) 1 r₁ r₂ n₁ b n₂ →
+      Piece t marks slots level left at (w / 2 / 2 % 2) 2 r₂ r₃ n₂ c n₃ →
+      Piece t marks slots level left at (w / 2 / 2 / 2 % 2) 3 r₃ r₄ n₃ d m →
+      Pieces t marks slots level left at w r₀ r₄ n a b c d m
+  unfolding bitOf by-five
+  pieces-four level left at w r₀ r₁ r₂ r₃ r₄ n a b c d n₁ n₂ n₃ m p q s u = record {
+      tables = by-five r₀ r₁ r₂ r₃ r₄; counts = by-five n n₁ n₂ n₃ m; row = by-five a b c d 0;
+      piece = go; first = (refl, refl); last = (refl, refl); parts = (refl, refl, refl, refl) }
+    where
+      go : (j : ℕ) → j < 4 →
+          Piece t marks slots level left at (bitOf w j) j (by-five r₀ r₁ r₂ r₃ r₄ j) (by-five r₀ r₁ r₂ r₃ r₄ (suc j))
+            (by-five n n₁ n₂ n₃ m j) (by-five a b c d 0 j) (by-five n n₁ n₂ n₃ m (suc j))
+      go zero h = p
+      go (suc zero) h = q
+      go (suc (suc zero)) h = s
+      go (suc (suc (suc zero))) h = u
+      go (suc (suc (suc (suc j)))) h = absurd (omega arith)
+
+  -- a row
+  pub row-made : (level left at : ℕ) (rows between after : List ℕ) (n a b c d m kind detail w n₁ : ℕ) →
+      kind ≡ word t at KIND → detail ≡ word t at DETAIL → w ≡ partsOf kind detail → n₁ ≡ moreOf n 1 →
+      Pieces t marks slots level left at w rows between n₁ a b c d m → after ≡ closedRow t slots between at n a b c d →
+      Closed t marks slots level left at rows after n m
+  row-made level left at rows between after n a b c d m kind detail w n₁ k e f g p x =
+      let h : Pieces t marks slots level left at (partsOf (word t at KIND) (word t at DETAIL)) rows between (moreOf n 1)
+          a b c d m = rw (f, g, k, e) at p in
+      record { between = between; a = a; b = b; c = c; d = d; pieces = h; row = x }
+
+-- a use
+pub use-made : (t marks slots : List ℕ) (level left at : ℕ) (rows between after : List ℕ)
+    (n a b c d i r m detail p k l body used more : ℕ) (inner : List ℕ) →
+    detail ≡ word t at DETAIL → p ≡ detail % 4096 → k ≡ word t p DETAIL → body ≡ word t p PARTS →
+    used ≡ usedOf (getD marks p 0) → l ≡ detail / 4096 → more ≡ moreOf k l →
+    inner ≡ passedSlots slots k a b c d → Pieces t marks slots level left at used rows between n a b c d i →
+    Expanding t marks inner more left body between after i r m →
+    Used t marks slots level left at rows after n r m
+use-made t marks slots level left at rows between after n a b c d i r m detail p k l body used more inner
+    e₁ e₂ e₃ e₄ e₅ e₆ e₇ e₈ x y =
+    let x′ : Pieces t marks slots level left at (usedOf (getD marks (word t at DETAIL % 4096) 0)) rows between n a b c d
+        i = rw (e₅, e₂, e₁) at x in
+    let y′ : Expanding t marks (passedSlots slots (word t (word t at DETAIL % 4096) DETAIL) a b c d)
+        (moreOf (word t (word t at DETAIL % 4096) DETAIL) (word t at DETAIL / 4096)) left
+        (word t (word t at DETAIL % 4096) PARTS) between after i r m = rw (e₈, e₇, e₆, e₄, e₃, e₂, e₁) at y in
+    record { between = between; a = a; b = b; c = c; d = d; i = i; pieces = x′; body = y′ }
+
+-- by the kind
+module _ (t marks slots : List ℕ) (level left at : ℕ) (rows after : List ℕ) (n r m kind : ℕ)
+    (k : kind ≡ word t at KIND) where
+  pub kind-scope : (p l : ℕ) → kind ≡ PROCEDURE → p ≡ word t at (PARTS + 1) → l ≡ moreOf level 1 →
+      Expanding t marks slots l left p rows after n r m → ByKind t marks slots level left at rows after n r m
+  kind-scope p l e f g x =
+      let x′ : Expanding t marks slots (moreOf level 1) left (word t at (PARTS + 1)) rows after n r m = rw (f, g) at
+          x in
+      record {
+        scope = λ h. x′; routine = λ h. absurd (omega (arith, k, e, h)); block = λ h. absurd (omega (arith, k, e, h));
+        plain = λ h i j. absurd (h (sym k ∙ e)) }
+
+  pub kind-use : (kind ≡ USE) → Used t marks slots level left at rows after n r m →
+      ByKind t marks slots level left at rows after n r m
+  kind-use e x = record {
+      scope = λ h. absurd (omega (arith, k, e, h)); routine = λ h. x; block = λ h. absurd (omega (arith, k, e, h));
+      plain = λ h i j. absurd (i (sym k ∙ e)) }
+
+  pub kind-block : (l : ℕ) (inner : List ℕ) → kind ≡ NEW → inner ≡ set slots level n → l ≡ moreOf level 1 → r ≡ n →
+      Closed t marks inner l left at rows after n m → ByKind t marks slots level left at rows after n r m
+  kind-block l inner e f g i x =
+      let x′ : Closed t marks (set slots level n) (moreOf level 1) left at rows after n m = rw (f, g) at x in
+      record {
+        scope = λ h. absurd (omega (arith, k, e, h)); routine = λ h. absurd (omega (arith, k, e, h));
+        block = λ h. (i, x′); plain = λ h i j. absurd (j (sym k ∙ e)) }
+
+  pub kind-plain : (kind ≡ PROCEDURE → ⊥) → (kind ≡ USE → ⊥) → (kind ≡ NEW → ⊥) → r ≡ n →
+      Closed t marks slots level left at rows after n m → ByKind t marks slots level left at rows after n r m
+  kind-plain e f g i x = record {
+      scope = λ h. absurd (e (k ∙ h)); routine = λ h. absurd (f (k ∙ h)); block = λ h. absurd (g (k ∙ h));
+      plain = λ h y z. (i, x) }

@@ -1,0 +1,43 @@
+-- The stores of a row and of slots, over plain variables.
+use Prim.Native.Nat.{ℕ, _+_, min}
+use native.Mathlib.Omega.{arith}
+use mathlib.Core.Path.{_≡_, _∙_}
+use mathlib.Core.List.{List}
+use lib.ListN.{set}
+use Rattle.records.specs.Row.{cell}
+use Rattle.procedures.specs.PartKind.{KIND, CLASS, VALUES}
+use Rattle.records.specs.Row.{word}
+use Rattle.expand.specs.Close.{weightOf, detailOf, headPut, partsPut, closedRow, passedSlots}
+
+-- the five words, one after another
+pub five-put : (t : List ℕ) (n k h c v d : ℕ) {t₁ t₂ t₃ t₄ t₅ : List ℕ} →
+    t₁ ≡ set t (cell n 0) k → t₂ ≡ set t₁ (cell n 1) h → t₃ ≡ set t₂ (cell n 2) c → t₄ ≡ set t₃ (cell n 3) v →
+    t₅ ≡ set t₄ (cell n 4) d → t₅ ≡ headPut t n k h c v d
+unfolding headPut
+five-put t n k h c v d p q s u w = w ∙ rw (u, s, q, p)
+
+-- the rows of four parts, one after another
+pub four-put : (t : List ℕ) (n a b c d : ℕ) {t₁ t₂ t₃ t₄ : List ℕ} →
+    t₁ ≡ set t (cell n 5) a → t₂ ≡ set t₁ (cell n 6) b → t₃ ≡ set t₂ (cell n 7) c → t₄ ≡ set t₃ (cell n 8) d →
+    t₄ ≡ partsPut t n a b c d
+unfolding partsPut
+four-put t n a b c d p q s u = u ∙ rw (s, q, p)
+
+-- the slots of a procedure, one after another
+pub four-passed : (t : List ℕ) (k a b c d : ℕ) {t₁ t₂ t₃ t₄ : List ℕ} →
+    t₁ ≡ set t k a → t₂ ≡ set t₁ (k + 1) b → t₃ ≡ set t₂ (k + 2) c → t₄ ≡ set t₃ (k + 3) d →
+    t₄ ≡ passedSlots t k a b c d
+unfolding passedSlots
+four-passed t k a b c d p q s u = u ∙ rw (s, q, p)
+
+-- all words of a row
+pub row-closed : (t slots rows : List ℕ) (at n a b c d : ℕ) {k w l v e : ℕ} {r₁ r₂ : List ℕ} →
+    k ≡ word t at KIND → l ≡ word t at CLASS → v ≡ word t at VALUES → e ≡ detailOf t slots at →
+    w ≡ min (weightOf t rows at a b c d) 4097 → r₁ ≡ headPut rows n k w l v e → r₂ ≡ partsPut r₁ n a b c d →
+    r₂ ≡ closedRow t slots rows at n a b c d
+unfolding closedRow
+row-closed t slots rows at n a b c d p q s u x y z = z ∙ rw (y, p, q, s, u, x)
+
+-- a sum of two held numbers, held, is the held sum
+pub held-sum : (a b x y : ℕ) {r : ℕ} → x ≡ min a 4097 → y ≡ min b 4097 → r ≡ min (x + y) 4097 → r ≡ min (a + b) 4097
+held-sum a b x y p q s = omega arith

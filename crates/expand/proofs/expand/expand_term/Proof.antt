@@ -1,0 +1,18 @@
+-- The whole term, in slots that hold no row.
+use borrow.Author.Needs.{needs}
+use mathlib.Core.Path.{refl}
+use Rattle.expand.proofs.Expansion.{by-top}
+use Rattle.expand.proofs.expand.expand_term.Statement.{statement}
+use Rattle.expand.proofs.expand.expand_term.Tie as tie
+
+expand-requires : tie.Need-expand-requires
+expand-requires c κs = search needs
+
+same-length : tie.Need-same-length
+same-length c = search needs
+
+returns : tie.Need-returns
+returns c = by-top _ _ _ _ _ _ _ _ refl (c .before .before .expand .ensures)
+
+pub expand-term-spec : {M : Type 1} → statement M
+expand-term-spec = tie.close (tie.spec expand-requires same-length returns)

@@ -1,0 +1,13 @@
+-- The word at the place.
+use borrow.Author.Needs.{needs}
+use Rattle.expand.proofs.words.mark_at.Statement.{statement}
+use Rattle.expand.proofs.words.mark_at.Tie as tie
+
+read-requires : tie.Need-read-requires
+read-requires c κs = search needs
+
+returns : tie.Need-returns
+returns c = c .read .ensures
+
+pub mark-at-spec : {M : Type 1} → statement M
+mark-at-spec = tie.close (tie.spec read-requires returns)

@@ -1,0 +1,18 @@
+-- The word at the place of the row.
+use Rattle.records.specs.Row.{word}
+use borrow.Author.Needs.{needs}
+use Rattle.expand.proofs.words.word_at.Statement.{statement}
+use Rattle.expand.proofs.words.word_at.Tie as tie
+
+place-of-requires : tie.Need-place-of-requires
+place-of-requires c κs = search needs
+
+read-requires : tie.Need-read-requires
+read-requires c κs = search needs
+
+returns : tie.Need-returns
+unfolding word
+returns c = rw (← c .before .place-of .ensures) (c .read .ensures)
+
+pub word-at-spec : {M : Type 1} → statement M
+word-at-spec = tie.close (tie.spec place-of-requires read-requires returns)

@@ -1,0 +1,254 @@
+// The words of a row, once its parts have theirs.
+use crate::words::CLASS;
+use crate::words::DETAIL;
+use crate::words::KIND;
+use crate::words::PARTS;
+use crate::words::VALUES;
+use crate::words::WEIGHT;
+use crate::words::arguments_of;
+use crate::words::first_bits;
+use crate::words::put_word;
+use crate::words::slot_at;
+use crate::words::word_at;
+use records::weight::sat_add;
+use records::weight::sat_mul;
+ghost use mathlib.Core.Path.{_≡_};
+ghost use Prim.Native.Nat.{_+_, _*_, _<_, min};
+ghost use lib.ListN.{getD, set};
+ghost use Rattle.records.specs.Row.{word};
+ghost use Rattle.expand.specs.Close.{partsOf, questionsBy, answersBy, argumentWeight, nameWeight, plainWeight};
+ghost use Rattle.expand.specs.Close.{firstValues, weightOf, detailOf, headPut, partsPut, closedRow};
+
+// The kinds of rows.
+const NAME: u16 = 20;
+
+const FETCH: u16 = 21;
+
+const OPERATE: u16 = 22;
+
+const ASSIGN: u16 = 23;
+
+const SEQUENCE: u16 = 24;
+
+const IF: u16 = 25;
+
+const WHILE: u16 = 26;
+
+pub(crate) const NEW: u16 = 27;
+
+pub(crate) const PROCEDURE: u16 = 28;
+
+const PRIVATE: u16 = 128;
+
+pub(crate) const USE: u16 = 130;
+
+// The classes of types.
+const COMMANDS: u16 = 0;
+
+const EXPRESSIONS: u16 = 1;
+
+const VARIABLES: u16 = 2;
+
+// Which parts a record has: a bit for each.
+const ONE: u16 = 1;
+
+const TWO: u16 = 3;
+
+const THREE: u16 = 7;
+
+// Which parts a record of a kind has, where its detail is given.
+pub(crate) fn parts_of(kind: u16, detail: u16) -> u16
+    ensures { λ r. ⌜ r ≡ partsOf kind detail ⌝ }
+{
+    if kind == NAME {
+        return first_bits(arguments_of(detail));
+    }
+    if kind == FETCH {
+        return ONE;
+    }
+    if kind == NEW {
+        return ONE;
+    }
+    if kind == OPERATE {
+        return TWO;
+    }
+    if kind == ASSIGN {
+        return TWO;
+    }
+    if kind == SEQUENCE {
+        return TWO;
+    }
+    if kind == WHILE {
+        return TWO;
+    }
+    if kind == IF { THREE } else { 0 }
+}
+
+// How many questions a type has.
+fn questions_by(class: u16, values: u16) -> u32
+    ensures { λ r. ⌜ r ≡ questionsBy class values ⌝ }
+{
+    if class == VARIABLES {
+        return 1 + values as u32;
+    }
+    1
+}
+
+// How many answers these have in all.
+fn answers_by(class: u16, values: u16) -> u32
+    ensures { λ r. ⌜ r ≡ answersBy class values ⌝ }
+{
+    if class == COMMANDS {
+        return 1;
+    }
+    if class == EXPRESSIONS {
+        return values as u32;
+    }
+    2 * (values as u32)
+}
+
+// What argument j of the name at a place adds to its weight, where the argument's row weighs w.
+fn argument_weight(t: &[u16], at: u16, j: u16, w: u16) -> u32
+    requires { ⌜ j < 4 ⌝ }
+    ensures { λ r. ⌜ r ≡ min (argumentWeight (now (t .entry)) at j w) 4097 ⌝ }
+{
+    if j < arguments_of(word_at(t, at, DETAIL)) {
+        let p = word_at(t, at, PARTS + j);
+        let class = word_at(t, p, CLASS);
+        let values = word_at(t, p, VALUES);
+        let product = sat_mul(questions_by(class, values), w as u32);
+        return sat_add(product, answers_by(class, values));
+    }
+    0
+}
+
+// The weight of a name at a place whose arguments' rows weigh as given.
+fn name_weight(t: &[u16], at: u16, a: u16, b: u16, c: u16, d: u16) -> u32
+    ensures { λ r. ⌜ r ≡ min (nameWeight (now (t .entry)) at a b c d) 4097 ⌝ }
+{
+    let first = argument_weight(t, at, 0, a);
+    let second = argument_weight(t, at, 1, b);
+    let third = argument_weight(t, at, 2, c);
+    let fourth = argument_weight(t, at, 3, d);
+    sat_add(2, sat_add(first, sat_add(second, sat_add(third, fourth))))
+}
+
+// The weight of a row of another kind: v are the values of its first part, d is its detail, a, b, c weigh its parts.
+fn plain_weight(kind: u16, v: u16, d: u16, a: u16, b: u16, c: u16) -> u32
+    ensures { λ r. ⌜ r ≡ min (plainWeight kind v d a b c) 4097 ⌝ }
+{
+    if kind == PRIVATE {
+        return 2;
+    }
+    if kind == FETCH {
+        return sat_add(a as u32, 0);
+    }
+    if kind == OPERATE {
+        return sat_add(a as u32, sat_mul(v as u32, b as u32));
+    }
+    if kind == ASSIGN {
+        return sat_add(b as u32, sat_mul(v as u32, a as u32));
+    }
+    if kind == SEQUENCE {
+        return sat_add(a as u32, b as u32);
+    }
+    if kind == WHILE {
+        return sat_add(a as u32, b as u32);
+    }
+    if kind == IF {
+        return sat_add(a as u32, sat_add(b as u32, c as u32));
+    }
+    if kind == NEW {
+        return sat_mul(d as u32, a as u32);
+    }
+    1
+}
+
+// The values of the first part of the part at a place.
+fn first_values(t: &[u16], at: u16) -> u16
+    ensures { λ r. ⌜ r ≡ firstValues (now (t .entry)) at ⌝ }
+{
+    word_at(t, word_at(t, at, PARTS), VALUES)
+}
+
+// The weight of the row for the part at a place whose parts are the rows a, b, c and d, held at 4,097.
+fn weight_of(t: &[u16], rows: &[u16], at: u16, a: u16, b: u16, c: u16, d: u16) -> u16
+    ensures { λ r. ⌜ r ≡ min (weightOf (now (t .entry)) (now (rows .entry)) at a b c d) 4097 ⌝ }
+{
+    let kind = word_at(t, at, KIND);
+    let first = word_at(rows, a, WEIGHT);
+    let second = word_at(rows, b, WEIGHT);
+    let third = word_at(rows, c, WEIGHT);
+    if kind == NAME {
+        let fourth = word_at(rows, d, WEIGHT);
+        return name_weight(t, at, first, second, third, fourth) as u16;
+    }
+    plain_weight(
+        kind,
+        first_values(t, at),
+        word_at(t, at, DETAIL),
+        first,
+        second,
+        third,
+    ) as u16
+}
+
+// The detail of the row for the part at a place.
+fn detail_of(t: &[u16], slots: &[u16; 128], at: u16) -> u16
+    ensures { λ r. ⌜ r ≡ detailOf (now (t .entry)) (now (slots .entry)) at ⌝ }
+{
+    let kind = word_at(t, at, KIND);
+    let detail = word_at(t, at, DETAIL);
+    if kind == PRIVATE {
+        return slot_at(slots, detail);
+    }
+    if kind == ASSIGN {
+        return first_values(t, at);
+    }
+    detail
+}
+
+// Stores the first five words of row n.
+fn put_head(rows: &mut [u16], n: u16, kind: u16, weight: u16, class: u16, values: u16, detail: u16)
+    ensures { λ x. ⌜ now (rows .exit) ≡ headPut (now (rows .entry)) n kind weight class values detail ⌝ }
+{
+    put_word(rows, n, KIND, kind);
+    put_word(rows, n, WEIGHT, weight);
+    put_word(rows, n, CLASS, class);
+    put_word(rows, n, VALUES, values);
+    put_word(rows, n, DETAIL, detail);
+}
+
+// Stores the rows of the parts of row n.
+fn put_parts(rows: &mut [u16], n: u16, a: u16, b: u16, c: u16, d: u16)
+    ensures { λ x. ⌜ now (rows .exit) ≡ partsPut (now (rows .entry)) n a b c d ⌝ }
+{
+    put_word(rows, n, PARTS, a);
+    put_word(rows, n, PARTS + 1, b);
+    put_word(rows, n, PARTS + 2, c);
+    put_word(rows, n, PARTS + 3, d);
+}
+
+// Writes row n for the part at a place whose parts are the rows a, b, c and d.
+pub(crate) fn close_row(
+    t: &[u16],
+    slots: &[u16; 128],
+    rows: &mut [u16],
+    at: u16,
+    n: u16,
+    a: u16,
+    b: u16,
+    c: u16,
+    d: u16,
+)
+    ensures { λ x. ⌜ now (rows .exit) ≡
+        closedRow (now (t .entry)) (now (slots .entry)) (now (rows .entry)) at n a b c d ⌝ }
+{
+    let kind = word_at(t, at, KIND);
+    let class = word_at(t, at, CLASS);
+    let values = word_at(t, at, VALUES);
+    let detail = detail_of(t, slots, at);
+    let weight = weight_of(t, rows, at, a, b, c, d);
+    put_head(rows, n, kind, weight, class, values, detail);
+    put_parts(rows, n, a, b, c, d);
+}

@@ -1,0 +1,249 @@
+// The expansion: a cycle of functions, a bound of the turns to come falling. Slots hold, by the numbers of the
+// enclosing binders, the row of a new and the row of a parameter's argument; who changes them works on a copy.
+use crate::close::NEW;
+use crate::close::PROCEDURE;
+use crate::close::USE;
+use crate::close::close_row;
+use crate::close::parts_of;
+use crate::words::DETAIL;
+use crate::words::KIND;
+use crate::words::PARTS;
+use crate::words::come_at;
+use crate::words::more;
+use crate::words::pass;
+use crate::words::passed_of;
+use crate::words::procedure_of;
+use crate::words::put_slot;
+use crate::words::slot_at;
+use crate::words::used_at;
+use crate::words::word_at;
+ghost use mathlib.Core.Path.{_≡_};
+ghost use Prim.Native.Nat.{_+_, _≤_, _<_};
+ghost use lib.ListN.{length, set};
+ghost use Rattle.records.specs.Row.{word};
+ghost use Rattle.expand.specs.Close.{moreOf};
+ghost use Rattle.expand.specs.Contract.{Expanding, Piece, Pieces, Closed, Used, ByKind, Top};
+
+// What stands in a slot, or for a part, where there is no row.
+const NO_ROW: u16 = 12288;
+
+// A bound of all turns: 4,097 for each place that a part may end at.
+const TURNS: u32 = 16785409;
+
+// The row that a part became, and how many rows are made then.
+pub struct Made {
+    pub row: u16,
+    pub count: u16,
+}
+
+// The rows of four parts, and how many rows are made then.
+struct Four {
+    a: u16,
+    b: u16,
+    c: u16,
+    d: u16,
+    count: u16,
+}
+
+// Expands the part at a place: one that comes down to a parameter is that parameter's row.
+fn expand(
+    t: &[u16],
+    marks: &[u16],
+    slots: &[u16; 128],
+    rows: &mut [u16],
+    level: u16,
+    left: u32,
+    n: u16,
+    at: u16,
+) -> Made
+    ensures { λ r. ⌜ Expanding (now (t .entry)) (now (marks .entry)) (now (slots .entry)) level left at
+        (now (rows .entry)) (now (rows .exit)) n (r .row) (r .count) ⌝ }
+{
+    let come = come_at(marks, at);
+    if 0 < come {
+        return Made {
+            row: slot_at(slots, come - 1),
+            count: n,
+        };
+    }
+    if left == 0 {
+        return Made {
+            row: NO_ROW,
+            count: n,
+        };
+    }
+    expand_kind(t, marks, slots, rows, level, left - 1, n, at)
+}
+
+// Expands a part that comes down to no parameter, by its kind.
+fn expand_kind(
+    t: &[u16],
+    marks: &[u16],
+    slots: &[u16; 128],
+    rows: &mut [u16],
+    level: u16,
+    left: u32,
+    n: u16,
+    at: u16,
+) -> Made
+    ensures { λ r. ⌜ ByKind (now (t .entry)) (now (marks .entry)) (now (slots .entry)) level left at
+        (now (rows .entry)) (now (rows .exit)) n (r .row) (r .count) ⌝ }
+{
+    let kind = word_at(t, at, KIND);
+    if kind == PROCEDURE {
+        let scope = word_at(t, at, PARTS + 1);
+        return expand(t, marks, slots, rows, more(level, 1), left, n, scope);
+    }
+    if kind == USE {
+        return expand_use(t, marks, slots, rows, level, left, n, at);
+    }
+    if kind == NEW {
+        let mut inner = *slots;
+        put_slot(&mut inner, level, n);
+        let count = expand_row(t, marks, &inner, rows, more(level, 1), left, n, at);
+        return Made { row: n, count };
+    }
+    let count = expand_row(t, marks, slots, rows, level, left, n, at);
+    Made { row: n, count }
+}
+
+// Expands a use of a procedure: the arguments that it uses in the slots of the caller, then its term in its own.
+fn expand_use(
+    t: &[u16],
+    marks: &[u16],
+    slots: &[u16; 128],
+    rows: &mut [u16],
+    level: u16,
+    left: u32,
+    n: u16,
+    at: u16,
+) -> Made
+    ensures { λ r. ⌜ Used (now (t .entry)) (now (marks .entry)) (now (slots .entry)) level left at
+        (now (rows .entry)) (now (rows .exit)) n (r .row) (r .count) ⌝ }
+{
+    let detail = word_at(t, at, DETAIL);
+    let p = procedure_of(detail);
+    let k = word_at(t, p, DETAIL);
+    let body = word_at(t, p, PARTS);
+    let four = expand_parts(t, marks, slots, rows, level, left, n, at, used_at(marks, p));
+    let mut inner = *slots;
+    pass(&mut inner, k, four.a, four.b, four.c, four.d);
+    expand(
+        t,
+        marks,
+        &inner,
+        rows,
+        more(k, passed_of(detail)),
+        left,
+        four.count,
+        body,
+    )
+}
+
+// Makes row n for the part at a place, after the rows of its parts, and says how many are made then.
+fn expand_row(
+    t: &[u16],
+    marks: &[u16],
+    slots: &[u16; 128],
+    rows: &mut [u16],
+    level: u16,
+    left: u32,
+    n: u16,
+    at: u16,
+) -> u16
+    ensures { λ r. ⌜ Closed (now (t .entry)) (now (marks .entry)) (now (slots .entry)) level left at
+        (now (rows .entry)) (now (rows .exit)) n r ⌝ }
+{
+    let wanted = parts_of(word_at(t, at, KIND), word_at(t, at, DETAIL));
+    let four = expand_parts(t, marks, slots, rows, level, left, more(n, 1), at, wanted);
+    close_row(t, slots, rows, at, n, four.a, four.b, four.c, four.d);
+    four.count
+}
+
+// Expands those parts of the part at a place whose bits are wanted, in their order.
+fn expand_parts(
+    t: &[u16],
+    marks: &[u16],
+    slots: &[u16; 128],
+    rows: &mut [u16],
+    level: u16,
+    left: u32,
+    n: u16,
+    at: u16,
+    wanted: u16,
+) -> Four
+    ensures { λ r. ⌜ Pieces (now (t .entry)) (now (marks .entry)) (now (slots .entry)) level left at wanted
+        (now (rows .entry)) (now (rows .exit)) n (r .a) (r .b) (r .c) (r .d) (r .count) ⌝ }
+{
+    let later = wanted / 2;
+    let last = later / 2;
+    let a = expand_part(t, marks, slots, rows, level, left, n, at, wanted % 2, 0);
+    let b = expand_part(
+        t,
+        marks,
+        slots,
+        rows,
+        level,
+        left,
+        a.count,
+        at,
+        later % 2,
+        1,
+    );
+    let c = expand_part(t, marks, slots, rows, level, left, b.count, at, last % 2, 2);
+    let d = expand_part(
+        t,
+        marks,
+        slots,
+        rows,
+        level,
+        left,
+        c.count,
+        at,
+        last / 2 % 2,
+        3,
+    );
+    Four {
+        a: a.row,
+        b: b.row,
+        c: c.row,
+        d: d.row,
+        count: d.count,
+    }
+}
+
+// Expands part j of the part at a place, where it is wanted.
+fn expand_part(
+    t: &[u16],
+    marks: &[u16],
+    slots: &[u16; 128],
+    rows: &mut [u16],
+    level: u16,
+    left: u32,
+    n: u16,
+    at: u16,
+    wants: u16,
+    j: u16,
+) -> Made
+    requires { ⌜ j < 4 ⌝ }
+    ensures { λ r. ⌜ Piece (now (t .entry)) (now (marks .entry)) (now (slots .entry)) level left at wants j
+        (now (rows .entry)) (now (rows .exit)) n (r .row) (r .count) ⌝ }
+{
+    if wants == 0 {
+        return Made {
+            row: NO_ROW,
+            count: n,
+        };
+    }
+    let part = word_at(t, at, PARTS + j);
+    expand(t, marks, slots, rows, level, left, n, part)
+}
+
+// Expands the whole term, which the table has at a place: its row, and how many rows are made.
+pub fn expand_term(t: &[u16], marks: &[u16], rows: &mut [u16], at: u16) -> Made
+    ensures { λ r. ⌜ Top (now (t .entry)) (now (marks .entry)) at (now (rows .entry)) (now (rows .exit))
+        (r .row) (r .count) ⌝ }
+{
+    let slots = [NO_ROW; 128];
+    expand(t, marks, &slots, rows, 0, TURNS, 0, at)
+}

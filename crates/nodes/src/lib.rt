@@ -1,0 +1,1 @@
+// Theory: rows of words that represent a term.

@@ -1,0 +1,24 @@
+-- The class and the number of values of the part.
+use borrow.Author.Needs.{needs}
+use borrow.Author.Tests.{le-leb, lt-leb, lt-ltb, le-ltb, eq-eqb, ne-eqb}
+use mathlib.Core.Path.{ap₂, _∙_}
+use Rattle.weigh.specs.Plan.{questionsBy}
+use Rattle.weigh.proofs.row.questions_at.Statement.{statement}
+use Rattle.weigh.proofs.row.questions_at.Tie as tie
+
+class-at-requires : tie.Need-class-at-requires
+class-at-requires c κs = search needs
+
+values-at-requires : tie.Need-values-at-requires
+values-at-requires c κs = search needs
+
+questions-by-requires : tie.Need-questions-by-requires
+questions-by-requires c κs = search needs
+
+returns : tie.Need-returns
+unfolding questionsBy
+returns c = c .questions-by .ensures ∙ ap₂ questionsBy (c .before .before .class-at .ensures .0)
+    (c .before .values-at .ensures .0)
+
+pub questions-at-spec : {M : Type 1} → statement M
+questions-at-spec = tie.close (tie.spec class-at-requires values-at-requires questions-by-requires returns)
