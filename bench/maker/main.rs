@@ -20,6 +20,8 @@ mod rules;
 mod sheet;
 mod terms;
 mod tidy;
+#[path = "../../tests/independent/weigh.rs"]
+mod weigh;
 
 use fifty::{fifty, Class, Pair};
 use peer::{Answer, Peer};

@@ -28,9 +28,9 @@ pub fn named(id: u8, result: Type, arguments: Vec<Term>) -> Term {
     Term::new(Kind::Name { id, result }, arguments)
 }
 
-/// A private variable. Its level is not written, so any will do.
+/// A private variable.
 pub fn private(id: u8, data: Data) -> Term {
-    Term::new(Kind::Private { id, data, level: 0 }, vec![])
+    Term::new(Kind::Private { id, data }, vec![])
 }
 
 pub fn block(id: u8, data: Data, body: Term) -> Term {

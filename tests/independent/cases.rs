@@ -2,11 +2,13 @@
 
 mod counter;
 mod damage;
+pub mod deep;
 mod limits;
 mod long;
 pub mod near;
 mod pairs;
 mod plays;
+pub mod procedures;
 
 use crate::generate::{self, Generator};
 use crate::machine::Machine;
@@ -133,6 +135,11 @@ fn case_to_follow(random: &mut Random) -> Case {
     if random.one_in(20) {
         sheet = damaged(random, sheet);
     }
+    follow_of(random, sheet)
+}
+
+/// A play to follow through the sheet.
+fn follow_of(random: &mut Random, sheet: Vec<u8>) -> Case {
     let (play, words) = match read(&sheet) {
         Ok(accepted) => {
             let machine = Machine::of(&accepted);
@@ -163,6 +170,11 @@ fn case_to_compare(random: &mut Random) -> Case {
         _ => {}
     }
     alike &= spoilt > 4;
+    compare_of(random, (old, new, alike))
+}
+
+/// The comparison of two sheets, with about as much lent as is needed.
+fn compare_of(random: &mut Random, (old, new, alike): pairs::Pair) -> Case {
     let (words, space) = match (read(&old), read(&new)) {
         (Ok(a), Ok(b)) => {
             let words = near_needed(random, words_to_compare(a.size, b.size));

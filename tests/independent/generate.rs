@@ -1,7 +1,7 @@
 //! Random valid headings and terms.
 
 use crate::random::Random;
-use crate::sheet::{Data, Heading, Kind, Operator, Record, Term, Type};
+use crate::sheet::{Data, Heading, Kind, Operator, Procedure, Record, Term, Type};
 
 /// A heading with some plain names, of about half of the types, and up to `most` other name records.
 pub fn heading(random: &mut Random, most: usize) -> Heading {
@@ -37,16 +37,27 @@ fn record(random: &mut Random, id: u8) -> Record {
     Record::Declare { id, result: random.choose(&Type::ALL), arguments }
 }
 
+/// What an id stands for inside its binder.
+#[derive(Clone)]
+pub enum Meaning {
+    Private(Data),
+    Parameter(Type),
+    /// A procedure, and which of its parameters its term does not mention.
+    Procedure(Procedure, Vec<bool>),
+}
+
 /// Makes terms over a heading.
 pub struct Generator<'a> {
     pub random: &'a mut Random,
     pub heading: &'a Heading,
-    /// The ids that private variables take; they are few, so that inner ones hide outer ones now and then.
+    /// The ids that binders take; they are few, so that inner ones hide outer ones now and then.
     pool: Vec<u8>,
     /// An id that no name record and no other private variable has.
     pub spare: u8,
-    /// The private variables around the place at hand, the innermost last.
-    pub scope: Vec<(u8, Data)>,
+    /// Another one, for procedures that are put in; none where there are to be no procedures.
+    pub helper: Option<u8>,
+    /// What is bound around the place at hand, the innermost last.
+    pub scope: Vec<(u8, Meaning)>,
 }
 
 impl<'a> Generator<'a> {
@@ -54,7 +65,20 @@ impl<'a> Generator<'a> {
         let mut free: Vec<u8> = (0..255).filter(|&id| heading.record(id).is_none()).collect();
         let spare = free.remove(random.below(free.len()));
         let pool = (0..random.between(1, 3)).map(|_| random.choose(&free)).collect();
-        Generator { random, heading, pool, spare, scope: Vec::new() }
+        Generator { random, heading, pool, spare, helper: None, scope: Vec::new() }
+    }
+
+    /// One that makes procedures too.
+    pub fn with_procedures(random: &'a mut Random, heading: &'a Heading) -> Generator<'a> {
+        let mut generator = Generator::new(random, heading);
+        let free = |id: &u8| generator.spare != *id && heading.record(*id).is_none();
+        let mut free: Vec<u8> = (0..255).filter(free).collect();
+        for _ in 0..4 {
+            generator.pool.push(generator.random.choose(&free));
+        }
+        free.retain(|id| !generator.pool.contains(id));
+        generator.helper = Some(generator.random.choose(&free));
+        generator
     }
 
     /// A term of that type whose size is near the one asked for.
@@ -66,6 +90,9 @@ impl<'a> Generator<'a> {
 
     /// A term of that type, of about that weight and at most that depth.
     pub fn term(&mut self, wanted: Type, weight: u64, depth: usize) -> Term {
+        if self.helper.is_some() && depth > 2 && weight > 3 && self.random.one_in(5) {
+            return self.procedure(wanted, weight, depth);
+        }
         let enough = depth <= 1 || weight <= 2 || (weight < 10 && self.random.one_in(3));
         match wanted {
             Type::Expression(data) if enough && depth > 1 => self.small_expression(data),
@@ -113,42 +140,69 @@ impl<'a> Generator<'a> {
 
     /// A private variable of the scope that holds the data and is not hidden.
     pub fn private(&mut self, data: Data) -> Option<Term> {
-        let visible: Vec<u8> = self.scope.iter().map(|v| v.0).filter(|&id| self.meaning(id) == Some(data)).collect();
+        let visible: Vec<u8> = self.scope.iter().map(|v| v.0).filter(|&id| self.is_private(id, data)).collect();
         if visible.is_empty() {
             return None;
         }
         let id = self.random.choose(&visible);
-        Some(Term::new(Kind::Private { id, data, level: 0 }, vec![]))
+        Some(Term::new(Kind::Private { id, data }, vec![]))
     }
 
-    /// The data of the innermost private variable with the id.
-    fn meaning(&self, id: u8) -> Option<Data> {
-        self.scope.iter().rev().find(|v| v.0 == id).map(|v| v.1)
+    /// What the innermost binder of the id makes of it.
+    pub fn meaning(&self, id: u8) -> Option<&Meaning> {
+        self.scope.iter().rev().find(|v| v.0 == id).map(|v| &v.1)
     }
 
-    /// The declared names with that result: those without arguments, or those with some.
-    fn names(&self, wanted: Type, plain: bool) -> Vec<(u8, Vec<Type>)> {
+    /// Whether the id is that of a private variable with such data.
+    fn is_private(&self, id: u8, wanted: Data) -> bool {
+        matches!(self.meaning(id), Some(Meaning::Private(data)) if *data == wanted)
+    }
+
+    /// The names with that result: those without arguments, or those with some. Where there are parameters or
+    /// procedures to choose from, they are often the only ones.
+    fn names(&mut self, wanted: Type, plain: bool) -> Vec<(u8, Vec<Type>)> {
+        let bound = self.bound_names(wanted, plain);
+        if !bound.is_empty() && !self.random.one_in(3) {
+            return bound;
+        }
         let declared = self.heading.records.iter().filter_map(|record| match record {
             Record::Declare { id, result, arguments } if *result == wanted => Some((*id, arguments.clone())),
             _ => None,
         });
-        declared.filter(|(_, arguments)| arguments.is_empty() == plain).collect()
+        declared.filter(|(_, arguments)| arguments.is_empty() == plain).chain(bound).collect()
+    }
+
+    /// The parameters and procedures of the scope with that result, without arguments or with some.
+    fn bound_names(&self, wanted: Type, plain: bool) -> Vec<(u8, Vec<Type>)> {
+        let visible = self.scope.iter().filter_map(|&(id, _)| match self.meaning(id)? {
+            Meaning::Parameter(result) if *result == wanted => Some((id, vec![])),
+            Meaning::Procedure(procedure, _) if procedure.result == wanted => Some((id, procedure.types())),
+            _ => None,
+        });
+        visible.filter(|(_, arguments)| arguments.is_empty() == plain).collect()
     }
 
     /// A use of one of the names.
     fn name(&mut self, names: &[(u8, Vec<Type>)], weight: u64, depth: usize) -> Term {
         let (id, arguments) = self.random.choose(names);
-        let result = match self.heading.record(id) {
-            Some(Record::Declare { result, .. }) => *result,
-            _ => Type::Command,
-        };
+        let kind = self.kind_of_use(id);
         let shares = self.shares(weight, arguments.len());
         let parts = arguments.iter().zip(shares).map(|(&wanted, share)| {
             let asked = share.saturating_sub(wanted.answers(self.heading.z)) / wanted.questions(self.heading.z);
             self.term(wanted, asked, depth - 1)
         });
         let parts = parts.collect();
-        Term::new(Kind::Name { id, result }, parts)
+        Term::new(kind, parts)
+    }
+
+    fn kind_of_use(&self, id: u8) -> Kind {
+        match (self.meaning(id), self.heading.record(id)) {
+            (Some(Meaning::Private(data)), _) => Kind::Private { id, data: *data },
+            (Some(Meaning::Parameter(result)), _) => Kind::Parameter { id, result: *result },
+            (Some(Meaning::Procedure(procedure, _)), _) => Kind::Call { id, result: procedure.result },
+            (None, Some(Record::Declare { result, .. })) => Kind::Name { id, result: *result },
+            (None, _) => Kind::Name { id, result: Type::Command },
+        }
     }
 
     /// Splits a weight at random.
@@ -232,19 +286,19 @@ impl<'a> Generator<'a> {
 
     fn block(&mut self, weight: u64, depth: usize) -> Term {
         let (id, data) = (self.random.choose(&self.pool), self.random.choose(&Data::ALL));
-        self.scope.push((id, data));
+        self.scope.push((id, Meaning::Private(data)));
         let body = self.term(Type::Command, weight / data.count(self.heading.z), depth - 1);
         self.scope.pop();
         Term::new(Kind::New { id, data }, vec![body])
     }
 
+    fn is_at_hand(&mut self, data: Data) -> bool {
+        self.scope.iter().any(|v| self.is_private(v.0, data)) || !self.names(Type::Variable(data), true).is_empty()
+    }
+
     /// Data of which there is some variable at hand, if there is any.
     fn data_at_hand(&mut self) -> Option<Data> {
-        let there = |data: &Data| {
-            self.scope.iter().any(|v| self.meaning(v.0) == Some(*data))
-                || !self.names(Type::Variable(*data), true).is_empty()
-        };
-        let found: Vec<Data> = Data::ALL.into_iter().filter(there).collect();
+        let found: Vec<Data> = Data::ALL.into_iter().filter(|data| self.is_at_hand(*data)).collect();
         (!found.is_empty()).then(|| self.random.choose(&found))
     }
 
@@ -291,8 +345,52 @@ impl<'a> Generator<'a> {
         }
     }
 
+    /// A procedure, and a term of that type in which it may be used. A parameter may have the procedure's own id.
+    fn procedure(&mut self, wanted: Type, weight: u64, depth: usize) -> Term {
+        let procedure = self.signature();
+        let shares = self.shares(weight, 2);
+        let outside = self.scope.len();
+        self.scope.extend(procedure.parameters.iter().map(|p| (p.0, Meaning::Parameter(p.1))));
+        let body = self.term(procedure.result, shares[0].min(40), depth - 1);
+        self.scope.truncate(outside);
+        self.scope.push((procedure.id, Meaning::of(&procedure, &body)));
+        let rest = self.term(wanted, shares[1], depth - 1);
+        self.scope.pop();
+        Term::new(Kind::Procedure(procedure), vec![body, rest])
+    }
+
+    /// A procedure's record with random ids and types.
+    pub fn signature(&mut self) -> Procedure {
+        let (id, result) = (self.pooled_id(), self.kind_of_type());
+        let mut procedure = Procedure { id, result, parameters: Vec::new() };
+        for _ in 0..self.random.choose(&[0, 1, 1, 1, 2, 2, 3, 4]) {
+            let id = self.pooled_id();
+            if procedure.parameter(id).is_none() {
+                procedure.parameters.push((id, self.kind_of_type()));
+            }
+        }
+        procedure
+    }
+
+    /// A type, most often a command.
+    fn kind_of_type(&mut self) -> Type {
+        if self.random.one_in(3) {
+            Type::Command
+        } else {
+            self.random.choose(&Type::ALL)
+        }
+    }
+
     /// An id for a block that may hide another.
     pub fn pooled_id(&mut self) -> u8 {
         self.random.choose(&self.pool)
+    }
+}
+
+impl Meaning {
+    /// What the id of a procedure with that term stands for.
+    pub fn of(procedure: &Procedure, body: &Term) -> Meaning {
+        let unused = procedure.parameters.iter().map(|p| !body.mentions(p.0)).collect();
+        Meaning::Procedure(procedure.clone(), unused)
     }
 }

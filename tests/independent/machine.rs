@@ -1,168 +1,23 @@
 //! The plays of a sheet as a plain machine, built straight from the term.
 //!
 //! A configuration is what an interpreter would hold: what is going on now, a stack of what waits for it, and the store
-//! of private variables. All configurations that can be reached are kept in a hash map. Steps that show no move are
-//! then walked through until a move is due, with marks that find a walk that goes round for ever.
+//! of private variables. A term is played in an environment: a use of a procedure plays the procedure's term in the
+//! environment of its record, and a parameter plays its argument in the environment of the use. All configurations that
+//! can be reached are numbered. Steps that show no move are then walked through until a move is due, with marks that
+//! find a walk that goes round for ever.
 
+use crate::landing::Landings;
+pub use crate::moves::Move;
+use crate::moves::{operate, Answer, Question, WHOLE};
 use crate::reader::Sheet;
-use crate::sheet::{Heading, Kind, Operator, Term, Type};
-use std::collections::{HashMap, VecDeque};
-use std::hash::{Hash, Hasher};
-
-/// A move. The order of the fields is document 01's order of moves; moves without a value have 0.
-#[derive(Clone, Copy, Debug, PartialEq, Eq, PartialOrd, Ord, Hash)]
-pub struct Move {
-    pub kind: u8,
-    pub id: u8,
-    pub argument: u8,
-    pub value: i8,
-}
-
-pub const WHOLE: u8 = 255;
-
-impl Move {
-    /// How many bytes the record of a move of this kind has; kinds above 6 have none.
-    pub fn length(kind: u8) -> Option<usize> {
-        match kind {
-            0..=4 => Some(3),
-            5 | 6 => Some(4),
-            _ => None,
-        }
-    }
-
-    pub fn write(&self, out: &mut Vec<u8>) {
-        out.extend([self.kind, self.id, self.argument]);
-        if self.kind >= 5 {
-            out.push(self.value as u8);
-        }
-    }
-}
-
-#[derive(Clone, Copy, Debug, PartialEq, Eq, Hash)]
-enum Question {
-    Run,
-    Ask,
-    Read,
-    Write(i8),
-}
-
-#[derive(Clone, Copy, Debug, PartialEq, Eq, Hash)]
-enum Answer {
-    Done,
-    Value(i8),
-    Ok,
-}
-
-impl Question {
-    fn all(of: Type, z: i8) -> Vec<Question> {
-        match of {
-            Type::Command => vec![Question::Run],
-            Type::Expression(_) => vec![Question::Ask],
-            Type::Variable(data) => {
-                let writes = data.values(z).map(Question::Write);
-                std::iter::once(Question::Read).chain(writes).collect()
-            }
-        }
-    }
-
-    fn at(self, id: u8, argument: u8) -> Move {
-        let (kind, value) = match self {
-            Question::Run => (0, 0),
-            Question::Ask => (2, 0),
-            Question::Read => (3, 0),
-            Question::Write(value) => (6, value),
-        };
-        Move { kind, id, argument, value }
-    }
-
-    /// The answers to the question when it is put to something of that type.
-    fn answers(self, of: Type, z: i8) -> Vec<Answer> {
-        match (self, of.data()) {
-            (Question::Run, _) => vec![Answer::Done],
-            (Question::Write(_), _) => vec![Answer::Ok],
-            (Question::Ask | Question::Read, Some(data)) => data.values(z).map(Answer::Value).collect(),
-            (Question::Ask | Question::Read, None) => vec![],
-        }
-    }
-}
-
-impl Answer {
-    fn at(self, id: u8, argument: u8) -> Move {
-        let (kind, value) = match self {
-            Answer::Done => (1, 0),
-            Answer::Ok => (4, 0),
-            Answer::Value(value) => (5, value),
-        };
-        Move { kind, id, argument, value }
-    }
-
-    fn value(self) -> i8 {
-        match self {
-            Answer::Value(value) => value,
-            Answer::Done | Answer::Ok => 0,
-        }
-    }
-}
-
-/// The result of an operator, or none where it has no play.
-fn operate(operator: Operator, left: i8, right: i8, heading: &Heading) -> Option<i8> {
-    let (a, b) = (left as i32, right as i32);
-    match operator {
-        Operator::Plus => fit(a + b, heading),
-        Operator::Minus => fit(a - b, heading),
-        Operator::Times => fit(a * b, heading),
-        Operator::Remainder if b == 0 => None,
-        Operator::Remainder => fit(a.rem_euclid(b), heading),
-        Operator::Equal | Operator::Alike => Some((a == b) as i8),
-        Operator::Less => Some((a < b) as i8),
-        Operator::And => Some((a == 1 && b == 1) as i8),
-        Operator::Or => Some((a == 1 || b == 1) as i8),
-    }
-}
-
-/// The overflow rule.
-fn fit(mut result: i32, heading: &Heading) -> Option<i8> {
-    let z = heading.z as i32;
-    if !heading.wraps && !(-z..=z).contains(&result) {
-        return None;
-    }
-    while result > z {
-        result -= 2 * z + 1;
-    }
-    while result < -z {
-        result += 2 * z + 1;
-    }
-    Some(result as i8)
-}
-
-/// A term of the sheet, told from others by where it stands in memory.
-#[derive(Clone, Copy)]
-struct At<'a>(&'a Term);
-
-impl PartialEq for At<'_> {
-    fn eq(&self, other: &Self) -> bool {
-        std::ptr::eq(self.0, other.0)
-    }
-}
-
-impl Eq for At<'_> {}
-
-impl Hash for At<'_> {
-    fn hash<H: Hasher>(&self, state: &mut H) {
-        std::ptr::hash(self.0, state);
-    }
-}
-
-impl<'a> At<'a> {
-    fn part(self, i: usize) -> At<'a> {
-        At(&self.0.parts[i])
-    }
-}
+use crate::scope::{At, Numbered, Placed, Scopes};
+use crate::sheet::{Kind, Operator, Type};
+use std::collections::VecDeque;
 
 /// A use of a declared name that has been asked and has not answered yet.
 #[derive(Clone, Copy, PartialEq, Eq, Hash)]
 struct Call<'a> {
-    at: At<'a>,
+    at: Placed<'a>,
     id: u8,
     result: Type,
     question: Question,
@@ -173,7 +28,7 @@ struct Call<'a> {
 enum Now<'a> {
     Start,
     /// A question is put to a term.
-    Asked(At<'a>, Question),
+    Asked(Placed<'a>, Question),
     /// A name is to answer, or to ask one of its arguments.
     Waiting(Call<'a>),
     /// The term last asked answers.
@@ -187,35 +42,33 @@ enum Frame<'a> {
     /// An argument, by its number from 1, answers the name.
     Argument(Call<'a>, u8),
     /// The left operand gives its value.
-    Left(At<'a>, Operator),
+    Left(Placed<'a>, Operator),
     /// The right operand gives its value; that of the left one is there.
-    Right(At<'a>, Operator, i8),
+    Right(Operator, i8),
     /// The value of an assignment is there and is to be written.
-    Assigned(At<'a>),
+    Assigned(Placed<'a>),
     /// It has been written.
     Written,
     /// The first part of a sequence is done.
-    First(At<'a>, Question),
+    First(Placed<'a>, Question),
     /// The test of an if is decided.
-    Test(At<'a>, Question),
+    Test(Placed<'a>, Question),
     /// The test of a while is decided.
-    Guard(At<'a>),
+    Guard(Placed<'a>),
     /// A round of a while is done.
-    Round(At<'a>),
+    Round(Placed<'a>),
     /// A block is done.
     Block,
 }
 
+/// A stack of frames by number; the empty one has none.
+type Stack = Option<usize>;
+
 #[derive(Clone, PartialEq, Eq, Hash)]
 struct Configuration<'a> {
     now: Now<'a>,
-    frames: Vec<Frame<'a>>,
+    frames: Stack,
     store: Vec<i8>,
-}
-
-enum Step<'a> {
-    Silent(Configuration<'a>),
-    Moves(Vec<(Move, Configuration<'a>)>),
 }
 
 impl<'a> Configuration<'a> {
@@ -224,7 +77,7 @@ impl<'a> Configuration<'a> {
     }
 
     /// Asks a term, with nothing to do after its answer but what is on the stack.
-    fn ask(&self, at: At<'a>, question: Question) -> Step<'a> {
+    fn ask(&self, at: Placed<'a>, question: Question) -> Step<'a> {
         Step::Silent(self.to(Now::Asked(at, question)))
     }
 
@@ -232,109 +85,164 @@ impl<'a> Configuration<'a> {
         Step::Silent(self.to(Now::Answered(answer)))
     }
 
-    fn pushed(&self, frame: Frame<'a>) -> Configuration<'a> {
-        let mut next = self.clone();
-        next.frames.push(frame);
-        next
-    }
-
     fn show(&self, shown: Move, now: Now<'a>) -> Step<'a> {
         Step::Moves(vec![(shown, self.to(now))])
     }
+}
 
-    fn stuck() -> Step<'a> {
+enum Step<'a> {
+    Silent(Configuration<'a>),
+    Moves(Vec<(Move, Configuration<'a>)>),
+}
+
+impl Step<'_> {
+    fn stuck() -> Self {
         Step::Moves(vec![])
     }
+}
 
-    fn step(&self, sheet: &'a Sheet) -> Step<'a> {
-        match self.now {
-            Now::Start => self.start(sheet),
-            Now::Asked(at, question) => self.asked(at, question),
-            Now::Waiting(call) => self.waiting(call, sheet.heading.z),
-            Now::Answered(answer) => self.answered(answer, &sheet.heading),
-            Now::End => Configuration::stuck(),
+/// Plays a sheet, one step at a time.
+struct Player<'a> {
+    sheet: &'a Sheet,
+    landings: Landings<'a>,
+    scopes: Scopes<'a>,
+    stacks: Numbered<(Frame<'a>, Stack)>,
+}
+
+impl<'a> Player<'a> {
+    fn new(sheet: &'a Sheet) -> Player<'a> {
+        Player { sheet, landings: Landings::of(&sheet.term), scopes: Scopes::new(), stacks: Numbered::new() }
+    }
+
+    fn pushed(&mut self, from: &Configuration<'a>, frame: Frame<'a>) -> Configuration<'a> {
+        let frames = Some(self.stacks.number((frame, from.frames)).0);
+        Configuration { frames, ..from.clone() }
+    }
+
+    /// Asks a term, with that to do after its answer.
+    fn ask_for(&mut self, from: &Configuration<'a>, frame: Frame<'a>, at: Placed<'a>, question: Question) -> Step<'a> {
+        self.pushed(from, frame).ask(at, question)
+    }
+
+    fn step(&mut self, from: &Configuration<'a>) -> Step<'a> {
+        match from.now {
+            Now::Start => self.start(from),
+            Now::Asked(at, question) => self.asked(from, at, question),
+            Now::Waiting(call) => self.waiting(from, call),
+            Now::Answered(answer) => self.answered(from, answer),
+            Now::End => Step::stuck(),
         }
     }
 
-    fn start(&self, sheet: &'a Sheet) -> Step<'a> {
-        let whole = At(&sheet.term);
-        let questions = Question::all(sheet.term.gives, sheet.heading.z).into_iter();
-        Step::Moves(questions.map(|q| (q.at(WHOLE, 0), self.to(Now::Asked(whole, q)))).collect())
+    fn start(&self, from: &Configuration<'a>) -> Step<'a> {
+        let whole = Placed { at: At(&self.sheet.term), scope: None };
+        let questions = Question::all(self.sheet.term.gives, self.sheet.heading.z).into_iter();
+        Step::Moves(questions.map(|q| (q.at(WHOLE, 0), from.to(Now::Asked(whole, q)))).collect())
     }
 
-    fn asked(&self, at: At<'a>, question: Question) -> Step<'a> {
-        match at.0.kind {
-            Kind::Skip => self.answer(Answer::Done),
-            Kind::Diverge(_) => Configuration::stuck(),
-            Kind::Constant(_, value) => self.answer(Answer::Value(value)),
-            Kind::Name { id, result } => self.show(question.at(id, 0), Now::Waiting(Call { at, id, result, question })),
-            Kind::Private { level, .. } => self.stored(level, question),
-            Kind::Fetch => self.ask(at.part(0), Question::Read),
-            Kind::Operate(operator) => self.pushed(Frame::Left(at, operator)).ask(at.part(0), Question::Ask),
-            Kind::Assign => self.pushed(Frame::Assigned(at)).ask(at.part(1), Question::Ask),
-            Kind::Sequence => self.pushed(Frame::First(at, question)).ask(at.part(0), Question::Run),
-            Kind::If => self.pushed(Frame::Test(at, question)).ask(at.part(0), Question::Ask),
-            Kind::While => self.pushed(Frame::Guard(at)).ask(at.part(0), Question::Ask),
-            Kind::New { .. } => {
-                let mut inside = self.pushed(Frame::Block);
-                inside.store.push(0);
-                inside.ask(at.part(0), Question::Run)
-            }
+    fn asked(&mut self, from: &Configuration<'a>, at: Placed<'a>, question: Question) -> Step<'a> {
+        let frame = match &at.at.0.kind {
+            Kind::Operate(operator) => Frame::Left(at, *operator),
+            Kind::Sequence => Frame::First(at, question),
+            Kind::If => Frame::Test(at, question),
+            Kind::While => Frame::Guard(at),
+            Kind::Assign => return self.ask_for(from, Frame::Assigned(at), at.part(1), Question::Ask),
+            Kind::New { id, .. } => return self.block(from, at, *id),
+            _ => return self.asked_at_once(from, at, question),
+        };
+        let first = if matches!(frame, Frame::First(..)) { Question::Run } else { Question::Ask };
+        self.ask_for(from, frame, at.part(0), first)
+    }
+
+    /// A term that answers, or hands the question on, with nothing to do afterwards.
+    fn asked_at_once(&mut self, from: &Configuration<'a>, at: Placed<'a>, question: Question) -> Step<'a> {
+        match at.at.0.kind {
+            Kind::Skip => from.answer(Answer::Done),
+            Kind::Constant(_, value) => from.answer(Answer::Value(value)),
+            Kind::Name { id, result } => from.show(question.at(id, 0), Now::Waiting(Call { at, id, result, question })),
+            Kind::Private { id, .. } => stored(from, self.scopes.stored(id, at.scope), question),
+            Kind::Parameter { id, .. } => from.ask(self.scopes.argument(id, at.scope), question),
+            Kind::Call { id, .. } => from.ask(self.called(id, at), question),
+            Kind::Procedure(_) => from.ask(self.scopes.rest(at), question),
+            Kind::Fetch => from.ask(at.part(0), Question::Read),
+            _ => Step::stuck(),
         }
     }
 
-    /// A private variable is asked.
-    fn stored(&self, level: usize, question: Question) -> Step<'a> {
-        match question {
-            Question::Write(value) => {
-                let mut next = self.clone();
-                next.store[level] = value;
-                next.answer(Answer::Ok)
-            }
-            _ => self.answer(Answer::Value(self.store[level])),
+    /// What a use of a procedure plays: the argument that it comes down to, or the procedure's term.
+    fn called(&mut self, id: u8, call: Placed<'a>) -> Placed<'a> {
+        match self.landings.get(call.at) {
+            Some(landing) => self.scopes.argument_at(landing.depth, landing.number, call.scope),
+            None => self.scopes.called(id, call),
         }
+    }
+
+    /// A block is entered: its variable is the newest of the store.
+    fn block(&mut self, from: &Configuration<'a>, at: Placed<'a>, id: u8) -> Step<'a> {
+        let body = self.scopes.body(at, id, from.store.len());
+        let mut inside = self.pushed(from, Frame::Block);
+        inside.store.push(0);
+        inside.ask(body, Question::Run)
     }
 
     /// The name answers, or asks one of its arguments.
-    fn waiting(&self, call: Call<'a>, z: i8) -> Step<'a> {
+    fn waiting(&mut self, from: &Configuration<'a>, call: Call<'a>) -> Step<'a> {
+        let z = self.sheet.heading.z;
         let answers = call.question.answers(call.result, z).into_iter();
-        let mut moves: Vec<_> = answers.map(|a| (a.at(call.id, 0), self.to(Now::Answered(a)))).collect();
-        for (argument, j) in call.at.0.parts.iter().zip(1..) {
-            let waits = self.pushed(Frame::Argument(call, j));
-            for asked in Question::all(argument.gives, z) {
-                moves.push((asked.at(call.id, j), waits.to(Now::Asked(At(argument), asked))));
+        let mut moves: Vec<_> = answers.map(|a| (a.at(call.id, 0), from.to(Now::Answered(a)))).collect();
+        for (i, j) in (0..call.at.at.0.parts.len()).zip(1..) {
+            let argument = call.at.part(i);
+            let waits = self.pushed(from, Frame::Argument(call, j));
+            for asked in Question::all(argument.at.0.gives, z) {
+                moves.push((asked.at(call.id, j), waits.to(Now::Asked(argument, asked))));
             }
         }
         Step::Moves(moves)
     }
 
-    fn answered(&self, answer: Answer, heading: &Heading) -> Step<'a> {
-        let mut rest = self.clone();
-        let Some(frame) = rest.frames.pop() else {
-            return self.show(answer.at(WHOLE, 0), Now::End);
+    fn answered(&mut self, from: &Configuration<'a>, answer: Answer) -> Step<'a> {
+        let Some(stack) = from.frames else {
+            return from.show(answer.at(WHOLE, 0), Now::End);
         };
+        let (frame, frames) = *self.stacks.get(stack);
+        let rest = Configuration { frames, ..from.clone() };
         match frame {
             Frame::Argument(call, j) => rest.show(answer.at(call.id, j), Now::Waiting(call)),
             Frame::Left(at, operator) => {
-                rest.pushed(Frame::Right(at, operator, answer.value())).ask(at.part(1), Question::Ask)
+                self.ask_for(&rest, Frame::Right(operator, answer.value()), at.part(1), Question::Ask)
             }
-            Frame::Right(_, operator, left) => match operate(operator, left, answer.value(), heading) {
+            Frame::Right(operator, left) => match operate(operator, left, answer.value(), &self.sheet.heading) {
                 Some(result) => rest.answer(Answer::Value(result)),
-                None => Configuration::stuck(),
+                None => Step::stuck(),
             },
-            Frame::Assigned(at) => rest.pushed(Frame::Written).ask(at.part(0), Question::Write(answer.value())),
+            Frame::Assigned(at) => self.ask_for(&rest, Frame::Written, at.part(0), Question::Write(answer.value())),
             Frame::Written => rest.answer(Answer::Done),
             Frame::First(at, question) => rest.ask(at.part(1), question),
             Frame::Test(at, question) => rest.ask(at.part(if answer.value() == 1 { 1 } else { 2 }), question),
-            Frame::Guard(at) if answer.value() == 1 => rest.pushed(Frame::Round(at)).ask(at.part(1), Question::Run),
+            Frame::Guard(at) if answer.value() == 1 => self.ask_for(&rest, Frame::Round(at), at.part(1), Question::Run),
             Frame::Guard(_) => rest.answer(Answer::Done),
             Frame::Round(at) => rest.ask(at, Question::Run),
-            Frame::Block => {
-                rest.store.pop();
-                rest.answer(Answer::Done)
-            }
+            Frame::Block => left(rest),
         }
     }
+}
+
+/// A private variable is asked.
+fn stored<'a>(from: &Configuration<'a>, place: usize, question: Question) -> Step<'a> {
+    match question {
+        Question::Write(value) => {
+            let mut next = from.clone();
+            next.store[place] = value;
+            next.answer(Answer::Ok)
+        }
+        _ => from.answer(Answer::Value(from.store[place])),
+    }
+}
+
+/// A block is left, and its variable with it.
+fn left(mut from: Configuration) -> Step {
+    from.store.pop();
+    from.answer(Answer::Done)
 }
 
 /// A configuration by number, with what it leads to.
@@ -345,33 +253,32 @@ enum Node {
 
 /// The configurations met so far, by number, and those of them that are not looked at yet.
 struct Met<'a> {
-    numbers: HashMap<Configuration<'a>, usize>,
+    numbered: Numbered<Configuration<'a>>,
     waiting: VecDeque<Configuration<'a>>,
 }
 
 impl<'a> Met<'a> {
     fn number(&mut self, next: Configuration<'a>) -> usize {
-        if let Some(&number) = self.numbers.get(&next) {
-            return number;
+        let (number, is_new) = self.numbered.number(next.clone());
+        if is_new {
+            self.waiting.push_back(next);
         }
-        let number = self.numbers.len();
-        self.numbers.insert(next.clone(), number);
-        self.waiting.push_back(next);
         number
     }
 }
 
 /// All configurations that can be reached, numbered as they are met; the first is the start. Also the end's number.
 fn explore(sheet: &Sheet) -> (Vec<Node>, Option<usize>) {
-    let mut met = Met { numbers: HashMap::new(), waiting: VecDeque::new() };
-    met.number(Configuration { now: Now::Start, frames: vec![], store: vec![] });
+    let mut player = Player::new(sheet);
+    let mut met = Met { numbered: Numbered::new(), waiting: VecDeque::new() };
+    met.number(Configuration { now: Now::Start, frames: None, store: vec![] });
     let mut nodes = Vec::new();
     let mut end = None;
     while let Some(configuration) = met.waiting.pop_front() {
         if configuration.now == Now::End {
             end = Some(nodes.len());
         }
-        nodes.push(match configuration.step(sheet) {
+        nodes.push(match player.step(&configuration) {
             Step::Silent(next) => Node::Silent(met.number(next)),
             Step::Moves(moves) => Node::Moves(moves.into_iter().map(|(m, next)| (m, met.number(next))).collect()),
         });

@@ -3,44 +3,83 @@
 //! `independent vectors FILE...` runs the cases of vector files through it. `independent random SEED COUNT` compares it
 //! with the library on random cases, most of them short, and `independent near SEED COUNT` on sheets near the size
 //! limit. `independent compare OLD NEW [WORDS SPACE]` prints what document 01's program prints for two sheets in hex,
-//! or would with as many working words and bytes of play space.
+//! or would with as many working words and bytes of play space. `independent write SEED COUNT` prints random cases and
+//! its answers as lines of a vector file. `independent stack FILE...` runs the library's services in a thread with
+//! 2 MiB of stack on the deepest and largest sheets and on those of the files.
+//!
+//! After the word `procedures` the same modes know procedures, kind 28 of document 02; `random` and `write` then have
+//! cases with procedures. Until the library knows them too, they are told from the others in this way.
 
 mod cases;
 mod compare;
 mod generate;
+mod inline;
+mod landing;
 mod library;
 mod machine;
+mod moves;
 mod random;
 mod reader;
 mod related;
+mod scope;
 mod services;
 mod sheet;
+mod stack;
 mod trial;
 mod vectors;
+mod weigh;
 
+use cases::Case;
+use random::Random;
 use std::process::ExitCode;
+use std::sync::atomic::Ordering;
 
-const USAGE: &str =
-    "usage: independent vectors FILE... | random SEED COUNT | near SEED COUNT | compare OLD NEW [WORDS SPACE]";
+const USAGE: &str = "usage: independent [procedures] \
+    vectors FILE... | random SEED COUNT | near SEED COUNT | write SEED COUNT | stack FILE... | \
+    compare OLD NEW [WORDS SPACE]";
 
 /// The working words and the bytes of play space of document 01's program.
 const WORDS: usize = 16_384;
 const SPACE: usize = 2_040;
 
+/// Bytes of stack: a use of a procedure is weighed by recursion into its term, and uses may be many.
+const STACK: usize = 64 << 20;
+
 /// Whether all went well.
 fn run(arguments: &[String]) -> Result<bool, String> {
+    match arguments.split_first() {
+        Some((word, rest)) if word == "procedures" => {
+            reader::PROCEDURES.store(true, Ordering::Relaxed);
+            run_mode(rest, cases::procedures::case)
+        }
+        _ => run_mode(arguments, cases::case),
+    }
+}
+
+/// Runs a mode, with random cases as `make` makes them.
+fn run_mode(arguments: &[String], make: fn(&mut Random) -> Case) -> Result<bool, String> {
     let mut arguments = arguments.iter();
     let mode = arguments.next().map(String::as_str);
     match (mode, arguments.as_slice()) {
         (Some("vectors"), files @ [_, ..]) => vectors::run(files),
-        (Some("random"), [seed, count]) => Ok(trial::run(number(seed)?, number(count)?, cases::case)),
+        (Some("random"), [seed, count]) => Ok(trial::run(number(seed)?, number(count)?, make)),
         (Some("near"), [seed, count]) => Ok(trial::run(number(seed)?, number(count)?, cases::near::case)),
+        (Some("write"), [seed, count]) => Ok(write(number(seed)?, number(count)?, make)),
+        (Some("stack"), files) => stack::run(files),
         (Some("compare"), [old, new]) => print_comparison(old, new, WORDS, SPACE),
         (Some("compare"), [old, new, words, space]) => {
             print_comparison(old, new, number(words)? as usize, number(space)? as usize)
         }
         _ => Err(USAGE.to_string()),
     }
+}
+
+/// Prints random cases and their answers as lines of a vector file.
+fn write(seed: u64, count: u64, make: fn(&mut Random) -> Case) -> bool {
+    for i in 0..count {
+        println!("{}", vectors::line(&make(&mut Random::new(seed, i))));
+    }
+    true
 }
 
 fn print_comparison(old: &str, new: &str, words: usize, space: usize) -> Result<bool, String> {
@@ -54,7 +93,8 @@ fn number(text: &str) -> Result<u64, String> {
 
 fn main() -> ExitCode {
     let arguments: Vec<String> = std::env::args().skip(1).collect();
-    match run(&arguments) {
+    let all = std::thread::Builder::new().stack_size(STACK).spawn(move || run(&arguments));
+    match all.expect("a thread can be had").join().expect("all runs to its end") {
         Ok(true) => ExitCode::SUCCESS,
         Ok(false) => ExitCode::FAILURE,
         Err(what) => {

@@ -3,12 +3,26 @@
 //! The reader keeps the open records, those with parts still to come, on a stack of its own. A record is closed as soon
 //! as its last byte is read; closing judges its type as a part of the record below it, and may close that one too.
 
-use crate::sheet::{Data, Heading, Kind, Operator, Record, Term, Type};
+use crate::sheet::{Data, Heading, Kind, Operator, Procedure, Record, Term, Type};
+use std::sync::atomic::{AtomicBool, Ordering};
 
 pub const LONGEST: usize = 4096;
 pub const LARGEST: u64 = 4096;
 pub const DEEPEST: usize = 32;
 pub const MOST_RECORDS: usize = 32;
+
+/// Whether procedures, kind 28 of document 02, are known. The library does not know them yet, so only the modes for
+/// procedures say so; when it does, this goes.
+pub static PROCEDURES: AtomicBool = AtomicBool::new(false);
+
+/// The highest kind of a record of the term.
+fn last_kind() -> u8 {
+    if PROCEDURES.load(Ordering::Relaxed) {
+        28
+    } else {
+        27
+    }
+}
 
 /// The number of a refusal of one sheet, and its place.
 #[derive(Clone, Copy, Debug, PartialEq)]
@@ -35,7 +49,7 @@ pub struct Sheet {
 struct Open {
     place: usize,
     kind: Kind,
-    /// The declared types of a name's arguments; empty for all other kinds.
+    /// The types of the arguments of a use; empty for all other kinds.
     declared: Vec<Type>,
     parts: Vec<Term>,
 }
@@ -155,7 +169,7 @@ impl Reader<'_> {
     /// The kind and the body of a record, without its parts.
     fn read_record(&mut self) -> Result<Open, Fault> {
         let place = self.at;
-        let byte = self.next(|b| (16..=27).contains(&b).then_some(b))?;
+        let byte = self.next(|b| (16..=last_kind()).contains(&b).then_some(b))?;
         if self.open.len() == DEEPEST {
             return fault(8, place);
         }
@@ -172,7 +186,8 @@ impl Reader<'_> {
             24 => Kind::Sequence,
             25 => Kind::If,
             26 => Kind::While,
-            _ => Kind::New { id: self.next_unused_id()?, data: self.next(Data::from_byte)? },
+            27 => Kind::New { id: self.next_unused_id()?, data: self.next(Data::from_byte)? },
+            _ => Kind::Procedure(self.read_procedure()?),
         };
         Ok(Open { place, kind, declared, parts: Vec::new() })
     }
@@ -182,10 +197,38 @@ impl Reader<'_> {
         self.next(|b| Data::Number.values(z).contains(&(b as i8)).then_some(b as i8))
     }
 
-    /// A use: of the innermost open block with that id, else of the name declared.
+    /// The body of a procedure's record.
+    fn read_procedure(&mut self) -> Result<Procedure, Fault> {
+        let id = self.next_unused_id()?;
+        let result = self.next_type()?;
+        let count = self.next(|b| (b <= 4).then_some(b as usize))?;
+        let mut procedure = Procedure { id, result, parameters: Vec::new() };
+        for j in 0..4 {
+            if j < count {
+                let parameter = self.next_parameter(&procedure)?;
+                procedure.parameters.push(parameter);
+            } else {
+                self.next(|b| (b == 255).then_some(()))?;
+                self.next(|b| (b == 255).then_some(()))?;
+            }
+        }
+        Ok(procedure)
+    }
+
+    /// The id and the type of a parameter; earlier ones of the record do not have that id.
+    fn next_parameter(&mut self, procedure: &Procedure) -> Result<(u8, Type), Fault> {
+        let id = self.next_unused_id()?;
+        if procedure.parameter(id).is_some() {
+            return fault(4, self.at - 1);
+        }
+        Ok((id, self.next_type()?))
+    }
+
+    /// A use: of what the innermost open record binds to that id, else of the name declared.
     fn read_use(&mut self, declared: &mut Vec<Type>) -> Result<Kind, Fault> {
         let id = self.next_id()?;
-        if let Some(kind) = self.private(id) {
+        if let Some((kind, arguments)) = self.open.iter().rev().find_map(|open| open.bound(id)) {
+            *declared = arguments;
             return Ok(kind);
         }
         match self.heading.record(id) {
@@ -197,25 +240,32 @@ impl Reader<'_> {
             }
         }
     }
-
-    fn private(&self, id: u8) -> Option<Kind> {
-        let blocks = self.open.iter().filter_map(|open| match open.kind {
-            Kind::New { id, data } => Some((id, data)),
-            _ => None,
-        });
-        let (level, (id, data)) = blocks.enumerate().filter(|(_, block)| block.0 == id).last()?;
-        Some(Kind::Private { id, data, level })
-    }
 }
 
 impl Open {
+    /// What a use of the id in the next part means and the types of its arguments, if this record binds the id there.
+    fn bound(&self, id: u8) -> Option<(Kind, Vec<Type>)> {
+        match &self.kind {
+            Kind::New { id: block, data } if *block == id => Some((Kind::Private { id, data: *data }, vec![])),
+            Kind::Procedure(procedure) if self.parts.is_empty() => {
+                let result = procedure.parameters[procedure.parameter(id)?].1;
+                Some((Kind::Parameter { id, result }, vec![]))
+            }
+            Kind::Procedure(procedure) if procedure.id == id => {
+                Some((Kind::Call { id, result: procedure.result }, procedure.types()))
+            }
+            _ => None,
+        }
+    }
+
     /// How many parts the record has.
     fn wanted(&self) -> usize {
         match self.kind {
-            Kind::Skip | Kind::Diverge(_) | Kind::Constant(..) | Kind::Private { .. } => 0,
-            Kind::Name { .. } => self.declared.len(),
+            Kind::Skip | Kind::Diverge(_) | Kind::Constant(..) => 0,
+            Kind::Private { .. } | Kind::Parameter { .. } => 0,
+            Kind::Name { .. } | Kind::Call { .. } => self.declared.len(),
             Kind::Fetch | Kind::New { .. } => 1,
-            Kind::Operate(_) | Kind::Assign | Kind::Sequence | Kind::While => 2,
+            Kind::Operate(_) | Kind::Assign | Kind::Sequence | Kind::While | Kind::Procedure(_) => 2,
             Kind::If => 3,
         }
     }
@@ -224,7 +274,9 @@ impl Open {
     fn demand(&self) -> Demand {
         let truth = Type::Expression(Data::Truth);
         match (&self.kind, self.parts.len()) {
-            (Kind::Name { .. }, j) => Demand::Only(self.declared[j]),
+            (Kind::Name { .. } | Kind::Call { .. }, j) => Demand::Only(self.declared[j]),
+            (Kind::Procedure(procedure), 0) => Demand::Only(procedure.result),
+            (Kind::Procedure(_), _) => Demand::Any,
             (Kind::Operate(operator), _) => Demand::Only(Type::Expression(operator.takes())),
             (Kind::Fetch, _) | (Kind::Assign, 0) => Demand::AnyVariable,
             (Kind::Assign, _) => {

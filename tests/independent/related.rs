@@ -1,7 +1,7 @@
 //! Copies of a term that differ from it a little: tidied ones, with the same plays, and altered ones.
 
-use crate::generate::Generator;
-use crate::sheet::{Data, Kind, Operator, Term, Type};
+use crate::generate::{Generator, Meaning};
+use crate::sheet::{Data, Kind, Operator, Procedure, Term, Type};
 
 fn constant(data: Data, value: i8) -> Term {
     Term::new(Kind::Constant(data, value), vec![])
@@ -56,14 +56,12 @@ impl Generator<'_> {
             return;
         }
         let outside = self.scope.len();
-        if let Kind::New { id, data } = term.kind {
-            self.scope.push((id, data));
-        }
         let mut place = place - 1;
-        for part in &mut term.parts {
-            let records = part.records();
+        for i in 0..term.parts.len() {
+            let records = term.parts[i].records();
             if place < records {
-                self.change_at(part, place, change);
+                self.enter(term, i);
+                self.change_at(&mut term.parts[i], place, change);
                 break;
             }
             place -= records;
@@ -71,8 +69,27 @@ impl Generator<'_> {
         self.scope.truncate(outside);
     }
 
+    /// Adds to the scope what a term binds in one of its parts.
+    fn enter(&mut self, term: &Term, part: usize) {
+        match (&term.kind, part) {
+            (Kind::New { id, data }, _) => self.scope.push((*id, Meaning::Private(*data))),
+            (Kind::Procedure(procedure), 0) => {
+                self.scope.extend(procedure.parameters.iter().map(|p| (p.0, Meaning::Parameter(p.1))));
+            }
+            (Kind::Procedure(procedure), _) => {
+                self.scope.push((procedure.id, Meaning::of(procedure, &term.parts[0])));
+            }
+            _ => {}
+        }
+    }
+
     /// A term with the same plays.
     fn tidy(&mut self, mut term: Term) -> Term {
+        if let Some(helper) = self.helper {
+            if self.random.one_in(2) {
+                return self.tidy_with_procedures(term, helper);
+            }
+        }
         if self.random.one_in(2) {
             return self.tidy_any(term);
         }
@@ -103,6 +120,59 @@ impl Generator<'_> {
             (_, Type::Expression(data)) => self.tidy_expression(term, data),
             (_, Type::Command) => self.tidy_command(term),
             _ => self.tidy_any(term),
+        }
+    }
+
+    /// A term with the same plays: with a procedure more or less, or another argument where none is used.
+    fn tidy_with_procedures(&mut self, term: Term, helper: u8) -> Term {
+        match &term.kind {
+            Kind::Procedure(procedure) if !term.parts[1].mentions(procedure.id) => {
+                let [_, rest] = two(term.parts);
+                rest
+            }
+            Kind::Call { id, .. } if self.unused_parameter(*id).is_some() => self.exchange_argument(term),
+            _ => self.wrap(term, helper),
+        }
+    }
+
+    /// The number of a parameter that the procedure with the id does not mention.
+    fn unused_parameter(&self, id: u8) -> Option<usize> {
+        match self.meaning(id)? {
+            Meaning::Procedure(_, unused) => unused.iter().position(|u| *u),
+            _ => None,
+        }
+    }
+
+    fn exchange_argument(&mut self, mut call: Term) -> Term {
+        if let Kind::Call { id, .. } = call.kind {
+            if let Some(number) = self.unused_parameter(id) {
+                call.parts[number] = self.term(call.parts[number].gives, 20, 4);
+            }
+        }
+        call
+    }
+
+    /// The term with a procedure around it: not used, with the term as its own, or with the term as an argument.
+    fn wrap(&mut self, term: Term, helper: u8) -> Term {
+        let other = self.random.choose(&Type::ALL);
+        let junk = self.term(other, 6, 3);
+        let result = term.gives;
+        let call = |arguments| Term::new(Kind::Call { id: helper, result }, arguments);
+        let record = |parameters| Kind::Procedure(Procedure { id: helper, result, parameters });
+        let id = if self.random.one_in(3) { helper } else { self.pooled_id() };
+        let parameter = Term::new(Kind::Parameter { id, result }, vec![]);
+        match self.random.below(4) {
+            _ if term.mentions(helper) || junk.mentions(helper) => Term::new(record(vec![]), vec![term, call(vec![])]),
+            0 => Term::new(record(vec![]), vec![term, call(vec![])]),
+            1 => Term::new(record(vec![(id, result)]), vec![parameter, call(vec![term])]),
+            2 => {
+                let parameters = vec![(self.spare, other), (id, result)];
+                Term::new(record(parameters), vec![sequence(skip(), parameter), call(vec![junk, term])])
+            }
+            _ => {
+                let unused = Procedure { id: helper, result: other, parameters: vec![] };
+                Term::new(Kind::Procedure(unused), vec![junk, term])
+            }
         }
     }
 

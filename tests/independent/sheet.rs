@@ -1,5 +1,7 @@
 //! The sheet as written: types, name records, terms, and the bytes they are written with.
 
+use crate::weigh::Weigher;
+
 /// The data of an expression or a variable.
 #[derive(Clone, Copy, Debug, PartialEq, Eq, Hash)]
 pub enum Data {
@@ -193,11 +195,20 @@ pub enum Kind {
         id: u8,
         result: Type,
     },
-    /// A use of a private variable; `level` counts the blocks around the one that it belongs to.
+    /// A use of a private variable.
     Private {
         id: u8,
         data: Data,
-        level: usize,
+    },
+    /// A use of a parameter of a procedure.
+    Parameter {
+        id: u8,
+        result: Type,
+    },
+    /// A use of a procedure, with its arguments.
+    Call {
+        id: u8,
+        result: Type,
     },
     Fetch,
     Operate(Operator),
@@ -209,6 +220,34 @@ pub enum Kind {
         id: u8,
         data: Data,
     },
+    /// A procedure: its term, then the term in which it may be used.
+    Procedure(Procedure),
+}
+
+/// The record of a procedure, without its terms.
+#[derive(Clone, Debug, PartialEq)]
+pub struct Procedure {
+    pub id: u8,
+    pub result: Type,
+    pub parameters: Vec<(u8, Type)>,
+}
+
+impl Procedure {
+    /// The number of the parameter with the id.
+    pub fn parameter(&self, id: u8) -> Option<usize> {
+        self.parameters.iter().position(|p| p.0 == id)
+    }
+
+    pub fn types(&self) -> Vec<Type> {
+        self.parameters.iter().map(|p| p.1).collect()
+    }
+
+    fn write(&self, out: &mut Vec<u8>) {
+        out.extend([28, self.id, self.result.byte(), self.parameters.len() as u8]);
+        for j in 0..4 {
+            out.extend(self.parameters.get(j).map_or([255, 255], |(id, t)| [*id, t.byte()]));
+        }
+    }
 }
 
 #[derive(Clone, Debug, PartialEq)]
@@ -224,11 +263,12 @@ impl Term {
         let gives = match &kind {
             Kind::Skip | Kind::Assign | Kind::While | Kind::New { .. } => Type::Command,
             Kind::Diverge(result) | Kind::Name { result, .. } => *result,
+            Kind::Parameter { result, .. } | Kind::Call { result, .. } => *result,
             Kind::Constant(data, _) => Type::Expression(*data),
             Kind::Private { data, .. } => Type::Variable(*data),
             Kind::Fetch => Type::Expression(parts[0].gives.data().expect("a variable has data")),
             Kind::Operate(operator) => Type::Expression(operator.gives()),
-            Kind::Sequence | Kind::If => parts[1].gives,
+            Kind::Sequence | Kind::If | Kind::Procedure(_) => parts[1].gives,
         };
         Term { kind, gives, parts }
     }
@@ -240,6 +280,7 @@ impl Term {
             Kind::Constant(Data::Truth, value) => out.extend([18, *value as u8]),
             Kind::Constant(Data::Number, value) => out.extend([19, *value as u8]),
             Kind::Name { id, .. } | Kind::Private { id, .. } => out.extend([20, *id]),
+            Kind::Parameter { id, .. } | Kind::Call { id, .. } => out.extend([20, *id]),
             Kind::Fetch => out.push(21),
             Kind::Operate(operator) => out.extend([22, *operator as u8]),
             Kind::Assign => out.push(23),
@@ -247,8 +288,21 @@ impl Term {
             Kind::If => out.push(25),
             Kind::While => out.push(26),
             Kind::New { id, data } => out.extend([27, *id, data.byte()]),
+            Kind::Procedure(procedure) => procedure.write(out),
         }
         self.parts.iter().for_each(|p| p.write(out));
+    }
+
+    /// Whether there is a use of the id that is not bound inside the term.
+    pub fn mentions(&self, id: u8) -> bool {
+        let part = |i: usize| self.parts[i].mentions(id);
+        match &self.kind {
+            Kind::New { id: block, .. } => *block != id && part(0),
+            Kind::Procedure(p) => (p.parameter(id).is_none() && part(0)) || (p.id != id && part(1)),
+            Kind::Name { id: used, .. } | Kind::Private { id: used, .. } if *used == id => true,
+            Kind::Parameter { id: used, .. } | Kind::Call { id: used, .. } if *used == id => true,
+            _ => self.parts.iter().any(|p| p.mentions(id)),
+        }
     }
 
     /// The number of records.
@@ -260,25 +314,9 @@ impl Term {
         1 + self.parts.iter().map(Term::depth).max().unwrap_or(0)
     }
 
-    /// Document 01's weight. It stays at the highest number rather than wrap.
+    /// The weight of a term in which nothing is used that is bound outside of it.
     pub fn weight(&self, z: i8) -> u64 {
-        let part = |i: usize| self.parts[i].weight(z);
-        let count = |i: usize| self.parts[i].gives.data().map_or(1, |d| d.count(z));
-        match &self.kind {
-            Kind::Skip | Kind::Diverge(_) | Kind::Constant(..) => 1,
-            Kind::Private { .. } => 2,
-            Kind::Name { .. } => self.parts.iter().fold(2, |sum: u64, p| {
-                let asked = p.gives.questions(z).saturating_mul(p.weight(z));
-                sum.saturating_add(asked.saturating_add(p.gives.answers(z)))
-            }),
-            Kind::Fetch => part(0),
-            Kind::Operate(_) => part(0).saturating_add(count(0).saturating_mul(part(1))),
-            Kind::Assign => part(1).saturating_add(count(0).saturating_mul(part(0))),
-            Kind::Sequence | Kind::If | Kind::While => {
-                self.parts.iter().fold(0, |sum: u64, p| sum.saturating_add(p.weight(z)))
-            }
-            Kind::New { data, .. } => data.count(z).saturating_mul(part(0)),
-        }
+        Weigher::new(z).weight(self, &mut Vec::new())
     }
 
     /// Document 01's reckoned size of a whole term.

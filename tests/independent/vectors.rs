@@ -1,5 +1,6 @@
 //! Runs the cases of vector files, one JSON object a line, through the services here.
 
+use crate::cases;
 use crate::services;
 use std::collections::HashMap;
 
@@ -145,6 +146,28 @@ fn run_line(line: &str) -> Result<(), String> {
     } else {
         Err(format!("expected {wanted:?}, got {got:?}"))
     }
+}
+
+/// A case and its answer as a line of a vector file.
+pub fn line(case: &cases::Case) -> String {
+    let (given, expect) = match case {
+        cases::Case::Check { sheet } => {
+            (format!("\"check\", \"sheet\": \"{}\"", hex(sheet)), services::text(&services::check(sheet)))
+        }
+        cases::Case::Follow { sheet, play, words } => (
+            format!("\"follow\", \"sheet\": \"{}\", \"play\": \"{}\", \"words\": {words}", hex(sheet), hex(play)),
+            services::text(&services::follow(sheet, play, *words)),
+        ),
+        cases::Case::Compare { old, new, words, space, .. } => (
+            format!(
+                "\"compare\", \"old\": \"{}\", \"new\": \"{}\", \"words\": {words}, \"space\": {space}",
+                hex(old),
+                hex(new)
+            ),
+            services::compare_text(old, new, *words, *space),
+        ),
+    };
+    format!("{{\"service\": {given}, \"expect\": \"{}\"}}", expect.replace('\n', "\\n"))
 }
 
 /// Runs the files; whether all cases give what they should.

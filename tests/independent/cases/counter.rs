@@ -91,7 +91,7 @@ fn variable_id(level: usize) -> u8 {
 }
 
 fn variable(level: usize) -> Term {
-    Term::new(Kind::Private { id: variable_id(level), data: Data::Number, level: 0 }, vec![])
+    Term::new(Kind::Private { id: variable_id(level), data: Data::Number }, vec![])
 }
 
 fn fetched(level: usize) -> Term {

@@ -25,7 +25,7 @@ pub fn misnamed(random: &mut Random) -> Vec<u8> {
 }
 
 /// The record with that number, counted from the whole term.
-fn record_at(term: &mut Term, place: usize) -> &mut Term {
+pub fn record_at(term: &mut Term, place: usize) -> &mut Term {
     if place == 0 {
         return term;
     }

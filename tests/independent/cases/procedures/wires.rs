@@ -1,0 +1,72 @@
+//! Procedures that do nothing of their own but hand their arguments on, in another order, twice or not at all.
+
+use crate::random::Random;
+use crate::sheet::{Heading, Kind, Procedure, Record, Term, Type};
+
+/// The declared commands, and the ids of procedures and parameters: few, so that some hide others.
+const NAMES: [u8; 3] = [1, 2, 3];
+const IDS: [u8; 6] = [10, 11, 12, 13, 14, 15];
+
+/// Makes such terms.
+struct Wires<'a> {
+    random: &'a mut Random,
+    /// The ids at hand, the innermost last, with what a use of each is and how many arguments it has.
+    scope: Vec<(u8, Kind, usize)>,
+}
+
+/// A sheet of commands: procedures that only hand on, and uses of them with names.
+pub fn wired(random: &mut Random) -> (Heading, Term) {
+    let declare = |id| Record::Declare { id, result: Type::Command, arguments: vec![] };
+    let heading = Heading { z: 1, wraps: false, records: NAMES.map(declare).to_vec() };
+    let scope = NAMES.map(|id| (id, Kind::Name { id, result: Type::Command }, 0)).to_vec();
+    let procedures = random.between(1, 8);
+    let term = Wires { random, scope }.procedures(procedures);
+    (heading, term)
+}
+
+impl Wires<'_> {
+    /// So many procedures, one after the other, and then uses of what is at hand.
+    fn procedures(&mut self, count: usize) -> Term {
+        match count {
+            0 => Term::new(Kind::Sequence, vec![self.term(4), self.term(4)]),
+            _ => self.procedure(4, |wires| wires.procedures(count - 1)),
+        }
+    }
+
+    /// A procedure whose term is at most that deep, and the term that `rest` makes in its scope.
+    fn procedure(&mut self, depth: usize, rest: impl FnOnce(&mut Self) -> Term) -> Term {
+        let mut procedure = Procedure { id: self.random.choose(&IDS), result: Type::Command, parameters: vec![] };
+        for _ in 0..self.random.between(1, 4) {
+            let id = self.random.choose(&IDS);
+            if procedure.parameter(id).is_none() {
+                procedure.parameters.push((id, Type::Command));
+            }
+        }
+        let outside = self.scope.len();
+        let parameters = procedure.parameters.iter().map(|p| p.0);
+        self.scope.extend(parameters.map(|id| (id, Kind::Parameter { id, result: Type::Command }, 0)));
+        let body = self.term(depth);
+        self.scope.truncate(outside);
+        let call = Kind::Call { id: procedure.id, result: Type::Command };
+        self.scope.push((procedure.id, call, procedure.parameters.len()));
+        let rest = rest(self);
+        self.scope.truncate(outside);
+        Term::new(Kind::Procedure(procedure), vec![body, rest])
+    }
+
+    /// A use of something at hand, most often of what was bound last, with such uses as its arguments.
+    fn term(&mut self, depth: usize) -> Term {
+        if depth > 2 && self.random.one_in(6) {
+            return self.procedure(depth - 1, |wires| wires.term(depth - 1));
+        }
+        let visible = self.scope.iter().enumerate();
+        let visible = visible.filter(|(i, bound)| self.scope[i + 1..].iter().all(|inner| inner.0 != bound.0));
+        let visible: Vec<(Kind, usize)> = visible.map(|(_, bound)| (bound.1.clone(), bound.2)).collect();
+        let fitting: Vec<(Kind, usize)> = visible.into_iter().filter(|bound| depth > 1 || bound.1 == 0).collect();
+        let last = &fitting[fitting.len().saturating_sub(4)..];
+        let (kind, arguments) =
+            if self.random.one_in(4) { self.random.choose(&fitting) } else { self.random.choose(last) };
+        let parts = (0..arguments).map(|_| self.term(depth - 1)).collect();
+        Term::new(kind, parts)
+    }
+}
