@@ -36,7 +36,10 @@ extern "C" {
 
 /* Operator 3 of a sheet, remainder, gives the number from 0 up to, but not including, the absolute value of the right
  * operand that differs from the left operand by a multiple of the right one: -1 remainder 7 is 6. A right operand of 0
- * has no play. */
+ * has no play.
+ *
+ * Kind 28 of a sheet is a procedure of the routine's own: id, result type, number of parameters, four pairs of id and type
+ * (unused ones 255 255); then the procedure's term, and the term in which it may be used. */
 
 #define NEGYVOSAL_REFUSED 0
 #define NEGYVOSAL_ACCEPTED 1
@@ -59,7 +62,7 @@ extern "C" {
  *
  * Any bytes and any lengths are fine. Sheets and plays are only read. No pointer may be null, even with a length of 0, and
  * what is written (`words`, `space`, `out`) may overlap nothing else that is lent. Calls keep nothing between them and may
- * run at the same time. A call takes less than 512 KiB of stack.
+ * run at the same time. A call takes less than 2 MiB of stack.
  *
  * A refusal leaves `words` and `space` as they were. After any other answer every working word is 0. */
 

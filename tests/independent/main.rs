@@ -7,8 +7,7 @@
 //! its answers as lines of a vector file. `independent stack FILE...` runs the library's services in a thread with
 //! 2 MiB of stack on the deepest and largest sheets and on those of the files.
 //!
-//! After the word `procedures` the same modes know procedures, kind 28 of document 02; `random` and `write` then have
-//! cases with procedures. Until the library knows them too, they are told from the others in this way.
+//! After the word `procedures`, `random` and `write` have cases with procedures, kind 28 of document 02.
 
 mod cases;
 mod compare;
@@ -32,7 +31,6 @@ mod weigh;
 use cases::Case;
 use random::Random;
 use std::process::ExitCode;
-use std::sync::atomic::Ordering;
 
 const USAGE: &str = "usage: independent [procedures] \
     vectors FILE... | random SEED COUNT | near SEED COUNT | write SEED COUNT | stack FILE... | \
@@ -48,10 +46,7 @@ const STACK: usize = 64 << 20;
 /// Whether all went well.
 fn run(arguments: &[String]) -> Result<bool, String> {
     match arguments.split_first() {
-        Some((word, rest)) if word == "procedures" => {
-            reader::PROCEDURES.store(true, Ordering::Relaxed);
-            run_mode(rest, cases::procedures::case)
-        }
+        Some((word, rest)) if word == "procedures" => run_mode(rest, cases::procedures::case),
         _ => run_mode(arguments, cases::case),
     }
 }

@@ -4,25 +4,11 @@
 //! as its last byte is read; closing judges its type as a part of the record below it, and may close that one too.
 
 use crate::sheet::{Data, Heading, Kind, Operator, Procedure, Record, Term, Type};
-use std::sync::atomic::{AtomicBool, Ordering};
 
 pub const LONGEST: usize = 4096;
 pub const LARGEST: u64 = 4096;
 pub const DEEPEST: usize = 32;
 pub const MOST_RECORDS: usize = 32;
-
-/// Whether procedures, kind 28 of document 02, are known. The library does not know them yet, so only the modes for
-/// procedures say so; when it does, this goes.
-pub static PROCEDURES: AtomicBool = AtomicBool::new(false);
-
-/// The highest kind of a record of the term.
-fn last_kind() -> u8 {
-    if PROCEDURES.load(Ordering::Relaxed) {
-        28
-    } else {
-        27
-    }
-}
 
 /// The number of a refusal of one sheet, and its place.
 #[derive(Clone, Copy, Debug, PartialEq)]
@@ -169,7 +155,7 @@ impl Reader<'_> {
     /// The kind and the body of a record, without its parts.
     fn read_record(&mut self) -> Result<Open, Fault> {
         let place = self.at;
-        let byte = self.next(|b| (16..=last_kind()).contains(&b).then_some(b))?;
+        let byte = self.next(|b| (16..=28).contains(&b).then_some(b))?;
         if self.open.len() == DEEPEST {
             return fault(8, place);
         }

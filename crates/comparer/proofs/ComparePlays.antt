@@ -16,14 +16,14 @@ use Rattle.language.specs.Move.{Word}
 use Rattle.language.specs.Play.{Complete}
 use Rattle.automaton.specs.walk.Shows.{Words}
 use Rattle.explicit.specs.inner.Ready.{Ready}
-use Rattle.records.specs.Refusal.{refusal}
-use Rattle.sheet.specs.Written.{Sheet}
-use Rattle.sheet.specs.Meaning.{tyOf, termOf, typeOf}
-use Rattle.sheet.specs.Reader.{refused, sizeOf, numbersAt, sheetOf}
-use Rattle.sheet.specs.table.Fill.{ReadsSheet}
-use Rattle.sheet.specs.table.Tabled.{TabledBy}
-use Rattle.sheet.specs.declared.names.Reading.{Reading}
-use Rattle.sheet.specs.declared.names.Reading.the-variants as reading
+use Rattle.records.specs.declared.refusal.Refusal.{Refusal as Wrong}
+use Rattle.procedures.specs.Written.{Sheet}
+use Rattle.procedures.specs.Meaning.{tyOf, termOf, typeOf}
+use Rattle.sheet.specs.Reader.{numbersAt, readSheet, rejected}
+use Rattle.load.specs.Loaded as load
+use Rattle.load.specs.Loaded.{LoadedBy}
+use Rattle.load.specs.declared.load.Loaded.{Loaded}
+use Rattle.load.specs.declared.load.Loaded.the-variants as loaded
 use Rattle.comparer.specs.Plays.{Alike, Only}
 use Rattle.comparer.specs.Refusals.{Refusal, refusing, sameFirst, matching, onRead, pairRefusal}
 use Rattle.comparer.specs.Refusals.{compareRefusal}
@@ -34,7 +34,7 @@ use Rattle.comparer.specs.inner.Causes.{causeOf, bothCause, numberOf}
 use Rattle.comparer.specs.declared.Cause.{Cause}
 use Rattle.comparer.specs.declared.Comparison.{Comparison}
 use Rattle.comparer.specs.declared.Comparison.the-variants.{Refused}
-use Rattle.comparer.proofs.ReadSheets.{Taken, taken, tabled-of, Fit, held-size, fit-as}
+use Rattle.comparer.proofs.ReadSheets.{heading-after, Fit, fit-as, fit-held, fit-type, fit-ready}
 
 -- a refusal leaves everything as it was
 refuses : (old new ws space : List ℕ) {r : Comparison} (number sheet place : ℕ) →
@@ -44,24 +44,26 @@ unfolding ComparedBy
 refuses old new ws space number sheet place e f = rw e (f, (refl, refl))
 
 -- the refusal of a sheet, handed on
-handed-on : {x : Reading} {number place sheet : ℕ} {q : Cause} {r : Comparison} → x ≡ reading.Refused (refusal number place) →
-    q ≡ causeOf x sheet → r ≡ Refused (q .number) (q .sheet) (q .place) → r ≡ Refused number sheet place
+handed-on : {x : Loaded} {z : Wrong} {sheet : ℕ} {q : Cause} {r : Comparison} → x ≡ loaded.Refused z →
+    q ≡ causeOf x sheet → r ≡ Refused (q .number) (q .sheet) (q .place) →
+    r ≡ Refused (z .number) sheet (z .place)
 unfolding causeOf
 handed-on e f g = g ∙ rw (f, e)
 
 -- the old sheet is refused
-pub refused-old : (old new ws space : List ℕ) {x : Reading} {number place : ℕ} {q : Cause} {r : Comparison} →
-    sheetOf old ≡ refused number place → x ≡ reading.Refused (refusal number place) → q ≡ causeOf x 0 →
+pub refused-old : (old new ws space : List ℕ) {x : Loaded} {z : Wrong} {q : Cause} {r : Comparison} →
+    readSheet old ≡ rejected (z .number) (z .place) → x ≡ loaded.Refused z → q ≡ causeOf x 0 →
     r ≡ Refused (q .number) (q .sheet) (q .place) → ComparePromise old new ws space r ws space
 unfolding compareRefusal onRead
 refused-old old new ws space h e f g = refuses old new ws space _ 0 _ (rw h) (handed-on e f g)
 
 -- the old sheet is read, and the new one refused
-pub refused-new : (old new ws space : List ℕ) {root ty w : ℕ} {y : Reading} {number place : ℕ} {q : Cause}
-    {r : Comparison} → Taken old root ty w → sheetOf new ≡ refused number place → y ≡ reading.Refused (refusal number place) →
-    q ≡ causeOf y 1 → r ≡ Refused (q .number) (q .sheet) (q .place) → ComparePromise old new ws space r ws space
+pub refused-new : (old new ws space : List ℕ) {root row ty size : ℕ} {t : List ℕ} {y : Loaded} {z : Wrong} {q : Cause}
+    {r : Comparison} → load.Ready old root row ty size t → readSheet new ≡ rejected (z .number) (z .place) →
+    y ≡ loaded.Refused z → q ≡ causeOf y 1 → r ≡ Refused (q .number) (q .sheet) (q .place) →
+    ComparePromise old new ws space r ws space
 unfolding compareRefusal onRead
-refused-new old new ws space A h e f g = refuses old new ws space _ 1 _ (rw (A .reads, h)) (handed-on e f g)
+refused-new old new ws space A h e f g = refuses old new ws space _ 1 _ (rw (A .accepts, h)) (handed-on e f g)
 
 -- equal first bytes
 same-byte : (n : ℕ) (s u : List ℕ) → sameFirst n s u ≡ true → (i : ℕ) → i < n → getD s i 0 ≡ getD u i 0
@@ -85,34 +87,22 @@ pub record AsOne (old new : List ℕ) (ty b : ℕ) : Type 0 where
   pub types : ty ≡ b
 
 -- comparable sheets have the same numbers and result type
-pub as-one : {old new : List ℕ} {root ty b w : ℕ} (other : ℕ) {x : Bool} → Taken old root ty w →
+pub as-one : {old new : List ℕ} {root ty b : ℕ} (other : ℕ) {x : Bool} → 2 ≤ root →
     x ≡ matching old new root other ty b → x ≡ true → AsOne old new ty b
 unfolding matching
-as-one {old} {new} {root} {ty} {b} other A e f =
+as-one {old} {new} {root} {ty} {b} other after e f =
     by (eqb root other) (sameFirst root old new) (eqb ty b) refl refl (sym e ∙ f)
   where
     by : (p q r : Bool) → sameFirst root old new ≡ q → eqb ty b ≡ r → pick p (pick q r false) false ≡ true →
         AsOne old new ty b
     by true true true d g h = record
       { numbers =
-          ap₂ (λ a c. record { z = a; rule = c }) (same-byte root old new d 0 (omega (arith, A .after)))
-            (same-byte root old new d 1 (omega (arith, A .after)))
+          ap₂ (λ a c. record { z = a; rule = c }) (same-byte root old new d 0 (omega arith))
+            (same-byte root old new d 1 (omega arith))
       ; types = eqb-true ty b g }
     by true true false d g h = let z : _≡_ {A = ℕ} 0 1 = cc in absurd (omega arith)
     by true false r d g h = let z : _≡_ {A = ℕ} 0 1 = cc in absurd (omega arith)
     by false q r d g h = let z : _≡_ {A = ℕ} 0 1 = cc in absurd (omega arith)
-
--- the sheets' terms are ready for their automata
-fit-ready : {N : Numbers} {ty : ℕ} {s : List ℕ} {root all : ℕ} {t : List ℕ} (F : Fit N ty s root all t) → Words t →
-    Ready N t root (tyOf N ty) (termOf (F .sheet))
-fit-ready F h = record
-  { z-above = F .z-above; z-below = F .z-below; words = h; represents = F .represents
-  ; small = rw (F .sized) (F .small); typed = F .typed; type-in = F .type-in; term-in = F .term-in }
-
--- the type of the whole term of a sheet
-fit-type : {N : Numbers} {ty : ℕ} {s : List ℕ} {root all : ℕ} {t : List ℕ} (F : Fit N ty s root all t) →
-    tyOf (F .sheet .numbers) (typeOf (F .sheet)) ≡ tyOf N ty
-fit-type F = ap₂ tyOf (F .numbers) (F .types)
 
 -- a verdict on the terms of two sheets is one on the sheets
 module _ (S T : Sheet) {N : Numbers} {X : Ty} (e : S .numbers ≡ N) (f : tyOf (S .numbers) (typeOf S) ≡ X)
@@ -138,43 +128,36 @@ module _ (S T : Sheet) {N : Numbers} {X : Ty} (e : S .numbers ≡ N) (f : tyOf (
     ; short = rw (f, g) l; written = rw e w })
 
 -- two sheets that fit, of one type
-pub record Both (N : Numbers) (old new : List ℕ) (root other all more : ℕ) (t u : List ℕ) : Type 0 where
+pub record Both (N : Numbers) (old new : List ℕ) (row other all more : ℕ) (t u : List ℕ) : Type 0 where
   pub ty : ℕ
-  pub first : Fit N ty old root all t
+  pub first : Fit N ty old row all t
   pub second : Fit N ty new other more u
 
--- what reading both leaves, where they are comparable
-pub both : (old new : List ℕ) {x y : Reading} {root ty w next other b v next′ : ℕ} {t₀ t u₀ u : List ℕ} {k : Bool}
-    {N M : Numbers} {all more : ℕ} → ReadsSheet (numbersAt old) (sheetOf old) x t₀ t →
-    (length t₀ ≡ 36864 → TabledBy old x t) → length t₀ ≡ 36864 → x ≡ reading.Sheet root ty w next →
-    ReadsSheet (numbersAt new) (sheetOf new) y u₀ u → (length u₀ ≡ 36864 → TabledBy new y u) → length u₀ ≡ 36864 →
-    y ≡ reading.Sheet other b v next′ → k ≡ matching old new root other ty b → k ≡ true → N ≡ numbersAt old →
-    M ≡ numbersAt new → all ≡ min (sizeOf N ty w) 4097 → more ≡ min (sizeOf M b v) 4097 →
-    Both N old new root other all more t u
-both old new {root = root} {ty = ty} {other = other} R B l e R′ B′ l′ e′ c h n n′ s s′ =
-    let A = taken R e in
-    let A′ = taken R′ e′ in
-    let o = as-one other A c h in
+-- two sheets that are loaded, where they are comparable
+pub both : {old new : List ℕ} {root row ty all other other-row b more : ℕ} {t u : List ℕ} {k : Bool} {N : Numbers} →
+    load.Ready old root row ty all t → load.Ready new other other-row b more u →
+    k ≡ matching old new root other ty b → k ≡ true → N ≡ numbersAt old → Both N old new row other-row all more t u
+both {ty = ty} {other = other} A B c h n =
+    let o = as-one other (heading-after A) c h in
     record
-      { ty = ty
-      ; first = fit-as (tabled-of e (B l)) (sym n) refl (held-size A n s)
-      ; second = fit-as (tabled-of e′ (B′ l′)) (sym (o .numbers) ∙ sym n) (sym (o .types)) (held-size A′ n′ s′) }
+      { ty = ty; first = fit-as A (sym n) refl
+      ; second = fit-as B (sym (o .numbers) ∙ sym n) (sym (o .types)) }
 
 -- two sheets that fit
-module _ {N : Numbers} {old new : List ℕ} {root other all more : ℕ} {t u : List ℕ}
-    (P : Both N old new root other all more t u) where
+module _ {N : Numbers} {old new : List ℕ} {row other all more : ℕ} {t u : List ℕ}
+    (P : Both N old new row other all more t u) where
   -- their type, and each of them
   abbrev ty : ℕ
   ty = P .ty
 
-  abbrev F : Fit N ty old root all t
+  abbrev F : Fit N ty old row all t
   F = P .first
 
   abbrev F′ : Fit N ty new other more u
   F′ = P .second
 
   -- what build_two asks for
-  pub two-ready : (ws : List ℕ) → 32 * (all + more + 1) ≤ length ws → TwoReady N t u root other all more ws
+  pub two-ready : (ws : List ℕ) → 32 * (all + more + 1) ≤ length ws → TwoReady N t u row other all more ws
   two-ready ws h = record
     { type = tyOf N ty; term = termOf (F .sheet); other-term = termOf (F′ .sheet); ready = fit-ready F
     ; other-ready = fit-ready F′; sized = F .sized; other-sized = F′ .sized; room = h }
@@ -182,7 +165,7 @@ module _ {N : Numbers} {old new : List ℕ} {root other all more : ℕ} {t u : L
   -- what decide asks for
   pub deciding : (ws ws₁ space : List ℕ) (h : 32 * (all + more + 1) ≤ length ws) → length ws₁ ≡ length ws →
       4 * (all + more - 1) ≤ length space →
-      ((R : TwoReady N t u root other all more ws) →
+      ((R : TwoReady N t u row other all more ws) →
         TwoBuilt N (R .type) (R .term) (R .other-term) (all + more + 1) ws₁) → Deciding ws₁ space all more
   unfolding two-ready
   deciding ws ws₁ space h e l b = record
@@ -194,7 +177,7 @@ module _ {N : Numbers} {old new : List ℕ} {root other all more : ℕ} {t u : L
   -- the answer to an accepted call
   pub compared : (ws ws₁ ws₂ ws₃ space space′ : List ℕ) (r : Comparison) (h : 32 * (all + more + 1) ≤ length ws)
       (e : length ws₁ ≡ length ws) (l : 4 * (all + more - 1) ≤ length space)
-      (b : (R : TwoReady N t u root other all more ws) →
+      (b : (R : TwoReady N t u row other all more ws) →
         TwoBuilt N (R .type) (R .term) (R .other-term) (all + more + 1) ws₁) →
       ((D : Deciding ws₁ space all more) →
         Verdicts (D .numbers) (D .type) (D .term) (D .other-term) space r space′) →
@@ -202,7 +185,7 @@ module _ {N : Numbers} {old new : List ℕ} {root other all more : ℕ} {t u : L
       compareRefusal old new (length ws) (length space) ≡ none → ComparePromise old new ws space r ws₃ space′
   unfolding ComparedBy deciding
   compared ws ws₁ ws₂ ws₃ space space′ r h e l b d j k n = rw n (record
-    { first-sheet = F .sheet; second-sheet = F′ .sheet; first-held = F .held; second-held = F′ .held
+    { first-sheet = F .sheet; second-sheet = F′ .sheet; first-held = fit-held F; second-held = fit-held F′
     ; decided = decided-as (F .sheet) (F′ .sheet) (F .numbers) (fit-type F) (fit-type F′)
         (d (deciding ws ws₁ space h e l b))
     ; cleared = k ∙ ap (λ i. replicate i 0) (j ∙ e) })
@@ -232,23 +215,21 @@ pub record Passed (fit : Bool) (words space n : ℕ) : Type 0 where
   pub words-enough : 32 * (n + 1) ≤ words
   pub space-enough : 4 * (n - 1) ≤ space
 
--- both sheets are read
-module _ (old new ws space : List ℕ) {root ty w other b v : ℕ} (A : Taken old root ty w) (B : Taken new other b v)
-    where
+-- both sheets are loaded
+module _ (old new ws space : List ℕ) {root row ty all other other-row b more : ℕ} {t u : List ℕ}
+    (A : load.Ready old root row ty all t) (B : load.Ready new other other-row b more u) where
   -- the judgement after that
   judged : compareRefusal old new (length ws) (length space) ≡
-      pairRefusal (matching old new root other ty b) (length ws) (length space)
-        (sizeOf (numbersAt old) ty w + sizeOf (numbersAt new) b v)
+      pairRefusal (matching old new root other ty b) (length ws) (length space) (all + more)
   unfolding compareRefusal onRead
-  judged = rw (A .reads, B .reads, A .rooted, B .rooted)
+  judged = rw (A .accepts, B .accepts, A .rooted, B .rooted)
 
-  module _ {fit : Bool} {all more number : ℕ} (e : fit ≡ matching old new root other ty b)
-      (s : all ≡ sizeOf (numbersAt old) ty w) (k : more ≡ sizeOf (numbersAt new) b v)
+  module _ {fit : Bool} {number : ℕ} (e : fit ≡ matching old new root other ty b)
       (n : number ≡ numberOf (pairRefusal fit (length ws) (length space) (all + more))) where
     -- by the names of the code
     judged-as : compareRefusal old new (length ws) (length space) ≡
         pairRefusal fit (length ws) (length space) (all + more)
-    judged-as = judged ∙ rw (← e, ← s, ← k) refl
+    judged-as = judged ∙ rw (← e) refl
 
     -- they are refused together
     pub refused-pair : {q : Cause} {r : Comparison} → (number ≡ 0 → ⊥) → q ≡ bothCause number →

@@ -10,8 +10,8 @@ use Rattle.language.specs.Move.{Word}
 use Rattle.language.specs.Play.{Complete}
 use Rattle.language.specs.Weight.{size}
 use Rattle.machine.specs.Range.{InRange}
-use Rattle.sheet.specs.Written.{Sheet}
-use Rattle.sheet.specs.Meaning.{tyOf, termOf, typeOf}
+use Rattle.procedures.specs.Written.{Sheet}
+use Rattle.procedures.specs.Meaning.{tyOf, termOf, typeOf}
 use Rattle.sheet.proofs.WellTyped.{accepted-typed}
 use Rattle.explicit.proofs.Ranges.{type-in, sheet-range}
 use Rattle.comparer.specs.Demands.{Comparable, DifferShort, PlayShort}
@@ -35,18 +35,19 @@ differs S T A B c =
            Complete X (termOf T) u → (Complete (wholeType S) (termOf S) u → ⊥) → ⊥) →
          (u : Word) → Complete (wholeType S) (termOf S) u ↔ Complete X (termOf T) u)
        (one-type S T c)
-       (differ-short (wholeType S) (termOf S) (termOf T) (S .numbers) (omega (arith, A .z-below))
-         (accepted-typed S A) typed (type-in (S .numbers) (A .z-above) (typeOf S)) (sheet-range S A) in-range)
+       (differ-short (wholeType S) (termOf S) (termOf T) (S .numbers) (omega (arith, A .ordered .z-below))
+         (accepted-typed S A) typed (type-in (S .numbers) (A .ordered .z-above) (typeOf S))
+         (sheet-range S (A .ordered)) in-range)
        (λ u l p q. none 0 u l (p, q)) (λ u l p q. none 1 u l (p, q))))
   where
     typed : Typed [] (termOf T) (wholeType S)
     typed = subst (λ X. Typed [] (termOf T) X) (sym (one-type S T c)) (accepted-typed T B)
     in-range : InRange (S .numbers) (termOf T)
-    in-range = subst (λ N. InRange N (termOf T)) (sym (c .numbers)) (sheet-range T B)
+    in-range = subst (λ N. InRange N (termOf T)) (sym (c .numbers)) (sheet-range T (B .ordered))
 
 -- THEOREM: a sheet has a complete play exactly when it has one of at most S - 1 moves
 pub plays : PlayShort
 plays S A =
-    ((λ p. play-short (wholeType S) (termOf S) (S .numbers) (omega (arith, A .z-below)) (accepted-typed S A)
-       (type-in (S .numbers) (A .z-above) (typeOf S)) (sheet-range S A) (p .0) (p .1)),
+    ((λ p. play-short (wholeType S) (termOf S) (S .numbers) (omega (arith, A .ordered .z-below)) (accepted-typed S A)
+       (type-in (S .numbers) (A .ordered .z-above) (typeOf S)) (sheet-range S (A .ordered)) (p .0) (p .1)),
      (λ p. (p .0, p .1 .0)))

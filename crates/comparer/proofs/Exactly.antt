@@ -8,7 +8,7 @@ use mathlib.Core.List.{List, [], _∷_, _++_}
 use mathlib.Core.Option.{Option, none}
 use lib.ListN.{length, take}
 use Rattle.language.specs.Move.{Word, records}
-use Rattle.sheet.specs.Written.{Sheet}
+use Rattle.procedures.specs.Written.{Sheet}
 use Rattle.comparer.specs.Plays.{Alike, Only, FirstPlay}
 use Rattle.comparer.specs.Refusals.{Refusal, compareRefusal}
 use Rattle.comparer.specs.Promise.{SamePlays, ApartPlays, Decided, same, apart, Compared, ComparedBy}

@@ -23,8 +23,8 @@ use Rattle.silent.specs.Silent.{Silent}
 use Rattle.explicit.specs.Explicit.{packed, silentWord, Explicit}
 use Rattle.explicit.proofs.Ranges.{type-in, sheet-range}
 use Rattle.explicit.specs.Letter.{AllSmall}
-use Rattle.sheet.specs.Written.{Sheet}
-use Rattle.sheet.specs.Meaning.{tyOf, termOf, typeOf}
+use Rattle.procedures.specs.Written.{Sheet}
+use Rattle.procedures.specs.Meaning.{tyOf, termOf, typeOf}
 use Rattle.sheet.specs.Fine.{Accepted}
 use Rattle.sheet.proofs.WellTyped.{accepted-typed}
 use Rattle.comparer.specs.Plays.{CompletePlay}
@@ -92,19 +92,19 @@ module _ (S : Sheet) (A : Accepted S) (n : ℕ) (ws : List ℕ)
 
   -- its numbers and its type are in range, and every move of its plays has a letter
   few : N .z ≤ 7
-  few = omega (arith, A .z-below)
+  few = omega (arith, A .ordered .z-below)
 
   in-type : TyIn N T
-  in-type = type-in N (A .z-above) (typeOf S)
+  in-type = type-in N (A .ordered .z-above) (typeOf S)
 
   small : (u : Word) → CompletePlay S u → AllSmall N u
-  small = plays-small N (accepted-typed S A) in-type (sheet-range S A)
+  small = plays-small N (accepted-typed S A) in-type (sheet-range S (A .ordered))
 
   -- the state after k records is live exactly if they begin a complete play
   live-exactly : (k : ℕ) → k ≤ length rs → Live G n (spots T M) (stateAfter G n rs k) ↔ Begins S rs k
   live-exactly k l =
-      let h = live-begins few (accepted-typed S A) (B .shows) (B .graph) (B .settled) in-type (sheet-range S A)
-            (take k (map firstLetter rs)) in
+      let h = live-begins few (accepted-typed S A) (B .shows) (B .graph) (B .settled) in-type
+            (sheet-range S (A .ordered)) (take k (map firstLetter rs)) in
       ((λ a. to-begins (h .0 a .0) (h .0 a .1) (h .0 a .2) (h .0 a .3)), (λ (u, (c, (j, e))).
         h .1 (u, drop k (letters N u), records-letters N (omega (arith, few)) k u rs (small u c) j e, c)))
     where
@@ -119,7 +119,7 @@ module _ (S : Sheet) (A : Accepted S) (n : ℕ) (ws : List ℕ)
       ((λ a. found (walk-plays (accepted-typed S A) (B .shows) (B .graph) (B .settled) few (map firstLetter rs)
           (sym (ap (walk (δ G n) 0) all) ∙ a ∙ omega arith))),
        (λ (u, (c, e)). ap (walk (δ G n) 0) (all ∙ spelt u c e) ∙
-         play-walks (accepted-typed S A) (B .shows) (B .graph) (B .settled) in-type (sheet-range S A) u c ∙
+         play-walks (accepted-typed S A) (B .shows) (B .graph) (B .settled) in-type (sheet-range S (A .ordered)) u c ∙
          omega arith))
     where
       all : take (length rs) (map firstLetter rs) ≡ map firstLetter rs
@@ -135,7 +135,8 @@ module _ (S : Sheet) (A : Accepted S) (n : ℕ) (ws : List ℕ)
       (complete ≡ true) ↔ (stateAfter G n rs (length rs) ≡ f) → Counted S rs count complete
   counts f count complete ef L w = record
     { within = L .within
-    ; greatest = by (L .alive) (play-or-none T M N (omega (arith, few)) (accepted-typed S A) in-type (sheet-range S A))
+    ; greatest = by (L .alive) (play-or-none T M N (omega (arith, few)) (accepted-typed S A) in-type
+        (sheet-range S (A .ordered)))
     ; whole = ((λ t. end-exactly .0 (w .0 t ∙ ef)), (λ p. w .1 (end-exactly .1 p ∙ sym ef))) }
     where
       no-more : (k : ℕ) → count < k → k ≤ length rs → Begins S rs k → ⊥

@@ -27,6 +27,5 @@ pub mod SearchingPlays
 pub mod PlayRecords
 pub mod FollowPlays
 pub mod FollowAnswers
-pub mod FromCheck
 pub mod Numbers
 pub mod Exactly

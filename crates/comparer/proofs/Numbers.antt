@@ -8,23 +8,35 @@ use mathlib.Core.List.{List}
 use mathlib.Core.Option.{Option, none, some}
 use lib.Dec.{ltb}
 use Rattle.language.specs.Choice.{pick}
-use Rattle.sheet.specs.Reader.{Answer, got, refused, Whole, sheetOf, sizeOf, numbersAt, checks, readSheet, rejected}
+use Rattle.sheet.specs.Encoding.{headingLength}
+use Rattle.sheet.specs.Reader.{Checks, accepted, rejected, readSheet}
+use Rattle.sheet.proofs.Places.{check-refused}
 use Rattle.comparer.specs.Records.{Given, moves, bad, parse}
-use Rattle.comparer.specs.Refusals.{Refusal, refusing, matching, rootOf, onRead, onGiven, followRefusal}
+use Rattle.comparer.specs.Refusals.{Refusal, refusing, matching, onRead, onGiven, followRefusal}
 use Rattle.comparer.specs.Refusals.{compareRefusal}
 use Rattle.comparer.specs.Demands.{FollowNumber, CompareNumber, NumbersOnly}
-use Rattle.comparer.proofs.FromCheck.{FromCheck, Caused, sheet-caused}
 
 -- no refusal, or one whose number is among P
 unfoldable Among : (ℕ → Type 0) → Option Refusal → Type 0
 Among P none = Unit
 Among P (some x) = P (x .number)
 
-on-read : (P : ℕ → Type 0) → ((k : ℕ) → FromCheck k → P k) → (A : Answer Whole) (sheet : ℕ)
-    (k : ℕ → ℕ → ℕ → Option Refusal) → Caused A → ((root ty w : ℕ) → Among P (k root ty w)) → Among P (onRead A sheet k)
-unfolding onRead Among Caused
-on-read P f (got x ty w end) sheet k c g = g (rootOf x) ty w
-on-read P f (refused number place) sheet k c g = f number c
+-- the numbers of check
+abbrev FromCheck : ℕ → Type 0
+FromCheck k = (1 ≤ k) × (k ≤ 11)
+
+from-check : (s : List ℕ) (number place : ℕ) → readSheet s ≡ rejected number place → FromCheck number
+from-check s number place e = let r = check-refused s e in (r .0, r .1)
+
+on-read : (P : ℕ → Type 0) → ((k : ℕ) → FromCheck k → P k) → (s : List ℕ) (sheet : ℕ)
+    (k : ℕ → ℕ → ℕ → Option Refusal) → ((root ty size : ℕ) → Among P (k root ty size)) →
+    Among P (onRead (readSheet s) sheet k)
+unfolding onRead Among
+on-read P f s sheet k g = go (readSheet s) refl
+  where
+    go : (A : Checks) → readSheet s ≡ A → Among P (onRead A sheet k)
+    go (accepted S ty size) e = g (headingLength S) ty size
+    go (rejected number place) e = f number (from-check s number place e)
 
 choice : (P : ℕ → Type 0) (t : Bool) (a b : Option Refusal) → Among P a → Among P b → Among P (pick t a b)
 choice P true a b p q = p
@@ -43,8 +55,8 @@ given (bad place) = inr (inr refl)
 follow-among : (s play : List ℕ) (words : ℕ) → Among FollowNumber (followRefusal s play words)
 unfolding followRefusal
 follow-among s play words =
-    on-read FollowNumber from-sheet (sheetOf s) 0 _ (sheet-caused s) (λ root ty w.
-      choice FollowNumber (ltb words (32 * (sizeOf (numbersAt s) ty w + 1))) (refusing 13 2 0) (onGiven (parse 0 play))
+    on-read FollowNumber from-sheet s 0 _ (λ root ty size.
+      choice FollowNumber (ltb words (32 * (size + 1))) (refusing 13 2 0) (onGiven (parse 0 play))
         (unfold Among FollowNumber in inr (inl refl)) (given (parse 0 play)))
 
 -- compare: the sheets', 12, 13, 14
@@ -63,23 +75,15 @@ lent true false false = tt
 compare-among : (old new : List ℕ) (words space : ℕ) → Among CompareNumber (compareRefusal old new words space)
 unfolding compareRefusal
 compare-among old new words space =
-    on-read CompareNumber from-sheets (sheetOf old) 0 _ (sheet-caused old) (λ root ty w.
-      on-read CompareNumber from-sheets (sheetOf new) 1 _ (sheet-caused new) (λ other type-of-other v.
-        let n = sizeOf (numbersAt old) ty w + sizeOf (numbersAt new) type-of-other v in
-        lent (matching old new root other ty type-of-other) (ltb words (32 * (n + 1)))
-          (ltb space (4 * (n - 1)))))
-
--- check: the sheet's
-check-among : (s : List ℕ) (A : Answer Whole) → Caused A → (number place : ℕ) →
-    checks (numbersAt s) A ≡ rejected number place → FromCheck number
-unfolding checks Caused
-check-among s (got x ty w end) c number place e = let z : _≡_ {A = ℕ} 0 1 = cc in absurd (omega arith)
-check-among s (refused k p) c number place e = let q : k ≡ number = cc in rw (← q) c
+    on-read CompareNumber from-sheets old 0 _ (λ root ty size.
+      on-read CompareNumber from-sheets new 1 _ (λ other type-of-other size-of-other.
+        let n = size + size-of-other in
+        lent (matching old new root other ty type-of-other) (ltb words (32 * (n + 1))) (ltb space (4 * (n - 1)))))
 
 -- THEOREM: demand 1, of the numbers
 pub numbers-only : NumbersOnly
-unfolding Among readSheet
+unfolding Among
 numbers-only = record
-  { of-check = λ s number place e. check-among s (sheetOf s) (sheet-caused s) number place e
+  { of-check = from-check
   ; of-follow = λ s play words x e. rw e at (follow-among s play words)
   ; of-compare = λ old new words space x e. rw e at (compare-among old new words space) }

@@ -7,21 +7,27 @@ use Rattle.language.specs.Term.{apply}
 use Rattle.language.specs.Typing.{operands}
 use Rattle.language.specs.Operator.{fit, truth, operate}
 use Rattle.language.specs.Move.{kind, valueOf}
+use Rattle.language.specs.Ty as types
+use Rattle.language.specs.Weight.{weight, size}
 use Rattle.records.specs.Kind.{shapeOf}
-use Rattle.records.specs.Standing.{isVariable, isNamed, variableStanding, dataOf, declaredStanding, declaredAt}
+use Rattle.records.specs.Standing.{standingOf, isNamed, variableStanding, declaredStanding, resultOf, countOf}
+use Rattle.records.specs.Standing.{argumentOf}
+use Rattle.records.specs.Judge.{andThen, unused}
+use Rattle.records.specs.Judge as judge
 use Rattle.records.specs.Head as head
 use Rattle.records.specs.Head.{byteOf, onByte, withBody, limited, constant, used, useOf, dataByte, newOf, bodyOf}
 use Rattle.records.specs.Head.{blank, headOf}
-use Rattle.records.specs.Rule.{values, questions, answers, operandType, resultType, acceptsPart, partType, factor, extra}
-use Rattle.records.specs.Rule.{own}
+use Rattle.records.specs.Rule.{values, operandType, resultType, acceptsPart, partType}
+use Rattle.records.specs.Scope as scope
 use Rattle.records.specs.Scope.{entered}
-use Rattle.sheet.specs.Heading as heading
-use Rattle.sheet.specs.Heading.{andThen, unused, fresh, argument, declareOf, declareAt}
-use Rattle.sheet.specs.Meaning as meaning
-use Rattle.sheet.specs.Meaning.{outward, declared, tyOf, useType, typed, byMeaning, resolve, termOf}
+use Rattle.sheet.specs.Heading.{fresh, argument, declareOf, declareAt}
+use Rattle.procedures.specs.Environment.{beyond}
+use Rattle.procedures.specs.Meaning as meaning
+use Rattle.procedures.specs.Meaning.{declared, idOf, meant, tyOf, useType, typed, byMeaning, no-terms, with-level}
+use Rattle.procedures.specs.Meaning.{resolve, termOf}
 use Rattle.sheet.specs.Reader as reader
-use Rattle.sheet.specs.Reader.{bind, onHead, onJudged, partsOf, isNew, scopedOf, readPart, withName, wholeOfShape, nameOf}
-use Rattle.sheet.specs.Reader.{namesStep, namesOf, sizeOf, sheetOf, rest, build, written, checks, sheetIn, readSheet}
+use Rattle.sheet.specs.Reader.{bind, onHead, onJudged, partsOf, scopeParts, readPart, withName, wholeOfShape, nameOf}
+use Rattle.sheet.specs.Reader.{namesStep, namesOf, sizeIn, wholeOf, rest, build, written, checks, sheetIn, readSheet}
 use Rattle.machine.specs.Action.{who, heard, mapNext, mapAction}
 use Rattle.machine.specs.Decide.{when, map-dec, fits?, answers-to, answers?, fits-at?, hears?, same-move?}
 use Rattle.machine.specs.Position.{entry}
@@ -42,13 +48,14 @@ use Rattle.comparer.proofs.Worked.{firstFound, decided, rowRead, rowChe
 
 -- the rows of the table are checked
 table-checked : all rowChecked table ≡ true
-unfolding readSheet checks sheetOf reader.closed bind namesOf namesStep wholeOfShape nameOf onJudged declareOf andThen
-  heading.below unused fresh argument declareAt withName readPart scopedOf isNew reader.readRecord partsOf
-  onHead sizeOf sheetIn values questions answers operandType resultType acceptsPart partType factor extra own
-  entered shapeOf isVariable isNamed variableStanding dataOf declaredStanding declaredAt byteOf onByte withBody limited
+unfolding readSheet checks wholeOf reader.closed bind namesOf namesStep wholeOfShape nameOf onJudged declareOf andThen
+  judge.below unused fresh argument declareAt withName readPart scopeParts scope.opens reader.readRecord partsOf
+  onHead sizeIn sheetIn values operandType resultType acceptsPart partType standingOf resultOf countOf argumentOf
+  entered shapeOf isNamed variableStanding declaredStanding byteOf onByte withBody limited
   constant used useOf dataByte newOf bodyOf blank headOf head.headOfShape numbers inRange reader.first rest build
-  written modulo code signed fromByte apply operands fit truth operate kind valueOf outward declared
-  meaning.meaning tyOf useType typed byMeaning resolve termOf meaning.typeOf who heard mapNext mapAction when
+  written modulo code signed fromByte apply operands fit truth operate kind valueOf declared idOf meant beyond
+  meaning.meaning tyOf useType typed byMeaning no-terms with-level resolve termOf meaning.typeOf size weight
+  types.questions types.answers who heard mapNext mapAction when
   map-dec fits? answers-to answers? fits-at? hears? same-move? entry onDone onOk onValue onTruth onSome askVariable
   access enter listen step single numbers-of.values iso sum-code sum-decode sum product-decode product alone
   numbered-questions numbered-answers numbered-replies numbered-name numbered-use numbered opens sheet

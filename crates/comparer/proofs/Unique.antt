@@ -4,7 +4,7 @@ use mathlib.Core.Bool.{Bool, true, false}
 use mathlib.Core.Logic.{_⊎_, inl, inr}
 use mathlib.Core.List.{List}
 use mathlib.Core.Option.{Option, none, some}
-use Prim.Native.Nat.{ℕ, zero, suc, _+_, _*_, _-_, _<_}
+use Prim.Native.Nat.{ℕ, zero, suc, _+_, _<_}
 use native.Mathlib.Omega.{arith}
 use native.Mathlib.Decide.{decLt}
 use lib.ListN.{length}
@@ -13,18 +13,21 @@ use Rattle.language.specs.Choice.{pick}
 use Rattle.language.specs.Move.{Word, Before}
 use Rattle.explicit.specs.Letter.{AllSmall}
 use Rattle.explicit.proofs.Ranges.{sheet-small}
-use Rattle.sheet.specs.Written.{Sheet}
+use Rattle.procedures.specs.Written.{Sheet}
 use Rattle.sheet.specs.Fine.{Accepted}
-use Rattle.sheet.specs.Reader.{Answer, got, refused, Whole, whole, sizeOf, numbersAt, sheetOf, sheetIn, checks}
-use Rattle.sheet.specs.Reader.{accepted, readSheet, written}
+use Rattle.sheet.specs.Encoding.{headingLength}
+use Rattle.sheet.specs.Reader.{Answer, got, refused, Whole, whole, sizeIn, numbersAt, wholeOf, sheetIn, checks, written}
+use Rattle.sheet.specs.Reader.{Checks, accepted, rejected, readSheet}
+use Rattle.records.specs.Refusal.{too-large}
 use Rattle.sheet.proofs.Right.{gives}
 use Rattle.comparer.specs.Plays.{Alike, Only, FirstPlay}
 use Rattle.comparer.specs.Records.{moves}
-use Rattle.comparer.specs.Refusals.{Refusal, refusing, matching, rootOf, onRead, followRefusal, compareRefusal}
-use Rattle.comparer.specs.Promise.{Holds, Begins, Greatest, NoPlay, Counted, FollowedBy, Decided, same, apart, ComparedBy}
+use Rattle.comparer.specs.Refusals.{Refusal, matching, onRead, followRefusal, pairRefusal, compareRefusal}
+use Rattle.comparer.specs.Promise.{Holds, Begins, Greatest, NoPlay, Counted, FollowedBy}
+use Rattle.comparer.specs.Promise.{Decided, same, apart, ComparedBy}
 use Rattle.comparer.specs.Demands.{FollowUnique, CompareUnique}
 use Rattle.comparer.specs.declared.Comparison.{Comparison}
-use Rattle.comparer.proofs.ReadSheets.{taken-got}
+use Rattle.comparer.proofs.ReadSheets.{two-first}
 use Rattle.comparer.proofs.ComparePlays.{as-one}
 use Rattle.comparer.proofs.PlayOrder.{before-total}
 
@@ -39,52 +42,46 @@ held-accepted {s} {S} h = gives s S (h .type) (h .size) (h .reads) .1
 -- its numbers are those of the first two bytes
 pub held-numbers : {s : List ℕ} {S : Sheet} → Holds s S → S .numbers ≡ numbersAt s
 unfolding readSheet checks sheetIn
-held-numbers {s} {S} h = go (sheetOf s) (h .reads)
+held-numbers {s} {S} h = go (wholeOf s) (h .reads)
   where
-    go : (A : Answer Whole) → checks (numbersAt s) A ≡ accepted S (h .type) (h .size) → S .numbers ≡ numbersAt s
-    go (got (whole ns root t) ty w end) e =
-        let f : record { numbers = numbersAt s; names = ns; term = written t } ≡ S = cc in
+    sized : (x : Whole) (ty n : ℕ) (u : Bool) →
+        pick u (rejected too-large 0) (accepted (sheetIn s x) ty n) ≡ accepted S (h .type) (h .size) →
+        S .numbers ≡ numbersAt s
+    sized (whole ns root t) ty n false e =
+        let f : record { numbers = numbersAt s; names = ns; term = written s t } ≡ S = cc in
         sym (ap (λ (X : Sheet). X .numbers) f)
+    sized x ty n true e = let z : _≡_ {A = ℕ} 0 1 = cc in absurd (omega arith)
+
+    go : (A : Answer Whole) → checks s A ≡ accepted S (h .type) (h .size) → S .numbers ≡ numbersAt s
+    go (got x ty end) e = sized x ty (sizeIn s x ty) (ltb 4096 (sizeIn s x ty)) e
     go (refused n p) e = let z : _≡_ {A = ℕ} 0 1 = cc in absurd (omega arith)
 
 -- sheets whose comparison is not refused have the same numbers
 same-numbers : (old new : List ℕ) (words space : ℕ) → compareRefusal old new words space ≡ none →
     numbersAt old ≡ numbersAt new
 unfolding compareRefusal onRead
-same-numbers old new words space h = go (sheetOf old) (sheetOf new) refl refl h
+same-numbers old new words space h = go (readSheet old) (readSheet new) h
   where
     judged : ℕ → ℕ → ℕ → ℕ → ℕ → ℕ → Option Refusal
-    judged root ty w other b v =
-        let S = sizeOf (numbersAt old) ty w in
-        let T = sizeOf (numbersAt new) b v in
-        pick (matching old new root other ty b)
-        (pick (ltb words (32 * (S + T + 1))) (refusing 13 2 0)
-        (pick (ltb space (4 * (S + T - 1))) (refusing 14 2 0) none))
-        (refusing 12 2 0)
-    go : (A B : Answer Whole) → sheetOf old ≡ A → sheetOf new ≡ B →
-        onRead A 0 (λ root ty w. onRead B 1 (λ other b v. judged root ty w other b v)) ≡ none →
+    judged root ty n other b m = pairRefusal (matching old new root other ty b) words space (n + m)
+    go : (A B : Checks) → onRead A 0 (λ root ty n. onRead B 1 (λ other b m. judged root ty n other b m)) ≡ none →
         numbersAt old ≡ numbersAt new
-    go (got x ty w end) (got y b v end′) e f k =
-        by (matching old new (rootOf x) (rootOf y) ty b) refl k
+    go (accepted S ty n) (accepted T b m) k = by (matching old new (headingLength S) (headingLength T) ty b) refl k
       where
-        by : (c : Bool) → matching old new (rootOf x) (rootOf y) ty b ≡ c →
-            pick c (pick (ltb words (32 * (sizeOf (numbersAt old) ty w + sizeOf (numbersAt new) b v + 1)))
-              (refusing 13 2 0)
-              (pick (ltb space (4 * (sizeOf (numbersAt old) ty w + sizeOf (numbersAt new) b v - 1)))
-                (refusing 14 2 0) none)) (refusing 12 2 0) ≡ none →
-            numbersAt old ≡ numbersAt new
-        by true d k = as-one (rootOf y) (taken-got e) (sym d) refl .numbers
+        by : (c : Bool) → matching old new (headingLength S) (headingLength T) ty b ≡ c →
+            pairRefusal c words space (n + m) ≡ none → numbersAt old ≡ numbersAt new
+        by true d k = as-one (headingLength T) (two-first S) (sym d) refl .numbers
         by false d k = let z : _≡_ {A = ℕ} 0 1 = cc in absurd (omega arith)
-    go (got x ty w end) (refused n p) e f k = let z : _≡_ {A = ℕ} 0 1 = cc in absurd (omega arith)
-    go (refused n p) B e f k = let z : _≡_ {A = ℕ} 0 1 = cc in absurd (omega arith)
+    go (accepted S ty n) (rejected m p) k = let z : _≡_ {A = ℕ} 0 1 = cc in absurd (omega arith)
+    go (rejected m p) B k = let z : _≡_ {A = ℕ} 0 1 = cc in absurd (omega arith)
 
 -- two sheets in order of the same numbers
 module _ (S T : Sheet) (A : Accepted S) (B : Accepted T) (e : S .numbers ≡ T .numbers) where
   -- every move of a play of one of them has a letter
   only-small : (which : ℕ) (u : Word) → Only which S T u → AllSmall (S .numbers) u
   unfolding Only
-  only-small zero u h = sheet-small S A u (h .0)
-  only-small (suc zero) u h = subst (λ N. AllSmall N u) (sym e) (sheet-small T B u (h .0))
+  only-small zero u h = sheet-small S (A .ordered) u (h .0)
+  only-small (suc zero) u h = subst (λ N. AllSmall N u) (sym e) (sheet-small T (B .ordered) u (h .0))
   only-small (suc (suc k)) u h = absurd h
 
   -- a play of exactly one of them tells them apart
@@ -108,7 +105,7 @@ module _ (S T : Sheet) (A : Accepted S) (B : Accepted T) (e : S .numbers ≡ T .
   -- there is one first play
   one-first : (which other : ℕ) (u v : Word) → FirstPlay S T which u → FirstPlay S T other v → u ≡ v
   one-first which other u v f g =
-      by (before-total (S .numbers) (omega (arith, A .z-below)) u v (only-small which u (f .only))
+      by (before-total (S .numbers) (omega (arith, A .ordered .z-below)) u v (only-small which u (f .only))
         (only-small other v (g .only)))
     where
       by : Before (S .numbers) u v ⊎ ((u ≡ v) ⊎ Before (S .numbers) v u) → u ≡ v

@@ -9,8 +9,8 @@ use lib.Dec.{eqb}
 use lib.ListN.{length}
 use borrow.Author.Tests.{eqb-true, not-true}
 use Rattle.language.specs.Move.{Word}
-use Rattle.sheet.specs.Written.{Sheet}
-use Rattle.sheet.specs.Meaning.{termOf}
+use Rattle.procedures.specs.Written.{Sheet}
+use Rattle.procedures.specs.Meaning.{termOf}
 use Rattle.sheet.specs.Fine.{Accepted}
 use Rattle.sheet.specs.Reader.{Checks, accepted, rejected, readSheet}
 use Rattle.sheet.proofs.Right.{gives}

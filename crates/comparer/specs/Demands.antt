@@ -7,8 +7,8 @@ use mathlib.Core.Option.{none, some}
 use Prim.Native.Nat.{ℕ, _+_, _-_, _≤_}
 use lib.ListN.{length, take}
 use Rattle.language.specs.Move.{Word, records}
-use Rattle.sheet.specs.Written.{Sheet}
-use Rattle.sheet.specs.Meaning.{typeOf}
+use Rattle.procedures.specs.Written.{Sheet}
+use Rattle.procedures.specs.Meaning.{typeOf}
 use Rattle.sheet.specs.Fine.{Accepted}
 use Rattle.sheet.specs.Reader.{readSheet, rejected}
 use Rattle.comparer.specs.Plays.{CompletePlay, reckoned, Alike, Only, FirstPlay}

@@ -7,8 +7,8 @@ use Rattle.language.specs.Ty.{Ty}
 use Rattle.language.specs.Move.{Word, Before}
 use Rattle.language.specs.Play.{Complete}
 use Rattle.language.specs.Weight.{size}
-use Rattle.sheet.specs.Written.{Sheet}
-use Rattle.sheet.specs.Meaning.{tyOf, termOf, typeOf}
+use Rattle.procedures.specs.Written.{Sheet}
+use Rattle.procedures.specs.Meaning.{tyOf, termOf, typeOf}
 
 -- the type of the whole term
 abbrev pub wholeType : Sheet → Ty

@@ -7,7 +7,7 @@ use mathlib.Core.Option.{Option, none, some}
 use Prim.Native.Nat.{ℕ, _+_, _-_, _≤_, _<_}
 use lib.ListN.{length, take, drop, replicate}
 use Rattle.language.specs.Move.{Word, Before, record-of, records}
-use Rattle.sheet.specs.Written.{Sheet}
+use Rattle.procedures.specs.Written.{Sheet}
 use Rattle.sheet.specs.Reader.{readSheet, accepted}
 use Rattle.comparer.specs.Plays.{CompletePlay, reckoned, Alike, FirstPlay}
 use Rattle.comparer.specs.Records.{moves, parse}

@@ -8,7 +8,8 @@ use mathlib.Core.Option.{Option, none, some}
 use lib.ListN.{length, getD}
 use lib.Dec.{eqb, ltb}
 use Rattle.language.specs.Choice.{pick}
-use Rattle.sheet.specs.Reader.{Answer, got, refused, Whole, whole, sheetOf, sizeOf, numbersAt}
+use Rattle.sheet.specs.Encoding.{headingLength}
+use Rattle.sheet.specs.Reader.{Checks, accepted, rejected, readSheet}
 use Rattle.comparer.specs.Records.{Given, moves, bad, parse}
 
 -- the number of a refusal, the sheet and the place
@@ -53,14 +54,10 @@ unfoldable pub matching : List ℕ → List ℕ → ℕ → ℕ → ℕ → ℕ 
 matching old new root other ty type-of-other =
     pick (eqb root other) (pick (sameFirst root old new) (eqb ty type-of-other) false) false
 
--- the place of the term
-unfoldable pub rootOf : Whole → ℕ
-rootOf (whole names root term) = root
-
--- what a sheet that is read goes on to, or its refusal
-unfoldable pub onRead : Answer Whole → ℕ → (ℕ → ℕ → ℕ → Option Refusal) → Option Refusal
-onRead (got x ty w end) sheet k = k (rootOf x) ty w
-onRead (refused number place) sheet k = refusing number sheet place
+-- what an accepted sheet goes on to, by the length of its heading, its type and its size; or its refusal
+unfoldable pub onRead : Checks → ℕ → (ℕ → ℕ → ℕ → Option Refusal) → Option Refusal
+onRead (accepted S ty size) sheet k = k (headingLength S) ty size
+onRead (rejected number place) sheet k = refusing number sheet place
 
 unfoldable pub onGiven : Given → Option Refusal
 onGiven (moves rs) = none
@@ -76,9 +73,8 @@ bytes-asked n = 4 * (n - 1)
 -- follow on a sheet, a play and so many words
 unfoldable pub followRefusal : List ℕ → List ℕ → ℕ → Option Refusal
 followRefusal s play words =
-    onRead (sheetOf s) old-sheet (λ root ty w.
-      pick (ltb words (words-asked (sizeOf (numbersAt s) ty w))) (refusing too-few-words both-sheets 0)
-      (onGiven (parse 0 play)))
+    onRead (readSheet s) old-sheet (λ root ty size.
+      pick (ltb words (words-asked size)) (refusing too-few-words both-sheets 0) (onGiven (parse 0 play)))
 
 -- "then 12, 13, 14": of two sheets that are read, whether their headings and result types are the same, so many words
 -- and bytes of play space, and the sum of the sizes
@@ -92,6 +88,6 @@ pairRefusal same words space n =
 -- compare on two sheets, so many words and bytes of play space
 unfoldable pub compareRefusal : List ℕ → List ℕ → ℕ → ℕ → Option Refusal
 compareRefusal old new words space =
-    onRead (sheetOf old) old-sheet (λ root ty w. onRead (sheetOf new) new-sheet (λ other type-of-other v.
-      pairRefusal (matching old new root other ty type-of-other) words space
-        (sizeOf (numbersAt old) ty w + sizeOf (numbersAt new) type-of-other v)))
+    onRead (readSheet old) old-sheet (λ root ty size.
+      onRead (readSheet new) new-sheet (λ other type-of-other size-of-other.
+        pairRefusal (matching old new root other ty type-of-other) words space (size + size-of-other)))

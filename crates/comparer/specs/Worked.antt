@@ -5,7 +5,7 @@ use mathlib.Core.List.{List, [], _∷_, _++_}
 use Prim.Native.Nat.{ℕ}
 use lib.ListN.{length}
 use Rattle.language.specs.Move.{Word}
-use Rattle.sheet.specs.Written.{Sheet}
+use Rattle.procedures.specs.Written.{Sheet}
 use Rattle.sheet.specs.Reader.{readSheet, accepted}
 use Rattle.comparer.specs.Plays.{Alike, FirstPlay}
 

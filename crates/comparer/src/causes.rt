@@ -5,15 +5,15 @@ use crate::Cause;
 use crate::NOT_REFUSED;
 use crate::OLD;
 use crate::play::Parsed;
-use sheet::names::Reading;
+use load::load::Loaded;
 ghost use mathlib.Core.Path.{_≡_};
 ghost use Rattle.comparer.specs.inner.Causes.{causeOf, bothCause, playCause};
 
 // The refusal of a sheet, its number 0 where the sheet is not refused.
-pub(crate) fn cause_of(x: Reading, sheet: u8) -> Cause
+pub(crate) fn cause_of(x: Loaded, sheet: u8) -> Cause
     ensures { λ r. ⌜ r ≡ causeOf x sheet ⌝ }
 {
-    let Reading::Refused(refusal) = x else {
+    let Loaded::Refused(refusal) = x else {
         return Cause {
             number: NOT_REFUSED,
             sheet,

@@ -7,10 +7,9 @@ use crate::NEW;
 use crate::NOT_REFUSED;
 use crate::OLD;
 use crate::SPACE_TOO_SHORT;
-use crate::TABLE_WORDS;
 use crate::TOO_FEW_WORDS;
 use crate::WORDS_A_STATE;
-use crate::build::build_two;
+use crate::build::two_from_rows;
 use crate::causes::both_cause;
 use crate::causes::cause_of;
 use crate::heading::alike;
@@ -20,10 +19,10 @@ use difference::Task;
 use difference::Verdict;
 use difference::search::first_difference;
 use difference::word::spell;
-use sheet::names::Reading;
+use load::load::Loaded;
+use load::load::ROWS;
+use load::load::load;
 use sheet::reading::numbers_of;
-use sheet::reading::read_sheet;
-use sheet::size::size_of;
 ghost use mathlib.Core.Path.{_≡_};
 ghost use Prim.Native.Nat.{_+_, _*_, _<_, _≤_};
 ghost use lib.ListN.{length, getD, take, drop};
@@ -103,37 +102,36 @@ pub fn compare(old: &[u8], new: &[u8], words: &mut [u32], space: &mut [u8]) -> C
     ensures { λ r. ⌜ ComparePromise (now (old .entry)) (now (new .entry)) (now (words .entry)) (now (space .entry)) r
         (now (words .exit)) (now (space .exit)) ⌝ }
 {
-    let mut t = [0u16; TABLE_WORDS];
-    let x = read_sheet(old, &mut t);
-    let Reading::Sheet {
+    let mut t = [0u16; ROWS];
+    let x = load(old, &mut t);
+    let Loaded::Sheet {
         root,
+        row,
         ty,
-        weight,
-        next: _,
+        size,
     } = x
     else {
         return refuse(cause_of(x, OLD));
     };
-    let mut u = [0u16; TABLE_WORDS];
-    let y = read_sheet(new, &mut u);
-    let Reading::Sheet {
+    let mut u = [0u16; ROWS];
+    let y = load(new, &mut u);
+    let Loaded::Sheet {
         root: other,
+        row: other_row,
         ty: b,
-        weight: w,
-        next: _,
+        size: other_size,
     } = y
     else {
         return refuse(cause_of(y, NEW));
     };
-    let n = numbers_of(old);
-    let all = size_of(n, ty, weight) as usize;
-    let more = size_of(numbers_of(new), b, w) as usize;
+    let all = size as usize;
+    let more = other_size as usize;
     let matching = alike(old, new, root, other, ty, b);
     let number = pair_number(matching, words.len(), space.len(), all + more);
     if number != NOT_REFUSED {
         return refuse(both_cause(number));
     }
-    build_two(&t, &u, n, root, other, all, more, words);
+    two_from_rows(&t, &u, numbers_of(old), row, other_row, all, more, words);
     let r = decide(words, space, all, more);
     clear(words);
     r

@@ -2,10 +2,9 @@
 use crate::Cause;
 use crate::Following;
 use crate::OLD;
-use crate::TABLE_WORDS;
 use crate::TOO_FEW_WORDS;
 use crate::WORDS_A_STATE;
-use crate::build::build_one;
+use crate::build::one_from_rows;
 use crate::causes::both_cause;
 use crate::causes::cause_of;
 use crate::causes::play_cause;
@@ -17,11 +16,11 @@ use dfa::graph::next_state;
 use dfa::words::clear;
 use live::is_marked;
 use live::mark_live;
+use load::load::Loaded;
+use load::load::ROWS;
+use load::load::load;
 use records::read::byte_at;
-use sheet::names::Reading;
 use sheet::reading::numbers_of;
-use sheet::reading::read_sheet;
-use sheet::size::size_of;
 ghost use mathlib.Core.Path.{_≡_};
 ghost use mathlib.Core.List.{List};
 ghost use Prim.Native.Nat.{ℕ, _*_};
@@ -77,34 +76,33 @@ pub fn follow(sheet: &[u8], play: &[u8], words: &mut [u32]) -> Following
     ensures { λ r. ⌜ FollowPromise (now (sheet .entry)) (now (play .entry)) (now (words .entry)) r
         (now (words .exit)) ⌝ }
 {
-    let mut t = [0u16; TABLE_WORDS];
-    let x = read_sheet(sheet, &mut t);
-    let Reading::Sheet {
-        root,
-        ty,
-        weight,
-        next: _,
+    let mut t = [0u16; ROWS];
+    let x = load(sheet, &mut t);
+    let Loaded::Sheet {
+        root: _,
+        row,
+        ty: _,
+        size,
     } = x
     else {
         return refuse(cause_of(x, OLD));
     };
-    let n = numbers_of(sheet);
-    let size = size_of(n, ty, weight) as usize;
-    if words.len() < WORDS_A_STATE * (size + 1) {
+    let all = size as usize;
+    if words.len() < WORDS_A_STATE * (all + 1) {
         return refuse(both_cause(TOO_FEW_WORDS));
     }
     let parsed = count_moves(play);
     let Parsed::Moves(total) = parsed else {
         return refuse(play_cause(parsed));
     };
-    build_one(&t, n, root, size, words);
-    mark_live(words, size + 1, size - 1);
-    let reach = longest(words, size + 1, play, total);
+    one_from_rows(&t, numbers_of(sheet), row, all, words);
+    mark_live(words, all + 1, all - 1);
+    let reach = longest(words, all + 1, play, total);
     clear(words);
     let count = reach.count;
     let last = reach.last;
     Following::Follows {
         count,
-        complete: last == size - 1,
+        complete: last == all - 1,
     }
 }

@@ -37,9 +37,6 @@ pub(crate) const NEW: u8 = 1;
 // The sheet of a refusal: both.
 pub(crate) const BOTH: u8 = 2;
 
-// Words of a table of parts.
-pub(crate) const TABLE_WORDS: usize = 36864;
-
 // Working words for each state.
 pub(crate) const WORDS_A_STATE: usize = 32;
 

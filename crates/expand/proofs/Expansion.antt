@@ -156,7 +156,7 @@ module _ (N : Numbers) (ns : List Name) (t marks slots rows : List ℕ) (Γ : Co
   module _ (after : List ℕ) (r m : ℕ) (X : ByKind t marks slots level (left - 1) at rows after n r m) where
     plain : (kind : ℕ) → word t at KIND ≡ kind → (kind ≡ PROCEDURE → ⊥) → (kind ≡ USE → ⊥) → (kind ≡ NEW → ⊥) →
         (r ≡ n) × Closed t marks slots level (left - 1) at rows after n m
-    plain kind e f g h = X .plain (λ i. f (sym e ∙ i)) (λ i. g (sym e ∙ i)) (λ i. h (sym e ∙ i))
+    plain kind e f g h = X .recorded (λ i. f (sym e ∙ i)) (λ i. g (sym e ∙ i)) .plain (λ i. h (sym e ∙ i))
 
     by-shown : {W : Written} → Placed N ns t marks slots rows Γ ε π W at end level left n →
         come ns (binders Γ) (downs ns Γ) W ≡ 0 → Shown N ns t Γ π at end W → Expanded N ns Γ ε W rows after n r m
@@ -216,7 +216,8 @@ module _ (N : Numbers) (ns : List Name) (t marks slots rows : List ℕ) (Γ : Co
         rw (c .0) (while-row N ns t marks slots Γ ε π level (left - 1) at end (c .1) (site pl) (parts-reach pl)
           (pl .passed) (pl .sized) v w a b p e f h x y (pl .marked) (pl .fine) (pl .few) (pl .room))
     by-shown pl z (shown-new {a = a} {id = id} {d = d} {x = v} p o e h x) =
-        let c = X .block (p .kinded) in
+        let f = p .kinded in
+        let c = X .recorded (λ i. omega (arith, f, i)) (λ i. omega (arith, f, i)) .block f in
         rw (c .0) (new-row N ns t marks slots Γ ε π level at (site pl) (left - 1) end (c .1) (parts-reach pl) (pl
             .passed)
           (pl .sized) id d v a p o e h x (pl .marked) (pl .fine) (pl .few) (pl .room))

@@ -2,13 +2,14 @@
 use Prim.Native.Nat.{ℕ, zero, suc, _+_, _/_, _%_, _<_}
 use native.Mathlib.Omega.{arith}
 use mathlib.Core.Path.{_≡_, refl, sym, _∙_}
+use mathlib.Core.Bool.{Bool, true, false, false≢true}
 use mathlib.Core.List.{List}
 use lib.ListN.{set, getD}
 use Rattle.procedures.specs.PartKind.{PROCEDURE, USE, NEW, KIND, DETAIL, PARTS}
 use Rattle.records.specs.Row.{word}
 use Rattle.expand.specs.Rows.{ROWS}
-use Rattle.expand.specs.Close.{usedOf, bitOf, moreOf, partsOf, closedRow, passedSlots}
-use Rattle.expand.specs.Contract.{Expanding, Piece, Pieces, Closed, Used, ByKind}
+use Rattle.expand.specs.Close.{usedOf, staysOf, bitOf, moreOf, partsOf, closedRow, passedSlots}
+use Rattle.expand.specs.Contract.{Expanding, Piece, Pieces, Closed, Used, Entered, Recorded, ByKind}
 
 -- one of five by its number
 by-five {ℓ} : {X : Type ℓ} → X → X → X → X → X → ℕ → X
@@ -79,34 +80,60 @@ use-made t marks slots level left at rows between after n a b c d i r m detail p
         (word t (word t at DETAIL % 4096) PARTS) between after i r m = rw (e₈, e₇, e₆, e₄, e₃, e₂, e₁) at y in
     record { between = between; a = a; b = b; c = c; d = d; i = i; pieces = x′; body = y′ }
 
--- by the kind
+-- a use is entered
+pub entered : (t marks slots : List ℕ) (level left at : ℕ) (rows between : List ℕ)
+    (n a b c d i detail p k l body used more : ℕ) (inner : List ℕ) →
+    detail ≡ word t at DETAIL → p ≡ detail % 4096 → k ≡ word t p DETAIL → body ≡ word t p PARTS →
+    used ≡ usedOf (getD marks p 0) → l ≡ detail / 4096 → more ≡ moreOf k l →
+    inner ≡ passedSlots slots k a b c d → Pieces t marks slots level left at used rows between n a b c d i →
+    Entered t marks slots inner level left at rows between n body more i
+entered t marks slots level left at rows between n a b c d i detail p k l body used more inner
+    e₁ e₂ e₃ e₄ e₅ e₆ e₇ e₈ x = record { used = λ after r m y.
+      use-made t marks slots level left at rows between after n a b c d i r m detail p k l body used more inner
+        e₁ e₂ e₃ e₄ e₅ e₆ e₇ e₈ x y }
+
+-- of which kinds the slots stay
+stays-not : (kind : ℕ) → staysOf kind ≡ true →
+    (kind ≡ PROCEDURE → ⊥) × (kind ≡ USE → ⊥) × (kind ≡ NEW → ⊥)
+unfolding staysOf
+stays-not kind h = (
+    (λ e. let g : false ≡ true = rw e at h in false≢true g), (λ e. let g : false ≡ true = rw e at h in false≢true g),
+    (λ e. let g : false ≡ true = rw e at h in false≢true g))
+
+-- any other record
 module _ (t marks slots : List ℕ) (level left at : ℕ) (rows after : List ℕ) (n r m kind : ℕ)
     (k : kind ≡ word t at KIND) where
+  pub record-block : (l : ℕ) (inner : List ℕ) → kind ≡ NEW → inner ≡ set slots level n → l ≡ moreOf level 1 → r ≡ n →
+      Closed t marks inner l left at rows after n m → Recorded t marks slots level left at rows after n r m
+  record-block l inner e f g i x =
+      let x′ : Closed t marks (set slots level n) (moreOf level 1) left at rows after n m = rw (f, g) at x in
+      record { block = λ h. (i, x′); plain = λ h. absurd (h (sym k ∙ e)) }
+
+  pub record-plain : (kind ≡ NEW → ⊥) → r ≡ n → Closed t marks slots level left at rows after n m →
+      Recorded t marks slots level left at rows after n r m
+  record-plain g i x = record { block = λ h. absurd (g (k ∙ h)); plain = λ h. (i, x) }
+
+  -- by the kind
   pub kind-scope : (p l : ℕ) → kind ≡ PROCEDURE → p ≡ word t at (PARTS + 1) → l ≡ moreOf level 1 →
       Expanding t marks slots l left p rows after n r m → ByKind t marks slots level left at rows after n r m
   kind-scope p l e f g x =
       let x′ : Expanding t marks slots (moreOf level 1) left (word t at (PARTS + 1)) rows after n r m = rw (f, g) at
           x in
       record {
-        scope = λ h. x′; routine = λ h. absurd (omega (arith, k, e, h)); block = λ h. absurd (omega (arith, k, e, h));
-        plain = λ h i j. absurd (h (sym k ∙ e)) }
+        scope = λ h. x′; routine = λ h. absurd (omega (arith, k, e, h)); recorded = λ h i. absurd (h (sym k ∙ e)) }
 
   pub kind-use : (kind ≡ USE) → Used t marks slots level left at rows after n r m →
       ByKind t marks slots level left at rows after n r m
   kind-use e x = record {
-      scope = λ h. absurd (omega (arith, k, e, h)); routine = λ h. x; block = λ h. absurd (omega (arith, k, e, h));
-      plain = λ h i j. absurd (i (sym k ∙ e)) }
+      scope = λ h. absurd (omega (arith, k, e, h)); routine = λ h. x; recorded = λ h i. absurd (i (sym k ∙ e)) }
 
-  pub kind-block : (l : ℕ) (inner : List ℕ) → kind ≡ NEW → inner ≡ set slots level n → l ≡ moreOf level 1 → r ≡ n →
-      Closed t marks inner l left at rows after n m → ByKind t marks slots level left at rows after n r m
-  kind-block l inner e f g i x =
-      let x′ : Closed t marks (set slots level n) (moreOf level 1) left at rows after n m = rw (f, g) at x in
-      record {
-        scope = λ h. absurd (omega (arith, k, e, h)); routine = λ h. absurd (omega (arith, k, e, h));
-        block = λ h. (i, x′); plain = λ h i j. absurd (j (sym k ∙ e)) }
+  pub kind-record : (kind ≡ PROCEDURE → ⊥) → (kind ≡ USE → ⊥) → Recorded t marks slots level left at rows after n r m →
+      ByKind t marks slots level left at rows after n r m
+  kind-record e f x = record {
+      scope = λ h. absurd (e (k ∙ h)); routine = λ h. absurd (f (k ∙ h)); recorded = λ h i. x }
 
-  pub kind-plain : (kind ≡ PROCEDURE → ⊥) → (kind ≡ USE → ⊥) → (kind ≡ NEW → ⊥) → r ≡ n →
+  pub kind-stays : {b : Bool} → b ≡ staysOf kind → b ≡ true → r ≡ n →
       Closed t marks slots level left at rows after n m → ByKind t marks slots level left at rows after n r m
-  kind-plain e f g i x = record {
-      scope = λ h. absurd (e (k ∙ h)); routine = λ h. absurd (f (k ∙ h)); block = λ h. absurd (g (k ∙ h));
-      plain = λ h y z. (i, x) }
+  kind-stays e f i x =
+      let g = stays-not kind (sym e ∙ f) in
+      kind-record (g .0) (g .1) (record-plain (g .2) i x)

@@ -11,6 +11,7 @@ pub mod Blocks
 pub mod Naming
 pub mod Using
 pub mod Expansion
+pub mod Turns
 pub mod Bridge
 pub mod ComeTypes
 pub mod Decoded

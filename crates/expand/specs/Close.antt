@@ -2,12 +2,13 @@
 -- Document 02 [1]; only inner contracts cite it.
 use Prim.Native.Nat.{ℕ, zero, suc, _+_, _*_, _/_, _%_, min}
 use mathlib.Core.List.{List}
+use mathlib.Core.Bool.{Bool, true, false}
 use lib.ListN.{getD, set}
 use lib.Dec.{eqb, ltb}
 use Rattle.language.specs.Choice.{pick}
 use Rattle.records.specs.Row.{cell}
 use Rattle.procedures.specs.PartKind.{NAME, FETCH, OPERATE, ASSIGN, SEQUENCE, IF, WHILE, NEW, PRIVATE, KIND, CLASS}
-use Rattle.procedures.specs.PartKind.{VALUES, DETAIL, PARTS}
+use Rattle.procedures.specs.PartKind.{VALUES, DETAIL, PARTS, PROCEDURE, USE}
 use Rattle.records.specs.Row.{word}
 use Rattle.expand.specs.Rows.{WEIGHT}
 
@@ -43,6 +44,13 @@ partsOf kind d =
     (pick (eqb kind SEQUENCE) 3
     (pick (eqb kind WHILE) 3
     (pick (eqb kind IF) 7 0)))))))
+
+-- whether the slots stay as they are for the parts of a record of a kind
+unfoldable pub staysOf : ℕ → Bool
+staysOf kind =
+    pick (eqb kind PROCEDURE) false
+    (pick (eqb kind USE) false
+    (pick (eqb kind NEW) false true))
 
 -- questions and answers of a type, by its class and the number of values of its data
 unfoldable pub questionsBy : ℕ → ℕ → ℕ

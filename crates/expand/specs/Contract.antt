@@ -135,15 +135,25 @@ pub record Used (t marks slots : List ℕ) (level left at : ℕ) (rows after : L
     (moreOf (word t (word t at DETAIL % 4096) DETAIL) (word t at DETAIL / 4096)) left
     (word t (word t at DETAIL % 4096) PARTS) between after i r m
 
+-- the procedure that is used at a place is entered: what its term becomes in its slots, the use becomes
+pub record Entered (t marks slots inner : List ℕ) (level left at : ℕ) (rows between : List ℕ) (n body more i : ℕ) :
+    Type 0 where
+  pub used : (after : List ℕ) (r m : ℕ) → Expanding t marks inner more left body between after i r m →
+    Used t marks slots level left at rows after n r m
+
+-- the part at a place becomes the row n, where it is neither the scope nor the use of a procedure
+pub record Recorded (t marks slots : List ℕ) (level left at : ℕ) (rows after : List ℕ) (n r m : ℕ) : Type 0 where
+  pub block : word t at KIND ≡ NEW →
+    (r ≡ n) × Closed t marks (set slots level n) (moreOf level 1) left at rows after n m
+  pub plain : (word t at KIND ≡ NEW → ⊥) → (r ≡ n) × Closed t marks slots level left at rows after n m
+
 -- the part at a place is none that comes down to a parameter: what is done by its kind
 pub record ByKind (t marks slots : List ℕ) (level left at : ℕ) (rows after : List ℕ) (n r m : ℕ) : Type 0 where
   pub scope : word t at KIND ≡ PROCEDURE →
     Expanding t marks slots (moreOf level 1) left (word t at (PARTS + 1)) rows after n r m
   pub routine : word t at KIND ≡ USE → Used t marks slots level left at rows after n r m
-  pub block : word t at KIND ≡ NEW →
-    (r ≡ n) × Closed t marks (set slots level n) (moreOf level 1) left at rows after n m
-  pub plain : (word t at KIND ≡ PROCEDURE → ⊥) → (word t at KIND ≡ USE → ⊥) → (word t at KIND ≡ NEW → ⊥) →
-    (r ≡ n) × Closed t marks slots level left at rows after n m
+  pub recorded : (word t at KIND ≡ PROCEDURE → ⊥) → (word t at KIND ≡ USE → ⊥) →
+    Recorded t marks slots level left at rows after n r m
 
 -- a whole sheet's term, which the table has with its marks from a place up to another
 pub record Ready (N : Numbers) (ns : List Name) (t marks : List ℕ) (π : ℕ → ℕ) (W : Written) (at end : ℕ) : Type 0 where

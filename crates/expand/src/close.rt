@@ -16,8 +16,8 @@ ghost use mathlib.Core.Path.{_≡_};
 ghost use Prim.Native.Nat.{_+_, _*_, _<_, min};
 ghost use lib.ListN.{getD, set};
 ghost use Rattle.records.specs.Row.{word};
-ghost use Rattle.expand.specs.Close.{partsOf, questionsBy, answersBy, argumentWeight, nameWeight, plainWeight};
-ghost use Rattle.expand.specs.Close.{firstValues, weightOf, detailOf, headPut, partsPut, closedRow};
+ghost use Rattle.expand.specs.Close.{partsOf, staysOf, questionsBy, answersBy, argumentWeight, nameWeight};
+ghost use Rattle.expand.specs.Close.{plainWeight, firstValues, weightOf, detailOf, headPut, partsPut, closedRow};
 
 // The kinds of rows.
 const NAME: u16 = 20;
@@ -82,6 +82,22 @@ pub(crate) fn parts_of(kind: u16, detail: u16) -> u16
         return TWO;
     }
     if kind == IF { THREE } else { 0 }
+}
+
+// Whether the slots stay as they are for the parts of a record of a kind.
+pub(crate) fn stays(kind: u16) -> bool
+    ensures { λ r. ⌜ r ≡ staysOf kind ⌝ }
+{
+    if kind == PROCEDURE {
+        return false;
+    }
+    if kind == USE {
+        return false;
+    }
+    if kind == NEW {
+        return false;
+    }
+    true
 }
 
 // How many questions a type has.

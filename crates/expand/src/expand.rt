@@ -1,10 +1,12 @@
 // The expansion: a cycle of functions, a bound of the turns to come falling. Slots hold, by the numbers of the
-// enclosing binders, the row of a new and the row of a parameter's argument; who changes them works on a copy.
+// enclosing binders, the row of a new and the row of a parameter's argument; who changes them works on a copy, one for
+// all scopes and uses of procedures on the way to a row.
 use crate::close::NEW;
 use crate::close::PROCEDURE;
 use crate::close::USE;
 use crate::close::close_row;
 use crate::close::parts_of;
+use crate::close::stays;
 use crate::words::DETAIL;
 use crate::words::KIND;
 use crate::words::PARTS;
@@ -19,10 +21,10 @@ use crate::words::used_at;
 use crate::words::word_at;
 ghost use mathlib.Core.Path.{_≡_};
 ghost use Prim.Native.Nat.{_+_, _≤_, _<_};
-ghost use lib.ListN.{length, set};
+ghost use lib.ListN.{length, getD, set};
 ghost use Rattle.records.specs.Row.{word};
-ghost use Rattle.expand.specs.Close.{moreOf};
-ghost use Rattle.expand.specs.Contract.{Expanding, Piece, Pieces, Closed, Used, ByKind, Top};
+ghost use Rattle.expand.specs.Close.{comeOf, moreOf};
+ghost use Rattle.expand.specs.Contract.{Expanding, Piece, Pieces, Closed, Entered, Recorded, Top};
 
 // What stands in a slot, or for a part, where there is no row.
 const NO_ROW: u16 = 12288;
@@ -45,8 +47,45 @@ struct Four {
     count: u16,
 }
 
-// Expands the part at a place: one that comes down to a parameter is that parameter's row.
+// Where to go on: at a place, where so many binders are around and so many rows made.
+struct Turn {
+    at: u16,
+    level: u16,
+    count: u16,
+}
+
+// Expands the part at a place, which comes down to no parameter.
 fn expand(
+    t: &[u16],
+    marks: &[u16],
+    slots: &[u16; 128],
+    rows: &mut [u16],
+    level: u16,
+    left: u32,
+    n: u16,
+    at: u16,
+) -> Made
+    requires { ⌜ comeOf (getD (now marks) at 0) ≡ 0 ⌝ }
+    ensures { λ r. ⌜ Expanding (now (t .entry)) (now (marks .entry)) (now (slots .entry)) level left at
+        (now (rows .entry)) (now (rows .exit)) n (r .row) (r .count) ⌝ }
+{
+    let kind = word_at(t, at, KIND);
+    if !stays(kind) {
+        return expand_own(t, marks, slots, rows, level, left, n, at);
+    }
+    if left == 0 {
+        return Made {
+            row: NO_ROW,
+            count: n,
+        };
+    }
+    let count = expand_row(t, marks, slots, rows, level, left - 1, n, at);
+    Made { row: n, count }
+}
+
+// Expands the part at a place in its own copy of the slots: the scopes and the terms of procedures that it comes to are
+// the turns of a loop.
+fn expand_own(
     t: &[u16],
     marks: &[u16],
     slots: &[u16; 128],
@@ -59,85 +98,90 @@ fn expand(
     ensures { λ r. ⌜ Expanding (now (t .entry)) (now (marks .entry)) (now (slots .entry)) level left at
         (now (rows .entry)) (now (rows .exit)) n (r .row) (r .count) ⌝ }
 {
-    let come = come_at(marks, at);
-    if 0 < come {
-        return Made {
-            row: slot_at(slots, come - 1),
-            count: n,
-        };
+    let mut own = *slots;
+    let mut here = at;
+    let mut around = level;
+    let mut turns = left;
+    let mut made = n;
+    while 0 < turns {
+        turns -= 1;
+        let come = come_at(marks, here);
+        if 0 < come {
+            return Made {
+                row: slot_at(&own, come - 1),
+                count: made,
+            };
+        }
+        let kind = word_at(t, here, KIND);
+        if kind == PROCEDURE {
+            here = word_at(t, here, PARTS + 1);
+            around = more(around, 1);
+            continue;
+        }
+        if kind != USE {
+            return expand_record(t, marks, &mut own, rows, around, turns, made, here);
+        }
+        let next = enter(t, marks, &mut own, rows, around, turns, made, here);
+        here = next.at;
+        around = next.level;
+        made = next.count;
     }
-    if left == 0 {
-        return Made {
-            row: NO_ROW,
-            count: n,
-        };
+    Made {
+        row: NO_ROW,
+        count: made,
     }
-    expand_kind(t, marks, slots, rows, level, left - 1, n, at)
 }
 
-// Expands a part that comes down to no parameter, by its kind.
-fn expand_kind(
+// Enters the procedure that is used at a place: the arguments that it uses are expanded in the slots of the caller,
+// then its slots become their rows. What is left is its term.
+fn enter(
     t: &[u16],
     marks: &[u16],
-    slots: &[u16; 128],
+    own: &mut [u16; 128],
     rows: &mut [u16],
     level: u16,
     left: u32,
     n: u16,
     at: u16,
-) -> Made
-    ensures { λ r. ⌜ ByKind (now (t .entry)) (now (marks .entry)) (now (slots .entry)) level left at
-        (now (rows .entry)) (now (rows .exit)) n (r .row) (r .count) ⌝ }
-{
-    let kind = word_at(t, at, KIND);
-    if kind == PROCEDURE {
-        let scope = word_at(t, at, PARTS + 1);
-        return expand(t, marks, slots, rows, more(level, 1), left, n, scope);
-    }
-    if kind == USE {
-        return expand_use(t, marks, slots, rows, level, left, n, at);
-    }
-    if kind == NEW {
-        let mut inner = *slots;
-        put_slot(&mut inner, level, n);
-        let count = expand_row(t, marks, &inner, rows, more(level, 1), left, n, at);
-        return Made { row: n, count };
-    }
-    let count = expand_row(t, marks, slots, rows, level, left, n, at);
-    Made { row: n, count }
-}
-
-// Expands a use of a procedure: the arguments that it uses in the slots of the caller, then its term in its own.
-fn expand_use(
-    t: &[u16],
-    marks: &[u16],
-    slots: &[u16; 128],
-    rows: &mut [u16],
-    level: u16,
-    left: u32,
-    n: u16,
-    at: u16,
-) -> Made
-    ensures { λ r. ⌜ Used (now (t .entry)) (now (marks .entry)) (now (slots .entry)) level left at
-        (now (rows .entry)) (now (rows .exit)) n (r .row) (r .count) ⌝ }
+) -> Turn
+    ensures { λ r. ⌜ Entered (now (t .entry)) (now (marks .entry)) (now (own .entry)) (now (own .exit)) level left at
+        (now (rows .entry)) (now (rows .exit)) n (r .at) (r .level) (r .count) ⌝ }
 {
     let detail = word_at(t, at, DETAIL);
     let p = procedure_of(detail);
     let k = word_at(t, p, DETAIL);
     let body = word_at(t, p, PARTS);
-    let four = expand_parts(t, marks, slots, rows, level, left, n, at, used_at(marks, p));
-    let mut inner = *slots;
-    pass(&mut inner, k, four.a, four.b, four.c, four.d);
-    expand(
-        t,
-        marks,
-        &inner,
-        rows,
-        more(k, passed_of(detail)),
-        left,
-        four.count,
-        body,
-    )
+    let four = expand_parts(t, marks, own, rows, level, left, n, at, used_at(marks, p));
+    pass(own, k, four.a, four.b, four.c, four.d);
+    Turn {
+        at: body,
+        level: more(k, passed_of(detail)),
+        count: four.count,
+    }
+}
+
+// Makes row n for a part that is neither the scope nor the use of a procedure.
+fn expand_record(
+    t: &[u16],
+    marks: &[u16],
+    own: &mut [u16; 128],
+    rows: &mut [u16],
+    level: u16,
+    left: u32,
+    n: u16,
+    at: u16,
+) -> Made
+    ensures { λ r. ⌜ Recorded (now (t .entry)) (now (marks .entry)) (now (own .entry)) level left at
+        (now (rows .entry)) (now (rows .exit)) n (r .row) (r .count) ⌝ }
+{
+    let kind = word_at(t, at, KIND);
+    if kind == NEW {
+        put_slot(own, level, n);
+        let count = expand_row(t, marks, own, rows, more(level, 1), left, n, at);
+        return Made { row: n, count };
+    }
+    let count = expand_row(t, marks, own, rows, level, left, n, at);
+    Made { row: n, count }
 }
 
 // Makes row n for the part at a place, after the rows of its parts, and says how many are made then.
@@ -212,7 +256,8 @@ fn expand_parts(
     }
 }
 
-// Expands part j of the part at a place, where it is wanted.
+// Expands part j of the part at a place, where it is wanted: one that comes down to a parameter is that parameter's
+// row.
 fn expand_part(
     t: &[u16],
     marks: &[u16],
@@ -236,6 +281,13 @@ fn expand_part(
         };
     }
     let part = word_at(t, at, PARTS + j);
+    let come = come_at(marks, part);
+    if 0 < come {
+        return Made {
+            row: slot_at(slots, come - 1),
+            count: n,
+        };
+    }
     expand(t, marks, slots, rows, level, left, n, part)
 }
 
@@ -245,5 +297,5 @@ pub fn expand_term(t: &[u16], marks: &[u16], rows: &mut [u16], at: u16) -> Made
         (r .row) (r .count) ⌝ }
 {
     let slots = [NO_ROW; 128];
-    expand(t, marks, &slots, rows, 0, TURNS, 0, at)
+    expand_own(t, marks, &slots, rows, 0, TURNS, 0, at)
 }

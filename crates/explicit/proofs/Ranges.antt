@@ -3,7 +3,7 @@
 use mathlib.Core.Path.{_≡_, refl, sym, ap, _∙_}
 use mathlib.Core.Bool.{Bool, true, false}
 use mathlib.Core.List.{List, [], _∷_}
-use Prim.Native.Nat.{ℕ, zero, suc, _+_, _*_, _≤_, _<_}
+use Prim.Native.Nat.{ℕ, zero, suc, _+_, _-_, _*_, _≤_, _<_}
 use native.Mathlib.Omega.{arith}
 use lib.ListN.{length}
 use lib.Dec.{eqb}
@@ -15,13 +15,15 @@ use Rattle.language.specs.Move.{Word}
 use Rattle.language.specs.Play.{Complete}
 use Rattle.language.specs.Term as t
 use Rattle.records.specs.Rule.{values}
-use Rattle.sheet.specs.Written.{Written, skip, diverge, truth, number, call, fetch, operate, assign, sequence, while}
-use Rattle.sheet.specs.Written.{choose}
-use Rattle.sheet.specs.Written.{new, Writtens, none, more, Name, declare, retire, Sheet}
-use Rattle.sheet.specs.Meaning.{Block, Meaning, private, named, retired, free, outward, declared, meaning, tyOf}
-use Rattle.sheet.specs.Meaning.{byMeaning, resolve, resolveArgs, termOf, typeOf}
-use Rattle.sheet.specs.Fine.{FineUse, Fine, FineArgs, FineNames, Accepted}
-use Rattle.sheet.proofs.WellTyped.{accepted-typed}
+use Rattle.procedures.specs.Written.{Written, skip, diverge, truth, number, call, fetch, operate, assign, sequence}
+use Rattle.procedures.specs.Written.{while, choose, new, procedure, Writtens, none, more, Name, declare, retire, Sheet}
+use Rattle.procedures.specs.Meaning.{Binder, a-block, a-parameter, a-procedure, Meaning, private, argument, routine}
+use Rattle.procedures.specs.Meaning.{named, retired, free, declared, idOf, meant, meaning, inside, after, tyOf}
+use Rattle.procedures.specs.Meaning.{byMeaning, Terms, no-terms, with-level, with-body, with-passed, resolve}
+use Rattle.procedures.specs.Meaning.{resolveArgs, resolved, termOf, typeOf}
+use Rattle.procedures.specs.Fine.{FineUse, Fine, FineArgs, FineNames, Accepted}
+use Rattle.procedures.proofs.Numbering.{beyond-all}
+use Rattle.procedures.proofs.WellTyped.{accepted-typed}
 use Rattle.machine.specs.Range.{TyIn, InRange, InRangeArgs}
 use Rattle.machine.proofs.Scope.{scoped-of}
 use Rattle.explicit.specs.Letter.{AllSmall}
@@ -52,17 +54,18 @@ type-in N h ty = go (eqb ty 0) (eqb ty 1) (eqb ty 2)
 
 -- a declared name has at most four arguments
 unfoldable Few : Meaning → Type 0
-Few (private i d) = Unit
+Few (private k d) = Unit
+Few (argument k ty) = Unit
+Few (routine k ty tys) = Unit
 Few (named ty tys) = length tys < 5
 Few retired = Unit
 Few free = Unit
 
-few-outward : (m : Meaning) → Few m → Few (outward m)
-unfolding Few outward
-few-outward (private i d) h = tt
-few-outward (named ty tys) h = h
-few-outward retired h = tt
-few-outward free h = tt
+few-meant : (k : ℕ) (b : Binder) → Few (meant k b)
+unfolding Few meant
+few-meant k (a-block id d) = tt
+few-meant k (a-parameter id ty) = tt
+few-meant k (a-procedure id ty tys) = tt
 
 few-pick : (b : Bool) (x y : Meaning) → Few x → Few y → Few (pick b x y)
 few-pick true x y h k = h
@@ -74,55 +77,112 @@ few-declared earlier [] f id = tt
 few-declared earlier (declare k ty tys ∷ ns) f id = few-pick (eqb k id) _ _ (f .3) (few-declared _ ns (f .5) id)
 few-declared earlier (retire k ∷ ns) f id = few-pick (eqb k id) _ _ tt (few-declared _ ns (f .2) id)
 
+-- what stands for the binders is in range
+abbrev AllIn : Numbers → (ℕ → ℕ → t.Term) → Type 0
+AllIn N xs = (j n : ℕ) → InRange N (xs j n)
+
+record TermsIn (N : Numbers) (ρ : Terms) : Type 0 where
+  passed : AllIn N (ρ .passed)
+  body : (k : ℕ) (xs : ℕ → ℕ → t.Term) → AllIn N xs → (n : ℕ) → InRange N (ρ .body k xs n)
+
+nothing-in : (N : Numbers) → TermsIn N no-terms
+unfolding no-terms InRange
+nothing-in N = record { passed = λ j n. tt; body = λ k xs h n. tt }
+
+level-in : (N : Numbers) (k n : ℕ) (ρ : Terms) → TermsIn N ρ → TermsIn N (with-level k n ρ)
+unfolding with-level
+level-in N k n ρ h = record { passed = h .passed; body = h .body }
+
+passed-in : (N : Numbers) (k : ℕ) (ρ : Terms) (xs : ℕ → ℕ → t.Term) → TermsIn N ρ → AllIn N xs →
+    TermsIn N (with-passed k xs ρ)
+unfolding with-passed
+passed-in N k ρ xs h g = record {
+    passed = beyond-all (λ (x : ℕ → t.Term). (n : ℕ) → InRange N (x n)) k (ρ .passed) xs (h .passed) g;
+    body = h .body }
+
+body-in : (N : Numbers) (k : ℕ) (ρ : Terms) (p : (ℕ → ℕ → t.Term) → ℕ → t.Term) → TermsIn N ρ →
+    ((xs : ℕ → ℕ → t.Term) → AllIn N xs → (n : ℕ) → InRange N (p xs n)) → TermsIn N (with-body k p ρ)
+unfolding with-body
+body-in N k ρ p h g = record {
+    passed = h .passed;
+    body = beyond-all (λ (f : (ℕ → ℕ → t.Term) → ℕ → t.Term). (xs : ℕ → ℕ → t.Term) → AllIn N xs → (n : ℕ) →
+      InRange N (f xs n)) k (ρ .body) (λ j. p) (h .body) (λ j. g) }
+
 module _ (N : Numbers) (above : 0 < N .z) (ns : List Name) (f : (id : ℕ) → Few (declared ns id)) where
-  few-meaning : (bs : List Block) (id : ℕ) → Few (meaning ns bs id)
+  few-meaning : (bs : List Binder) (id : ℕ) → Few (meaning ns bs id)
   unfolding meaning Few
   few-meaning [] id = f id
-  few-meaning (b ∷ bs) id = few-pick (eqb (b .id) id) _ _ tt (few-outward _ (few-meaning bs id))
+  few-meaning (b ∷ bs) id = few-pick (eqb (idOf b) id) _ _ (few-meant (length bs) b) (few-meaning bs id)
 
   -- a use, by what its id means
-  use-in : (bs : List Block) (id : ℕ) (ws : Writtens) (m : Meaning) → id < 255 → Few m →
+  use-in : (bs : List Binder) (ρ : Terms) (n id : ℕ) (ws : Writtens) (m : Meaning) → id < 255 → TermsIn N ρ → Few m →
       FineUse m (ws ≡ none) (λ tys. FineArgs N ns bs ws tys) →
-      ((tys : List ℕ) → length tys < 5 → FineArgs N ns bs ws tys → InRangeArgs N (resolveArgs N ns bs ws tys) 0) →
-      InRange N (byMeaning m (λ i. t.private i) (λ ty tys. t.name id (tyOf N ty) (resolveArgs N ns bs ws tys)))
+      ((tys : List ℕ) → FineArgs N ns bs ws tys → AllIn N (λ j l. resolved N ns bs ρ l ws j)) →
+      ((tys : List ℕ) → length tys < 5 → FineArgs N ns bs ws tys →
+        InRangeArgs N (resolveArgs N ns bs ρ n ws tys) 0) →
+      InRange N (byMeaning m t.diverge
+        (λ k. t.private (n - suc (ρ .level k)))
+        (λ k. ρ .passed k n)
+        (λ k. ρ .body k (λ j l. resolved N ns bs ρ l ws j) n)
+        (λ ty tys. t.name id (tyOf N ty) (resolveArgs N ns bs ρ n ws tys)))
   unfolding byMeaning InRange Few FineUse
-  use-in bs id ws (private i d) h k u r = tt
-  use-in bs id ws (named ty tys) h k u r = (omega arith, type-in N above ty, r tys k u)
-  use-in bs id ws retired h k u r = tt
-  use-in bs id ws free h k u r = tt
+  use-in bs ρ n id ws (private k d) h e l u g r = tt
+  use-in bs ρ n id ws (argument k ty) h e l u g r = e .passed k n
+  use-in bs ρ n id ws (routine k ty tys) h e l u g r = e .body k (λ j i. resolved N ns bs ρ i ws j) (g tys u) n
+  use-in bs ρ n id ws (named ty tys) h e l u g r = (omega arith, type-in N above ty, r tys l u)
+  use-in bs ρ n id ws retired h e l u g r = tt
+  use-in bs ρ n id ws free h e l u g r = tt
 
   mutual
-    unfolding Fine resolve InRange
-    term-in : (W : Written) (bs : List Block) → Fine N ns bs W → InRange N (resolve N ns bs W)
-    term-in skip bs h = tt
-    term-in (diverge ty) bs h = tt
-    term-in (truth b) bs h = tt
-    term-in (number b) bs h = tt
-    term-in (call id ws) bs h =
-        use-in bs id ws (meaning ns bs id) (h .0) (few-meaning bs id) (h .1)
-          (λ tys l g. args-in ws bs tys 0 (omega arith) g)
-    term-in (fetch v) bs h = term-in v bs (h .0)
-    term-in (operate op l r) bs h = (term-in l bs (h .1), term-in r bs (h .3))
-    term-in (assign v e) bs h = (term-in v bs (h .0), term-in e bs (h .2))
-    term-in (sequence c m) bs h = (term-in c bs (h .0), term-in m bs (h .2))
-    term-in (choose b m n) bs h = (term-in b bs (h .0), term-in m bs (h .2), term-in n bs (h .3))
-    term-in (while b c) bs h = (term-in b bs (h .0), term-in c bs (h .2))
-    term-in (new id d c) bs h = term-in c _ (h .4)
+    unfolding Fine resolve resolveArgs resolved InRange
+    term-in : (W : Written) (bs : List Binder) (ρ : Terms) (n : ℕ) → TermsIn N ρ → Fine N ns bs W →
+        InRange N (resolve N ns bs ρ n W)
+    term-in skip bs ρ n e h = tt
+    term-in (diverge ty) bs ρ n e h = tt
+    term-in (truth b) bs ρ n e h = tt
+    term-in (number b) bs ρ n e h = tt
+    term-in (call id ws) bs ρ n e h =
+        use-in bs ρ n id ws (meaning ns bs id) (h .0) e (few-meaning bs id) (h .1)
+          (λ tys g j l. resolved-in ws bs ρ l tys j e g)
+          (λ tys l g. args-in ws bs ρ n tys 0 e (omega arith) g)
+    term-in (fetch v) bs ρ n e h = term-in v bs ρ n e (h .0)
+    term-in (operate op l r) bs ρ n e h = (term-in l bs ρ n e (h .1), term-in r bs ρ n e (h .3))
+    term-in (assign v x) bs ρ n e h = (term-in v bs ρ n e (h .0), term-in x bs ρ n e (h .2))
+    term-in (sequence c m) bs ρ n e h = (term-in c bs ρ n e (h .0), term-in m bs ρ n e (h .2))
+    term-in (choose b x y) bs ρ n e h =
+        (term-in b bs ρ n e (h .0), term-in x bs ρ n e (h .2), term-in y bs ρ n e (h .3))
+    term-in (while b c) bs ρ n e h = (term-in b bs ρ n e (h .0), term-in c bs ρ n e (h .2))
+    term-in (new id d c) bs ρ n e h =
+        term-in c (a-block id d ∷ bs) (with-level (length bs) n ρ) (suc n) (level-in N (length bs) n ρ e) (h .4)
+    term-in (procedure id ty ps body rest) bs ρ n e h =
+        term-in rest (after id ty ps bs)
+          (with-body (length bs) (λ xs l. resolve N ns (inside ps bs) (with-passed (length bs) xs ρ) l body) ρ) n
+          (body-in N (length bs) ρ (λ xs l. resolve N ns (inside ps bs) (with-passed (length bs) xs ρ) l body) e
+            (λ xs g l. term-in body (inside ps bs) (with-passed (length bs) xs ρ) l
+              (passed-in N (length bs) ρ xs e g) (h .5)))
+          (h .7)
 
-    args-in : (ws : Writtens) (bs : List Block) (tys : List ℕ) (k : ℕ) → length tys + k < 5 → FineArgs N ns bs ws tys
-      →
-        InRangeArgs N (resolveArgs N ns bs ws tys) k
-    args-in none bs tys k l h = tt
-    args-in (more w ws) bs [] k l h = absurd h
-    args-in (more w ws) bs (ty ∷ tys) k l h =
-        (omega arith, type-in N above ty, term-in w bs (h .0), args-in ws bs tys (suc k) (omega arith) (h .2))
+    args-in : (ws : Writtens) (bs : List Binder) (ρ : Terms) (n : ℕ) (tys : List ℕ) (k : ℕ) → TermsIn N ρ →
+        length tys + k < 5 → FineArgs N ns bs ws tys → InRangeArgs N (resolveArgs N ns bs ρ n ws tys) k
+    args-in none bs ρ n tys k e l h = tt
+    args-in (more w ws) bs ρ n [] k e l h = absurd h
+    args-in (more w ws) bs ρ n (ty ∷ tys) k e l h =
+        (omega arith, type-in N above ty, term-in w bs ρ n e (h .0),
+         args-in ws bs ρ n tys (suc k) e (omega arith) (h .2))
+
+    resolved-in : (ws : Writtens) (bs : List Binder) (ρ : Terms) (n : ℕ) (tys : List ℕ) (j : ℕ) → TermsIn N ρ →
+        FineArgs N ns bs ws tys → InRange N (resolved N ns bs ρ n ws j)
+    resolved-in none bs ρ n tys j e h = tt
+    resolved-in (more w ws) bs ρ n [] j e h = absurd h
+    resolved-in (more w ws) bs ρ n (ty ∷ tys) zero e h = term-in w bs ρ n e (h .0)
+    resolved-in (more w ws) bs ρ n (ty ∷ tys) (suc j) e h = resolved-in ws bs ρ n tys j e (h .2)
 
 -- THEOREM: the term of an accepted sheet is in range
 pub sheet-range : (S : Sheet) → Accepted S → InRange (S .numbers) (termOf S)
 unfolding termOf
 sheet-range S A =
-    term-in (S .numbers) (A .z-above) (S .names) (few-declared [] (S .names) (A .fine-names)) (S .term) []
-      (A .fine-term)
+    term-in (S .numbers) (A .z-above) (S .names) (few-declared [] (S .names) (A .fine-names)) (S .term) [] no-terms 0
+      (nothing-in (S .numbers)) (A .fine-term)
 
 -- THEOREM: every move of a complete play of an accepted sheet has a letter
 pub sheet-small : (S : Sheet) → Accepted S → (u : Word) → Complete (tyOf (S .numbers) (typeOf S)) (termOf S) u →

@@ -9,14 +9,19 @@ use lib.Dec.{eqb}
 use borrow.Author.Tests.{eqb-false}
 use Rattle.language.specs.Number.{inRange}
 use Rattle.language.specs.declared.Numbers.{Numbers}
-use Rattle.records.specs.Standing.{isNamed}
-use Rattle.records.specs.Head.{withBody, limited, constant, used, useOf, dataByte, newOf, bodyOf}
+use Rattle.records.specs.Standing.{standingOf, isNamed}
+use Rattle.records.specs.Judge.{procedureOf}
+use Rattle.records.specs.Head.{withBody, limited, constant, used, useOf, dataByte, newOf, onJudged}
+use Rattle.records.specs.Head.{procedureHead, bodyOf}
 use Rattle.records.specs.declared.kind.Rule.{Rule}
 use Rattle.records.specs.declared.kind.Rule.the-variants.{Skip, Diverge, Truth, Number, Use, Fetch}
-use Rattle.records.specs.declared.kind.Rule.the-variants.{Operate, Assign, Sequence, If, While, New}
+use Rattle.records.specs.declared.kind.Rule.the-variants.{Operate, Assign, Sequence, If, While, New, Procedure}
 use Rattle.records.specs.declared.head.Record.{Record}
 use Rattle.records.specs.declared.head.Head.the-variants.{Good}
+use Rattle.records.specs.declared.judge.Judged.{Judged}
+use Rattle.records.specs.declared.judge.Judged.the-variants.{Good as Fine, Refused as Bad}
 use Rattle.records.proofs.KindLaws.{bytesOf}
+use Rattle.records.proofs.JudgeLaws.{procedure-inside}
 use Rattle.records.proofs.ByteLaws.{pick-false, pick-true, bad-good, good-same, byte-good}
 
 module _ (s : List ℕ) (b r : Record) where
@@ -66,14 +71,28 @@ module _ (s : List ℕ) (b r : Record) where
   pub new-body :
       (st : List ℕ) (id d c : ℕ) →
       id ≡ getD s (b .place + 1) 0 → d ≡ getD s (b .place + 2) 0 → c ≡ getD st id 0 → newOf s st b ≡ Good r →
-      (b .place + 2 < length s) × (id < 255) × (0 < d) × (d ≤ 2) × (isNamed c ≡ false) × (r ≡ withBody b id d)
+      (b .place + 2 < length s) × (id < 255) × (0 < d) × (d ≤ 2) × (isNamed (standingOf c) ≡ false)
+      × (r ≡ withBody b id d)
   unfolding newOf
   new-body st id d c e e₁ e₂ h =
       let g = byte-good s (b .place + 1) 255 _ r h in
-      let v = pick-false (isNamed c) bad-good (rw (← e, ← e₂) at (g .2)) in
-      let q = data-body id d e₁ (v .1) in
+      let p = pick-false (isNamed (standingOf c)) bad-good (rw (← e, ← e₂) at (g .2)) in
+      let q = data-body id d e₁ (p .1) in
       let n = q .2 in
-      (q .0, rw e (g .1), omega arith, omega arith, v .0, q .3)
+      (q .0, rw e (g .1), omega arith, omega arith, p .0, q .3)
+
+  -- a procedure: its id and how many parameters it has
+  pub procedure-body :
+      (st : List ℕ) → procedureHead s st b ≡ Good r →
+      (procedureOf s st (b .place) ≡ Fine)
+      × (r ≡ withBody b (getD s (b .place + 1) 0) (getD s (b .place + 3) 0))
+  unfolding procedureHead onJudged
+  procedure-body st = go (procedureOf s st (b .place))
+    where
+      go : (x : Judged) → onJudged x (Good (withBody b (getD s (b .place + 1) 0) (getD s (b .place + 3) 0))) ≡ Good r →
+          (x ≡ Fine) × (r ≡ withBody b (getD s (b .place + 1) 0) (getD s (b .place + 3) 0))
+      go Fine h = (refl, sym (good-same h))
+      go (Bad x) h = absurd (bad-good h)
 
 -- what every body leaves, and that it stands in the list
 pub record Kept (R : Rule) (s : List ℕ) (b r : Record) : Type 0 where
@@ -126,3 +145,6 @@ module _ (s st : List ℕ) (N : Numbers) (b r : Record) (i : b .place < length s
   body-kept New h =
       let g = new-body s b r st _ _ _ refl refl refl h in
       kept-as New s b r (g .0) (g .5) refl refl refl refl
+  body-kept Procedure h =
+      let g = procedure-body s b r st h in
+      kept-as Procedure s b r (procedure-inside s st (b .place) (g .0)) (g .1) refl refl refl refl

@@ -8,13 +8,15 @@ use lib.ListN.{length, getD}
 use borrow.Author.Tests.{lt-leb, ne-eqb}
 use Rattle.language.specs.Number.{inRange}
 use Rattle.language.specs.declared.Numbers.{Numbers}
-use Rattle.records.specs.Standing.{isNamed}
-use Rattle.records.specs.Head.{withBody, limited, constant, used, useOf, dataByte, newOf}
-use Rattle.records.specs.Head.{headOfShape, bodyOf, blank, headOf}
+use Rattle.records.specs.Standing.{standingOf, isNamed}
+use Rattle.records.specs.Judge.{procedureOf}
+use Rattle.records.specs.Head.{withBody, limited, constant, used, useOf, dataByte, newOf, onJudged}
+use Rattle.records.specs.Head.{procedureHead, headOfShape, bodyOf, blank, headOf}
 use Rattle.records.specs.declared.kind.Rule.{Rule}
 use Rattle.records.specs.declared.kind.Rule.the-variants.{Skip, Diverge, Truth, Number, Use, Fetch}
-use Rattle.records.specs.declared.kind.Rule.the-variants.{Operate, Assign, Sequence, If, While, New}
+use Rattle.records.specs.declared.kind.Rule.the-variants.{Operate, Assign, Sequence, If, While, New, Procedure}
 use Rattle.records.specs.declared.head.Head.the-variants.{Good}
+use Rattle.records.specs.declared.judge.Judged.the-variants.{Good as Fine}
 use Rattle.records.proofs.KindLaws.{kindOf, bytesOf, shape-of-kind}
 use Rattle.records.proofs.ByteLaws.{byte-made}
 use Rattle.records.proofs.HeadLaws.{start}
@@ -41,6 +43,7 @@ module _ (s st : List ℕ) (N : Numbers) (left at : ℕ) (d : left ≡ 0 → ⊥
   made-plain If z i k = made If i k
   made-plain While z i k = made While i k
   made-plain New z i k = absurd (omega arith)
+  made-plain Procedure z i k = absurd (omega arith)
 
   module _ (i : at + 1 < length s) where
     limited-made :
@@ -92,9 +95,16 @@ module _ (s st : List ℕ) (N : Numbers) (left at : ℕ) (d : left ≡ 0 → ⊥
   -- a new on an id whose standing is c
   pub made-new :
       (id holds c : ℕ) → at + 2 < length s → getD s at 0 ≡ 27 → getD s (at + 1) 0 ≡ id → id < 255 →
-      getD st id 0 ≡ c → isNamed c ≡ false → getD s (at + 2) 0 ≡ holds → 0 < holds → holds ≤ 2 →
+      getD st id 0 ≡ c → isNamed (standingOf c) ≡ false → getD s (at + 2) 0 ≡ holds → 0 < holds → holds ≤ 2 →
       headOf s st N left at ≡ Good (withBody (start at New) id holds)
   unfolding bodyOf newOf blank
   made-new id holds c i k e l f v e₁ p q =
       made New (omega arith) k ∙ (byte-made s (at + 1) 255 _ (omega arith) (omega arith) ∙
       rw (e, f, v) (data-made id holds i e₁ p q))
+
+  -- a procedure whose body is judged good
+  pub made-procedure :
+      at < length s → getD s at 0 ≡ 28 → procedureOf s st at ≡ Fine →
+      headOf s st N left at ≡ Good (withBody (start at Procedure) (getD s (at + 1) 0) (getD s (at + 3) 0))
+  unfolding bodyOf procedureHead onJudged blank
+  made-procedure i k e = made Procedure i k ∙ rw e

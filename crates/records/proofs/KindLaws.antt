@@ -9,7 +9,7 @@ use Rattle.language.specs.Choice.{pick}
 use Rattle.records.specs.Kind.{shapeOf}
 use Rattle.records.specs.declared.kind.Rule.{Rule}
 use Rattle.records.specs.declared.kind.Rule.the-variants.{Skip, Diverge, Truth, Number, Use, Fetch}
-use Rattle.records.specs.declared.kind.Rule.the-variants.{Operate, Assign, Sequence, If, While, New}
+use Rattle.records.specs.declared.kind.Rule.the-variants.{Operate, Assign, Sequence, If, While, New, Procedure}
 use Rattle.records.specs.declared.kind.Shape.{Shape}
 use Rattle.records.specs.declared.kind.Shape.the-variants.{Part, Declare, Retire, Unknown}
 
@@ -27,6 +27,7 @@ kindOf Sequence = 24
 kindOf If = 25
 kindOf While = 26
 kindOf New = 27
+kindOf Procedure = 28
 
 -- how many bytes their body has
 abbrev pub bytesOf : Rule → ℕ
@@ -42,6 +43,7 @@ bytesOf Sequence = 0
 bytesOf If = 0
 bytesOf While = 0
 bytesOf New = 2
+bytesOf Procedure = 11
 
 -- how many parts they have, a use's not counted
 abbrev pub partsOf : Rule → ℕ
@@ -57,6 +59,7 @@ partsOf Sequence = 2
 partsOf If = 3
 partsOf While = 2
 partsOf New = 1
+partsOf Procedure = 2
 
 -- a part's shape names its kind
 pub shape-of-kind : (R : Rule) → shapeOf (kindOf R) ≡ Part (bytesOf R) (partsOf R) R
@@ -73,6 +76,7 @@ shape-of-kind Sequence = refl
 shape-of-kind If = refl
 shape-of-kind While = refl
 shape-of-kind New = refl
+shape-of-kind Procedure = refl
 
 -- the kind, the length of the body and the number of parts of a shape
 abbrev pub Fits : ℕ → ℕ → ℕ → Rule → Type 0
@@ -110,7 +114,8 @@ module _ (k body parts : ℕ) (R : Rule) where
       (try 24 (part 24 0 2 Sequence (refl, refl, refl))
       (try 25 (part 25 0 3 If (refl, refl, refl))
       (try 26 (part 26 0 2 While (refl, refl, refl))
-      (try 27 (part 27 2 1 New (refl, refl, refl)) none″)))))))))))))
+      (try 27 (part 27 2 1 New (refl, refl, refl))
+      (try 28 (part 28 11 2 Procedure (refl, refl, refl)) none″))))))))))))))
     where
       none : {P : Type 0} → Declare 7 ≡ Part body parts R → P
       none h = let z : _≡_ {A = ℕ} 0 1 = cc in absurd (omega arith)

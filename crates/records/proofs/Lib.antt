@@ -1,7 +1,10 @@
 pub mod KindLaws
+pub mod StandingLaws
 pub mod ByteLaws
+pub mod JudgeLaws
 pub mod BodyLaws
 pub mod HeadLaws
 pub mod RuleLaws
 pub mod HeadMade
+pub mod ScopeLaws
 pub mod RowSteps

@@ -1,5 +1,5 @@
 -- The stores of a row, over plain variables.
-use Prim.Native.Nat.{ℕ, _+_, min}
+use Prim.Native.Nat.{ℕ, _+_}
 use native.Mathlib.Omega.{arith}
 use mathlib.Core.Path.{_≡_, _∙_}
 use mathlib.Core.List.{List}
@@ -25,10 +25,10 @@ five-words place t k h c v d p q s u w =
 
 -- they are a record's row
 pub five-written :
-    (N : Numbers) (r : Record) (ty w : ℕ) (t : List ℕ) {k h c v d : ℕ} {u : List ℕ} →
-    k ≡ rowKind (r .rule) r → h ≡ min w 4097 → c ≡ classOf ty → v ≡ values N ty → d ≡ detail (r .rule) N r →
-    u ≡ five (r .place) k h c v d t → u ≡ rowWritten N r ty w t
+    (N : Numbers) (r : Record) (ty number end : ℕ) (t : List ℕ) {k c v d : ℕ} {u : List ℕ} →
+    k ≡ rowKind (r .rule) r → c ≡ classOf ty → v ≡ values N ty → d ≡ detail (r .rule) N r number →
+    u ≡ five (r .place) k end c v d t → u ≡ rowWritten N r ty number end t
 unfolding rowWritten fiveFrom
-five-written N r ty w t a b c d e p =
-    p ∙ rw (a, b, c, d, e)
+five-written N r ty number end t a b c d p =
+    p ∙ rw (a, b, c, d)
       (rw (cell-next (r .place) 1, cell-next (r .place) 2, cell-next (r .place) 3, cell-next (r .place) 4))

@@ -5,19 +5,22 @@ use mathlib.Core.Path.{_≡_, refl, sym, ap, ap₂, _∙_}
 use mathlib.Core.Bool.{true, false}
 use mathlib.Core.List.{List}
 use lib.ListN.{length, getD}
-use Rattle.language.specs.Choice.{pick}
 use Rattle.language.specs.Number.{inRange}
 use Rattle.language.specs.declared.Numbers.{Numbers}
-use Rattle.records.specs.Standing.{isVariable, isNamed, declaredAt}
+use Rattle.records.specs.Standing.{standingOf, isNamed, countOf}
+use Rattle.records.specs.Judge.{procedureOf}
 use Rattle.records.specs.Head.{withBody, limited, used, bodyOf, blank, headOf}
 use Rattle.records.specs.declared.kind.Rule.{Rule}
 use Rattle.records.specs.declared.kind.Rule.the-variants.{Skip, Diverge, Truth, Number, Use, Fetch}
-use Rattle.records.specs.declared.kind.Rule.the-variants.{Operate, Assign, Sequence, If, While, New}
+use Rattle.records.specs.declared.kind.Rule.the-variants.{Operate, Assign, Sequence, If, While, New, Procedure}
 use Rattle.records.specs.declared.head.Record.{Record}
 use Rattle.records.specs.declared.head.Head.the-variants.{Good}
+use Rattle.records.specs.declared.judge.Judged.the-variants.{Good as Fine}
 use Rattle.records.proofs.KindLaws.{kindOf, bytesOf, partsOf}
 use Rattle.records.proofs.ByteLaws.{good-same}
 use Rattle.records.proofs.BodyLaws.{limited-body, constant-body, use-body, new-body}
+use Rattle.records.proofs.BodyLaws.{procedure-body}
+use Rattle.records.proofs.JudgeLaws.{ProcedureFine, procedure-fine, procedure-inside}
 use Rattle.records.proofs.HeadLaws.{start, opened-as}
 
 -- a rule whose parts have no body: Skip, Fetch, Assign, Sequence, If, While
@@ -49,7 +52,7 @@ pub record UseGood (s st : List ℕ) (at : ℕ) (r : Record) : Type 0 where
   pub b : r .b ≡ getD st (r .a) 0
   pub not-free : r .b ≡ 0 → ⊥
   pub not-retired : r .b ≡ 1 → ⊥
-  pub parts : r .parts ≡ pick (isVariable (r .b)) 0 (getD s (declaredAt (r .b) + 3) 0)
+  pub parts : r .parts ≡ countOf s (standingOf (r .b))
   pub next : r .next ≡ at + 2
   pub same : r ≡ used s (start at Use) (r .a) (r .b)
 
@@ -62,10 +65,22 @@ pub record NewGood (s st : List ℕ) (at : ℕ) (r : Record) : Type 0 where
   pub b : r .b ≡ getD s (at + 2) 0
   pub positive : 0 < r .b
   pub small : r .b ≤ 2
-  pub unnamed : isNamed (getD st (r .a) 0) ≡ false
+  pub unnamed : isNamed (standingOf (getD st (r .a) 0)) ≡ false
   pub parts : r .parts ≡ 1
   pub next : r .next ≡ at + 3
   pub same : r ≡ withBody (start at New) (r .a) (r .b)
+
+-- a procedure: `a` is the id, `b` the number of its parameters
+pub record ProcedureGood (s st : List ℕ) (at : ℕ) (r : Record) : Type 0 where
+  pub kind : getD s at 0 ≡ 28
+  pub judged : procedureOf s st at ≡ Fine
+  pub fine : ProcedureFine s st at
+  pub inside : at + 11 < length s
+  pub a : r .a ≡ getD s (at + 1) 0
+  pub b : r .b ≡ getD s (at + 3) 0
+  pub parts : r .parts ≡ 2
+  pub next : r .next ≡ at + 12
+  pub same : r ≡ withBody (start at Procedure) (r .a) (r .b)
 
 module _ (s st : List ℕ) (N : Numbers) (left at : ℕ) (r : Record) (h : headOf s st N left at ≡ Good r) where
   plain-as :
@@ -98,6 +113,7 @@ module _ (s st : List ℕ) (N : Numbers) (left at : ℕ) (r : Record) (h : headO
   plain-good If e z = plain-as If e z refl
   plain-good While e z = plain-as While e z refl
   plain-good New e z = absurd (omega arith)
+  plain-good Procedure e z = absurd (omega arith)
 
   byte-as :
       (R : Rule) (limit : ℕ) → bytesOf R ≡ 1 → getD s at 0 ≡ kindOf R → at + 1 < length s →
@@ -193,3 +209,23 @@ module _ (s st : List ℕ) (N : Numbers) (left at : ℕ) (r : Record) (h : headO
       r .rule ≡ New →
       (0 < r .b) × (r .b ≤ 2) × (r .a < 255) × (r .a ≡ getD s (at + 1) 0) × (r .b ≡ getD s (at + 2) 0)
   new-data e = let n = new-good e in (n .positive, n .small, n .below, n .a, n .b)
+
+  pub procedure-good : r .rule ≡ Procedure → ProcedureGood s st at r
+  unfolding bodyOf blank withBody
+  procedure-good e =
+      let o = opened-as s st N left at r h Procedure e in
+      let g = procedure-body s (start at Procedure) r st (o .body) in
+      let w = g .1 in
+      let ea : r .a ≡ getD s (at + 1) 0 = ap (λ (x : Record). x .a) w in
+      let eb : r .b ≡ getD s (at + 3) 0 = ap (λ (x : Record). x .b) w in
+      record {
+        kind = o .kind;
+        judged = g .0;
+        fine = procedure-fine s st at (g .0);
+        inside = procedure-inside s st at (g .0);
+        a = ea;
+        b = eb;
+        parts = ap (λ (x : Record). x .parts) w;
+        next = ap (λ (x : Record). x .next) w ∙ omega arith;
+        same = w ∙ ap₂ (λ (x y : ℕ). withBody (start at Procedure) x y) (sym ea) (sym eb);
+      }

@@ -1,4 +1,4 @@
--- What of a record its parts are judged and weighed by. Only inner contracts cite it.
+-- What of a record its parts are judged by. Only inner contracts cite it.
 use Prim.Native.Nat.{ℕ}
 use Rattle.records.specs.declared.kind.Rule.{Rule}
 use Rattle.records.specs.declared.head.Record.{Record}

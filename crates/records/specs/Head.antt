@@ -10,16 +10,19 @@ use Rattle.language.specs.Choice.{pick}
 use Rattle.language.specs.Number.{inRange}
 use Rattle.language.specs.declared.Numbers.{Numbers}
 use Rattle.records.specs.Kind.{shapeOf}
-use Rattle.records.specs.Standing.{free, retired, isVariable, isNamed, declaredAt}
+use Rattle.records.specs.Standing.{free, retired, standingOf, isNamed, countOf}
+use Rattle.records.specs.Judge.{procedureOf}
 use Rattle.records.specs.Refusal.{refusal, cut-short, out-of-range, id-taken, id-unknown, id-retired, too-deep}
 use Rattle.records.specs.declared.kind.Rule.{Rule}
 use Rattle.records.specs.declared.kind.Rule.the-variants.{Skip, Diverge, Truth, Number, Use, Fetch, Operate}
-use Rattle.records.specs.declared.kind.Rule.the-variants.{Assign, Sequence, If, While, New}
+use Rattle.records.specs.declared.kind.Rule.the-variants.{Assign, Sequence, If, While, New, Procedure}
 use Rattle.records.specs.declared.kind.Shape.{Shape}
 use Rattle.records.specs.declared.kind.Shape.the-variants.{Part, Declare, Retire, Unknown}
 use Rattle.records.specs.declared.head.Record.{Record}
 use Rattle.records.specs.declared.head.Head.{Head}
 use Rattle.records.specs.declared.head.Head.the-variants.{Good, Refused}
+use Rattle.records.specs.declared.judge.Judged.{Judged}
+use Rattle.records.specs.declared.judge.Judged.the-variants.{Good as Fine, Refused as Bad}
 use Rattle.records.specs.declared.head.Byte.{Byte}
 use Rattle.records.specs.declared.head.Byte.the-variants.{Is, Refused as Unread}
 
@@ -48,11 +51,11 @@ constant s N r =
     onByte (byteOf s (r .place + 1) 256) (λ a.
       pick (inRange N a) (Good (withBody r a 0)) (Refused (refusal out-of-range (r .place + 1))))
 
--- a use, whose id has the standing c: its parts are as many as its name declares
+-- a use, whose id has the standing c: its parts are as many as its name declares, or its procedure has parameters
 unfoldable pub used : List ℕ → Record → ℕ → ℕ → Record
 used s r id c =
     record { place = r .place; kind = r .kind; rule = r .rule;
-      parts = pick (isVariable c) 0 (getD s (declaredAt c + 3) 0); a = id; b = c; next = r .next }
+      parts = countOf s (standingOf c); a = id; b = c; next = r .next }
 
 -- "use of an id neither enclosing, declared nor retired: 5", "use of a retired id: 6"
 unfoldable pub useOf : List ℕ → List ℕ → Record → Head
@@ -72,7 +75,16 @@ dataByte s r id =
 unfoldable pub newOf : List ℕ → List ℕ → Record → Head
 newOf s st r =
     onByte (byteOf s (r .place + 1) 255) (λ id.
-      pick (isNamed (getD st id 0)) (Refused (refusal id-taken (r .place + 1))) (dataByte s r id))
+      pick (isNamed (standingOf (getD st id 0))) (Refused (refusal id-taken (r .place + 1))) (dataByte s r id))
+
+unfoldable pub onJudged : Judged → Head → Head
+onJudged Fine h = h
+onJudged (Bad x) h = Refused x
+
+-- a procedure: its id and how many parameters it has
+unfoldable pub procedureHead : List ℕ → List ℕ → Record → Head
+procedureHead s st r =
+    onJudged (procedureOf s st (r .place)) (Good (withBody r (getD s (r .place + 1) 0) (getD s (r .place + 3) 0)))
 
 -- the body of a record
 unfoldable pub bodyOf : Rule → List ℕ → List ℕ → Numbers → Record → Head
@@ -88,6 +100,7 @@ bodyOf Sequence s st N r = Good r
 bodyOf If s st N r = Good r
 bodyOf While s st N r = Good r
 bodyOf New s st N r = newOf s st r
+bodyOf Procedure s st N r = procedureHead s st r
 
 -- a record of which only the kind byte has been read
 unfoldable pub blank : ℕ → ℕ → ℕ → ℕ → Rule → Record

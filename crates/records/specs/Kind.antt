@@ -1,11 +1,11 @@
 -- The kinds of records. Document 01, "The sheet, byte by byte", the table: "Each record is one byte of kind and a body whose
--- length the kind fixes". SHEETS 2.2 to 2.4.
+-- length the kind fixes"; document 02 [1] for kind 28. SHEETS 2.2 to 2.4.
 use Prim.Native.Nat.{ℕ}
 use mathlib.Core.Bool.{Bool, true, false}
 use lib.Dec.{eqb}
 use Rattle.language.specs.Choice.{pick}
 use Rattle.records.specs.declared.kind.Rule.the-variants.{Skip, Diverge, Truth, Number, Use, Fetch, Operate}
-use Rattle.records.specs.declared.kind.Rule.the-variants.{Assign, Sequence, If, While, New}
+use Rattle.records.specs.declared.kind.Rule.the-variants.{Assign, Sequence, If, While, New, Procedure}
 use Rattle.records.specs.declared.kind.Shape.{Shape}
 use Rattle.records.specs.declared.kind.Shape.the-variants.{Part, Declare, Retire, Unknown}
 
@@ -25,4 +25,5 @@ shapeOf k =
     (pick (eqb k 24) (Part 0 2 Sequence)
     (pick (eqb k 25) (Part 0 3 If)
     (pick (eqb k 26) (Part 0 2 While)
-    (pick (eqb k 27) (Part 2 1 New) Unknown)))))))))))))
+    (pick (eqb k 27) (Part 2 1 New)
+    (pick (eqb k 28) (Part 11 2 Procedure) Unknown))))))))))))))

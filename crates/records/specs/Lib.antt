@@ -1,6 +1,7 @@
 pub mod Kind
 pub mod Standing
 pub mod Refusal
+pub mod Judge
 pub mod Head
 pub mod Bare
 pub mod Types

@@ -1,4 +1,8 @@
 // The kind byte and the body of a part of a term: every judgement of its bytes.
+use crate::judge::Judged;
+use crate::judge::judge_procedure;
+use crate::kind::COUNT;
+use crate::kind::ID;
 use crate::kind::Rule;
 use crate::kind::Shape;
 use crate::kind::shape_of;
@@ -14,6 +18,8 @@ use crate::refusal::TOO_DEEP;
 use crate::refusal::refuse;
 use crate::standing::FREE;
 use crate::standing::RETIRED;
+use crate::standing::count_of;
+use crate::standing::is_named;
 use language::Numbers;
 ghost use mathlib.Core.Path.{_≡_};
 ghost use mathlib.Core.List.{List};
@@ -21,20 +27,21 @@ ghost use Prim.Native.Nat.{ℕ, _+_, _≤_, _<_};
 ghost use lib.ListN.{getD, length};
 ghost use Rattle.language.specs.declared.Numbers.{Numbers};
 ghost use Rattle.records.specs.Head.{byteOf, withBody, limited, constant, used, useOf, dataByte, newOf, bodyOf};
-ghost use Rattle.records.specs.Head.{blank, headOfShape, headOf};
+ghost use Rattle.records.specs.Head.{procedureHead, blank, headOfShape, headOf};
 ghost use Rattle.records.specs.Bare.{bare};
 ghost use Rattle.records.specs.Refusal.{refusal, too-deep};
 
-// A record of a part: its place and kind, the rule and the number of parts that the kind gives, its body and the place after
-// it. Of a use, `a` is the id, `b` its standing, and the parts are its arguments; of a new, `a` is the id and `b` the data; of
-// any other, `a` is the one byte of the body, if it has one.
+// A record of a part: its place and kind, the rule and the number of parts that the kind gives, its body and the place
+// after it. Of a use, `a` is the id, `b` its standing, and the parts are its arguments; of a new, `a` is the id and `b`
+// the data; of a procedure, `a` is the id and `b` the number of its parameters; of any other, `a` is the one byte of
+// the body, if it has one.
 pub struct Record {
     pub place: usize,
     pub kind: u8,
     pub rule: Rule,
     pub parts: u8,
     pub a: u8,
-    pub b: u16,
+    pub b: u32,
     pub next: usize,
 }
 
@@ -77,7 +84,7 @@ pub(crate) fn byte_below(s: &[u8], at: usize, limit: u16) -> Byte
 }
 
 // The same record with other body bytes.
-pub(crate) fn with_body(r: Record, a: u8, b: u16) -> Record
+pub(crate) fn with_body(r: Record, a: u8, b: u32) -> Record
     ensures { λ x. ⌜ x ≡ withBody r a b ⌝ }
 {
     let rule = r.rule;
@@ -128,22 +135,11 @@ pub(crate) fn constant_body(s: &[u8], n: Numbers, r: Record) -> Head
 }
 
 // A use of an id whose standing is `c`, neither free nor retired.
-pub(crate) fn used_record(s: &[u8], r: Record, id: u8, c: u16) -> Record
+pub(crate) fn used_record(s: &[u8], r: Record, id: u8, c: u32) -> Record
     ensures { λ x. ⌜ x ≡ used (now (s .entry)) r id c ⌝ }
 {
     let rule = r.rule;
-    if crate::standing::is_variable(c) {
-        return Record {
-            place: r.place,
-            kind: r.kind,
-            rule,
-            parts: 0,
-            a: id,
-            b: c,
-            next: r.next,
-        };
-    }
-    let parts = byte_at(s, crate::standing::record_of(c) + 3);
+    let parts = count_of(s, c);
     Record {
         place: r.place,
         kind: r.kind,
@@ -156,7 +152,7 @@ pub(crate) fn used_record(s: &[u8], r: Record, id: u8, c: u16) -> Record
 }
 
 // A use: refused where the id is free or retired.
-pub(crate) fn use_body(s: &[u8], st: &[u16; 255], r: Record) -> Head
+pub(crate) fn use_body(s: &[u8], st: &[u32; 255], r: Record) -> Head
     requires { ⌜ r .place < 65536 ⌝ }
     ensures { λ x. ⌜ x ≡ useOf (now (s .entry)) (now (st .entry)) r ⌝ }
 {
@@ -193,14 +189,14 @@ pub(crate) fn data_body(s: &[u8], r: Record, id: u8) -> Head
                 return Head::Refused(refuse(OUT_OF_RANGE, data_at));
             }
             Head::Good {
-                record: with_body(r, id, byte as u16),
+                record: with_body(r, id, byte as u32),
             }
         }
     }
 }
 
 // A new: refused where the id is declared or retired.
-pub(crate) fn new_body(s: &[u8], st: &[u16; 255], r: Record) -> Head
+pub(crate) fn new_body(s: &[u8], st: &[u32; 255], r: Record) -> Head
     requires { ⌜ r .place < 65536 ⌝ }
     ensures { λ x. ⌜ x ≡ newOf (now (s .entry)) (now (st .entry)) r ⌝ }
 {
@@ -209,8 +205,7 @@ pub(crate) fn new_body(s: &[u8], st: &[u16; 255], r: Record) -> Head
     match found {
         Byte::Refused(refusal) => Head::Refused(refusal),
         Byte::Is { byte } => {
-            let standing = standing_of(st, byte);
-            if crate::standing::is_named(standing) {
+            if is_named(standing_of(st, byte)) {
                 return Head::Refused(refuse(ID_TAKEN, id_at));
             }
             data_body(s, r, byte)
@@ -218,8 +213,26 @@ pub(crate) fn new_body(s: &[u8], st: &[u16; 255], r: Record) -> Head
     }
 }
 
+// A procedure: its id and how many parameters it has.
+pub(crate) fn procedure_body(s: &[u8], st: &[u32; 255], r: Record) -> Head
+    requires { ⌜ r .place < 65536 ⌝ }
+    ensures { λ x. ⌜ x ≡ procedureHead (now (s .entry)) (now (st .entry)) r ⌝ }
+{
+    let judged = judge_procedure(s, st, r.place);
+    match judged {
+        Judged::Refused(refusal) => Head::Refused(refusal),
+        Judged::Good => {
+            let id = byte_at(s, r.place + ID);
+            let count = byte_at(s, r.place + COUNT);
+            Head::Good {
+                record: with_body(r, id, count as u32),
+            }
+        }
+    }
+}
+
 // The body of a record, by its rule.
-pub(crate) fn body_at(rule: Rule, s: &[u8], st: &[u16; 255], n: Numbers, r: Record) -> Head
+pub(crate) fn body_at(rule: Rule, s: &[u8], st: &[u32; 255], n: Numbers, r: Record) -> Head
     requires { ⌜ r .place < 65536 ⌝ }
     ensures { λ x. ⌜ x ≡ bodyOf rule (now (s .entry)) (now (st .entry)) n r ⌝ }
 {
@@ -236,6 +249,7 @@ pub(crate) fn body_at(rule: Rule, s: &[u8], st: &[u16; 255], n: Numbers, r: Reco
         Rule::If => Head::Good { record: r },
         Rule::While => Head::Good { record: r },
         Rule::New => new_body(s, st, r),
+        Rule::Procedure => procedure_body(s, st, r),
     }
 }
 
@@ -255,8 +269,8 @@ pub(crate) fn blank_record(at: usize, kind: u8, body: u8, parts: u8, rule: Rule)
     }
 }
 
-// A record of which only the place, the rule and the body bytes are known: by these its parts are judged and weighed.
-pub fn bare_record(place: usize, rule: Rule, a: u8, b: u16) -> Record
+// A record of which only the place, the rule and the body bytes are known: by these its parts are judged.
+pub fn bare_record(place: usize, rule: Rule, a: u8, b: u32) -> Record
     ensures { λ x. ⌜ x ≡ bare place rule a b ⌝ }
 {
     Record {
@@ -300,7 +314,7 @@ fn too_deep(s: &[u8], at: usize) -> Head
 
 // The record of the part at a place, with `left` levels of depth left. No depth is a case of its own, so that nothing is
 // tested between the decision over the kind byte and the body.
-pub fn head_at(s: &[u8], st: &[u16; 255], n: Numbers, left: u8, at: usize) -> Head
+pub fn head_at(s: &[u8], st: &[u32; 255], n: Numbers, left: u8, at: usize) -> Head
     requires { ⌜ length (now s) ≤ 4096 ⌝ }
     ensures { λ x. ⌜ x ≡ headOf (now (s .entry)) (now (st .entry)) n left at ⌝ }
 {

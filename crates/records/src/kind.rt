@@ -31,7 +31,23 @@ pub const WHILE: u8 = 26;
 
 pub const NEW: u8 = 27;
 
-// What a part of a term is: how its body is judged, its parts typed and its weight reckoned.
+pub const PROCEDURE: u8 = 28;
+
+// Where the bytes of a name's or a procedure's record stand: its id, its result type and the count of its arguments; of
+// a name the types of these follow, of a procedure a pair for each, id and type.
+pub const ID: usize = 1;
+
+pub const RESULT: usize = 2;
+
+pub const COUNT: usize = 3;
+
+pub const ARGUMENT_TYPES: usize = 4;
+
+pub const PARAMETER_IDS: usize = 4;
+
+pub const PARAMETER_TYPES: usize = 5;
+
+// What a part of a term is: how its body is judged and its parts are typed.
 pub enum Rule {
     Skip,
     Diverge,
@@ -45,6 +61,7 @@ pub enum Rule {
     If,
     While,
     New,
+    Procedure,
 }
 
 // The shape of a kind: the length of the body and, of a part of a term, the number of its parts and its rule.
@@ -67,7 +84,7 @@ pub fn shape_of(kind: u8) -> Shape
     ensures { λ r. ⌜ r ≡ shapeOf kind ⌝ }
 {
     match kind {
-        0 | 3..=15 | 28..=255 => Shape::Unknown,
+        0 | 3..=15 | 29..=255 => Shape::Unknown,
         DECLARE => Shape::Declare { body: 7 },
         RETIRE => Shape::Retire { body: 1 },
         SKIP => part(0, 0, Rule::Skip),
@@ -82,5 +99,6 @@ pub fn shape_of(kind: u8) -> Shape
         IF => part(0, 3, Rule::If),
         WHILE => part(0, 2, Rule::While),
         NEW => part(2, 1, Rule::New),
+        PROCEDURE => part(11, 2, Rule::Procedure),
     }
 }

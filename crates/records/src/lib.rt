@@ -1,6 +1,7 @@
-// Records of a sheet: their kinds, the judgement of their bytes, the typing and the weighing of their parts, and the rows that
-// they leave in the table of parts.
+// Records of a sheet: their kinds, the judgement of their bytes, the typing of their parts, the scopes in them, and the
+// rows that they leave in the table of parts.
 pub mod head;
+pub mod judge;
 pub mod kind;
 pub mod read;
 pub mod refusal;

@@ -1,4 +1,4 @@
-// Reading a byte, a word or a standing at a place, past the end as well.
+// Reading a byte or a standing at a place, past the end as well.
 ghost use mathlib.Core.Path.{_≡_};
 ghost use lib.ListN.{getD};
 
@@ -10,14 +10,14 @@ pub fn byte_at(s: &[u8], at: usize) -> u8
 }
 
 // The word at a place, 0 past the end.
-pub(crate) fn word_at(t: &[u16], at: usize) -> u16
+pub(crate) fn word_at(t: &[u32], at: usize) -> u32
     ensures { λ r. ⌜ r ≡ getD (now (t .entry)) at 0 ⌝ }
 {
     if at < t.len() { t[at] } else { 0 }
 }
 
 // The standing of an id, 0 for 255.
-pub fn standing_of(st: &[u16; 255], id: u8) -> u16
+pub fn standing_of(st: &[u32; 255], id: u8) -> u32
     ensures { λ r. ⌜ r ≡ getD (now (st .entry)) id 0 ⌝ }
 {
     word_at(st, id as usize)

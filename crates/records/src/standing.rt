@@ -1,71 +1,189 @@
-// The standing of an id: free, retired, the variable of an enclosing new, or declared.
+// The standing of an id: free, retired, declared, or held by an enclosing binder.
+use crate::kind::ARGUMENT_TYPES;
+use crate::kind::COUNT;
+use crate::kind::PARAMETER_TYPES;
+use crate::kind::RESULT;
+use crate::read::byte_at;
 ghost use mathlib.Core.Path.{_≡_};
 ghost use Prim.Native.Nat.{_+_, _≤_, _<_};
-ghost use Rattle.records.specs.Standing.{isVariable, isNamed, variableStanding, newAt, dataOf};
-ghost use Rattle.records.specs.Standing.{declaredStanding, declaredAt};
+ghost use Rattle.records.specs.Standing.{declaredStanding, variableStanding, parameterStanding};
+ghost use Rattle.records.specs.Standing.{procedureStanding, standingOf, isNamed, resultOf, countOf, argumentOf};
 
-pub const FREE: u16 = 0;
+pub const FREE: u32 = 0;
 
-pub const RETIRED: u16 = 1;
+pub const RETIRED: u32 = 1;
 
-// The first standing of a declared id, and of a variable.
-pub const DECLARED: u16 = 256;
+// The first standings of declared ids, of variables, of parameters and of procedures.
+pub const DECLARED: u32 = 256;
 
-const PRIVATE: u16 = 8192;
+pub const VARIABLES: u32 = 8192;
 
-// Whether an id is an enclosing variable.
-pub(crate) fn is_variable(c: u16) -> bool
-    ensures { λ r. ⌜ r ≡ isVariable c ⌝ }
-{
-    PRIVATE <= c
+pub const PARAMETERS: u32 = 16384;
+
+pub const PROCEDURES: u32 = 32768;
+
+// By what the number of a variable or a parameter and the place of a procedure are multiplied in a standing.
+const VARIABLE_STEP: u32 = 4;
+
+const PARAMETER_STEP: u32 = 8;
+
+const PROCEDURE_STEP: u32 = 128;
+
+// The type of a variable is its data and this.
+const VARIABLE_TYPE: u8 = 2;
+
+// What a standing says: the place of the record that declares the id; of a binder its number, and the data of a
+// variable, the type of a parameter, the place of a procedure's record.
+pub enum Standing {
+    Free,
+    Retired,
+    Declared { place: u32 },
+    Variable { number: u16, holds: u8 },
+    Parameter { number: u16, ty: u8 },
+    Procedure { number: u16, place: u32 },
 }
 
-// Whether a name record has the id: it is retired or declared.
-pub(crate) fn is_named(c: u16) -> bool
-    ensures { λ r. ⌜ r ≡ isNamed c ⌝ }
+// Declared by the record at a place.
+pub fn declared_standing(place: usize) -> u32
+    requires { ⌜ place ≤ 4096 ⌝ }
+    ensures { λ r. ⌜ r ≡ declaredStanding place ⌝ }
+{
+    DECLARED + place as u32
+}
+
+// The variable of a new that `number` binders enclose; it holds truths, 1, or numbers, 2.
+pub(crate) fn variable_standing(number: u8, holds: u32) -> u32
+    requires { ⌜ holds ≤ 2 ⌝ }
+    ensures { λ r. ⌜ r ≡ variableStanding number holds ⌝ }
+{
+    VARIABLES + VARIABLE_STEP * (number as u32) + holds
+}
+
+// The parameter with a number and a type.
+pub(crate) fn parameter_standing(number: u8, ty: u8) -> u32
+    ensures { λ r. ⌜ r ≡ parameterStanding number ty ⌝ }
+{
+    PARAMETERS + PARAMETER_STEP * (number as u32) + ty as u32
+}
+
+// The procedure at a place that `number` binders enclose.
+pub(crate) fn procedure_standing(number: u8, place: usize) -> u32
+    requires { ⌜ place < 65536 ⌝ }
+    ensures { λ r. ⌜ r ≡ procedureStanding number place ⌝ }
+{
+    PROCEDURES + PROCEDURE_STEP * (place as u32) + number as u32
+}
+
+// What a standing says.
+pub fn meaning_of(c: u32) -> Standing
+    ensures { λ r. ⌜ r ≡ standingOf c ⌝ }
 {
     if c == FREE {
-        return false;
+        return Standing::Free;
     }
-    c < PRIVATE
-}
-
-// The variable of the new at a place; it holds truths, 1, or numbers, 2.
-pub(crate) fn variable_standing(place: usize, holds: u16) -> u16
-    requires { ⌜ (place < 4096) × (holds ≤ 2) ⌝ }
-    ensures { λ r. ⌜ r ≡ variableStanding place holds ⌝ }
-{
-    PRIVATE * holds + place as u16
-}
-
-// The place of an enclosing variable's new.
-pub(crate) fn new_at(c: u16) -> u16
-    ensures { λ r. ⌜ r ≡ newAt c ⌝ }
-{
-    c % PRIVATE
-}
-
-// What an enclosing variable holds.
-pub(crate) fn data_of(c: u16) -> u16
-    ensures { λ r. ⌜ r ≡ dataOf c ⌝ }
-{
-    c / PRIVATE
-}
-
-// Declared by the record at place p.
-pub fn declared_standing(p: usize) -> u16
-    requires { ⌜ p ≤ 4096 ⌝ }
-    ensures { λ r. ⌜ r ≡ declaredStanding p ⌝ }
-{
-    DECLARED + p as u16
-}
-
-// The place of the record that declares the id.
-pub(crate) fn record_of(c: u16) -> usize
-    ensures { λ r. ⌜ (r ≡ declaredAt c) × (r < 65536) ⌝ }
-{
+    if c == RETIRED {
+        return Standing::Retired;
+    }
     if c < DECLARED {
-        return 0;
+        return Standing::Declared { place: 0 };
     }
-    (c - DECLARED) as usize
+    if c < VARIABLES {
+        return Standing::Declared {
+            place: c - DECLARED,
+        };
+    }
+    if c < PARAMETERS {
+        let rest = c - VARIABLES;
+        return Standing::Variable {
+            number: (rest / VARIABLE_STEP) as u16,
+            holds: (rest % VARIABLE_STEP) as u8,
+        };
+    }
+    if c < PROCEDURES {
+        let rest = c - PARAMETERS;
+        return Standing::Parameter {
+            number: (rest / PARAMETER_STEP) as u16,
+            ty: (rest % PARAMETER_STEP) as u8,
+        };
+    }
+    let rest = c - PROCEDURES;
+    Standing::Procedure {
+        number: (rest % PROCEDURE_STEP) as u16,
+        place: rest / PROCEDURE_STEP,
+    }
+}
+
+// Whether a name record holds the id whose standing is `c`: no binder may take it.
+pub(crate) fn is_named(c: u32) -> bool
+    ensures { λ r. ⌜ r ≡ isNamed (standingOf c) ⌝ }
+{
+    let standing = meaning_of(c);
+    match standing {
+        Standing::Free => false,
+        Standing::Retired => true,
+        Standing::Declared { place: _ } => true,
+        Standing::Variable {
+            number: _,
+            holds: _,
+        } => false,
+        Standing::Parameter { number: _, ty: _ } => false,
+        Standing::Procedure {
+            number: _,
+            place: _,
+        } => false,
+    }
+}
+
+// The type of a use of an id whose standing is `c`.
+pub(crate) fn result_of(s: &[u8], c: u32) -> u8
+    ensures { λ r. ⌜ r ≡ resultOf (now (s .entry)) (standingOf c) ⌝ }
+{
+    let standing = meaning_of(c);
+    match standing {
+        Standing::Free => 0,
+        Standing::Retired => 0,
+        Standing::Declared { place } => byte_at(s, place as usize + RESULT),
+        Standing::Variable { number: _, holds } => VARIABLE_TYPE + holds,
+        Standing::Parameter { number: _, ty } => ty,
+        Standing::Procedure { number: _, place } => byte_at(s, place as usize + RESULT),
+    }
+}
+
+// How many arguments it has.
+pub(crate) fn count_of(s: &[u8], c: u32) -> u8
+    ensures { λ r. ⌜ r ≡ countOf (now (s .entry)) (standingOf c) ⌝ }
+{
+    let standing = meaning_of(c);
+    match standing {
+        Standing::Free => 0,
+        Standing::Retired => 0,
+        Standing::Declared { place } => byte_at(s, place as usize + COUNT),
+        Standing::Variable {
+            number: _,
+            holds: _,
+        } => 0,
+        Standing::Parameter { number: _, ty: _ } => 0,
+        Standing::Procedure { number: _, place } => byte_at(s, place as usize + COUNT),
+    }
+}
+
+// The type of its argument j: one byte for each in a name's record, an id and a type for each in a procedure's.
+pub(crate) fn argument_of(s: &[u8], c: u32, j: u8) -> u8
+    ensures { λ r. ⌜ r ≡ argumentOf (now (s .entry)) (standingOf c) j ⌝ }
+{
+    let standing = meaning_of(c);
+    match standing {
+        Standing::Free => 0,
+        Standing::Retired => 0,
+        Standing::Declared { place } => byte_at(s, place as usize + ARGUMENT_TYPES + j as usize),
+        Standing::Variable {
+            number: _,
+            holds: _,
+        } => 0,
+        Standing::Parameter { number: _, ty: _ } => 0,
+        Standing::Procedure { number: _, place } => byte_at(
+            s,
+            place as usize + PARAMETER_TYPES + 2 * (j as usize),
+        ),
+    }
 }

@@ -1,10 +1,10 @@
 // How the parts of a record are typed.
 use crate::head::Record;
+use crate::kind::RESULT;
 use crate::kind::Rule;
 use crate::read::byte_at;
-use crate::standing::data_of;
-use crate::standing::is_variable;
-use crate::standing::record_of;
+use crate::standing::argument_of;
+use crate::standing::result_of;
 ghost use mathlib.Core.Path.{_≡_};
 ghost use mathlib.Core.Bool.{true, false};
 ghost use Prim.Native.Nat.{_+_, _≤_, _<_};
@@ -35,16 +35,9 @@ pub(crate) fn result_type(op: u8) -> u8
     if op < 4 { NUMBER } else { TRUTH }
 }
 
-// Whether an argument has its declared type.
-fn accepts_argument(s: &[u8], r: Record, j: u8, ty: u8) -> bool
-    ensures { λ x. ⌜ x ≡ acceptsPart Rule.Use (now (s .entry)) r j 0 ty ⌝ }
-{
-    let at = record_of(r.b) + 4 + j as usize;
-    ty == byte_at(s, at)
-}
-
 // Whether part j of a record may have type ty, where the part before it has type prev.
 pub fn accepts_part(rule: Rule, s: &[u8], r: Record, j: u8, prev: u8, ty: u8) -> bool
+    requires { ⌜ r .place < 65536 ⌝ }
     ensures { λ x. ⌜ x ≡ acceptsPart rule (now (s .entry)) r j prev ty ⌝ }
 {
     match rule {
@@ -52,7 +45,7 @@ pub fn accepts_part(rule: Rule, s: &[u8], r: Record, j: u8, prev: u8, ty: u8) ->
         Rule::Diverge => false,
         Rule::Truth => false,
         Rule::Number => false,
-        Rule::Use => accepts_argument(s, r, j, ty),
+        Rule::Use => ty == argument_of(s, r.b, j),
         Rule::Fetch => TRUTH_VARIABLE <= ty,
         Rule::Operate => ty == operand_type(r.a),
         Rule::Assign => if j == 0 {
@@ -72,18 +65,12 @@ pub fn accepts_part(rule: Rule, s: &[u8], r: Record, j: u8, prev: u8, ty: u8) ->
         }
         Rule::While => if j == 0 { ty == TRUTH } else { ty == COMMAND },
         Rule::New => ty == COMMAND,
+        Rule::Procedure => if j == 0 {
+            ty == byte_at(s, r.place + RESULT)
+        } else {
+            true
+        },
     }
-}
-
-// The type of a use: of a variable, by its data; of a name, as declared.
-fn use_type(s: &[u8], r: Record) -> u8
-    ensures { λ x. ⌜ x ≡ partType Rule.Use (now (s .entry)) r 0 ⌝ }
-{
-    let c = r.b;
-    if is_variable(c) {
-        return (2 + data_of(c)) as u8;
-    }
-    byte_at(s, record_of(c) + 2)
 }
 
 // The type of a record whose last part has type last.
@@ -95,7 +82,7 @@ pub fn type_of(rule: Rule, s: &[u8], r: Record, last: u8) -> u8
         Rule::Diverge => r.a,
         Rule::Truth => TRUTH,
         Rule::Number => NUMBER,
-        Rule::Use => use_type(s, r),
+        Rule::Use => result_of(s, r.b),
         Rule::Fetch => if last < 2 { 0 } else { last - 2 },
         Rule::Operate => result_type(r.a),
         Rule::Assign => COMMAND,
@@ -103,5 +90,6 @@ pub fn type_of(rule: Rule, s: &[u8], r: Record, last: u8) -> u8
         Rule::If => last,
         Rule::While => COMMAND,
         Rule::New => COMMAND,
+        Rule::Procedure => last,
     }
 }

@@ -14,9 +14,9 @@ use Rattle.language.specs.Move.{question, answer, at, private, Move, move, Word
 use Rattle.language.specs.Weight.{size}
 use Rattle.language.proofs.NumberLaws.{modulo-below}
 use Rattle.explicit.specs.Letter.{Small}
-use Rattle.sheet.specs.Written.{Sheet}
+use Rattle.procedures.specs.Written.{Sheet}
 use Rattle.sheet.specs.Fine.{Accepted}
-use Rattle.sheet.specs.Meaning.{tyOf, termOf}
+use Rattle.procedures.specs.Meaning.{tyOf, termOf}
 use Rattle.sheet.specs.Reader.{readSheet, accepted}
 use Rattle.sheet.proofs.Right.{gives}
 use Rattle.explicit.specs.Letter.{AllSmall}
@@ -66,8 +66,8 @@ module _ (M N : Numbers) where
 small-of : (S T : Sheet) → Accepted S → Accepted T → (which : ℕ) (u : Word) → Only which S T u →
     (N : Numbers) × AllSmall N u
 unfolding Only
-small-of S T A B zero u h = (S .numbers, sheet-small S A u (h .0))
-small-of S T A B (suc zero) u h = (T .numbers, sheet-small T B u (h .0))
+small-of S T A B zero u h = (S .numbers, sheet-small S (A .ordered) u (h .0))
+small-of S T A B (suc zero) u h = (T .numbers, sheet-small T (B .ordered) u (h .0))
 small-of S T A B (suc (suc k)) u h = absurd h
 
 -- the size that is printed is the reckoned one

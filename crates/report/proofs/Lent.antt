@@ -9,10 +9,10 @@ use mathlib.Core.Option.{Option, none, some}
 use lib.Dec.{ltb}
 use borrow.Author.Tests.{ltb-true, ltb-false}
 use Rattle.language.specs.Choice.{pick}
-use Rattle.sheet.specs.Reader.{Answer, got, refused, Whole, sheetOf, sizeOf, numbersAt, checks, readSheet}
-use Rattle.sheet.proofs.Places.{place-small}
-use Rattle.comparer.specs.Refusals.{Refusal, refusing, matching, rootOf, onRead, compareRefusal}
-use Rattle.comparer.proofs.FromCheck.{Caused, sheet-caused}
+use Rattle.sheet.specs.Encoding.{headingLength}
+use Rattle.sheet.specs.Reader.{Checks, accepted, rejected, readSheet}
+use Rattle.sheet.proofs.Places.{check-refused}
+use Rattle.comparer.specs.Refusals.{Refusal, refusing, matching, onRead, pairRefusal, compareRefusal}
 use Rattle.report.specs.Program.{Never14}
 use Rattle.report.specs.Text.{sizeIn}
 
@@ -34,25 +34,19 @@ lent true false false n d e = omega (arith, ltb-false 16384 (32 * (n + 1)) (sym 
 -- for all old and new sheets
 pub bounded : (old new : List ℕ) →
     Bounded (sizeIn (readSheet old) + sizeIn (readSheet new)) (compareRefusal old new 16384 2040)
-unfolding compareRefusal onRead readSheet checks sizeIn Caused Bounded
-bounded old new = go (sheetOf old) (sheetOf new) refl refl (sheet-caused old) (sheet-caused new)
+unfolding compareRefusal onRead sizeIn Bounded
+bounded old new = go (readSheet old) (readSheet new) refl refl
   where
     judged : ℕ → ℕ → ℕ → ℕ → ℕ → ℕ → Option Refusal
-    judged root ty w other b v =
-        let S = sizeOf (numbersAt old) ty w in
-        let T = sizeOf (numbersAt new) b v in
-        pick (matching old new root other ty b)
-        (pick (ltb 16384 (32 * (S + T + 1))) (refusing 13 2 0)
-        (pick (ltb 2040 (4 * (S + T - 1))) (refusing 14 2 0) none))
-        (refusing 12 2 0)
-    go : (A B : Answer Whole) → sheetOf old ≡ A → sheetOf new ≡ B → Caused A → Caused B →
-        Bounded (sizeIn (checks (numbersAt old) A) + sizeIn (checks (numbersAt new) B))
-          (onRead A 0 (λ root ty w. onRead B 1 (λ other b v. judged root ty w other b v)))
-    go (got x ty w end) (got y b v end′) e f c d =
-        lent (matching old new (rootOf x) (rootOf y) ty b) _ _
-          (sizeOf (numbersAt old) ty w + sizeOf (numbersAt new) b v) refl refl
-    go (got x ty w end) (refused n p) e f c d = (omega (arith, d .1), place-small new f)
-    go (refused n p) B e f c d = (omega (arith, c .1), place-small old e)
+    judged root ty n other b m = pairRefusal (matching old new root other ty b) 16384 2040 (n + m)
+    go : (A B : Checks) → readSheet old ≡ A → readSheet new ≡ B →
+        Bounded (sizeIn A + sizeIn B) (onRead A 0 (λ root ty n. onRead B 1 (λ other b m. judged root ty n other b m)))
+    go (accepted S ty n) (accepted T b m) e f =
+        lent (matching old new (headingLength S) (headingLength T) ty b) _ _ (n + m) refl refl
+    go (accepted S ty n) (rejected k p) e f =
+        let r = check-refused new f in (omega (arith, r .1), r .2)
+    go (rejected k p) B e f =
+        let r = check-refused old e in (omega (arith, r .1), r .2)
 
 -- THEOREM: the program never prints 14
 pub never-14 : Never14

@@ -1,5 +1,5 @@
 // Sheets worked through: document 01's table, document 001's examples for every range and rule, document 02's
-// remainders, sheets for each refusal, and what the services are lent. The answers, made by the same function as the
+// remainders and procedures, sheets for each refusal, and what the services are lent. The answers, made by the same function as the
 // program's, go to standard output.
 
 // Titles, sheets and reports.
@@ -12,6 +12,8 @@ mod table;
 mod examples;
 // Document 02's remainders.
 mod remainders;
+// Document 02's procedures.
+mod routines;
 // Refusals.
 mod refused;
 // Words and bytes lent, and follow.
@@ -31,4 +33,10 @@ fn main() {
     tried::blocks();
     tried::calls();
     remainders::rows();
+    routines::saints();
+    routines::inlined();
+    routines::weights();
+    routines::variables();
+    routines::ids();
+    routines::expressions();
 }

@@ -1,7 +1,7 @@
 -- The place after a part is beyond the part's own and within the sheet.
-use Prim.Native.Nat.{ℕ, zero, suc, _+_, _*_, _≤_, _<_, min}
+use Prim.Native.Nat.{ℕ, zero, suc, _+_, _≤_, _<_}
 use native.Mathlib.Omega.{arith}
-use mathlib.Core.Path.{_≡_, refl, sym}
+use mathlib.Core.Path.{_≡_, refl}
 use mathlib.Core.Bool.{Bool, true, false}
 use mathlib.Core.List.{List}
 use lib.ListN.{length}
@@ -9,28 +9,30 @@ use Rattle.language.specs.Choice.{pick}
 use Rattle.language.specs.declared.Numbers.{Numbers}
 use Rattle.records.specs.Head.{headOf}
 use Rattle.records.specs.Rule.{acceptsPart}
-use Rattle.records.specs.Scope.{entered}
+use Rattle.records.specs.Scope.{opens, entered, passed, usable}
+use Rattle.records.specs.declared.scope.Opens.{Opens}
+use Rattle.records.specs.declared.scope.Opens.the-variants.{Nothing, Block, Routine}
 use Rattle.records.specs.declared.head.Record.{Record}
 use Rattle.records.specs.declared.head.Head.{Head}
 use Rattle.records.specs.declared.head.Head.the-variants.{Good, Refused as Unheaded}
 use Rattle.records.proofs.HeadLaws.{head-good}
-use Rattle.sheet.specs.Reader.{Tree, Trees, Answer, got, refused, bind, onHead, partsOf, readRecord, isNew}
-use Rattle.sheet.specs.Reader.{scopedOf, readPart}
-use Rattle.sheet.specs.table.Fill.{erase, Beyond}
+use Rattle.sheet.specs.Reader.{Tree, Answer, got, refused, bind, onHead, partsOf, scopeParts}
+use Rattle.sheet.specs.Reader.{readRecord, readPart}
+use Rattle.sheet.specs.table.Fill.{erase, Beyond, Ends}
 use Rattle.sheet.specs.declared.part.Part.{Part}
 use Rattle.sheet.specs.declared.part.Part.the-variants.{Read, Refused}
 
 -- P of the place after what was read
 unfoldable Next : {X : Type 0} → (ℕ → Type 0) → Answer X → Type 0
-Next P (got x ty w next) = P next
+Next P (got x ty next) = P next
 Next P (refused n p) = Unit
 
 module _ {X Y : Type 0} (P Q : ℕ → Type 0) where
   next-bind :
-      (A : Answer X) (k : X → ℕ → ℕ → ℕ → Answer Y) → Next P A →
-      ((x : X) (ty w next : ℕ) → P next → Next Q (k x ty w next)) → Next Q (bind A k)
+      (A : Answer X) (k : X → ℕ → ℕ → Answer Y) → Next P A →
+      ((x : X) (ty next : ℕ) → P next → Next Q (k x ty next)) → Next Q (bind A k)
   unfolding Next bind
-  next-bind (got x ty w next) k p f = f x ty w next p
+  next-bind (got x ty next) k p f = f x ty next p
   next-bind (refused n q) k p f = tt
 
 next-pick : {X : Type 0} (P : ℕ → Type 0) (t : Bool) (A B : Answer X) → Next P A → Next P B → Next P (pick t A B)
@@ -44,74 +46,105 @@ After at n next = (at < next) × (next ≤ n)
 abbrev From : ℕ → ℕ → ℕ → Type 0
 From at n next = (at ≤ next) × (next ≤ n)
 
-module _ (N : Numbers) (s : List ℕ) where
+module _ (s : List ℕ) where
   parts-next :
       (rec : ℕ → Answer Tree) → ((at : ℕ) → Next (After at (length s)) (rec at)) →
-      (r : Record) (n j prev at : ℕ) → at ≤ length s → Next (From at (length s)) (partsOf rec N s r n j prev at)
+      (r : Record) (n j prev at : ℕ) → at ≤ length s → Next (From at (length s)) (partsOf rec s r n j prev at)
   unfolding partsOf Next
   parts-next rec f r zero j prev at h = (omega arith, h)
   parts-next rec f r (suc n) j prev at h =
-      next-bind (After at (length s)) (From at (length s)) (rec at) _ (f at) (λ t ty w next p.
+      next-bind (After at (length s)) (From at (length s)) (rec at) _ (f at) (λ t ty next p.
         next-pick (From at (length s)) (acceptsPart (r .rule) s r j prev ty) _ _
-        (next-bind (From next (length s)) (From at (length s)) (partsOf rec N s r n (j + 1) ty next) _
-          (parts-next rec f r n (j + 1) ty next (p .1)) (λ ts last v end q. (omega arith, q .1)))
+        (next-bind (From next (length s)) (From at (length s)) (partsOf rec s r n (j + 1) ty next) _
+          (parts-next rec f r n (j + 1) ty next (p .1)) (λ ts last end q. (omega arith, q .1)))
         tt)
-
-  record-next :
-      (rec : ℕ → Answer Tree) → ((at : ℕ) → Next (After at (length s)) (rec at)) →
-      (r : Record) → r .next ≤ length s → Next (From (r .next) (length s)) (readRecord rec N s r)
-  unfolding readRecord Next
-  record-next rec f r h =
-      next-bind (From (r .next) (length s)) (From (r .next) (length s)) (partsOf rec N s r (r .parts) 0 0 (r .next)) _
-        (parts-next rec f r (r .parts) 0 0 (r .next) h) (λ ts last v end q. q)
 
   abbrev Whole : ℕ → Answer Tree → Type 0
   Whole at A = Next (After at (length s)) A
 
-  later : (at mid : ℕ) → at < mid → (A : Answer Tree) → Next (From mid (length s)) A → Whole at A
-  unfolding Next
-  later at mid h (got x ty w next) p = (omega arith, p .1)
-  later at mid h (refused n p) q = tt
+  module _ (rec : List ℕ → ℕ → ℕ → Answer Tree) (f : (st : List ℕ) (around at : ℕ) → Whole at (rec st around at))
+      (st : List ℕ) (around : ℕ) (r : Record) (h : r .next ≤ length s) where
+    scope-next : (o : Opens) → Next (From (r .next) (length s)) (scopeParts o rec s st around r)
+    unfolding scopeParts Next
+    scope-next Nothing = parts-next (rec st around) (f st around) r (r .parts) 0 0 (r .next) h
+    scope-next Block =
+        parts-next (rec (entered st r around) (around + 1)) (f (entered st r around) (around + 1)) r (r .parts) 0 0
+          (r .next) h
+    scope-next Routine =
+        let inner : List ℕ = passed s (r .place) around (r .b) st in
+        let outer : List ℕ = usable st r around in
+        next-bind (From (r .next) (length s)) (From (r .next) (length s))
+          (partsOf (rec inner (around + r .b)) s r 1 0 0 (r .next)) _
+          (parts-next (rec inner (around + r .b)) (f inner (around + r .b)) r 1 0 0 (r .next) h)
+          (λ ts ty next p.
+            next-bind (From next (length s)) (From (r .next) (length s))
+              (partsOf (rec outer (around + 1)) s r 1 1 ty next) _
+              (parts-next (rec outer (around + 1)) (f outer (around + 1)) r 1 1 ty next (p .1))
+              (λ us last end q. (omega arith, q .1)))
+
+    record-next : (at : ℕ) → at < r .next → Whole at (readRecord rec s st around r)
+    unfolding readRecord Next
+    record-next at g =
+        next-bind (From (r .next) (length s)) (After at (length s)) (scopeParts (opens (r .rule)) rec s st around r) _
+          (scope-next (opens (r .rule))) (λ ts last end q. (omega arith, q .1))
 
   headed :
-      (at : ℕ) (h : Head) (k : Record → Answer Tree) → ((r : Record) → h ≡ Good r → Whole at (k r)) → Whole at
-        (onHead h k)
+      (at : ℕ) (h : Head) (k : Record → Answer Tree) → ((r : Record) → h ≡ Good r → Whole at (k r)) →
+      Whole at (onHead h k)
   unfolding onHead Next
   headed at (Good r) k f = f r refl
   headed at (Unheaded x) k f = tt
 
-  scoped-next :
-      (rec : List ℕ → ℕ → Answer Tree) → ((st : List ℕ) (at : ℕ) → Whole at (rec st at)) →
-      (st : List ℕ) (at : ℕ) (r : Record) → at < r .next → r .next ≤ length s →
-      Whole at (scopedOf rec N s st r)
-  unfolding scopedOf
-  scoped-next rec f st at r h k =
-      next-pick (After at (length s)) (isNew (r .rule)) _ _
-      (later at (r .next) h (readRecord (rec (entered st r)) N s r)
-        (record-next _ (f (entered st r)) r k))
-      (later at (r .next) h (readRecord (rec st) N s r) (record-next _ (f st) r k))
-
-  part-next : (left : ℕ) (st : List ℕ) (at : ℕ) → Whole at (readPart left N s st at)
+  part-next : (N : Numbers) (left : ℕ) (st : List ℕ) (around at : ℕ) → Whole at (readPart left N s st around at)
   unfolding readPart Next
-  part-next zero st at = headed at (headOf s st N 0 at) (λ r. refused 8 at) (λ r e. tt)
-  part-next (suc left) st at =
+  part-next N zero st around at = headed at (headOf s st N 0 at) (λ r. refused 8 at) (λ r e. tt)
+  part-next N (suc left) st around at =
       headed at (headOf s st N (suc left) at) _ (λ r e.
         let g = head-good s st N (suc left) at r e in
-        scoped-next (readPart left N s) (λ st′ at′. part-next left st′ at′) st at r
-          (g .next-beyond) (g .next-inside))
+        record-next (readPart left N s) (λ st′ around′ at′. part-next N left st′ around′ at′) st around r
+          (g .next-inside) at (g .next-beyond))
 
 beyond-of : {X : Type 0} (at n : ℕ) (A : Answer X) → Next (After at n) A → Beyond at n (erase A)
 unfolding Next erase Beyond
-beyond-of at n (got x ty w next) p = p
+beyond-of at n (got x ty next) p = p
 beyond-of at n (refused a b) p = tt
 
 -- so is the place that the code answers
 pub part-beyond :
-    (left : ℕ) (N : Numbers) (s st : List ℕ) (at : ℕ) {x : Part} → x ≡ erase (readPart left N s st at) →
+    (left : ℕ) (N : Numbers) (s st : List ℕ) (around at : ℕ) {x : Part} → x ≡ erase (readPart left N s st around at) →
     Beyond at (length s) x
-part-beyond left N s st at e =
-    rw e (beyond-of at (length s) (readPart left N s st at) (part-next N s left st at))
+part-beyond left N s st around at e =
+    rw e (beyond-of at (length s) (readPart left N s st around at) (part-next s N left st around at))
 
-pub beyond-within : (at n : ℕ) {ty w next : ℕ} {x : Part} → Beyond at n x → x ≡ Read ty w next → next ≤ n
+pub beyond-within : (at n : ℕ) {ty next : ℕ} {x : Part} → Beyond at n x → x ≡ Read ty next → next ≤ n
 unfolding Beyond
 beyond-within at n b e = (rw e at b) .1
+
+-- the place after the parts of a record is within the sheet
+ends-of : {X : Type 0} (at n : ℕ) (A : Answer X) → Next (From at n) A → Ends n (erase A)
+unfolding Next erase Ends
+ends-of at n (got x ty next) p = p .1
+ends-of at n (refused a b) p = tt
+
+module _ (left : ℕ) (N : Numbers) (s st : List ℕ) (around : ℕ) (r : Record) where
+  pub scope-ends : {x : Part} → r .next ≤ length s →
+      x ≡ erase (scopeParts (opens (r .rule)) (readPart left N s) s st around r) → Ends (length s) x
+  scope-ends h e =
+      rw e (ends-of (r .next) (length s) (scopeParts (opens (r .rule)) (readPart left N s) s st around r)
+        (scope-next s (readPart left N s) (λ st′ around′ at′. part-next s N left st′ around′ at′) st around r h
+          (opens (r .rule))))
+
+  pub parts-end : (n j prev at : ℕ) {x : Part} → at ≤ length s →
+      x ≡ erase (partsOf (readPart left N s st around) s r n j prev at) → Ends (length s) x
+  parts-end n j prev at h e =
+      rw e (ends-of at (length s) (partsOf (readPart left N s st around) s r n j prev at)
+        (parts-next s (readPart left N s st around) (λ at′. part-next s N left st around at′) r n j prev at h))
+
+pub ends-within : (n : ℕ) {ty next : ℕ} {x : Part} → Ends n x → x ≡ Read ty next → next ≤ n
+unfolding Ends
+ends-within n b e = rw e at b
+
+pub ends-further : (n m : ℕ) (x : Part) → n ≤ m → Ends n x → Ends m x
+unfolding Ends
+ends-further n m (Read ty next) l h = omega arith
+ends-further n m (Refused x) l h = tt

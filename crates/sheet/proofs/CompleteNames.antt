@@ -6,19 +6,18 @@ use mathlib.Core.List.{List, [], _∷_, _++_, append-assoc, append-nil}
 use lib.ListN.{length, getD, set, drop, length-append}
 use lib.Dec.{eqb·suc-zero}
 use borrow.Author.Tests.{lt-leb}
-use Rattle.language.specs.Weight.{weight}
 use Rattle.language.specs.declared.Numbers.{Numbers}
 use Rattle.records.specs.Kind.{shapeOf}
 use Rattle.records.specs.Standing.{declaredStanding}
 use Rattle.records.specs.declared.kind.Rule.{Rule}
 use Rattle.records.specs.declared.kind.Rule.the-variants.{Skip, Diverge, Truth, Number, Use, Fetch, Operate, Assign}
-use Rattle.records.specs.declared.kind.Rule.the-variants.{Sequence, If, While, New}
+use Rattle.records.specs.declared.kind.Rule.the-variants.{Sequence, If, While, New, Procedure}
 use Rattle.records.specs.declared.kind.Shape.the-variants.{Part}
-use Rattle.sheet.specs.Written.{Written, skip, diverge, truth, number, call, fetch, operate, assign, sequence}
-use Rattle.sheet.specs.Written.{while, choose, new, Name, declare, retire}
+use Rattle.procedures.specs.Written.{Written, skip, diverge, truth, number, call, fetch, operate, assign, sequence}
+use Rattle.procedures.specs.Written.{while, choose, new, procedure, Name, declare, retire}
+use Rattle.procedures.specs.Meaning.{typed}
+use Rattle.procedures.specs.Fine.{depth, Fine, FineNames}
 use Rattle.sheet.specs.Encoding.{encode, padded, encodeName, encodeNames}
-use Rattle.sheet.specs.Meaning.{typed, resolve}
-use Rattle.sheet.specs.Fine.{depth, Fine, FineNames}
 use Rattle.sheet.specs.Heading.{retireAt}
 use Rattle.sheet.specs.Reader.{Tree, Answer, got, bind, onJudged, Whole, whole, withName, wholeOfShape, nameOf}
 use Rattle.sheet.specs.Reader.{namesStep, namesOf, written}
@@ -59,28 +58,29 @@ kind-of (sequence c m) =
 kind-of (choose b m n) = record { kind = 25; tail = _; body = 0; parts = 3; rule = If; bytes = refl; shape = refl }
 kind-of (while b c) = record { kind = 26; tail = _; body = 0; parts = 2; rule = While; bytes = refl; shape = refl }
 kind-of (new id d c) = record { kind = 27; tail = _; body = 2; parts = 1; rule = New; bytes = refl; shape = refl }
+kind-of (procedure id ty ps x y) =
+    record { kind = 28; tail = _; body = 11; parts = 2; rule = Procedure; bytes = refl; shape = refl }
 
 -- the rest of a sheet that is read: the name records ns, then the term W
-pub record RestRead (A : Answer Whole) (ns : List Name) (W : Written) (ty w end : ℕ) : Type 0 where
+pub record RestRead (s : List ℕ) (A : Answer Whole) (ns : List Name) (W : Written) (ty end : ℕ) : Type 0 where
   pub root : ℕ
   pub tree : Tree
-  pub reads : A ≡ got (whole ns root tree) ty w end
-  pub writes : written tree ≡ W
+  pub reads : A ≡ got (whole ns root tree) ty end
+  pub writes : written s tree ≡ W
 
-module _ (N : Numbers) (s : List ℕ) (names : List Name) (W : Written) (fine : Fine N names [] W)
+module _ (N : Numbers) (s : List ℕ) (π : ℕ → ℕ) (names : List Name) (W : Written) (fine : Fine N names [] W)
     (shallow : depth W ≤ 32) where
   abbrev Rest : List Name → Answer Whole → ℕ → Type 0
-  Rest ns A at = RestRead A ns W (typed names [] W) (weight (resolve N names [] W))
-      (at + length (encodeNames ns ++ encode W))
+  Rest ns A at = RestRead s A ns W (typed names [] W) (at + length (encodeNames ns ++ encode W))
 
   complete-term :
-      (rec : List ℕ → ℕ → Answer Whole) (n : ℕ) (st : List ℕ) (at : ℕ) → Matches s names [] [] st → drop at s ≡ encode W
+      (rec : List ℕ → ℕ → Answer Whole) (n : ℕ) (st : List ℕ) (at : ℕ) → Matches s names [] π st → drop at s ≡ encode W
         →
       Rest [] (namesStep rec n N s st at) at
   unfolding namesStep wholeOfShape bind encodeNames
   complete-term rec n st at M e =
       let R =
-          complete-part N s names 32 W [] [] st at [] fine shallow (e ∙ sym (append-nil (encode W))) M in
+          complete-part N s names 32 W [] π st at [] fine shallow (e ∙ sym (append-nil (encode W))) M (omega arith) in
       let K = kind-of W in
       let b = byte-there s at (K .kind) (K .tail) (e ∙ K .bytes) in
       record {
@@ -96,7 +96,6 @@ module _ (N : Numbers) (s : List ℕ) (names : List Name) (W : Written) (fine : 
   unfolding namesStep wholeOfShape shapeOf nameOf onJudged bind withName encodeNames encodeName
   complete-declare rec n st at id ty tys ns D G c R =
       let ty′ = typed names [] W in
-      let w = weight (resolve N names [] W) in
       let e : at + 1 + 7 + length (encodeNames ns ++ encode W)
             ≡ at + length ((encodeName (declare id ty tys) ++ encodeNames ns) ++ encode W) =
           omega (arith, ap length (append-assoc (padded 4 tys) (encodeNames ns) (encode W)),
@@ -106,7 +105,7 @@ module _ (N : Numbers) (s : List ℕ) (names : List Name) (W : Written) (fine : 
         reads =
             rw (lt-leb (length s) at (D .kind .0), D .kind .1, eqb·suc-zero n, declare-is s st at G, D .id-byte .1,
           declared-is s st at id ty tys _ D c, R .reads)
-          (ap (λ (x : ℕ). got (whole (declare id ty tys ∷ ns) (R .root) (R .tree)) ty′ w x) e) }
+          (ap (λ (x : ℕ). got (whole (declare id ty tys ∷ ns) (R .root) (R .tree)) ty′ x) e) }
 
   complete-retire :
       (rec : List ℕ → ℕ → Answer Whole) (n : ℕ) (st : List ℕ) (at id : ℕ) (ns : List Name) →
@@ -116,18 +115,17 @@ module _ (N : Numbers) (s : List ℕ) (names : List Name) (W : Written) (fine : 
   unfolding namesStep wholeOfShape shapeOf nameOf onJudged bind withName encodeNames encodeName retireAt
   complete-retire rec n st at id ns b b′ l f R =
       let ty′ = typed names [] W in
-      let w = weight (resolve N names [] W) in
       let e : at + 1 + 1 + length (encodeNames ns ++ encode W)
             ≡ at + length ((encodeName (retire id) ++ encodeNames ns) ++ encode W) = omega arith in
       let F : Fresh s st (at + 1) = record { inside = b′ .0; below = rw (b′ .1) l; free = rw (b′ .1) f } in
       record {
         root = R .root; tree = R .tree; writes = R .writes;
         reads = rw (lt-leb (length s) at (b .0), b .1, eqb·suc-zero n, retire-is s st at F, b′ .1, R .reads)
-          (ap (λ (x : ℕ). got (whole (retire id ∷ ns) (R .root) (R .tree)) ty′ w x) e) }
+          (ap (λ (x : ℕ). got (whole (retire id ∷ ns) (R .root) (R .tree)) ty′ x) e) }
 
   -- THEOREM: the rest of a sheet that is in order is read
   pub complete-names :
-      (ns : List Name) (n : ℕ) (earlier : List Name) (st : List ℕ) (at : ℕ) → Matches s earlier [] [] st →
+      (ns : List Name) (n : ℕ) (earlier : List Name) (st : List ℕ) (at : ℕ) → Matches s earlier [] π st →
       Extends names earlier ns → FineNames earlier ns → length ns ≤ n → drop at s ≡ encodeNames ns ++ encode W →
       Rest ns (namesOf n N s st at) at
   unfolding namesOf FineNames encodeNames encodeName
@@ -141,7 +139,7 @@ module _ (N : Numbers) (s : List ℕ) (names : List Name) (W : Written) (fine : 
       let G = declared-good s st at id ty tys _ D (f .0) (free-standing M id (f .0) (f .1)) (f .2) (f .3) (f .4) in
       complete-declare (namesOf n N s) n st at id ty tys ns D G (f .3)
         (complete-names ns n (declare id ty tys ∷ earlier) (set st id (declaredStanding at)) (at + 1 + 7)
-          (matches-declare M (f .0) (D .kind .0) (declared-declares s st at id ty tys _ D (f .2) (f .3)))
+          (matches-declare M (f .0) (declared-declares s st at id ty tys _ D (f .2) (f .3)))
           (extends-declare id ty tys ns (f .1) E) (f .5) (omega arith) (declared-past s st at id ty tys _ D))
   complete-names (retire id ∷ ns) (suc n) earlier st at M E f l e =
       let o = open-one s at 2 id (encodeNames ns ++ encode W)

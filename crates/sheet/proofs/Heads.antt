@@ -11,21 +11,24 @@ use Rattle.language.specs.Choice.{pick}
 use Rattle.language.specs.Number.{inRange}
 use Rattle.language.specs.declared.Numbers.{Numbers}
 use Rattle.records.specs.Kind.{shapeOf}
-use Rattle.records.specs.Standing.{isVariable, isNamed, declaredAt}
-use Rattle.records.specs.Head.{byteOf, onByte, withBody, limited, constant, used, useOf, dataByte, newOf, bodyOf}
-use Rattle.records.specs.Head.{blank}
-use Rattle.records.specs.Head.{headOfShape, headOf}
+use Rattle.records.specs.Standing.{standingOf, isNamed, countOf}
+use Rattle.records.specs.Judge.{procedureOf}
+use Rattle.records.specs.Head.{byteOf, onByte, withBody, limited, constant, used, useOf, dataByte, newOf, onJudged}
+use Rattle.records.specs.Head.{procedureHead, bodyOf, blank, headOfShape, headOf}
 use Rattle.records.specs.declared.kind.Rule.{Rule}
 use Rattle.records.specs.declared.kind.Rule.the-variants.{Skip, Diverge, Truth, Number, Use, Fetch, Operate, Assign}
-use Rattle.records.specs.declared.kind.Rule.the-variants.{Sequence, If, While, New}
+use Rattle.records.specs.declared.kind.Rule.the-variants.{Sequence, If, While, New, Procedure}
 use Rattle.records.specs.declared.kind.Shape.{Shape}
 use Rattle.records.specs.declared.kind.Shape.the-variants.{Part, Declare, Retire, Unknown}
 use Rattle.records.specs.declared.head.Record.{Record}
 use Rattle.records.specs.declared.head.Head.{Head}
 use Rattle.records.specs.declared.head.Head.the-variants.{Good}
 use Rattle.records.specs.declared.head.Byte.the-variants.{Is}
+use Rattle.records.specs.declared.judge.Judged.{Judged}
 use Rattle.sheet.proofs.Parsed.{Byte}
 use Rattle.sheet.proofs.Answers.{HeadAll, pick-all}
+use Rattle.sheet.proofs.Judgement.{JudgedAll, good, bad}
+use Rattle.sheet.proofs.Bodies.{Body, procedure-all, procedure-is}
 
 -- a kind byte and its shape
 pub data Shaped (k : ℕ) : Shape → Type 0 where
@@ -43,6 +46,7 @@ pub data Shaped (k : ℕ) : Shape → Type 0 where
   s-if : k ≡ 25 → Shaped k (Part 0 3 If)
   s-while : k ≡ 26 → Shaped k (Part 0 2 While)
   s-new : k ≡ 27 → Shaped k (Part 2 1 New)
+  s-procedure : k ≡ 28 → Shaped k (Part 11 2 Procedure)
   s-unknown : Shaped k Unknown
 
 pub shaped : (k : ℕ) → Shaped k (shapeOf k)
@@ -50,7 +54,7 @@ unfolding shapeOf
 shaped k =
     or 1 s-declare (or 2 s-retire (or 16 s-skip (or 17 s-diverge (or 18 s-truth (or 19 s-number (or 20 s-use
     (or 21 s-fetch (or 22 s-operate (or 23 s-assign (or 24 s-sequence (or 25 s-if (or 26 s-while (or 27 s-new
-    s-unknown)))))))))))))
+    (or 28 s-procedure s-unknown))))))))))))))
   where
     or : {a b : Shape} (n : ℕ) → (k ≡ n → Shaped k a) → Shaped k b → Shaped k (pick (eqb k n) a b)
     or n f g = pick-all (Shaped k) (eqb k n) (λ e. f (eqb-true k n e)) (λ e. g)
@@ -70,8 +74,7 @@ pub data Heads (s st : List ℕ) (N : Numbers) (at : ℕ) : Record → Type 0 wh
     Heads s st N at (made s at Number 0 a 0 (at + 1 + 1))
   h-use : {a : ℕ} → Byte s at 20 → Byte s (at + 1) a → a < 255 → (getD st a 0 ≡ 0 → ⊥) → (getD st a 0 ≡ 1 → ⊥) →
     Heads s st N at
-      (made s at Use (pick (isVariable (getD st a 0)) 0 (getD s (declaredAt (getD st a 0) + 3) 0)) a (getD st a 0)
-        (at + 1 + 1))
+      (made s at Use (countOf s (standingOf (getD st a 0))) a (getD st a 0) (at + 1 + 1))
   h-fetch : Byte s at 21 → Heads s st N at (made s at Fetch 1 0 0 (at + 1 + 0))
   h-operate : {a : ℕ} → Byte s at 22 → Byte s (at + 1) a → a < 9 →
     Heads s st N at (made s at Operate 2 a 0 (at + 1 + 1))
@@ -79,8 +82,10 @@ pub data Heads (s st : List ℕ) (N : Numbers) (at : ℕ) : Record → Type 0 wh
   h-sequence : Byte s at 24 → Heads s st N at (made s at Sequence 2 0 0 (at + 1 + 0))
   h-if : Byte s at 25 → Heads s st N at (made s at If 3 0 0 (at + 1 + 0))
   h-while : Byte s at 26 → Heads s st N at (made s at While 2 0 0 (at + 1 + 0))
-  h-new : {a d : ℕ} → Byte s at 27 → Byte s (at + 1) a → a < 255 → isNamed (getD st a 0) ≡ false →
+  h-new : {a d : ℕ} → Byte s at 27 → Byte s (at + 1) a → a < 255 → isNamed (standingOf (getD st a 0)) ≡ false →
     Byte s (at + 2) d → 0 < d → d < 3 → Heads s st N at (made s at New 1 a d (at + 1 + 2))
+  h-procedure : Byte s at 28 → Body s st at →
+    Heads s st N at (made s at Procedure 2 (getD s (at + 1) 0) (getD s (at + 3) 0) (at + 1 + 11))
 
 -- a body byte that was read
 byte-all :
@@ -113,13 +118,23 @@ module _ (s st : List ℕ) (N : Numbers) (at : ℕ) where
   unfolding newOf HeadAll blank withBody dataByte
   new-fit h =
       byte-all _ s (at + 1) 255 _ (λ a b l.
-        pick-all Fit (isNamed (getD st a 0)) (λ e. tt)
+        pick-all Fit (isNamed (standingOf (getD st a 0))) (λ e. tt)
         (λ e. byte-all _ s (at + 2) 3 _ (λ d b′ l′.
           pick-all Fit (eqb d 0) (λ e′. tt)
           (λ e′. h-new h b l e b′ (omega (arith, above d (eqb-false d 0 e′))) l′))))
     where
       above : (d : ℕ) → (d ≡ 0 → ⊥) → 0 < d
       above d h = omega arith
+
+  judged-fit :
+      {P : Type 0} (j : Judged) (k : Head) → JudgedAll P j → (P → Fit k) → Fit (onJudged j k)
+  unfolding onJudged HeadAll
+  judged-fit j k (good p) f = f p
+  judged-fit j k bad f = tt
+
+  procedure-fit : Byte s at 28 → Fit (procedureHead s st (blank at (getD s at 0) 11 2 Procedure))
+  unfolding procedureHead HeadAll blank withBody
+  procedure-fit h = judged-fit (procedureOf s st at) _ (procedure-all s st at) (λ b. h-procedure h b)
 
   -- the body, by the kind
   body-fit :
@@ -140,6 +155,7 @@ module _ (s st : List ℕ) (N : Numbers) (at : ℕ) where
   body-fit x l (s-if e) = h-if (l, e)
   body-fit x l (s-while e) = h-while (l, e)
   body-fit x l (s-new e) = new-fit (l, e)
+  body-fit x l (s-procedure e) = procedure-fit (l, e)
   body-fit x l s-unknown = tt
 
   -- a head is a record of some kind
@@ -158,7 +174,8 @@ byte-is s p limit {a} (l, e) h = rw (lt-leb (length s) p l, e, lt-leb limit a h)
 pub head-is :
     (s st : List ℕ) (N : Numbers) (at left : ℕ) (r : Record) → Heads s st N at r → headOf s st N (suc left) at ≡ Good
       r
-unfolding headOf shapeOf headOfShape bodyOf limited constant useOf newOf dataByte onByte withBody used blank
+unfolding headOf shapeOf headOfShape bodyOf limited constant useOf newOf dataByte procedureHead onByte onJudged withBody
+  used blank
 head-is s st N at left r (h-skip (l, e)) = rw (lt-leb (length s) at l, e, eqb·suc-zero left) refl
 head-is s st N at left r (h-diverge (l, e) b h) =
     rw (lt-leb (length s) at l, e, eqb·suc-zero left, byte-is s (at + 1) 5 b h) refl
@@ -176,7 +193,8 @@ head-is s st N at left r (h-assign (l, e)) = rw (lt-leb (length s) at l, e, eqb�
 head-is s st N at left r (h-sequence (l, e)) = rw (lt-leb (length s) at l, e, eqb·suc-zero left) refl
 head-is s st N at left r (h-if (l, e)) = rw (lt-leb (length s) at l, e, eqb·suc-zero left) refl
 head-is s st N at left r (h-while (l, e)) = rw (lt-leb (length s) at l, e, eqb·suc-zero left) refl
-head-is s st N at left r (h-new {a = a} {d = d} (l, e) b h v b′ k k′) =
-    rw (lt-leb (length s) at l, e, eqb·suc-zero left, byte-is s (at + 1) 255 b h, v,
-      byte-is s (at + 2) 3 b′ k′,
+head-is s st N at left r (h-new {a = a} {d = d} (l, e) b h f b′ k k′) =
+    rw (lt-leb (length s) at l, e, eqb·suc-zero left, byte-is s (at + 1) 255 b h, f, byte-is s (at + 2) 3 b′ k′,
       ne-eqb d 0 (λ z. omega arith)) refl
+head-is s st N at left r (h-procedure (l, e) B) =
+    rw (lt-leb (length s) at l, e, eqb·suc-zero left, procedure-is s st at B) refl

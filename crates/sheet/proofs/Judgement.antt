@@ -7,9 +7,10 @@ use lib.ListN.{length, getD}
 use lib.Dec.{eqb, leb, ltb}
 use borrow.Author.Tests.{eqb-true, leb-false, ltb-true, ltb-false, lt-leb, eq-eqb}
 use Rattle.records.specs.declared.refusal.Refusal.{Refusal}
-use Rattle.sheet.specs.Heading.{andThen, below, unused, fresh, argument, declareOf, retireOf}
-use Rattle.sheet.specs.declared.heading.Judged.{Judged}
-use Rattle.sheet.specs.declared.heading.Judged.the-variants.{Good, Refused}
+use Rattle.records.specs.Judge.{andThen, below, unused}
+use Rattle.records.specs.declared.judge.Judged.{Judged}
+use Rattle.records.specs.declared.judge.Judged.the-variants.{Good, Refused}
+use Rattle.sheet.specs.Heading.{fresh, argument, declareOf, retireOf}
 use Rattle.sheet.proofs.Answers.{pick-all}
 
 -- P of a good judgement, nothing of a bad one
@@ -17,11 +18,11 @@ pub data JudgedAll (P : Type 0) : Judged → Type 0 where
   good : P → JudgedAll P Good
   bad : {x : Refusal} → JudgedAll P (Refused x)
 
-judged-map : {P Q : Type 0} {j : Judged} → (P → Q) → JudgedAll P j → JudgedAll Q j
+pub judged-map : {P Q : Type 0} {j : Judged} → (P → Q) → JudgedAll P j → JudgedAll Q j
 judged-map f (good p) = good (f p)
 judged-map f bad = bad
 
-both-all : {P Q : Type 0} {a b : Judged} → JudgedAll P a → (P → JudgedAll Q b) → JudgedAll Q (andThen a b)
+pub both-all : {P Q : Type 0} {a b : Judged} → JudgedAll P a → (P → JudgedAll Q b) → JudgedAll Q (andThen a b)
 unfolding andThen
 both-all (good p) f = f p
 both-all bad f = bad
@@ -46,14 +47,14 @@ pub record Declaration (s st : List ℕ) (at : ℕ) : Type 0 where
   pub few : getD s (at + 3) 0 < 5
   pub arguments : (j : ℕ) → j < 4 → Argument s at j
 
-below-all : (s : List ℕ) (p limit : ℕ) → JudgedAll ((p < length s) × (getD s p 0 < limit)) (below s p limit)
+pub below-all : (s : List ℕ) (p limit : ℕ) → JudgedAll ((p < length s) × (getD s p 0 < limit)) (below s p limit)
 unfolding below
 below-all s p limit =
     pick-all (JudgedAll _) (leb (length s) p) (λ e. bad)
     (λ e. pick-all (JudgedAll _) (leb limit (getD s p 0)) (λ e′. bad)
       (λ e′. good (leb-false (length s) p e, leb-false limit (getD s p 0) e′)))
 
-unused-all : (s : List ℕ) (p : ℕ) → JudgedAll ((p < length s) × (getD s p 0 ≡ 255)) (unused s p)
+pub unused-all : (s : List ℕ) (p : ℕ) → JudgedAll ((p < length s) × (getD s p 0 ≡ 255)) (unused s p)
 unfolding unused
 unused-all s p =
     pick-all (JudgedAll _) (leb (length s) p) (λ e. bad)
@@ -78,7 +79,7 @@ argument-all s at j =
       inside = b .0; known = λ l. absurd (omega (arith, ltb-false j (getD s (at + 3) 0) e)); padding = λ l. b .1 })
       (unused-all s (at + 4 + j)))
 
-four : (P : ℕ → Type 0) → P 0 → P 1 → P 2 → P 3 → (j : ℕ) → j < 4 → P j
+pub four : (P : ℕ → Type 0) → P 0 → P 1 → P 2 → P 3 → (j : ℕ) → j < 4 → P j
 four P a b c d zero h = a
 four P a b c d (suc zero) h = b
 four P a b c d (suc (suc zero)) h = c
@@ -103,9 +104,13 @@ unfolding retireOf
 retire-all s st at = fresh-all s st (at + 1)
 
 -- the other way round
-below-is : (s : List ℕ) (p limit : ℕ) → p < length s → getD s p 0 < limit → below s p limit ≡ Good
+pub below-is : (s : List ℕ) (p limit : ℕ) → p < length s → getD s p 0 < limit → below s p limit ≡ Good
 unfolding below
 below-is s p limit l h = rw (lt-leb (length s) p l, lt-leb limit (getD s p 0) h) refl
+
+pub unused-is : (s : List ℕ) (p : ℕ) → p < length s → getD s p 0 ≡ 255 → unused s p ≡ Good
+unfolding unused
+unused-is s p l h = rw (lt-leb (length s) p l, eq-eqb (getD s p 0) 255 h) refl
 
 fresh-is : (s st : List ℕ) (p : ℕ) → Fresh s st p → fresh s st p ≡ Good
 unfolding fresh andThen
@@ -113,12 +118,11 @@ fresh-is s st p F =
     rw (below-is s p 255 (F .inside) (F .below), eq-eqb (getD st (getD s p 0) 0) 0 (F .free)) refl
 
 argument-is : (s : List ℕ) (at j : ℕ) → Argument s at j → argument s at j ≡ Good
-unfolding argument unused
+unfolding argument
 argument-is s at j A =
     pick-all (λ x. x ≡ Good) (ltb j (getD s (at + 3) 0))
     (λ e. below-is s (at + 4 + j) 5 (A .inside) (A .known (ltb-true j (getD s (at + 3) 0) e)))
-    (λ e. rw (lt-leb (length s) (at + 4 + j) (A .inside),
-      eq-eqb (getD s (at + 4 + j) 0) 255 (A .padding (ltb-false j (getD s (at + 3) 0) e))) refl)
+    (λ e. unused-is s (at + 4 + j) (A .inside) (A .padding (ltb-false j (getD s (at + 3) 0) e)))
 
 pub declare-is : (s st : List ℕ) (at : ℕ) → Declaration s st at → declareOf s st at ≡ Good
 unfolding declareOf andThen

@@ -5,9 +5,9 @@ use mathlib.Core.Path.{_≡_, refl, sym, ap, ap₂, _∙_}
 use mathlib.Core.List.{List, _∷_, _++_}
 use lib.ListN.{length, getD, take, drop, length-append, length-drop, take-append-drop}
 use lib.Seq.{length-take-le, drop-drop, drop-at, getD-drop, getD-take}
-use Rattle.sheet.specs.Written.{declare}
+use Rattle.procedures.specs.Written.{declare}
 use Rattle.sheet.specs.Encoding.{padded, encodeName}
-use Rattle.sheet.specs.Fine.{AllTypes}
+use Rattle.procedures.specs.Fine.{AllTypes}
 use Rattle.sheet.specs.Heading.{declareAt, retireAt}
 use Rattle.sheet.proofs.Parsed.{Byte}
 use Rattle.sheet.proofs.Judgement.{Fresh, Declaration}
@@ -34,7 +34,7 @@ module _ (s st : List ℕ) (at : ℕ) (D : Declaration s st at) where
   pub good-declares : Declares s at (getD s (at + 2) 0) (typesAt s at)
   good-declares = record {
       result = refl; count = sym types-length; argument = λ j h. types-argument j (omega (arith, types-length));
-      known = D .type-known; few = rw types-length (D .few) }
+      known = D .type-known; few = rw types-length (D .few); inside = omega (arith, D .count-inside) }
 
   pub good-types : AllTypes (typesAt s at)
   good-types =
@@ -124,7 +124,8 @@ module _ (s st : List ℕ) (at id ty : ℕ) (tys rest : List ℕ) (D : Declared 
   pub declared-declares : ty < 5 → length tys < 5 → Declares s at ty tys
   declared-declares k c = record {
       result = D .type-byte .1; count = D .count-byte .1;
-      argument = λ j h. argument-at j ∙ padded-known 4 tys rest j (omega arith) h; known = k; few = c }
+      argument = λ j h. argument-at j ∙ padded-known 4 tys rest j (omega arith) h; known = k; few = c;
+      inside = D .kind .0 }
 
   pub declared-is : length tys < 5 → declareAt s at ≡ declare id ty tys
   unfolding declareAt

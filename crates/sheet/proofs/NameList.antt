@@ -8,19 +8,20 @@ use lib.Dec.{eqb, leb}
 use borrow.Author.Tests.{eqb-true, eqb-false, leb-false}
 use Rattle.language.specs.declared.Numbers.{Numbers}
 use Rattle.records.specs.Kind.{shapeOf}
-use Rattle.records.specs.Standing.{variableStanding, declaredStanding}
+use Rattle.records.specs.Standing.{declaredStanding}
 use Rattle.records.specs.declared.kind.Shape.{Shape}
 use Rattle.records.specs.declared.kind.Shape.the-variants.{Part, Declare, Retire, Unknown}
-use Rattle.sheet.specs.Written.{Name, declare, retire}
+use Rattle.records.specs.declared.judge.Judged.{Judged}
+use Rattle.procedures.specs.Written.{Name, declare, retire}
+use Rattle.procedures.specs.Meaning.{Meaning, private, argument, routine, named, retired, free, declared, meaning}
+use Rattle.procedures.specs.Fine.{FineNames}
 use Rattle.sheet.specs.Encoding.{encodeName, encodeNames}
-use Rattle.sheet.specs.Meaning.{Meaning, private, named, retired, free, declared, meaning}
-use Rattle.sheet.specs.Fine.{FineNames}
 use Rattle.sheet.specs.Heading.{declareOf, retireOf, declareAt, retireAt}
 use Rattle.sheet.specs.Reader.{Tree, Answer, got, refused, bind, onJudged, readPart, Whole, whole, withName}
 use Rattle.sheet.specs.Reader.{wholeOfShape, nameOf, namesStep, namesOf}
-use Rattle.sheet.specs.declared.heading.Judged.{Judged}
 use Rattle.sheet.proofs.Parsed.{Byte, Parsed}
-use Rattle.sheet.proofs.Standings.{by-test, Agrees, Matches, matches-declare, matches-retire}
+use Rattle.sheet.proofs.Standings.{by-test, Agrees, Matches, matches-declare, matches-retire, variable-taken}
+use Rattle.sheet.proofs.Standings.{passed-taken, routine-taken, naming-taken}
 use Rattle.sheet.proofs.Answers.{All, one, none′, all-holds, Holds, pick-all, bind-all}
 use Rattle.sheet.proofs.Heads.{Shaped, s-declare, s-retire, shaped}
 use Rattle.sheet.proofs.Parse.{parse-all}
@@ -30,6 +31,8 @@ use Rattle.sheet.proofs.NameBytes.{good-declares, good-types, good-byte
 -- what an id means by earlier name records, else by later ones
 unfoldable pub orElse : Meaning → Meaning → Meaning
 orElse (private i h) m = private i h
+orElse (argument i ty) m = argument i ty
+orElse (routine i ty tys) m = routine i ty tys
 orElse (named ty tys) m = named ty tys
 orElse retired m = retired
 orElse free m = m
@@ -45,6 +48,8 @@ extends-first ns = record { same = λ id. refl }
 or-free : (m : Meaning) → orElse m free ≡ m
 unfolding orElse
 or-free (private i h) = refl
+or-free (argument i ty) = refl
+or-free (routine i ty tys) = refl
 or-free (named ty tys) = refl
 or-free retired = refl
 or-free free = refl
@@ -76,20 +81,23 @@ extends-retire {names} {earlier} k ns f E = record { same = λ id.
 
 -- name records that say the same
 pub matches-same :
-    {s st : List ℕ} {names earlier : List Name} → ((id : ℕ) → declared names id ≡ declared earlier id) →
-    Matches s earlier [] [] st → Matches s names [] [] st
+    {s st : List ℕ} {names earlier : List Name} {π : ℕ → ℕ} → ((id : ℕ) → declared names id ≡ declared earlier id) →
+    Matches s earlier [] π st → Matches s names [] π st
 unfolding meaning
-matches-same E M = record { sized = M .sized; short = M .short; standing = λ id b. rw (E id) (M .standing id b) }
+matches-same E M = record {
+    sized = M .sized; short = M .short; nested = M .nested; standing = λ id b. rw (E id) (M .standing id b) }
 
 -- an id is free by its standing exactly if it is free by the name records
-module _ {s st : List ℕ} {ns : List Name} (M : Matches s ns [] [] st) (id : ℕ) (b : id < 255) where
+module _ {s st : List ℕ} {ns : List Name} {π : ℕ → ℕ} (M : Matches s ns [] π st) (id : ℕ) (b : id < 255) where
   pub standing-free : getD st id 0 ≡ 0 → declared ns id ≡ free
-  unfolding meaning Agrees variableStanding declaredStanding
+  unfolding meaning Agrees
   standing-free e = go (declared ns id) (M .standing id b)
     where
-      go : (m : Meaning) → Agrees s [] (declared ns id) m (getD st id 0) → m ≡ free
-      go (private i h) v = absurd (omega (arith, v .stands, v .above))
-      go (named ty tys) v = absurd (omega (arith, v .stands))
+      go : (m : Meaning) → Agrees s π 0 (declared ns id) m (getD st id 0) → m ≡ free
+      go (private i h) v = absurd (variable-taken v .0 e)
+      go (argument i ty) v = absurd (passed-taken v .0 e)
+      go (routine i ty tys) v = absurd (routine-taken v .0 e)
+      go (named ty tys) v = absurd (naming-taken v .0 e)
       go retired v = absurd (omega arith)
       go free v = refl
 
@@ -98,16 +106,17 @@ module _ {s st : List ℕ} {ns : List Name} (M : Matches s ns [] [] st) (id : �
   free-standing e = rw e at (M .standing id b)
 
 -- the rest of a sheet, as read from a place on, after the earlier name records: at most n name records and the term
-pub data NamesRead (N : Numbers) (s : List ℕ) (n : ℕ) (earlier : List Name) (at : ℕ) : Whole → ℕ → ℕ → ℕ → Type 0
+pub data NamesRead (N : Numbers) (s : List ℕ) (π : ℕ → ℕ) (n : ℕ) (earlier : List Name) (at : ℕ) :
+  Whole → ℕ → ℕ → Type 0
   where
   names-read :
-      {ns : List Name} {root : ℕ} {t : Tree} {ty w end : ℕ} → length ns ≤ n → FineNames earlier ns →
+      {ns : List Name} {root : ℕ} {t : Tree} {ty end : ℕ} → length ns ≤ n → FineNames earlier ns →
       drop at s ≡ encodeNames ns ++ drop root s →
-      ((names : List Name) → Extends names earlier ns → Parsed N s names 32 [] [] root t ty w end) →
-      NamesRead N s n earlier at (whole ns root t) ty w end
+      ((names : List Name) → Extends names earlier ns → Parsed N s names 32 [] π root t ty end) →
+      NamesRead N s π n earlier at (whole ns root t) ty end
 
 judged-onto :
-    {X : Type 0} {P : Type 0} (Q : X → ℕ → ℕ → ℕ → Type 0) {j : Judged} (k : Answer X) → JudgedAll P j → (P → All Q k)
+    {X : Type 0} {P : Type 0} (Q : X → ℕ → ℕ → Type 0) {j : Judged} (k : Answer X) → JudgedAll P j → (P → All Q k)
       →
     All Q (onJudged j k)
 unfolding onJudged
@@ -116,20 +125,20 @@ judged-onto Q k bad f = none′
 
 -- for each index, for all
 all-each :
-    {I X : Type 0} (P : I → X → ℕ → ℕ → ℕ → Type 0) (A : Answer X) → ((i : I) → All (P i) A) →
-    All (λ x ty w n. (i : I) → P i x ty w n) A
+    {I X : Type 0} (P : I → X → ℕ → ℕ → Type 0) (A : Answer X) → ((i : I) → All (P i) A) →
+    All (λ x ty n. (i : I) → P i x ty n) A
 unfolding Holds
-all-each P (got x ty w n) f = one (λ i. all-holds (P i) (got x ty w n) (f i))
+all-each P (got x ty n) f = one (λ i. all-holds (P i) (got x ty n) (f i))
 all-each P (refused a b) f = none′
 
-module _ (N : Numbers) (s : List ℕ) where
+module _ (N : Numbers) (s : List ℕ) (π : ℕ → ℕ) where
   -- one name record more
   with-name :
       {n m at at′ : ℕ} {earlier : List Name} (nm : Name) → n ≡ suc m → drop at s ≡ encodeName nm ++ drop at′ s →
       ((ns : List Name) → FineNames (nm ∷ earlier) ns → FineNames earlier (nm ∷ ns)) →
       ((names ns : List Name) → Extends names earlier (nm ∷ ns) → Extends names (nm ∷ earlier) ns) →
-      {x : Whole} {ty w end : ℕ} → NamesRead N s m (nm ∷ earlier) at′ x ty w end →
-      NamesRead N s n earlier at (withName nm x) ty w end
+      {x : Whole} {ty end : ℕ} → NamesRead N s π m (nm ∷ earlier) at′ x ty end →
+      NamesRead N s π n earlier at (withName nm x) ty end
   unfolding withName encodeNames
   with-name nm e b f g (names-read {ns = ns} {root = root} l fine d p) =
       names-read {ns = nm ∷ ns} (omega arith) (f ns fine)
@@ -139,12 +148,12 @@ module _ (N : Numbers) (s : List ℕ) where
 
   -- the name records and the term from a place on, where rec reads what follows a name record
   module _
-      (n : ℕ) (earlier : List Name) (st : List ℕ) (at : ℕ) (M : Matches s earlier [] [] st)
+      (n : ℕ) (earlier : List Name) (st : List ℕ) (at : ℕ) (M : Matches s earlier [] π st)
       (rec : List ℕ → ℕ → Answer Whole)
-      (sub : (m : ℕ) → n ≡ suc m → (ns : List Name) (st′ : List ℕ) (at′ : ℕ) → Matches s ns [] [] st′ →
-        All (λ x ty w end. NamesRead N s m ns at′ x ty w end) (rec st′ at′)) where
-    abbrev Here : Whole → ℕ → ℕ → ℕ → Type 0
-    Here x ty w end = NamesRead N s n earlier at x ty w end
+      (sub : (m : ℕ) → n ≡ suc m → (ns : List Name) (st′ : List ℕ) (at′ : ℕ) → Matches s ns [] π st′ →
+        All (λ x ty end. NamesRead N s π m ns at′ x ty end) (rec st′ at′)) where
+    abbrev Here : Whole → ℕ → ℕ → Type 0
+    Here x ty end = NamesRead N s π n earlier at x ty end
 
     reads-declare :
         Byte s at 1 → All Here (nameOf rec n s st at 7 (declaredStanding at) (declareOf s st at) (declareAt s at))
@@ -158,8 +167,8 @@ module _ (N : Numbers) (s : List ℕ) where
             let f = standing-free M (getD s (at + 1) 0) (F .below) (F .free) in
             bind-all _ Here _ _
               (sub (n - 1) k (declareAt s at ∷ earlier) _ (at + 1 + 7)
-                (matches-declare M (F .below) (b .0) (good-declares s st at D)))
-              (λ x ty w end q. one (with-name (declareAt s at) k (good-bytes s st at D b)
+                (matches-declare M (F .below) (good-declares s st at D)))
+              (λ x ty end q. one (with-name (declareAt s at) k (good-bytes s st at D b)
                 (λ ns q. (F .below, f, D .type-known, good-declares s st at D .few, good-types s st at D, q))
                 (λ names ns E. extends-declare _ _ _ ns f E) q))))
 
@@ -173,17 +182,17 @@ module _ (N : Numbers) (s : List ℕ) where
             let f = standing-free M (getD s (at + 1) 0) (F .below) (F .free) in
             bind-all _ Here _ _
               (sub (n - 1) k (retireAt s at ∷ earlier) _ (at + 1 + 1) (matches-retire M (F .below)))
-              (λ x ty w end q. one (with-name (retireAt s at) k (retire-bytes s st at F b) (λ ns q. (F .below, f, q))
+              (λ x ty end q. one (with-name (retireAt s at) k (retire-bytes s st at F b) (λ ns q. (F .below, f, q))
                 (λ names ns E. extends-retire _ ns f E) q))))
 
-    reads-term : All Here (bind (readPart 32 N s st at) (λ t ty w end. got (whole [] at t) ty w end))
+    reads-term : All Here (bind (readPart 32 N s st 0 at) (λ t ty end. got (whole [] at t) ty end))
     unfolding encodeNames FineNames
     reads-term =
-        bind-all _ Here (readPart 32 N s st at) _
+        bind-all _ Here (readPart 32 N s st 0 at) _
           (all-each {I = (names : List Name) × Extends names earlier []}
-            (λ i t ty w end. Parsed N s (i .0) 32 [] [] at t ty w end) (readPart 32 N s st at)
-            (λ i. parse-all N s (i .0) 32 [] [] st at (matches-same (extends-last (i .1)) M)))
-          (λ t ty w end p. one (names-read {ns = []} (omega arith) tt refl (λ names E. p (names, E))))
+            (λ i t ty end. Parsed N s (i .0) 32 [] π at t ty end) (readPart 32 N s st 0 at)
+            (λ i. parse-all N s (i .0) 32 [] π st at (matches-same (extends-last (i .1)) M) (omega arith)))
+          (λ t ty end p. one (names-read {ns = []} (omega arith) tt refl (λ names E. p (names, E))))
 
     reads-step : All Here (namesStep rec n N s st at)
     unfolding namesStep wholeOfShape
@@ -194,7 +203,7 @@ module _ (N : Numbers) (s : List ℕ) where
         go : (x : Shape) → at < length s → Shaped (getD s at 0) x → All Here (wholeOfShape x
           (λ body. nameOf rec n s st at body (declaredStanding at) (declareOf s st at) (declareAt s at))
           (λ body. nameOf rec n s st at body 1 (retireOf s st at) (retireAt s at))
-          (bind (readPart 32 N s st at) (λ t ty w end. got (whole [] at t) ty w end))
+          (bind (readPart 32 N s st 0 at) (λ t ty end. got (whole [] at t) ty end))
           (refused 3 at))
         go (Part body parts rule) l h = reads-term
         go (Declare body) l (s-declare e) = reads-declare (l, e)
@@ -203,8 +212,8 @@ module _ (N : Numbers) (s : List ℕ) where
 
   -- THEOREM: the rest of a sheet, as it is read
   pub names-all :
-      (n : ℕ) (earlier : List Name) (st : List ℕ) (at : ℕ) → Matches s earlier [] [] st →
-      All (λ x ty w end. NamesRead N s n earlier at x ty w end) (namesOf n N s st at)
+      (n : ℕ) (earlier : List Name) (st : List ℕ) (at : ℕ) → Matches s earlier [] π st →
+      All (λ x ty end. NamesRead N s π n earlier at x ty end) (namesOf n N s st at)
   unfolding namesOf
   names-all zero earlier st at M = reads-step 0 earlier st at M _ (λ m e. absurd (omega arith))
   names-all (suc n) earlier st at M =

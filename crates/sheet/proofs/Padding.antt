@@ -5,7 +5,7 @@ use mathlib.Core.Path.{_≡_, refl, sym, ap, ap₂}
 use mathlib.Core.List.{List, [], _∷_, _++_}
 use lib.ListN.{length, getD, take}
 use Rattle.sheet.specs.Encoding.{padded}
-use Rattle.sheet.specs.Fine.{AllTypes}
+use Rattle.procedures.specs.Fine.{AllTypes}
 
 pub padded-take :
     (n : ℕ) (tys l : List ℕ) → length tys ≤ n → take (length tys) (padded n tys ++ l) ≡ tys

@@ -1,5 +1,5 @@
 -- The table word by word: what a row holds after `rowWritten` and `linked`, and that all other words stay.
-use Prim.Native.Nat.{ℕ, _+_, _*_, _≤_, _<_, min}
+use Prim.Native.Nat.{ℕ, _+_, _*_, _≤_, _<_}
 use native.Mathlib.Omega.{arith}
 use mathlib.Core.Path.{_≡_, refl, _∙_}
 use mathlib.Core.List.{List}
@@ -23,32 +23,33 @@ unfolding word cell
 set-else t q j v p i x h g n e =
     getD-set-other t (9 * q + j) (9 * p + i) v 0 (λ f. n (omega arith) (omega arith)) ∙ e
 
--- the first five words of the row of a record of type ty and weight w
-pub record Holds (N : Numbers) (r : Record) (ty w : ℕ) (U : List ℕ) (at : ℕ) : Type 0 where
+-- the first five words of the row of a record of type ty that `number` binders enclose and that ends before a place
+pub record Holds (N : Numbers) (r : Record) (ty number end : ℕ) (U : List ℕ) (at : ℕ) : Type 0 where
   pub kind : word U at 0 ≡ rowKind (r .rule) r
-  pub weight : word U at 1 ≡ min w 4097
+  pub ended : word U at 1 ≡ end
   pub class : word U at 2 ≡ classOf ty
   pub values : word U at 3 ≡ rule.values N ty
-  pub detail : word U at 4 ≡ row.detail (r .rule) N r
+  pub detail : word U at 4 ≡ row.detail (r .rule) N r number
 
-pub length-written : (N : Numbers) (r : Record) (ty w : ℕ) (t : List ℕ) → length (rowWritten N r ty w t) ≡ length t
+pub length-written : (N : Numbers) (r : Record) (ty number end : ℕ) (t : List ℕ) → length (rowWritten N r ty number
+  end t) ≡ length t
 unfolding rowWritten
-length-written N r ty w t = simp length-set
+length-written N r ty number end t = simp length-set
 
 pub length-linked : (p j part : ℕ) (t : List ℕ) → length (linked p j part t) ≡ length t
 unfolding linked
 length-linked p j part t = simp length-set
 
-pub written-row : (N : Numbers) (r : Record) (ty w : ℕ) (t : List ℕ) → 9 * r .place + 9 ≤ length t →
-    Holds N r ty w (rowWritten N r ty w t) (r .place)
+pub written-row : (N : Numbers) (r : Record) (ty number end : ℕ) (t : List ℕ) → 9 * r .place + 9 ≤ length t →
+    Holds N r ty number end (rowWritten N r ty number end t) (r .place)
 unfolding rowWritten
-written-row N r ty w t h =
+written-row N r ty number end t h =
     let q : ℕ = r .place in
     let x₀ : ℕ = rowKind (r .rule) r in
-    let x₁ : ℕ = min w 4097 in
+    let x₁ : ℕ = end in
     let x₂ : ℕ = classOf ty in
     let x₃ : ℕ = rule.values N ty in
-    let x₄ : ℕ = row.detail (r .rule) N r in
+    let x₄ : ℕ = row.detail (r .rule) N r number in
     let d₀ : List ℕ = set t (cell q 0) x₀ in
     let d₁ : List ℕ = set d₀ (cell q 1) x₁ in
     let d₂ : List ℕ = set d₁ (cell q 2) x₂ in
@@ -56,7 +57,7 @@ written-row N r ty w t h =
     record {
       kind = over d₃ q 4 x₄ 0 (omega arith) (over d₂ q 3 x₃ 0 (omega arith)
         (over d₁ q 2 x₂ 0 (omega arith) (over d₀ q 1 x₁ 0 (omega arith) (set-same t q 0 x₀ (omega arith) h))));
-      weight = over d₃ q 4 x₄ 1 (omega arith) (over d₂ q 3 x₃ 1 (omega arith)
+      ended = over d₃ q 4 x₄ 1 (omega arith) (over d₂ q 3 x₃ 1 (omega arith)
         (over d₁ q 2 x₂ 1 (omega arith) (set-same d₀ q 1 x₁ (omega arith) (simp length-set h))));
       class = over d₃ q 4 x₄ 2 (omega arith) (over d₂ q 3 x₃ 2 (omega arith)
         (set-same d₁ q 2 x₂ (omega arith) (simp length-set h)));
@@ -68,16 +69,17 @@ written-row N r ty w t h =
     over u q j v i g e = set-else u q j v q i _ (g .0) (g .1) (λ f. g .2) e
 
 -- every other word: of another row, or the place of a part
-pub written-else : (N : Numbers) (r : Record) (ty w : ℕ) (t : List ℕ) (p i : ℕ) → i < 9 → (p ≡ r .place → 5 ≤ i) →
-    word (rowWritten N r ty w t) p i ≡ word t p i
+pub written-else : (N : Numbers) (r : Record) (ty number end : ℕ) (t : List ℕ) (p i : ℕ) → i < 9 → (p ≡ r .place → 5
+  ≤ i) →
+    word (rowWritten N r ty number end t) p i ≡ word t p i
 unfolding rowWritten
-written-else N r ty w t p i h n =
+written-else N r ty number end t p i h n =
     let q : ℕ = r .place in
     let x₀ : ℕ = rowKind (r .rule) r in
-    let x₁ : ℕ = min w 4097 in
+    let x₁ : ℕ = end in
     let x₂ : ℕ = classOf ty in
     let x₃ : ℕ = rule.values N ty in
-    let x₄ : ℕ = row.detail (r .rule) N r in
+    let x₄ : ℕ = row.detail (r .rule) N r number in
     let d₀ : List ℕ = set t (cell q 0) x₀ in
     let d₁ : List ℕ = set d₀ (cell q 1) x₁ in
     let d₂ : List ℕ = set d₁ (cell q 2) x₂ in

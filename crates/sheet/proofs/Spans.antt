@@ -7,24 +7,25 @@ use lib.ListN.{length}
 use Rattle.language.specs.declared.Numbers.{Numbers}
 use Rattle.records.specs.Row.{linked}
 use Rattle.records.specs.declared.head.Record.{Record}
-use Rattle.sheet.specs.Written.{Name}
-use Rattle.sheet.specs.Meaning.{Block}
+use Rattle.procedures.specs.Written.{Name}
+use Rattle.procedures.specs.Meaning.{Binder}
+use Rattle.records.specs.Row.{word}
 use Rattle.sheet.specs.Reader.{Tree, node, Trees, leaf, branch}
 use Rattle.sheet.specs.table.Fill.{fill, fills}
-use Rattle.records.specs.Row.{word}
-use Rattle.sheet.proofs.Parsed.{Parsed, p-skip, p-diverge, p-truth, p-number, p-private, p-name, p-fetch}
-use Rattle.sheet.proofs.Parsed.{p-operate, p-assign, p-sequence, p-if, p-while, p-new}
-use Rattle.sheet.proofs.Parsed.{ParsedArgs, p-none, p-more}
+use Rattle.sheet.proofs.Parsed.{Parsed, p-skip, p-diverge, p-truth, p-number, p-private, p-parameter, p-use}
+use Rattle.sheet.proofs.Parsed.{p-name, p-fetch, p-operate, p-assign, p-sequence, p-if, p-while, p-new}
+use Rattle.sheet.proofs.Parsed.{p-procedure, ParsedArgs, p-none, p-more}
 use Rattle.sheet.proofs.Rows.{length-written, length-linked, written-else, linked-else}
 
 -- a part takes the places from its own up to the next; its parts, at most four, stand one after the other behind it
 mutual
   pub data Span : ℕ → ℕ → Tree → Type 0 where
-    span : {at from next ty w : ℕ} {r : Record} {ts : Trees} → r .place ≡ at → Parts 0 from next ts → at < from →
-      Span at next (node r ty w ts)
+    span : {at from next ty number end : ℕ} {r : Record} {ts : Trees} → r .place ≡ at → Parts 0 from next ts → at <
+      from →
+      Span at next (node r ty number end ts)
   -- parts j, j + 1, .. of a record
   pub data Parts : ℕ → ℕ → ℕ → Trees → Type 0 where
-    end : {j at : ℕ} → Parts j at at leaf
+    stop : {j at : ℕ} → Parts j at at leaf
     part : {j at mid next : ℕ} {t : Tree} {ts : Trees} → j < 4 → Span at mid t → Parts (j + 1) mid next ts →
       Parts j at next (branch at t ts)
 
@@ -33,20 +34,20 @@ mutual
   forward (span e ps lt) = let h = onward ps in omega arith
 
   pub onward : {j at next : ℕ} {ts : Trees} → Parts j at next ts → at ≤ next
-  onward end = omega arith
+  onward stop = omega arith
   onward (part lt x ps) = let h = forward x in let g = onward ps in omega arith
 
 one : {at next : ℕ} {t : Tree} → Span at next t → Parts 0 at next (branch at t leaf)
-one x = part {j = 0} (omega arith) x end
+one x = part {j = 0} (omega arith) x stop
 
 two : {at mid next : ℕ} {t u : Tree} → Span at mid t → Span mid next u →
     Parts 0 at next (branch at t (branch mid u leaf))
-two x y = part {j = 0} (omega arith) x (part {j = 0 + 1} (omega arith) y end)
+two x y = part {j = 0} (omega arith) x (part {j = 0 + 1} (omega arith) y stop)
 
 three : {at mid far next : ℕ} {t u v : Tree} → Span at mid t → Span mid far u → Span far next v →
     Parts 0 at next (branch at t (branch mid u (branch far v leaf)))
 three x y z =
-    part {j = 0} (omega arith) x (part {j = 0 + 1} (omega arith) y (part {j = 0 + 1 + 1} (omega arith) z end))
+    part {j = 0} (omega arith) x (part {j = 0 + 1} (omega arith) y (part {j = 0 + 1 + 1} (omega arith) z stop))
 
 -- a part that was read has such a span, within the sheet
 pub record Placed (s : List ℕ) (at next : ℕ) (t : Tree) : Type 0 where
@@ -54,50 +55,56 @@ pub record Placed (s : List ℕ) (at next : ℕ) (t : Tree) : Type 0 where
   pub within : next ≤ length s
 
 module _ (N : Numbers) (s : List ℕ) (ns : List Name) where
-  pub placed : {rs : List ℕ} {left at ty w next : ℕ} {bs : List Block} {t : Tree} →
-      Parsed N s ns left rs bs at t ty w next → Placed s at next t
+  pub placed : {left at ty next : ℕ} {bs : List Binder} {π : ℕ → ℕ} {t : Tree} →
+      Parsed N s ns left bs π at t ty next → Placed s at next t
   placed d =
-    elim d as (λ left rs bs at t ty w next d. Placed s at next t)
-      (λ left rs bs at ts tys v next ds.
+    elim d as (λ left bs π at t ty next d. Placed s at next t)
+      (λ left bs π at ts tys next ds.
         ((j : ℕ) → j + length tys ≤ 4 → Parts j at next ts) × (at ≤ length s → next ≤ length s)) [
-      p-skip {at = a} st ↦ record { span = span {from = a + 1} (st .place) end (omega arith); within = omega arith }
+      p-skip {at = a} st ↦ record { span = span {from = a + 1} (st .place) stop (omega arith); within = omega arith }
     | p-diverge {at = a} st b h ↦
-          record { span = span {from = a + 2} (st .place) end (omega arith); within = omega arith }
+          record { span = span {from = a + 2} (st .place) stop (omega arith); within = omega arith }
     | p-truth {at = a} st b h ↦
-          record { span = span {from = a + 2} (st .place) end (omega arith); within = omega arith }
+          record { span = span {from = a + 2} (st .place) stop (omega arith); within = omega arith }
     | p-number {at = a} st b h g ↦
-          record { span = span {from = a + 2} (st .place) end (omega arith); within = omega arith }
-    | p-private {at = a} st b h m l g e k c ↦
-          record { span = span {from = a + 2} (st .place) end (omega arith); within = omega arith }
-    | p-name st b h m l e g k (ds → xs) ↦
+          record { span = span {from = a + 2} (st .place) stop (omega arith); within = omega arith }
+    | p-private {at = a} st b h m l g e c ↦
+          record { span = span {from = a + 2} (st .place) stop (omega arith); within = omega arith }
+    | p-parameter {at = a} st b h m l g c ↦
+          record { span = span {from = a + 2} (st .place) stop (omega arith); within = omega arith }
+    | p-use st b h m l e g k o c (ds → xs) ↦
           record { span = span (st .place) (xs .0 0 (omega arith)) (omega arith); within = xs .1 (omega arith) }
-    | p-fetch st (d → x) h e ↦ record { span = span (st .place) (one (x .span)) (omega arith); within = x .within }
-    | p-operate st b h (d → x) (f → y) e ↦
+    | p-name st b h m l e g k c (ds → xs) ↦
+          record { span = span (st .place) (xs .0 0 (omega arith)) (omega arith); within = xs .1 (omega arith) }
+    | p-fetch st (d → x) h ↦ record { span = span (st .place) (one (x .span)) (omega arith); within = x .within }
+    | p-operate st b h (d → x) (f → y) ↦
           record { span = span (st .place) (two (x .span) (y .span)) (omega arith); within = y .within }
-    | p-assign st (d → x) h (f → y) e ↦
+    | p-assign st (d → x) h (f → y) ↦
           record { span = span (st .place) (two (x .span) (y .span)) (omega arith); within = y .within }
-    | p-sequence st (d → x) (f → y) e ↦
+    | p-sequence st (d → x) (f → y) ↦
           record { span = span (st .place) (two (x .span) (y .span)) (omega arith); within = y .within }
-    | p-if st (d → x) (f → y) (g → z) e ↦
+    | p-if st (d → x) (f → y) (g → z) ↦
           record { span = span (st .place) (three (x .span) (y .span) (z .span)) (omega arith); within = z .within }
-    | p-while st (d → x) (f → y) e ↦
+    | p-while st (d → x) (f → y) ↦
           record { span = span (st .place) (two (x .span) (y .span)) (omega arith); within = y .within }
-    | p-new st b h m c l g (d → x) e ↦
+    | p-new st b h m c l g (d → x) ↦
           record { span = span (st .place) (one (x .span)) (omega arith); within = x .within }
-    | p-none ↦ ((λ j h. end), (λ h. h))
-    | p-more (d → x) (ds → xs) e ↦ (
+    | p-procedure st b h m c l n k q (d → x) (f → y) ↦
+          record { span = span (st .place) (two (x .span) (y .span)) (omega arith); within = y .within }
+    | p-none ↦ ((λ j h. stop), (λ h. h))
+    | p-more (d → x) (ds → xs) ↦ (
           (λ j h. part {j = j} (omega arith) (x .span) (xs .0 (j + 1) (omega arith))),
           (λ h. xs .1 (x .within))) ]
 
-  pub placed-args : {rs : List ℕ} {left at v next : ℕ} {bs : List Block} {ts : Trees} {tys : List ℕ} →
-      ParsedArgs N s ns left rs bs at ts tys v next → (j : ℕ) → j + length tys ≤ 4 → Parts j at next ts
-  placed-args p-none j h = end
-  placed-args (p-more d ds e) j h = part {j = j} (omega arith) (placed d .span) (placed-args ds (j + 1) (omega arith))
+  pub placed-args : {left at next : ℕ} {bs : List Binder} {π : ℕ → ℕ} {ts : Trees} {tys : List ℕ} →
+      ParsedArgs N s ns left bs π at ts tys next → (j : ℕ) → j + length tys ≤ 4 → Parts j at next ts
+  placed-args p-none j h = stop
+  placed-args (p-more d ds) j h = part {j = j} (omega arith) (placed d .span) (placed-args ds (j + 1) (omega arith))
 
-  pub within-args : {rs : List ℕ} {left at v next : ℕ} {bs : List Block} {ts : Trees} {tys : List ℕ} →
-      ParsedArgs N s ns left rs bs at ts tys v next → at ≤ length s → next ≤ length s
+  pub within-args : {left at next : ℕ} {bs : List Binder} {π : ℕ → ℕ} {ts : Trees} {tys : List ℕ} →
+      ParsedArgs N s ns left bs π at ts tys next → at ≤ length s → next ≤ length s
   within-args p-none h = h
-  within-args (p-more d ds e) h = within-args ds (placed d .within)
+  within-args (p-more d ds) h = within-args ds (placed d .within)
 
 -- a place outside a span
 pub data Outside (at next p : ℕ) : Type 0 where
@@ -116,8 +123,8 @@ module _ (N : Numbers) where
   mutual
     unfolding fill fills
     pub length-fill : (x : Tree) (t : List ℕ) → length (fill N x t) ≡ length t
-    length-fill (node r ty w ts) t =
-        length-written N r ty w (fills N ts (r .place) 0 t) ∙ length-fills ts (r .place) 0 t
+    length-fill (node r ty number end ts) t =
+        length-written N r ty number end (fills N ts (r .place) 0 t) ∙ length-fills ts (r .place) 0 t
 
     pub length-fills : (xs : Trees) (p j : ℕ) (t : List ℕ) → length (fills N xs p j t) ≡ length t
     length-fills leaf p j t = refl
@@ -130,16 +137,17 @@ module _ (N : Numbers) where
     unfolding fill fills
     pub fill-else : {at next : ℕ} {x : Tree} → Span at next x → (t : List ℕ) (p i : ℕ) → i < 9 → Outside at next p →
         word (fill N x t) p i ≡ word t p i
-    fill-else (span {at} {from} {next} {ty} {w} {r} {ts} e ps lt) t p i h o =
+    fill-else (span {at} {from} {next} {ty} {number} {end} {r} {ts} e ps lt) t p i h o =
         let le : from ≤ next = onward ps in
         let rest = fills-else ps t (r .place) p i h (narrow (omega arith) (omega arith) o)
           (λ f. absurd (not-first (omega arith) o (f ∙ e))) in
-        written-else N r ty w (fills N ts (r .place) 0 t) p i h (λ f. absurd (not-first (omega arith) o (f ∙ e))) ∙
+        written-else N r ty number end (fills N ts (r .place) 0 t) p i h (λ f. absurd (not-first (omega arith) o (f ∙
+          e))) ∙
           rest
 
     pub fills-else : {j at next : ℕ} {xs : Trees} → Parts j at next xs → (t : List ℕ) (q p i : ℕ) → i < 9 →
         Outside at next p → (p ≡ q → i < 5 + j) → word (fills N xs q j t) p i ≡ word t p i
-    fills-else end t q p i h o n = refl
+    fills-else stop t q p i h o n = refl
     fills-else (part {j} {at} {mid} {next} {t = x} {ts = xs} lt sp ps) t q p i h o n =
         let le : at < mid = forward sp in
         let le′ : mid ≤ next = onward ps in
@@ -147,10 +155,3 @@ module _ (N : Numbers) where
           (λ e. let l : i < 5 + j = n e in omega arith) in
         let own = fill-else sp (linked q j at t) p i h (narrow (omega arith) (omega arith) o) in
         rest ∙ (own ∙ linked-else q j at t p i lt h (λ e f. let l : i < 5 + j = n e in omega arith))
-
--- the frame of a reading
-pub frame : (N : Numbers) (s : List ℕ) (ns : List Name) {rs : List ℕ} {left at ty w next : ℕ} {bs : List Block} {x :
-    Tree} →
-    Parsed N s ns left rs bs at x ty w next → (t : List ℕ) (p i : ℕ) → i < 9 → Outside at next p →
-    word (fill N x t) p i ≡ word t p i
-frame N s ns d t p i h o = fill-else N (placed N s ns d .span) t p i h o

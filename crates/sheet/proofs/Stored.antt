@@ -11,7 +11,7 @@ use Rattle.sheet.specs.Reader.{Tree, node, Trees, leaf, branch}
 use Rattle.sheet.specs.table.Fill.{fill, fills}
 use Rattle.records.specs.Row.{word}
 use Rattle.sheet.proofs.Rows.{Holds, length-linked, written-row, written-else, linked-same}
-use Rattle.sheet.proofs.Spans.{Span, span, Parts, end, part, forward, onward, before}
+use Rattle.sheet.proofs.Spans.{Span, span, Parts, stop, part, forward, onward, before}
 use Rattle.sheet.proofs.Spans.{length-fill, length-fills, fill-else, fills-else}
 
 -- the same rows from one place up to another
@@ -22,19 +22,19 @@ Agree U t at next = (p i : ℕ) → at ≤ p → p < next → i < 9 → word U p
 module _ (N : Numbers) (U : List ℕ) where
   mutual
     pub data Stored : ℕ → Tree → Type 0 where
-      stored : {at ty w : ℕ} {r : Record} {ts : Trees} → Holds N r ty w U at → StoredParts at 0 ts →
-        Stored at (node r ty w ts)
+      stored : {at ty number end : ℕ} {r : Record} {ts : Trees} → Holds N r ty number end U at → StoredParts at 0 ts →
+        Stored at (node r ty number end ts)
     -- of parts j, j + 1, .. of the record at p, with their places
     pub data StoredParts : ℕ → ℕ → Trees → Type 0 where
       stored-none : {p j : ℕ} → StoredParts p j leaf
       stored-more : {p j at : ℕ} {t : Tree} {ts : Trees} → word U p (5 + j) ≡ at → Stored at t →
         StoredParts p (j + 1) ts → StoredParts p j (branch at t ts)
 
-  holds-in : {r : Record} {ty w : ℕ} {t : List ℕ} {at : ℕ} → Holds N r ty w t at →
-      ((i : ℕ) → i < 9 → word U at i ≡ word t at i) → Holds N r ty w U at
+  holds-in : {r : Record} {ty number end : ℕ} {t : List ℕ} {at : ℕ} → Holds N r ty number end t at →
+      ((i : ℕ) → i < 9 → word U at i ≡ word t at i) → Holds N r ty number end U at
   holds-in h f = record {
       kind = f 0 (omega arith) ∙ h .kind;
-      weight = f 1 (omega arith) ∙ h .weight;
+      ended = f 1 (omega arith) ∙ h .ended;
       class = f 2 (omega arith) ∙ h .class;
       values = f 3 (omega arith) ∙ h .values;
       detail = f 4 (omega arith) ∙ h .detail }
@@ -44,17 +44,20 @@ module _ (N : Numbers) (U : List ℕ) where
     unfolding fill fills
     pub stores : {at next : ℕ} {x : Tree} → Span at next x → (t : List ℕ) → length t ≡ 36864 → next ≤ 4096 →
         Agree U (fill N x t) at next → Stored at x
-    stores (span {at} {from} {next} {ty} {w} {r} {ts} e ps lt) t l h same =
+    stores (span {at} {from} {next} {ty} {number} {end} {r} {ts} e ps lt) t l h same =
         let le : from ≤ next = onward ps in
         let u : List ℕ = fills N ts (r .place) 0 t in
         let long : length u ≡ 36864 = length-fills N ts (r .place) 0 t ∙ l in
-        let row : Holds N r ty w (rowWritten N r ty w u) (r .place) = written-row N r ty w u (omega arith) in
-        let mine : Holds N r ty w U at =
-              holds-in (subst (λ (p : ℕ). Holds N r ty w (rowWritten N r ty w u) p) e row)
+        let row : Holds N r ty number end (rowWritten N r ty number end u) (r .place) = written-row N r ty number end
+          u (omega arith) in
+        let mine : Holds N r ty number end U at =
+              holds-in (subst (λ (p : ℕ). Holds N r ty number end (rowWritten N r ty number end u) p) e row)
                 (λ i g. same at i (omega arith) (omega arith) g) in
         let rest = stores-parts ps (r .place) t l h (omega arith)
-          (λ i g k. same (r .place) i (omega arith) (omega arith) k ∙ written-else N r ty w u (r .place) i k (λ f. g))
-          (λ p i g k m. same p i (omega arith) k m ∙ written-else N r ty w u p i m (λ f. absurd (omega arith))) in
+          (λ i g k. same (r .place) i (omega arith) (omega arith) k ∙ written-else N r ty number end u (r .place) i k
+            (λ f. g))
+          (λ p i g k m. same p i (omega arith) k m ∙ written-else N r ty number end u p i m (λ f. absurd (omega
+            arith))) in
         stored mine (subst (λ (p : ℕ). StoredParts p 0 ts) e rest)
 
     -- of the record at q, whose row has the places of its parts
@@ -62,7 +65,7 @@ module _ (N : Numbers) (U : List ℕ) where
         length t ≡ 36864 → next ≤ 4096 → q < from →
         ((i : ℕ) → 5 + j ≤ i → i < 9 → word U q i ≡ word (fills N xs q j t) q i) →
         Agree U (fills N xs q j t) from next → StoredParts q j xs
-    stores-parts end q t l h lt row same = stored-none
+    stores-parts stop q t l h lt row same = stored-none
     stores-parts (part {j} {at} {mid} {next} {t = x} {ts = xs} few sp ps) q t l h lt row same =
         let le : at < mid = forward sp in
         let le′ : mid ≤ next = onward ps in
@@ -84,10 +87,12 @@ module _ (N : Numbers) (U : List ℕ) where
 
 -- what is stored, taken apart
 module _ {N : Numbers} {U : List ℕ} where
-  pub own : {at ty w : ℕ} {r : Record} {ts : Trees} → Stored N U at (node r ty w ts) → Holds N r ty w U at
+  pub own : {at ty number end : ℕ} {r : Record} {ts : Trees} → Stored N U at (node r ty number end ts) → Holds N r ty
+    number end U at
   own (stored h ps) = h
 
-  pub parts : {at ty w : ℕ} {r : Record} {ts : Trees} → Stored N U at (node r ty w ts) → StoredParts N U at 0 ts
+  pub parts : {at ty number end : ℕ} {r : Record} {ts : Trees} → Stored N U at (node r ty number end ts) →
+    StoredParts N U at 0 ts
   parts (stored h ps) = ps
 
   pub place : {p j at : ℕ} {t : Tree} {ts : Trees} → StoredParts N U p j (branch at t ts) → word U p (5 + j) ≡ at

@@ -1,57 +1,65 @@
--- The table that reading a whole sheet leaves represents the sheet's term.
-use Prim.Native.Nat.{ℕ, _≤_, min}
+-- The table that reading a whole sheet leaves shows the sheet's term.
+use Prim.Native.Nat.{ℕ}
 use native.Mathlib.Omega.{arith}
-use mathlib.Core.Path.{_≡_, refl, sym, _∙_}
+use mathlib.Core.Path.{_≡_, refl, sym, ap, _∙_}
 use mathlib.Core.List.{List, []}
-use lib.ListN.{length}
-use Rattle.language.proofs.NumberLaws.{code-below}
+use lib.ListN.{length, drop, length-append, length-drop}
 use Rattle.records.specs.Refusal.{refusal}
-use Rattle.sheet.specs.Meaning.{termOf}
-use Rattle.sheet.specs.Reader.{Answer, got, refused, Whole, whole, numbersAt, sheetOf, sheetIn, checks}
-use Rattle.sheet.specs.Reader.{readSheet, sizeOf}
+use Rattle.procedures.specs.Meaning.{typeOf}
+use Rattle.sheet.specs.Encoding.{encodeNames, headingLength}
+use Rattle.sheet.specs.Reader.{Answer, got, refused, Whole, whole, numbersAt, wholeOf, sheetIn, sizeIn, checks}
+use Rattle.sheet.specs.Reader.{readSheet}
 use Rattle.sheet.specs.table.Fill.{eraseSheet, LeavesSheet, ReadsSheet}
-use Rattle.sheet.specs.table.Tabled.{Tabled, TabledBy}
+use Rattle.sheet.specs.table.Tabled.{places, TabledBy}
 use Rattle.sheet.specs.declared.names.Reading.{Reading}
-use Rattle.sheet.specs.declared.names.Reading.the-variants.{Sheet, Refused}
+use Rattle.sheet.specs.declared.names.Reading.the-variants.{Refused}
 use Rattle.sheet.proofs.Answers.{All, one, none′}
 use Rattle.sheet.proofs.NameList.{NamesRead, names-read, extends-first}
 use Rattle.sheet.proofs.Right.{SheetRead, sheet-all}
 use Rattle.sheet.proofs.Sound.{sound}
-use Rattle.sheet.proofs.Small.{weight-small}
-use Rattle.sheet.proofs.Represents.{represents-whole}
+use Rattle.sheet.proofs.Shows.{shows-whole}
 use Rattle.sheet.proofs.Whole.{sheet-refused}
 
 module _ (s t u : List ℕ) (room : length t ≡ 36864) where
   tabled-whole :
-      {x : Whole} {ty w end : ℕ} → sheetOf s ≡ got x ty w end → SheetRead s x ty w end →
-      NamesRead (numbersAt s) s 32 [] 2 x ty w end → LeavesSheet (numbersAt s) (got x ty w end) t u →
-      TabledBy s (eraseSheet (got x ty w end)) u
-  unfolding TabledBy eraseSheet LeavesSheet readSheet checks sheetIn termOf
-  tabled-whole {ty = ty} {w} e R (names-read {ns = ns} {root = root} {t = x} few fine bytes parsed) l =
+      {x : Whole} {ty end : ℕ} → wholeOf s ≡ got x ty end → SheetRead s places x ty end →
+      NamesRead (numbersAt s) s places 32 [] 2 x ty end → LeavesSheet (numbersAt s) (got x ty end) t u →
+      TabledBy s (eraseSheet (got x ty end)) u
+  unfolding TabledBy eraseSheet LeavesSheet readSheet checks sheetIn sizeIn typeOf headingLength
+  tabled-whole {ty = ty} e R (names-read {ns = ns} {root = root} {t = x} few fine bytes parsed) l =
       let p = parsed ns (extends-first ns) in
-      let h = weight-small (numbersAt s) ty w (R .small) in
-      let k : min w 4097 ≡ w = omega arith in
-      rw (k, l) (record {
-        sheet = sheetIn (numbersAt s) (whole ns root x);
-        accepts = rw e;
+      let S = sound (numbersAt s) s ns 32 p in
+      rw l (record {
+        sheet = sheetIn s (whole ns root x);
+        finds = rw e refl;
         numbered = refl;
-        weighs = sound (numbersAt s) s ns 32 p .weighs;
-        represents = represents-whole (numbersAt s) s ns (R .short) (code-below (numbersAt s)) p t room h })
+        z-above = R .z-above;
+        z-below = R .z-below;
+        rule-below = R .rule-below;
+        few-names = few;
+        fine-names = fine;
+        fine-term = S .fine;
+        types = S .types;
+        known = S .known;
+        shallow = S .shallow;
+        rooted = omega (arith, R .long, S .forward, S .inside, length-drop root s,
+          sym (length-drop 2 s) ∙ ap length bytes ∙ length-append (encodeNames ns) (drop root s));
+        shown = shows-whole (numbersAt s) s ns (R .short) p t room })
 
-  tabled-by : (A : Answer Whole) → sheetOf s ≡ A → All (SheetRead s) A → LeavesSheet (numbersAt s) A t u →
+  tabled-by : (A : Answer Whole) → wholeOf s ≡ A → All (SheetRead s places) A → LeavesSheet (numbersAt s) A t u →
       TabledBy s (eraseSheet A) u
   unfolding TabledBy eraseSheet
   tabled-by A e (one R) l = tabled-whole e R (R .names) l
   tabled-by A e none′ l = tt
 
-  -- THEOREM: where a sheet is read, the table represents its term
-  pub tabled : {x : Reading} → ReadsSheet (numbersAt s) (sheetOf s) x t u → TabledBy s x u
-  tabled R = rw (R .answer) (tabled-by (sheetOf s) refl (sheet-all s) (R .table))
+  -- THEOREM: where a sheet is read, the table shows its term
+  pub tabled : {x : Reading} → ReadsSheet (numbersAt s) (wholeOf s) x t u → TabledBy s x u
+  tabled R = rw (R .answer) (tabled-by (wholeOf s) refl (sheet-all s places) (R .table))
 
 -- a sheet that is refused: nothing is said of the table
 pub sheet-told :
-    (s t : List ℕ) {n p : ℕ} → sheetOf s ≡ refused n p →
-    ReadsSheet (numbersAt s) (sheetOf s) (Refused (refusal n p)) t t
+    (s t : List ℕ) {n p : ℕ} → wholeOf s ≡ refused n p →
+    ReadsSheet (numbersAt s) (wholeOf s) (Refused (refusal n p)) t t
     × (length t ≡ 36864 → TabledBy s (Refused (refusal n p)) t)
 sheet-told s t e =
     let R = sheet-refused (numbersAt s) s e in

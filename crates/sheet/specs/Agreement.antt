@@ -3,9 +3,9 @@ use mathlib.Core.Path.{_≡_}
 use mathlib.Core.List.{List}
 use Prim.Native.Nat.{ℕ}
 use Rattle.language.specs.Weight.{size}
-use Rattle.sheet.specs.Written.{Sheet}
+use Rattle.procedures.specs.Written.{Sheet}
 use Rattle.sheet.specs.Encoding.{encodeSheet}
-use Rattle.sheet.specs.Meaning.{tyOf, termOf, typeOf}
+use Rattle.procedures.specs.Meaning.{tyOf, termOf, typeOf}
 use Rattle.sheet.specs.Fine.{Accepted}
 use Rattle.sheet.specs.Reader.{readSheet, accepted}
 

@@ -1,10 +1,17 @@
--- The bytes of a sheet. Document 01, "The sheet, byte by byte", the table. SHEETS 2.
-use Prim.Native.Nat.{ℕ, zero, suc}
+-- The bytes of a sheet. Document 01, "The sheet, byte by byte", the table; document 02 [1] for procedures. SHEETS 2.
+use Prim.Native.Nat.{ℕ, zero, suc, _+_}
 use mathlib.Core.List.{List, [], _∷_, _++_}
 use lib.ListN.{length}
 use Rattle.language.specs.declared.Numbers.{Numbers}
-use Rattle.sheet.specs.Written.{Written, skip, diverge, truth, number, call, fetch, operate, assign, sequence}
-use Rattle.sheet.specs.Written.{while, choose, new, Writtens, none, more, Name, declare, retire, Sheet}
+use Rattle.procedures.specs.Written.{Written, skip, diverge, truth, number, call, fetch, operate, assign, sequence}
+use Rattle.procedures.specs.Written.{while, choose, new, procedure, Parameter, Writtens, none, more, Name, declare}
+use Rattle.procedures.specs.Written.{retire, Sheet}
+
+-- the pairs of n parameters, unused ones 255 255
+unfoldable pub pairs : ℕ → List Parameter → List ℕ
+pairs zero ps = []
+pairs (suc n) [] = 255 ∷ 255 ∷ pairs n []
+pairs (suc n) (p ∷ ps) = p .id ∷ p .holds ∷ pairs n ps
 
 unfoldable mutual
   pub encode : Written → List ℕ
@@ -20,6 +27,8 @@ unfoldable mutual
   encode (choose b m n) = 25 ∷ (encode b ++ (encode m ++ encode n))
   encode (while b c) = 26 ∷ (encode b ++ encode c)
   encode (new id d c) = 27 ∷ id ∷ d ∷ encode c
+  encode (procedure id ty ps body rest) =
+      28 ∷ id ∷ ty ∷ length ps ∷ (pairs 4 ps ++ (encode body ++ encode rest))
 
   pub encodes : Writtens → List ℕ
   encodes none = []
@@ -41,3 +50,7 @@ encodeNames (n ∷ ns) = encodeName n ++ encodeNames ns
 
 unfoldable pub encodeSheet : Sheet → List ℕ
 encodeSheet S = S .numbers .z ∷ S .numbers .rule ∷ (encodeNames (S .names) ++ encode (S .term))
+
+-- "All bytes up to the term are the heading"
+unfoldable pub headingLength : Sheet → ℕ
+headingLength S = 2 + length (encodeNames (S .names))

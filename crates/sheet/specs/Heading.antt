@@ -1,33 +1,16 @@
 -- The judgement of name records. Document 01, "The sheet, byte by byte", kinds 1 and 2, and "Three services", the order.
 -- SHEETS 2.3 and 9.2.
 use Prim.Native.Nat.{ℕ, _+_}
-use mathlib.Core.Bool.{Bool}
 use mathlib.Core.List.{List}
-use lib.ListN.{length, getD, take, drop}
-use lib.Dec.{eqb, leb, ltb}
+use lib.ListN.{getD, take, drop}
+use lib.Dec.{eqb, ltb}
 use Rattle.language.specs.Choice.{pick}
-use Rattle.records.specs.Refusal.{refusal, cut-short, out-of-range, id-taken}
+use Rattle.records.specs.Refusal.{refusal, id-taken}
+use Rattle.records.specs.Judge.{andThen, below, unused}
 use Rattle.records.specs.Standing.{free}
-use Rattle.sheet.specs.Written.{Name, declare, retire}
-use Rattle.sheet.specs.declared.heading.Judged.{Judged}
-use Rattle.sheet.specs.declared.heading.Judged.the-variants.{Good, Refused}
-
--- a judgement, then another
-unfoldable pub andThen : Judged → Judged → Judged
-andThen Good k = k
-andThen (Refused x) k = Refused x
-
--- a byte below a limit
-unfoldable pub below : List ℕ → ℕ → ℕ → Judged
-below s at limit =
-    pick (leb (length s) at) (Refused (refusal cut-short (length s)))
-    (pick (leb limit (getD s at 0)) (Refused (refusal out-of-range at)) Good)
-
--- the type of an argument that is not there: 255
-unfoldable pub unused : List ℕ → ℕ → Judged
-unused s at =
-    pick (leb (length s) at) (Refused (refusal cut-short (length s)))
-    (pick (eqb (getD s at 0) 255) Good (Refused (refusal out-of-range at)))
+use Rattle.procedures.specs.Written.{Name, declare, retire}
+use Rattle.records.specs.declared.judge.Judged.{Judged}
+use Rattle.records.specs.declared.judge.Judged.the-variants.{Good, Refused}
 
 -- an id that is neither declared nor retired
 unfoldable pub fresh : List ℕ → List ℕ → ℕ → Judged

@@ -1,9 +1,8 @@
-pub mod Written
 pub mod Encoding
-pub mod Meaning
 pub mod Fine
 pub mod Heading
 pub mod Reader
+pub mod Size
 pub mod Agreement
 pub mod Check
 pub mod table

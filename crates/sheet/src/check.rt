@@ -1,8 +1,6 @@
 // The service check.
-use crate::names::Reading;
-use crate::reading::numbers_of;
-use crate::reading::read_sheet;
-use crate::size::size_of;
+use crate::judge::Judgement;
+use crate::judge::judge_sheet;
 ghost use mathlib.Core.Path.{_≡_};
 ghost use Rattle.sheet.specs.Reader.{readSheet};
 ghost use Rattle.sheet.specs.Check.{checkedOf};
@@ -18,23 +16,14 @@ pub fn check(s: &[u8]) -> Checked
     ensures { λ r. ⌜ r ≡ checkedOf (readSheet (now (s .entry))) ⌝ }
 {
     let mut t = [0u16; 36864];
-    let x = read_sheet(s, &mut t);
+    let mut marks = [0u16; 4096];
+    let x = judge_sheet(s, &mut t, &mut marks);
     match x {
-        Reading::Refused(refusal) => Checked::Refused {
+        Judgement::Refused(refusal) => Checked::Refused {
             number: refusal.number,
             sheet: 0,
             place: refusal.place,
         },
-        Reading::Sheet {
-            root: _,
-            ty,
-            weight,
-            next: _,
-        } => {
-            Checked::Accepted {
-                ty,
-                size: size_of(numbers_of(s), ty, weight),
-            }
-        }
+        Judgement::Sheet { root: _, ty, size } => Checked::Accepted { ty, size },
     }
 }

@@ -1,17 +1,18 @@
 // The judgement of name records.
+use records::judge::Judged;
+use records::judge::judge_below;
+use records::judge::judge_both;
+use records::judge::judge_unused;
 use records::read::byte_at;
 use records::read::standing_of;
-use records::refusal::CUT_SHORT;
 use records::refusal::ID_TAKEN;
-use records::refusal::OUT_OF_RANGE;
-use records::refusal::Refusal;
 use records::refusal::refuse;
 use records::scope::with_standing;
 use records::standing::FREE;
 ghost use mathlib.Core.Path.{_≡_};
 ghost use Prim.Native.Nat.{_+_, _≤_, _<_};
 ghost use lib.ListN.{getD, set};
-ghost use Rattle.sheet.specs.Heading.{andThen, below, unused, fresh, argument, arguments, declareOf};
+ghost use Rattle.sheet.specs.Heading.{fresh, argument, arguments, declareOf};
 
 // Where the ranges of bytes end: ids, types, numbers of arguments.
 const IDS: u8 = 255;
@@ -20,43 +21,8 @@ const TYPES: u8 = 5;
 
 const COUNTS: u8 = 5;
 
-// The type of an argument that is not there.
-const UNUSED: u8 = 255;
-
-// A judgement of bytes: good, or the refusal's number and place.
-pub enum Judged {
-    Good,
-    Refused(Refusal),
-}
-
-// A byte below a limit.
-fn judge_below(s: &[u8], at: usize, limit: u8) -> Judged
-    ensures { λ r. ⌜ r ≡ below (now (s .entry)) at limit ⌝ }
-{
-    if s.len() <= at {
-        return Judged::Refused(refuse(CUT_SHORT, s.len()));
-    }
-    if limit <= s[at] {
-        return Judged::Refused(refuse(OUT_OF_RANGE, at));
-    }
-    Judged::Good
-}
-
-// The type of an argument that is not there.
-fn judge_unused(s: &[u8], at: usize) -> Judged
-    ensures { λ r. ⌜ r ≡ unused (now (s .entry)) at ⌝ }
-{
-    if s.len() <= at {
-        return Judged::Refused(refuse(CUT_SHORT, s.len()));
-    }
-    if s[at] == UNUSED {
-        return Judged::Good;
-    }
-    Judged::Refused(refuse(OUT_OF_RANGE, at))
-}
-
 // An id that is neither declared nor retired.
-pub(crate) fn judge_fresh(s: &[u8], st: &[u16; 255], at: usize) -> Judged
+pub(crate) fn judge_fresh(s: &[u8], st: &[u32; 255], at: usize) -> Judged
     ensures { λ r. ⌜ r ≡ fresh (now (s .entry)) (now (st .entry)) at ⌝ }
 {
     let range = judge_below(s, at, IDS);
@@ -84,16 +50,6 @@ fn judge_argument(s: &[u8], at: usize, j: u8) -> Judged
     judge_unused(s, place)
 }
 
-// A judgement, then another.
-fn judge_both(first: Judged, then: Judged) -> Judged
-    ensures { λ r. ⌜ r ≡ andThen first then ⌝ }
-{
-    match first {
-        Judged::Good => then,
-        Judged::Refused(refusal) => Judged::Refused(refusal),
-    }
-}
-
 // The four argument types of the record at a place.
 fn judge_arguments(s: &[u8], at: usize) -> Judged
     requires { ⌜ at < 65536 ⌝ }
@@ -107,7 +63,7 @@ fn judge_arguments(s: &[u8], at: usize) -> Judged
 }
 
 // The body of the declare record at a place: id, result type, count, argument types.
-pub(crate) fn judge_declare(s: &[u8], st: &[u16; 255], at: usize) -> Judged
+pub(crate) fn judge_declare(s: &[u8], st: &[u32; 255], at: usize) -> Judged
     requires { ⌜ at < 65536 ⌝ }
     ensures { λ r. ⌜ r ≡ declareOf (now (s .entry)) (now (st .entry)) at ⌝ }
 {
@@ -119,7 +75,7 @@ pub(crate) fn judge_declare(s: &[u8], st: &[u16; 255], at: usize) -> Judged
 }
 
 // The standings after the name record at a place, whose id gets standing c.
-pub(crate) fn registered(s: &[u8], st: &[u16; 255], at: usize, c: u16) -> [u16; 255]
+pub(crate) fn registered(s: &[u8], st: &[u32; 255], at: usize, c: u32) -> [u32; 255]
     requires { ⌜ at < 65536 ⌝ }
     ensures { λ r. ⌜ r ≡ set (now (st .entry)) (getD (now (s .entry)) (at + 1) 0) c ⌝ }
 {

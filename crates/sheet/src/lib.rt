@@ -1,6 +1,7 @@
 // The reader of sheets: from bytes to the parts of a term, or a refusal.
 pub mod check;
 pub mod heading;
+pub mod judge;
 pub mod names;
 pub mod part;
 pub mod reading;

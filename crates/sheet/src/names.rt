@@ -1,11 +1,11 @@
 // The name records before the term, and the term.
-use crate::heading::Judged;
 use crate::heading::judge_declare;
 use crate::heading::judge_fresh;
 use crate::heading::registered;
 use crate::part::Part;
 use crate::part::read_root;
 use language::Numbers;
+use records::judge::Judged;
 use records::kind::Shape;
 use records::kind::shape_of;
 use records::refusal::CUT_SHORT;
@@ -18,49 +18,41 @@ use records::standing::declared_standing;
 ghost use mathlib.Core.Path.{_≡_};
 ghost use Prim.Native.Nat.{_+_, _-_, _≤_, _<_};
 ghost use lib.ListN.{length, getD, set};
-ghost use Rattle.sheet.specs.Written.{Name};
+ghost use Rattle.procedures.specs.Written.{Name};
 ghost use Rattle.sheet.specs.Reader.{namesOf, nameOf};
 ghost use Rattle.sheet.specs.table.Fill.{ReadsSheet, termAt};
 
-// What reading a sheet gives: the place of the term, its type, its weight held at 4,097, and the place after it; or the refusal.
+// What reading a sheet gives: the place of the term, its type and the place after it; or the refusal.
 pub enum Reading {
-    Sheet {
-        root: usize,
-        ty: u8,
-        weight: u32,
-        next: usize,
-    },
+    Sheet { root: usize, ty: u8, next: usize },
     Refused(Refusal),
 }
 
 // Reads the term.
-fn read_term(s: &[u8], st: &[u16; 255], t: &mut [u16], n: Numbers, at: usize) -> Reading
+fn read_term(s: &[u8], st: &[u32; 255], t: &mut [u16], n: Numbers, at: usize) -> Reading
     requires { ⌜ length (now s) ≤ 4096 ⌝ }
-    ensures { λ x. ⌜ ReadsSheet n (termAt n (now (s .entry)) (now (st .entry)) at) x (now (t .entry)) (now (t .exit)) ⌝ }
+    ensures { λ x. ⌜ ReadsSheet n (termAt n (now (s .entry)) (now (st .entry)) at) x
+        (now (t .entry)) (now (t .exit)) ⌝ }
 {
     let p = read_root(s, st, t, n, at);
     match p {
         Part::Refused(refusal) => Reading::Refused(refusal),
-        Part::Read { ty, weight, next } => Reading::Sheet {
-            root: at,
-            ty,
-            weight,
-            next,
-        },
+        Part::Read { ty, next } => Reading::Sheet { root: at, ty, next },
     }
 }
 
 // Reads name records, `left` of them still allowed, and the term.
 pub(crate) fn read_names(
     s: &[u8],
-    st: &[u16; 255],
+    st: &[u32; 255],
     t: &mut [u16],
     n: Numbers,
     left: u8,
     at: usize,
 ) -> Reading
     requires { ⌜ length (now s) ≤ 4096 ⌝ }
-    ensures { λ x. ⌜ ReadsSheet n (namesOf left n (now (s .entry)) (now (st .entry)) at) x (now (t .entry)) (now (t .exit)) ⌝ }
+    ensures { λ x. ⌜ ReadsSheet n (namesOf left n (now (s .entry)) (now (st .entry)) at) x
+        (now (t .entry)) (now (t .exit)) ⌝ }
 {
     if s.len() <= at {
         return Reading::Refused(refuse(CUT_SHORT, s.len()));
@@ -88,13 +80,13 @@ pub(crate) fn read_names(
 // Goes on after the name record at a place, once its bytes are judged; its id gets standing c.
 fn read_after(
     s: &[u8],
-    st: &[u16; 255],
+    st: &[u32; 255],
     t: &mut [u16],
     n: Numbers,
     left: u8,
     at: usize,
     body: u8,
-    c: u16,
+    c: u32,
     judged: Judged,
 ) -> Reading
     requires { ⌜ (length (now s) ≤ 4096) × (at < 4096) ⌝ }

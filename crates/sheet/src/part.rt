@@ -1,6 +1,6 @@
-// The parts of a term: a cycle of five functions, the remaining depth and bytes falling. For speed a record is handed on by
-// its place, its rule and its body bytes, and `read_part`, `read_record`, `read_scope` and `close_record` are called at one
-// place each, so that the cycle is compiled into one function, `read_next`.
+// The parts of a term: a cycle of eight functions, the remaining depth and bytes falling. For speed a record is handed
+// on by its place, its rule and its body bytes, and all but `read_parts` and `read_next` are called at one place each,
+// so that the cycle is compiled into few functions.
 use language::Numbers;
 use records::head::Head;
 use records::head::Record;
@@ -13,20 +13,21 @@ use records::refusal::WRONG_TYPE;
 use records::refusal::refuse;
 use records::row::link;
 use records::row::write_row;
+use records::scope::Opens;
 use records::scope::enter;
+use records::scope::enter_parameters;
+use records::scope::enter_procedure;
+use records::scope::opens_of;
 use records::typing::accepts_part;
 use records::typing::type_of;
-use records::weight::part_weight;
-use records::weight::record_weight;
-use records::weight::sat_add;
 ghost use mathlib.Core.Path.{_≡_};
-ghost use mathlib.Core.Bool.{true};
-ghost use Prim.Native.Nat.{_+_, _≤_, _<_};
+ghost use Prim.Native.Nat.{_+_, _*_, _≤_, _<_};
 ghost use lib.ListN.{length};
 ghost use Rattle.records.specs.Bare.{bare};
-ghost use Rattle.sheet.specs.Reader.{isNew, partsOf, scopedOf, readPart};
-ghost use Rattle.sheet.specs.table.Fill.{fill, fills, fillsNext, Reads, Beyond, closedAnswer, closedTable};
-ghost use Rattle.sheet.specs.table.Fill.{scopeParts};
+ghost use Rattle.records.specs.Scope.{opens, usable};
+ghost use Rattle.records.specs.declared.scope.Opens.the-variants.{Block, Routine};
+ghost use Rattle.sheet.specs.Reader.{partsOf, scopeParts, readRecord, readPart};
+ghost use Rattle.sheet.specs.table.Fill.{fill, fills, fillsNext, Reads, Beyond, Ends, closedAnswer, closedTable};
 
 // How many levels a term may have.
 const DEPTH: u8 = 32;
@@ -34,61 +35,39 @@ const DEPTH: u8 = 32;
 // The number of the second part of a record.
 const SECOND: u8 = 1;
 
-// What reading gives: the type, the weight held at 4,097, and the place after; or the refusal.
+// What reading gives: the type and the place after; or the refusal.
 pub enum Part {
-    Read { ty: u8, weight: u32, next: usize },
+    Read { ty: u8, next: usize },
     Refused(Refusal),
 }
 
-// Whether a record opens a scope.
-pub(crate) fn is_new(rule: Rule) -> bool
-    ensures { λ r. ⌜ r ≡ isNew rule ⌝ }
-{
-    match rule {
-        Rule::Skip => false,
-        Rule::Diverge => false,
-        Rule::Truth => false,
-        Rule::Number => false,
-        Rule::Use => false,
-        Rule::Fetch => false,
-        Rule::Operate => false,
-        Rule::Assign => false,
-        Rule::Sequence => false,
-        Rule::If => false,
-        Rule::While => false,
-        Rule::New => true,
-    }
-}
-
-// The answer and the row of a record, from the answer of its parts.
-fn close_record(s: &[u8], t: &mut [u16], n: Numbers, r: Record, parts: Part) -> Part
-    requires { ⌜ r .place < 65536 ⌝ }
+// The answer and the row of a record that `around` binders enclose, from the answer of its parts.
+fn close_record(s: &[u8], t: &mut [u16], n: Numbers, around: u8, r: Record, parts: Part) -> Part
+    requires { ⌜ (r .place < 4096) × Ends 4096 parts ⌝ }
     ensures answer { λ x. ⌜ x ≡ closedAnswer (now (s .entry)) r parts ⌝ }
-    ensures table { λ x. ⌜ now (t .exit) ≡ closedTable n (now (s .entry)) r parts (now (t .entry)) ⌝ }
+    ensures table { λ x. ⌜ now (t .exit) ≡ closedTable n (now (s .entry)) around r parts (now (t .entry)) ⌝ }
 {
-    let Part::Read {
-        ty: last,
-        weight,
-        next,
-    } = parts
-    else {
+    let Part::Read { ty: last, next } = parts else {
         return parts;
     };
     let rule = r.rule;
     let ty = type_of(rule, s, r, last);
-    let sum = record_weight(r, weight);
-    write_row(t, n, r, ty, sum);
-    Part::Read {
-        ty,
-        weight: sum,
-        next,
-    }
+    write_row(t, n, r, ty, around, next);
+    Part::Read { ty, next }
 }
 
-// Reads the part at a place, with `left` levels of depth left.
-fn read_part(s: &[u8], st: &[u16; 255], t: &mut [u16], n: Numbers, left: u8, at: usize) -> Part
-    requires { ⌜ length (now s) ≤ 4096 ⌝ }
-    ensures reads { λ x. ⌜ Reads (fill n) (readPart left n (now (s .entry)) (now (st .entry)) at) x
+// Reads the part at a place, with `left` levels of depth left, inside `around` binders.
+fn read_part(
+    s: &[u8],
+    st: &[u32; 255],
+    t: &mut [u16],
+    n: Numbers,
+    around: u8,
+    left: u8,
+    at: usize,
+) -> Part
+    requires { ⌜ (length (now s) ≤ 4096) × (around + 4 * left ≤ 128) ⌝ }
+    ensures reads { λ x. ⌜ Reads (fill n) (readPart left n (now (s .entry)) (now (st .entry)) around at) x
         (now (t .entry)) (now (t .exit)) ⌝ }
     ensures beyond { λ x. ⌜ Beyond at (length (now (s .entry))) x ⌝ }
 {
@@ -99,40 +78,56 @@ fn read_part(s: &[u8], st: &[u16; 255], t: &mut [u16], n: Numbers, left: u8, at:
             if left == 0 {
                 return Part::Refused(refuse(TOO_DEEP, at));
             }
-            read_record(s, st, t, n, left - 1, record)
+            read_record(s, st, t, n, around, left - 1, record)
         }
     }
 }
 
 // Reads a record whose head is judged: a use with its arguments, or another with its parts.
-fn read_record(s: &[u8], st: &[u16; 255], t: &mut [u16], n: Numbers, left: u8, r: Record) -> Part
-    requires { ⌜ (length (now s) ≤ 4096) × (r .place < 4096) × (r .next ≤ length (now s))
-        × (isNew (r .rule) ≡ true → r .b ≤ 2) ⌝ }
+fn read_record(
+    s: &[u8],
+    st: &[u32; 255],
+    t: &mut [u16],
+    n: Numbers,
+    around: u8,
+    left: u8,
+    r: Record,
+) -> Part
+    requires { ⌜ (length (now s) ≤ 4096) × (around + 4 * left + 4 ≤ 128) × (r .place < 4096)
+        × (r .next ≤ length (now s)) × (opens (r .rule) ≡ Block → r .b ≤ 2) × (opens (r .rule) ≡ Routine → r .b ≤ 4) ⌝ }
     ensures { λ x. ⌜ Reads (fill n)
-        (scopedOf (readPart left n (now (s .entry))) n (now (s .entry)) (now (st .entry)) r) x
+        (readRecord (readPart left n (now (s .entry))) (now (s .entry)) (now (st .entry)) around r) x
         (now (t .entry)) (now (t .exit)) ⌝ }
 {
-    let parts = read_scope(s, st, t, n, left, r);
-    close_record(s, t, n, r, parts)
+    let parts = read_scope(s, st, t, n, around, left, r);
+    close_record(s, t, n, around, r, parts)
 }
 
-// Reads the parts of a record; the block of a new lies in a scope of its own.
-fn read_scope(s: &[u8], st: &[u16; 255], t: &mut [u16], n: Numbers, left: u8, r: Record) -> Part
-    requires { ⌜ (length (now s) ≤ 4096) × (r .place < 4096) × (r .next ≤ length (now s))
-        × (isNew (r .rule) ≡ true → r .b ≤ 2) ⌝ }
+// Reads the parts of a record, in the scopes that it opens.
+fn read_scope(
+    s: &[u8],
+    st: &[u32; 255],
+    t: &mut [u16],
+    n: Numbers,
+    around: u8,
+    left: u8,
+    r: Record,
+) -> Part
+    requires { ⌜ (length (now s) ≤ 4096) × (around + 4 * left + 4 ≤ 128) × (r .place < 4096)
+        × (r .next ≤ length (now s)) × (opens (r .rule) ≡ Block → r .b ≤ 2) × (opens (r .rule) ≡ Routine → r .b ≤ 4) ⌝ }
     ensures { λ x. ⌜ Reads (λ ts. fills n ts (r .place) 0)
-        (scopeParts (readPart left n (now (s .entry))) n (now (s .entry)) (now (st .entry)) r) x
+        (scopeParts (opens (r .rule)) (readPart left n (now (s .entry))) (now (s .entry)) (now (st .entry)) around r) x
         (now (t .entry)) (now (t .exit)) ⌝ }
 {
     let rule = r.rule;
-    if is_new(rule) {
-        let mut inner = *st;
-        enter(&mut inner, r);
-        return read_parts(
+    let opened = opens_of(rule);
+    match opened {
+        Opens::Nothing => read_parts(
             s,
-            &inner,
+            st,
             t,
             n,
+            around,
             left,
             r.place,
             rule,
@@ -142,13 +137,37 @@ fn read_scope(s: &[u8], st: &[u16; 255], t: &mut [u16], n: Numbers, left: u8, r:
             0,
             0,
             r.next,
-        );
+        ),
+        Opens::Block => read_block(s, st, t, n, around, left, r),
+        Opens::Routine => read_routine(s, st, t, n, around, left, r),
     }
+}
+
+// Reads the block of a new, in which its variable is seen.
+fn read_block(
+    s: &[u8],
+    st: &[u32; 255],
+    t: &mut [u16],
+    n: Numbers,
+    around: u8,
+    left: u8,
+    r: Record,
+) -> Part
+    requires { ⌜ (length (now s) ≤ 4096) × (around + 4 * left + 4 ≤ 128) × (r .place < 4096)
+        × (r .next ≤ length (now s)) × (r .b ≤ 2) ⌝ }
+    ensures { λ x. ⌜ Reads (λ ts. fills n ts (r .place) 0)
+        (scopeParts Block (readPart left n (now (s .entry))) (now (s .entry)) (now (st .entry)) around r) x
+        (now (t .entry)) (now (t .exit)) ⌝ }
+{
+    let rule = r.rule;
+    let mut inner = *st;
+    enter(&mut inner, r, around);
     read_parts(
         s,
-        st,
+        &inner,
         t,
         n,
+        around + 1,
         left,
         r.place,
         rule,
@@ -161,77 +180,171 @@ fn read_scope(s: &[u8], st: &[u16; 255], t: &mut [u16], n: Numbers, left: u8, r:
     )
 }
 
-// Reads `count` parts, from part j on, of the record at a place whose rule and body bytes are given; the part before them
-// has type prev.
-fn read_parts(
+// Reads the two terms of a procedure: in the first its parameters are seen, in the second the procedure itself.
+fn read_routine(
     s: &[u8],
-    st: &[u16; 255],
+    st: &[u32; 255],
     t: &mut [u16],
     n: Numbers,
+    around: u8,
+    left: u8,
+    r: Record,
+) -> Part
+    requires { ⌜ (length (now s) ≤ 4096) × (around + 4 * left + 4 ≤ 128) × (r .place < 4096)
+        × (r .next ≤ length (now s)) × (r .b ≤ 4) ⌝ }
+    ensures { λ x. ⌜ Reads (λ ts. fills n ts (r .place) 0)
+        (scopeParts Routine (readPart left n (now (s .entry))) (now (s .entry)) (now (st .entry)) around r) x
+        (now (t .entry)) (now (t .exit)) ⌝ }
+{
+    let rule = r.rule;
+    let count = r.b as u8;
+    let mut inner = *st;
+    enter_parameters(s, r.place, around, count, &mut inner);
+    let own = read_parts(
+        s,
+        &inner,
+        t,
+        n,
+        around + count,
+        left,
+        r.place,
+        rule,
+        r.a,
+        r.b,
+        1,
+        0,
+        0,
+        r.next,
+    );
+    let Part::Read { ty, next } = own else {
+        return own;
+    };
+    read_usable(s, st, t, n, around, left, r, ty, next)
+}
+
+// Reads the second term of a procedure, at a place; the first has type prev.
+fn read_usable(
+    s: &[u8],
+    st: &[u32; 255],
+    t: &mut [u16],
+    n: Numbers,
+    around: u8,
+    left: u8,
+    r: Record,
+    prev: u8,
+    at: usize,
+) -> Part
+    requires { ⌜ (length (now s) ≤ 4096) × (around + 4 * left + 4 ≤ 128) × (r .place < 4096) × (at ≤ length (now s)) ⌝ }
+    ensures { λ x. ⌜ Reads (λ ts. fills n ts (r .place) 1)
+        (partsOf (readPart left n (now (s .entry)) (usable (now (st .entry)) r around) (around + 1)) (now (s .entry)) r
+        1 1 prev at) x
+        (now (t .entry)) (now (t .exit)) ⌝ }
+{
+    let rule = r.rule;
+    let mut outer = *st;
+    enter_procedure(&mut outer, r, around);
+    read_parts(
+        s,
+        &outer,
+        t,
+        n,
+        around + 1,
+        left,
+        r.place,
+        rule,
+        r.a,
+        r.b,
+        1,
+        SECOND,
+        prev,
+        at,
+    )
+}
+
+// Reads `count` parts, from part j on, of the record at a place whose rule and body bytes are given; the part before
+// them has type prev.
+fn read_parts(
+    s: &[u8],
+    st: &[u32; 255],
+    t: &mut [u16],
+    n: Numbers,
+    around: u8,
     left: u8,
     place: usize,
     rule: Rule,
     a: u8,
-    b: u16,
+    b: u32,
     count: u8,
     j: u8,
     prev: u8,
     at: usize,
 ) -> Part
-    requires { ⌜ (length (now s) ≤ 4096) × (place < 4096) × (at ≤ length (now s))
+    requires { ⌜ (length (now s) ≤ 4096) × (around + 4 * left ≤ 128) × (place < 4096) × (at ≤ length (now s))
         × (j + count ≤ 255) ⌝ }
     ensures { λ x. ⌜ Reads (λ ts. fills n ts place j)
-        (partsOf (readPart left n (now (s .entry)) (now (st .entry))) n (now (s .entry)) (bare place rule a b)
+        (partsOf (readPart left n (now (s .entry)) (now (st .entry)) around) (now (s .entry)) (bare place rule a b)
         count j prev at) x
         (now (t .entry)) (now (t .exit)) ⌝ }
 {
     if count == 0 {
-        return Part::Read {
-            ty: prev,
-            weight: 0,
-            next: at,
-        };
+        return Part::Read { ty: prev, next: at };
     }
     link(t, place, j, at);
-    read_next(s, st, t, n, left, place, rule, a, b, count, j, prev, at)
+    read_next(
+        s,
+        st,
+        t,
+        n,
+        around,
+        left,
+        place,
+        rule,
+        a,
+        b,
+        count,
+        j,
+        prev,
+        at,
+    )
 }
 
 // Reads the first of these parts, whose place is in the row already, and the others.
 fn read_next(
     s: &[u8],
-    st: &[u16; 255],
+    st: &[u32; 255],
     t: &mut [u16],
     n: Numbers,
+    around: u8,
     left: u8,
     place: usize,
     rule: Rule,
     a: u8,
-    b: u16,
+    b: u32,
     count: u8,
     j: u8,
     prev: u8,
     at: usize,
 ) -> Part
-    requires { ⌜ (length (now s) ≤ 4096) × (place < 4096) × (j + count ≤ 255) × (0 < count) ⌝ }
+    requires { ⌜ (length (now s) ≤ 4096) × (around + 4 * left ≤ 128) × (place < 4096) × (j + count ≤ 255)
+        × (0 < count) ⌝ }
     ensures { λ x. ⌜ Reads (λ ts. fillsNext n ts place j)
-        (partsOf (readPart left n (now (s .entry)) (now (st .entry))) n (now (s .entry)) (bare place rule a b)
+        (partsOf (readPart left n (now (s .entry)) (now (st .entry)) around) (now (s .entry)) (bare place rule a b)
         count j prev at) x
         (now (t .entry)) (now (t .exit)) ⌝ }
 {
-    let r = bare_record(place, rule, a, b);
-    let p = read_part(s, st, t, n, left, at);
-    let Part::Read { ty, weight, next } = p else {
+    let p = read_part(s, st, t, n, around, left, at);
+    let Part::Read { ty, next } = p else {
         return p;
     };
-    if !accepts_part(rule, s, r, j, prev, ty) {
+    if !accepts_part(rule, s, bare_record(place, rule, a, b), j, prev, ty) {
         return Part::Refused(refuse(WRONG_TYPE, at));
     }
-    let own = part_weight(n, r, j, prev, ty, weight);
-    let q = read_parts(
+    read_parts(
         s,
         st,
         t,
         n,
+        around,
         left,
         place,
         rule,
@@ -241,27 +354,13 @@ fn read_next(
         j + 1,
         ty,
         next,
-    );
-    let Part::Read {
-        ty: last,
-        weight: others,
-        next: end,
-    } = q
-    else {
-        return q;
-    };
-    Part::Read {
-        ty: last,
-        weight: sat_add(own, others),
-        next: end,
-    }
+    )
 }
 
-// Reads the term at a place, which is no record's part: as the second part of a sequence, which may have any type and
-// adds its weight and nothing else.
-pub(crate) fn read_root(s: &[u8], st: &[u16; 255], t: &mut [u16], n: Numbers, at: usize) -> Part
+// Reads the term at a place, which is no record's part: as the second part of a sequence, which may have any type.
+pub(crate) fn read_root(s: &[u8], st: &[u32; 255], t: &mut [u16], n: Numbers, at: usize) -> Part
     requires { ⌜ length (now s) ≤ 4096 ⌝ }
-    ensures { λ x. ⌜ Reads (fill n) (readPart 32 n (now (s .entry)) (now (st .entry)) at) x
+    ensures { λ x. ⌜ Reads (fill n) (readPart 32 n (now (s .entry)) (now (st .entry)) 0 at) x
         (now (t .entry)) (now (t .exit)) ⌝ }
 {
     read_next(
@@ -269,6 +368,7 @@ pub(crate) fn read_root(s: &[u8], st: &[u16; 255], t: &mut [u16], n: Numbers, at
         st,
         t,
         n,
+        0,
         DEPTH,
         0,
         Rule::Sequence,

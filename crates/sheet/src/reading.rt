@@ -1,19 +1,16 @@
 // A whole sheet: its first two bytes, its names, its term and its end.
 use crate::names::Reading;
 use crate::names::read_names;
-use crate::size::size_of;
 use language::Numbers;
 use records::read::byte_at;
 use records::refusal::CUT_SHORT;
 use records::refusal::LEFT_OVER;
 use records::refusal::OUT_OF_RANGE;
-use records::refusal::TOO_LARGE;
 use records::refusal::TOO_LONG;
 use records::refusal::refuse;
-use records::weight::LIMIT;
 ghost use mathlib.Core.Path.{_≡_};
 ghost use lib.ListN.{length};
-ghost use Rattle.sheet.specs.Reader.{sheetOf, numbersAt};
+ghost use Rattle.sheet.specs.Reader.{wholeOf, numbersAt};
 ghost use Rattle.sheet.specs.table.Fill.{ReadsSheet, closedReading};
 ghost use Rattle.sheet.specs.table.Tabled.{TabledBy};
 
@@ -26,14 +23,13 @@ const LAST_RULE: u8 = 1;
 
 const NAMES: u8 = 32;
 
-// Nothing after the term, and the size.
-fn close_sheet(s: &[u8], n: Numbers, x: Reading) -> Reading
-    ensures { λ r. ⌜ r ≡ closedReading n (now (s .entry)) x ⌝ }
+// Nothing after the term.
+fn close_sheet(s: &[u8], x: Reading) -> Reading
+    ensures { λ r. ⌜ r ≡ closedReading (now (s .entry)) x ⌝ }
 {
     let Reading::Sheet {
         root: _,
-        ty,
-        weight,
+        ty: _,
         next,
     } = x
     else {
@@ -42,15 +38,12 @@ fn close_sheet(s: &[u8], n: Numbers, x: Reading) -> Reading
     if next < s.len() {
         return Reading::Refused(refuse(LEFT_OVER, next));
     }
-    if LIMIT < size_of(n, ty, weight) {
-        return Reading::Refused(refuse(TOO_LARGE, 0));
-    }
     x
 }
 
 // Reads a whole sheet, and leaves the rows of its parts in the table.
 pub fn read_sheet(s: &[u8], t: &mut [u16]) -> Reading
-    ensures reads { λ x. ⌜ ReadsSheet (numbersAt (now (s .entry))) (sheetOf (now (s .entry))) x
+    ensures reads { λ x. ⌜ ReadsSheet (numbersAt (now (s .entry))) (wholeOf (now (s .entry))) x
         (now (t .entry)) (now (t .exit)) ⌝ }
     ensures tabled { λ x. ⌜ (length (now (t .entry)) ≡ 36864 → TabledBy (now (s .entry)) x (now (t .exit))) ⌝ }
 {
@@ -75,9 +68,9 @@ pub fn read_sheet(s: &[u8], t: &mut [u16]) -> Reading
         return Reading::Refused(refuse(OUT_OF_RANGE, 1));
     }
     let n = Numbers { z, rule };
-    let st = [0u16; 255];
+    let st = [0u32; 255];
     let x = read_names(s, &st, t, n, NAMES, 2);
-    close_sheet(s, n, x)
+    close_sheet(s, x)
 }
 
 // The range and the rule of a sheet.

@@ -6,7 +6,7 @@ use records::weight::sat_add;
 use records::weight::sat_mul;
 ghost use mathlib.Core.Path.{_≡_};
 ghost use Prim.Native.Nat.{min};
-ghost use Rattle.sheet.specs.Reader.{sizeOf};
+ghost use Rattle.sheet.specs.Size.{sizeOf};
 
 // The size of a term of type ty, held at 4,097.
 pub fn size_of(n: Numbers, ty: u8, weight: u32) -> u32

@@ -46,7 +46,7 @@ pub fn random_bytes(random: &mut Random) -> Vec<u8> {
         bytes.push(match random.below(4) {
             0 => random.byte(),
             1 => random.between(0, 4) as u8,
-            _ => random.between(15, 28) as u8,
+            _ => random.between(15, 29) as u8,
         });
     }
     bytes.truncate(random.below(40));
@@ -78,7 +78,7 @@ pub fn damaging_byte(random: &mut Random, bytes: &[u8], at: usize) -> u8 {
     match random.below(6) {
         0 => old.wrapping_add(1),
         1 => old.wrapping_sub(1),
-        2 => random.between(15, 28) as u8,
+        2 => random.between(15, 29) as u8,
         3 => random.choose(&[0, 1, 2, 3, 4, 5, 8, 254, 255]),
         4 if !bytes.is_empty() => random.choose(bytes),
         _ => random.byte(),

@@ -2,16 +2,16 @@
 -- nothing is refused.
 use mathlib.Core.Option.{Option, none, some}
 use Prim.Native.Nat.{ℕ}
-use Rattle.sheet.specs.declared.names.Reading.{Reading}
-use Rattle.sheet.specs.declared.names.Reading.the-variants.{Sheet, Refused}
+use Rattle.load.specs.declared.load.Loaded.{Loaded}
+use Rattle.load.specs.declared.load.Loaded.the-variants.{Sheet, Refused}
 use Rattle.comparer.specs.Refusals as refusals
 use Rattle.comparer.specs.declared.Cause.{Cause}
 use Rattle.comparer.specs.declared.play.Parsed.{Parsed}
 use Rattle.comparer.specs.declared.play.Parsed.the-variants.{Moves, Bad}
 
 -- of a sheet: its number and place, and the sheet
-unfoldable pub causeOf : Reading → ℕ → Cause
-causeOf (Sheet root ty w next) sheet = record { number = 0; sheet = sheet; place = 0 }
+unfoldable pub causeOf : Loaded → ℕ → Cause
+causeOf (Sheet root row ty size) sheet = record { number = 0; sheet = sheet; place = 0 }
 causeOf (Refused x) sheet = record { number = x .number; sheet = sheet; place = x .place }
 
 -- of both sheets together

@@ -1,20 +1,18 @@
 -- What the reader answers and what it leaves in the table of parts. Only inner contracts cite it.
-use Prim.Native.Nat.{ℕ, _+_, _*_, _≤_, _<_, min}
+use Prim.Native.Nat.{ℕ, _+_, _≤_, _<_}
 use mathlib.Core.Path.{_≡_}
-use mathlib.Core.Bool.{Bool}
 use mathlib.Core.List.{List, []}
 use lib.ListN.{length}
 use lib.Dec.{ltb}
 use Rattle.language.specs.Choice.{pick}
 use Rattle.language.specs.declared.Numbers.{Numbers}
-use Rattle.records.specs.Refusal.{refusal, left-over, too-large}
-use Rattle.records.specs.Rule.{partType, own}
-use Rattle.records.specs.Scope.{entered}
+use Rattle.records.specs.Refusal.{refusal, left-over}
+use Rattle.records.specs.Rule.{partType}
 use Rattle.records.specs.Row as row
 use Rattle.records.specs.Row.{linked}
 use Rattle.records.specs.declared.head.Record.{Record}
 use Rattle.sheet.specs.Reader.{Tree, node, Trees, leaf, branch, Answer, got, refused, bind, readPart, Whole}
-use Rattle.sheet.specs.Reader.{whole, sizeOf, isNew, partsOf}
+use Rattle.sheet.specs.Reader.{whole}
 use Rattle.sheet.specs.declared.part.Part.{Part}
 use Rattle.sheet.specs.declared.part.Part.the-variants.{Read, Refused}
 use Rattle.sheet.specs.declared.names.Reading.{Reading}
@@ -23,7 +21,7 @@ use Rattle.sheet.specs.declared.names.Reading.the-variants.{Sheet, Refus
 -- the rows of a part and of its parts, and of parts j, j + 1, .. of the record at p
 unfoldable mutual
   pub fill : Numbers → Tree → List ℕ → List ℕ
-  fill N (node r ty w ts) t = row.rowWritten N r ty w (fills N ts (r .place) 0 t)
+  fill N (node r ty number end ts) t = row.rowWritten N r ty number end (fills N ts (r .place) 0 t)
 
   pub fills : Numbers → Trees → ℕ → ℕ → List ℕ → List ℕ
   fills N leaf p j t = t
@@ -34,14 +32,14 @@ unfoldable pub fillsNext : Numbers → Trees → ℕ → ℕ → List ℕ → Li
 fillsNext N leaf p j t = t
 fillsNext N (branch at x xs) p j t = fills N xs p (j + 1) (fill N x t)
 
--- the answer as the code gives it: the weight held at 4,097
+-- the answer as the code gives it
 unfoldable pub erase : {X : Type 0} → Answer X → Part
-erase (got x ty w next) = Read ty (min w 4097) next
+erase (got x ty next) = Read ty next
 erase (refused n p) = Refused (refusal n p)
 
 -- the table after reading, by f from the one before; after a refusal nothing is said of it
 unfoldable pub Leaves : {X : Type 0} → (X → List ℕ → List ℕ) → Answer X → List ℕ → List ℕ → Type 0
-Leaves f (got x ty w next) t u = u ≡ f x t
+Leaves f (got x ty next) t u = u ≡ f x t
 Leaves f (refused n p) t u = Unit
 
 pub record Reads {X : Type 0} (f : X → List ℕ → List ℕ) (A : Answer X) (r : Part) (t u : List ℕ) : Type 0 where
@@ -50,36 +48,34 @@ pub record Reads {X : Type 0} (f : X → List ℕ → List ℕ) (A : Answer X) (
 
 -- the place after a part is beyond its own and within the sheet
 unfoldable pub Beyond : ℕ → ℕ → Part → Type 0
-Beyond at n (Read ty w next) = (at < next) × (next ≤ n)
+Beyond at n (Read ty next) = (at < next) × (next ≤ n)
 Beyond at n (Refused x) = Unit
+
+-- the place after what was read is at most n
+unfoldable pub Ends : ℕ → Part → Type 0
+Ends n (Read ty next) = next ≤ n
+Ends n (Refused x) = Unit
 
 -- a record closed after its parts: the answer and the table
 unfoldable pub closedAnswer : List ℕ → Record → Part → Part
-closedAnswer s r (Read last w next) = Read (partType (r .rule) s r last) (min (own (r .rule) + w) 4097) next
+closedAnswer s r (Read last next) = Read (partType (r .rule) s r last) next
 closedAnswer s r (Refused x) = Refused x
 
-unfoldable pub closedTable : Numbers → List ℕ → Record → Part → List ℕ → List ℕ
-closedTable N s r (Read last w next) t = row.rowWritten N r (partType (r .rule) s r last) (own (r .rule) + w) t
-closedTable N s r (Refused x) t = t
-
--- the parts of a record, rec reading in given standings: those of a new in the scope that it opens
-unfoldable pub scopeParts : (List ℕ → ℕ → Answer Tree) → Numbers → List ℕ → List ℕ → Record → Answer Trees
-scopeParts rec N s st r =
-    pick (isNew (r .rule))
-    (partsOf (rec (entered st r)) N s r (r .parts) 0 0 (r .next))
-    (partsOf (rec st) N s r (r .parts) 0 0 (r .next))
+unfoldable pub closedTable : Numbers → List ℕ → ℕ → Record → Part → List ℕ → List ℕ
+closedTable N s number r (Read last next) t = row.rowWritten N r (partType (r .rule) s r last) number next t
+closedTable N s number r (Refused x) t = t
 
 -- the term of a sheet, without name records
 abbrev pub termAt : Numbers → List ℕ → List ℕ → ℕ → Answer Whole
-termAt N s st at = bind (readPart 32 N s st at) (λ t ty w end. got (whole [] at t) ty w end)
+termAt N s st at = bind (readPart 32 N s st 0 at) (λ t ty end. got (whole [] at t) ty end)
 
 -- a whole sheet: the answer and the table
 unfoldable pub eraseSheet : Answer Whole → Reading
-eraseSheet (got (whole ns root x) ty w next) = Sheet root ty (min w 4097) next
+eraseSheet (got (whole ns root x) ty next) = Sheet root ty next
 eraseSheet (refused n p) = Unread (refusal n p)
 
 unfoldable pub LeavesSheet : Numbers → Answer Whole → List ℕ → List ℕ → Type 0
-LeavesSheet N (got (whole ns root x) ty w next) t u = u ≡ fill N x t
+LeavesSheet N (got (whole ns root x) ty next) t u = u ≡ fill N x t
 LeavesSheet N (refused n p) t u = Unit
 
 pub record ReadsSheet (N : Numbers) (A : Answer Whole) (r : Reading) (t u : List ℕ) : Type 0 where
@@ -87,8 +83,7 @@ pub record ReadsSheet (N : Numbers) (A : Answer Whole) (r : Reading) (t u : List
   pub table : LeavesSheet N A t u
 
 -- the end of a sheet judged
-unfoldable pub closedReading : Numbers → List ℕ → Reading → Reading
-closedReading N s (Sheet root ty w next) =
-    pick (ltb next (length s)) (Unread (refusal left-over next))
-    (pick (ltb 4096 (min (sizeOf N ty w) 4097)) (Unread (refusal too-large 0)) (Sheet root ty w next))
-closedReading N s (Unread x) = Unread x
+unfoldable pub closedReading : List ℕ → Reading → Reading
+closedReading s (Sheet root ty next) =
+    pick (ltb next (length s)) (Unread (refusal left-over next)) (Sheet root ty next)
+closedReading s (Unread x) = Unread x

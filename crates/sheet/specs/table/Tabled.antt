@@ -1,23 +1,47 @@
--- What reading a sheet leaves for the automaton: the table represents its term. Only inner contracts cite it.
-use Prim.Native.Nat.{ℕ}
+-- What reading a sheet leaves for the passes over its parts: the sheet is in order but for its size, and the table
+-- shows its term. Only inner contracts cite it.
+use Prim.Native.Nat.{ℕ, _≤_, _<_}
 use mathlib.Core.Path.{_≡_}
 use mathlib.Core.List.{List, []}
-use Rattle.language.specs.Weight.{weight}
-use Rattle.sheet.specs.Written as written
-use Rattle.sheet.specs.Meaning.{tyOf, termOf}
-use Rattle.sheet.specs.Reader.{numbersAt, sizeOf, readSheet, accepted}
-use Rattle.nodes.specs.Rep.{Rep}
+use lib.ListN.{length}
+use lib.Dec.{ltb}
+use Rattle.language.specs.Choice.{pick}
+use Rattle.language.specs.Weight.{size}
+use Rattle.records.specs.Refusal.{too-large}
+use Rattle.procedures.specs.Written as written
+use Rattle.procedures.specs.Meaning.{tyOf, termOf, typeOf}
+use Rattle.procedures.specs.Fine.{Fine, FineNames, depth}
+use Rattle.procedures.specs.Context.{whole}
+use Rattle.procedures.specs.Table.{Shown}
+use Rattle.sheet.specs.Encoding.{headingLength}
+use Rattle.sheet.specs.Reader.{numbersAt, readSheet, accepted, rejected}
 use Rattle.sheet.specs.declared.names.Reading.{Reading}
 use Rattle.sheet.specs.declared.names.Reading.the-variants.{Sheet, Refused}
 
--- the sheet S is accepted with type ty; its term weighs w, and the table u represents it at root
-pub record Tabled (s : List ℕ) (root ty w : ℕ) (u : List ℕ) : Type 0 where
+-- the places of procedures, of which none encloses a whole term
+abbrev pub places : ℕ → ℕ
+places k = 0
+
+-- the sheet is read with type ty and accepted by its size; the table u shows its term from root up to next
+pub record Tabled (s : List ℕ) (root ty next : ℕ) (u : List ℕ) : Type 0 where
   pub sheet : written.Sheet
-  pub accepts : readSheet s ≡ accepted sheet ty (sizeOf (numbersAt s) ty w)
+  pub finds :
+      readSheet s ≡
+      pick (ltb 4096 (size (tyOf (numbersAt s) ty) (termOf sheet))) (rejected too-large 0)
+      (accepted sheet ty (size (tyOf (numbersAt s) ty) (termOf sheet)))
   pub numbered : sheet .numbers ≡ numbersAt s
-  pub weighs : weight (termOf sheet) ≡ w
-  pub represents : Rep (numbersAt s) u 6144 root [] [] (termOf sheet) (tyOf (numbersAt s) ty)
+  pub z-above : 0 < numbersAt s .z
+  pub z-below : numbersAt s .z < 8
+  pub rule-below : numbersAt s .rule < 2
+  pub few-names : length (sheet .names) ≤ 32
+  pub fine-names : FineNames [] (sheet .names)
+  pub fine-term : Fine (numbersAt s) (sheet .names) [] (sheet .term)
+  pub types : typeOf sheet ≡ ty
+  pub known : ty < 5
+  pub shallow : depth (sheet .term) ≤ 32
+  pub rooted : root ≡ headingLength sheet
+  pub shown : Shown (numbersAt s) (sheet .names) u whole places root next (sheet .term)
 
 unfoldable pub TabledBy : List ℕ → Reading → List ℕ → Type 0
-TabledBy s (Sheet root ty w next) u = Tabled s root ty w u
+TabledBy s (Sheet root ty next) u = Tabled s root ty next u
 TabledBy s (Refused x) u = Unit

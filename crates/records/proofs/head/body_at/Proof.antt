@@ -58,6 +58,12 @@ enum-told-12 c = search needs
 new-body-requires : tie.Need-new-body-requires
 new-body-requires c κs = search needs
 
+enum-told-13 : tie.Need-enum-told-13
+enum-told-13 c = search needs
+
+procedure-body-requires : tie.Need-procedure-body-requires
+procedure-body-requires c κs = search needs
+
 returns : tie.Need-returns
 unfolding bodyOf
 returns c = simp (c .enum-told .given .1)
@@ -106,10 +112,14 @@ returns-12 : tie.Need-returns-12
 unfolding bodyOf
 returns-12 c = simp (c .before .enum-told12 .given .1, ← c .new-body .ensures)
 
+returns-13 : tie.Need-returns-13
+unfolding bodyOf
+returns-13 c = simp (c .before .enum-told13 .given .1, ← c .procedure-body .ensures)
+
 pub body-at-spec : {M : Type 1} → statement M
 body-at-spec =
-    tie.close (tie.spec
-    enum-told enum-told-2 limited-body-requires enum-told-3 limited-body-requires-2 enum-told-4
-    constant-body-requires enum-told-5 use-body-requires enum-told-6 enum-told-7 limited-body-requires-3
-    enum-told-8 enum-told-9 enum-told-10 enum-told-11 enum-told-12 new-body-requires returns returns-2 returns-3
-    returns-4 returns-5 returns-6 returns-7 returns-8 returns-9 returns-10 returns-11 returns-12)
+    tie.close (tie.spec enum-told enum-told-2 limited-body-requires enum-told-3 limited-body-requires-2 enum-told-4
+    constant-body-requires enum-told-5 use-body-requires enum-told-6 enum-told-7 limited-body-requires-3 enum-told-8
+    enum-told-9 enum-told-10 enum-told-11 enum-told-12 new-body-requires enum-told-13 procedure-body-requires returns
+    returns-2 returns-3 returns-4 returns-5 returns-6 returns-7 returns-8 returns-9 returns-10 returns-11 returns-12
+    returns-13)

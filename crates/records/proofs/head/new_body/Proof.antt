@@ -1,7 +1,7 @@
 -- The id is judged before the data.
 use borrow.Author.Needs.{needs}
 use mathlib.Core.Path.{_∙_, sym}
-use Rattle.records.specs.Head.{newOf, onByte}
+use Rattle.records.specs.Head.{onByte, newOf}
 use Rattle.records.proofs.head.new_body.Statement.{statement}
 use Rattle.records.proofs.head.new_body.Tie as tie
 
@@ -29,37 +29,25 @@ refuse-requires c κs = search needs
 returns : tie.Need-returns
 unfolding newOf onByte
 returns c =
-    simp (
-      ← c .refuse .ensures,
-      sym (c .before .before .before .before .before .before .before .byte-below .ensures)
-        ∙ c .before .before .before .before .before .found2 .given .1,
-      ← c .before .before .before .standing-of .ensures,
-      ← c .before .before .is-named .ensures,
-      c .before .if1 .taken,
-    )
+    simp (← c .refuse .ensures, sym (c .before .before .before .before .before .before .before .byte-below .ensures) ∙
+      c .before .before .before .before .before .found2 .given .1, ← c .before .before .before .standing-of .ensures, ←
+      c .before .before .is-named .ensures, c .before .if1 .taken)
 
 data-body-requires : tie.Need-data-body-requires
 data-body-requires c κs = search needs
 
 returns-2 : tie.Need-returns-2
 unfolding newOf onByte
-returns-2 c =
-    simp (sym (c .before .before .before .byte-below .ensures) ∙ c .before .found .given .1)
+returns-2 c = simp (sym (c .before .before .before .byte-below .ensures) ∙ c .before .found .given .1)
 
 returns-3 : tie.Need-returns-3
 unfolding newOf onByte
 returns-3 c =
-    simp (
-      sym (c .before .before .before .before .before .before .before .byte-below .ensures)
-        ∙ c .before .before .before .before .before .found2 .given .1,
-      ← c .before .before .before .standing-of .ensures,
-      ← c .before .before .is-named .ensures,
-      c .before .if1 .left,
-      ← c .data-body .ensures,
-    )
+    simp (sym (c .before .before .before .before .before .before .before .byte-below .ensures) ∙ c .before .before
+      .before .before .before .found2 .given .1, ← c .before .before .before .standing-of .ensures, ← c .before .before
+      .is-named .ensures, c .before .if1 .left, ← c .data-body .ensures)
 
 pub new-body-spec : {M : Type 1} → statement M
 new-body-spec =
-    tie.close (tie.spec
-    add-id-at byte-below-requires enum-known-found enum-known-found-2 standing-of-requires is-named-requires
-    refuse-requires returns data-body-requires returns-2 returns-3)
+    tie.close (tie.spec add-id-at byte-below-requires enum-known-found enum-known-found-2 standing-of-requires
+    is-named-requires refuse-requires returns data-body-requires returns-2 returns-3)

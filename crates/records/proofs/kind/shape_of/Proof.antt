@@ -41,6 +41,9 @@ part-requires-11 c κs = search needs
 part-requires-12 : tie.Need-part-requires-12
 part-requires-12 c κs = search needs
 
+part-requires-13 : tie.Need-part-requires-13
+part-requires-13 c κs = search needs
+
 returns : tie.Need-returns
 unfolding shapeOf
 returns c = simp (c .match .keys2)
@@ -99,33 +102,27 @@ returns-14 c = simp (← c .part12 .ensures, c .before .match .keys15)
 
 returns-15 : tie.Need-returns-15
 unfolding shapeOf
-returns-15 c = simp (c .match .keys1)
+returns-15 c = simp (← c .part13 .ensures, c .before .match .keys16)
 
 returns-16 : tie.Need-returns-16
 unfolding shapeOf
-returns-16 c =
-    simp (
-      ne-eqb _ _ (c .match .rest .1),
-      ne-eqb _ _ (c .match .rest .0 .1),
-      ne-eqb _ _ (c .match .rest .0 .0 .1),
-      ne-eqb _ _ (c .match .rest .0 .0 .0 .1),
-      ne-eqb _ _ (c .match .rest .0 .0 .0 .0 .1),
-      ne-eqb _ _ (c .match .rest .0 .0 .0 .0 .0 .1),
-      ne-eqb _ _ (c .match .rest .0 .0 .0 .0 .0 .0 .1),
-      ne-eqb _ _ (c .match .rest .0 .0 .0 .0 .0 .0 .0 .1),
-      ne-eqb _ _ (c .match .rest .0 .0 .0 .0 .0 .0 .0 .0 .1),
-      ne-eqb _ _ (c .match .rest .0 .0 .0 .0 .0 .0 .0 .0 .0 .1),
-      ne-eqb _ _ (c .match .rest .0 .0 .0 .0 .0 .0 .0 .0 .0 .0 .1),
-      ne-eqb _ _ (c .match .rest .0 .0 .0 .0 .0 .0 .0 .0 .0 .0 .0 .1),
-      ne-eqb _ _ (c .match .rest .0 .0 .0 .0 .0 .0 .0 .0 .0 .0 .0 .0 .1),
-      ne-eqb _ _ (c .match .rest .0 .0 .0 .0 .0 .0 .0 .0 .0 .0 .0 .0 .0 .1),
-      ne-eqb _ _ (c .match .rest .0 .0 .0 .0 .0 .0 .0 .0 .0 .0 .0 .0 .0 .0 .1),
-    )
+returns-16 c = simp (c .match .keys1)
+
+returns-17 : tie.Need-returns-17
+unfolding shapeOf
+returns-17 c =
+    simp (ne-eqb _ _ (c .match .rest .1), ne-eqb _ _ (c .match .rest .0 .1), ne-eqb _ _ (c .match .rest .0 .0 .1),
+      ne-eqb _ _ (c .match .rest .0 .0 .0 .1), ne-eqb _ _ (c .match .rest .0 .0 .0 .0 .1), ne-eqb _ _ (c .match .rest .0
+      .0 .0 .0 .0 .1), ne-eqb _ _ (c .match .rest .0 .0 .0 .0 .0 .0 .1), ne-eqb _ _ (c .match .rest .0 .0 .0 .0 .0 .0 .0
+      .1), ne-eqb _ _ (c .match .rest .0 .0 .0 .0 .0 .0 .0 .0 .1), ne-eqb _ _ (c .match .rest .0 .0 .0 .0 .0 .0 .0 .0 .0
+      .1), ne-eqb _ _ (c .match .rest .0 .0 .0 .0 .0 .0 .0 .0 .0 .0 .1), ne-eqb _ _ (c .match .rest .0 .0 .0 .0 .0 .0 .0
+      .0 .0 .0 .0 .1), ne-eqb _ _ (c .match .rest .0 .0 .0 .0 .0 .0 .0 .0 .0 .0 .0 .0 .1), ne-eqb _ _ (c .match .rest .0
+      .0 .0 .0 .0 .0 .0 .0 .0 .0 .0 .0 .0 .1), ne-eqb _ _ (c .match .rest .0 .0 .0 .0 .0 .0 .0 .0 .0 .0 .0 .0 .0 .0 .1),
+      ne-eqb _ _ (c .match .rest .0 .0 .0 .0 .0 .0 .0 .0 .0 .0 .0 .0 .0 .0 .0 .1))
 
 pub shape-of-spec : {M : Type 1} → statement M
 shape-of-spec =
-    tie.close (tie.spec
-    part-requires part-requires-2 part-requires-3 part-requires-4 part-requires-5 part-requires-6 part-requires-7
-    part-requires-8 part-requires-9 part-requires-10 part-requires-11 part-requires-12 returns returns-2 returns-3
-    returns-4 returns-5 returns-6 returns-7 returns-8 returns-9 returns-10 returns-11 returns-12 returns-13
-    returns-14 returns-15 returns-16)
+    tie.close (tie.spec part-requires part-requires-2 part-requires-3 part-requires-4 part-requires-5 part-requires-6
+    part-requires-7 part-requires-8 part-requires-9 part-requires-10 part-requires-11 part-requires-12
+    part-requires-13 returns returns-2 returns-3 returns-4 returns-5 returns-6 returns-7 returns-8 returns-9
+    returns-10 returns-11 returns-12 returns-13 returns-14 returns-15 returns-16 returns-17)

@@ -55,6 +55,9 @@ enum-told-12 c = search needs
 values-of-requires : tie.Need-values-of-requires
 values-of-requires c κs = search needs
 
+enum-told-13 : tie.Need-enum-told-13
+enum-told-13 c = search needs
+
 returns : tie.Need-returns
 unfolding detail
 returns c = simp (c .enum-told .given .1)
@@ -103,10 +106,13 @@ returns-12 : tie.Need-returns-12
 unfolding detail
 returns-12 c = simp (c .before .enum-told12 .given .1, ← c .values-of .ensures .0)
 
+returns-13 : tie.Need-returns-13
+unfolding detail
+returns-13 c = simp (c .enum-told13 .given .1)
+
 pub detail-of-spec : {M : Type 1} → statement M
 detail-of-spec =
-    tie.close (tie.spec
-    enum-told enum-told-2 enum-told-3 cast-result enum-told-4 code-of-byte-requires enum-told-5
+    tie.close (tie.spec enum-told enum-told-2 enum-told-3 cast-result enum-told-4 code-of-byte-requires enum-told-5
     use-detail-requires enum-told-6 enum-told-7 cast-result-2 enum-told-8 enum-told-9 enum-told-10 enum-told-11
-    enum-told-12 values-of-requires returns returns-2 returns-3 returns-4 returns-5 returns-6 returns-7
-    returns-8 returns-9 returns-10 returns-11 returns-12)
+    enum-told-12 values-of-requires enum-told-13 returns returns-2 returns-3 returns-4 returns-5 returns-6 returns-7
+    returns-8 returns-9 returns-10 returns-11 returns-12 returns-13)

@@ -31,7 +31,7 @@ returns c =
     let p₂ = p₃ .before .before .before .before in
     let p₁ = p₂ .before .before .before .before in
     let a = p₁ .before .before .before .args in
-    five-words (a .place) (now (a .t)) (a .kind) (a .held) (a .class) (a .values) (a .detail)
+    five-words (a .place) (now (a .t)) (a .kind) (a .end) (a .class) (a .values) (a .detail)
     (p₁ .put-cell .ensures) (p₂ .put-cell2 .ensures) (p₃ .put-cell3 .ensures) (p₄ .put-cell4 .ensures)
     (p₅ .put-cell5 .ensures)
 

@@ -8,9 +8,6 @@ use Rattle.records.proofs.row.write_row.Tie as tie
 row-kind-requires : tie.Need-row-kind-requires
 row-kind-requires c κs = search needs
 
-held-requires : tie.Need-held-requires
-held-requires c κs = search needs
-
 class-of-requires : tie.Need-class-of-requires
 class-of-requires c κs = search needs
 
@@ -20,6 +17,9 @@ values-of-requires c κs = search needs
 detail-of-requires : tie.Need-detail-of-requires
 detail-of-requires c κs = search needs
 
+cast-put-five : tie.Need-cast-put-five
+cast-put-five c = search needs
+
 put-five-requires : tie.Need-put-five-requires
 put-five-requires c κs = search needs
 
@@ -28,16 +28,16 @@ same-length c = search needs
 
 returns : tie.Need-returns
 returns c =
-    let p = c .before .before in
-    let b = p .before .before in
-    let a = b .before .before .before .before .before .before .args in
-    five-written (a .n) (a .r) (a .ty) (a .weight) (now (a .t))
-    (b .before .before .before .before .row-kind .ensures) (b .before .before .before .held .ensures)
-    (b .before .before .class-of .ensures) (b .before .values-of .ensures .0) (b .detail-of .ensures)
-    (p .put-five .ensures)
+    five-written (c .before .before .before .before .before .before .before .before .before .args .n) (c .before
+      .before .before .before .before .before .before .before .before .args .r) (c .before .before .before .before
+      .before .before .before .before .before .args .ty) (c .before .before .before .before .before .before .before
+      .before .before .args .number) (c .before .before .before .before .before .before .before .before .before .args
+      .end) (now (c .before .before .before .before .before .before .before .before .before .args .t)) (c .before
+      .before .before .before .before .before .before .row-kind .ensures) (c .before .before .before .before .before
+      .before .class-of .ensures) (c .before .before .before .before .before .values-of .ensures .0) (c .before .before
+      .before .before .detail-of .ensures) (c .before .before .put-five .ensures)
 
 pub write-row-spec : {M : Type 1} → statement M
 write-row-spec =
-    tie.close (tie.spec
-    row-kind-requires held-requires class-of-requires values-of-requires detail-of-requires put-five-requires
-    same-length returns)
+    tie.close (tie.spec row-kind-requires class-of-requires values-of-requires detail-of-requires cast-put-five
+    put-five-requires same-length returns)

@@ -1,4 +1,4 @@
--- Past every variable.
+-- Past the retired ids.
 use borrow.Author.Needs.{needs}
 use Rattle.records.specs.Standing.{declaredStanding}
 use Rattle.records.proofs.standing.declared_standing.Statement.{statement}

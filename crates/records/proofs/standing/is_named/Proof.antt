@@ -1,16 +1,56 @@
--- The tests of the definition.
-use borrow.Author.Tests.{eq-eqb, ne-eqb}
+-- By cases of the standing.
+use borrow.Author.Needs.{needs}
+use mathlib.Core.Path.{_∙_, sym}
 use Rattle.records.specs.Standing.{isNamed}
 use Rattle.records.proofs.standing.is_named.Statement.{statement}
 use Rattle.records.proofs.standing.is_named.Tie as tie
 
+meaning-of-requires : tie.Need-meaning-of-requires
+meaning-of-requires c κs = search needs
+
+enum-told : tie.Need-enum-told
+enum-told c = search needs
+
+enum-told-2 : tie.Need-enum-told-2
+enum-told-2 c = search needs
+
+enum-told-3 : tie.Need-enum-told-3
+enum-told-3 c = search needs
+
+enum-told-4 : tie.Need-enum-told-4
+enum-told-4 c = search needs
+
+enum-told-5 : tie.Need-enum-told-5
+enum-told-5 c = search needs
+
+enum-told-6 : tie.Need-enum-told-6
+enum-told-6 c = search needs
+
 returns : tie.Need-returns
 unfolding isNamed
-returns c = simp (eq-eqb _ _ (c .if1 .taken))
+returns c = simp (sym (c .before .before .meaning-of .ensures) ∙ c .enum-told .given .1)
 
 returns-2 : tie.Need-returns-2
 unfolding isNamed
-returns-2 c = simp (ne-eqb _ _ (c .if1 .left))
+returns-2 c = simp (sym (c .before .before .meaning-of .ensures) ∙ c .enum-told2 .given .1)
+
+returns-3 : tie.Need-returns-3
+unfolding isNamed
+returns-3 c = simp (sym (c .before .before .meaning-of .ensures) ∙ c .enum-told3 .given .1)
+
+returns-4 : tie.Need-returns-4
+unfolding isNamed
+returns-4 c = simp (sym (c .before .before .meaning-of .ensures) ∙ c .enum-told4 .given .1)
+
+returns-5 : tie.Need-returns-5
+unfolding isNamed
+returns-5 c = simp (sym (c .before .before .meaning-of .ensures) ∙ c .enum-told5 .given .1)
+
+returns-6 : tie.Need-returns-6
+unfolding isNamed
+returns-6 c = simp (sym (c .before .before .meaning-of .ensures) ∙ c .enum-told6 .given .1)
 
 pub is-named-spec : {M : Type 1} → statement M
-is-named-spec = tie.close (tie.spec returns returns-2)
+is-named-spec =
+    tie.close (tie.spec meaning-of-requires enum-told enum-told-2 enum-told-3 enum-told-4 enum-told-5 enum-told-6
+    returns returns-2 returns-3 returns-4 returns-5 returns-6)

@@ -20,8 +20,8 @@ enum-told-4 c = search needs
 enum-told-5 : tie.Need-enum-told-5
 enum-told-5 c = search needs
 
-accepts-argument-requires : tie.Need-accepts-argument-requires
-accepts-argument-requires c κs = search needs
+argument-of-requires : tie.Need-argument-of-requires
+argument-of-requires c κs = search needs
 
 enum-told-6 : tie.Need-enum-told-6
 enum-told-6 c = search needs
@@ -51,14 +51,22 @@ returns c = simp (c .before .enum-told10 .given .1, eq-eqb _ _ (c .if3 .taken))
 returns-2 : tie.Need-returns-2
 unfolding acceptsPart
 returns-2 c =
-    simp
-    (c .before .before .enum-told10 .given .1, ne-eqb _ _ (c .before .if3 .left), eq-eqb _ _ (c .if4 .taken))
+    simp (c .before .before .enum-told10 .given .1, ne-eqb _ _ (c .before .if3 .left), eq-eqb _ _ (c .if4 .taken))
 
 enum-told-11 : tie.Need-enum-told-11
 enum-told-11 c = search needs
 
 enum-told-12 : tie.Need-enum-told-12
 enum-told-12 c = search needs
+
+enum-told-13 : tie.Need-enum-told-13
+enum-told-13 c = search needs
+
+add-byte-at : tie.Need-add-byte-at
+add-byte-at c = search needs
+
+byte-at-requires : tie.Need-byte-at-requires
+byte-at-requires c κs = search needs
 
 returns-3 : tie.Need-returns-3
 unfolding acceptsPart
@@ -78,7 +86,7 @@ returns-6 c = simp (c .enum-told4 .given .1)
 
 returns-7 : tie.Need-returns-7
 unfolding acceptsPart
-returns-7 c = simp (c .before .enum-told5 .given .1, ← c .accepts-argument .ensures)
+returns-7 c = simp (c .before .enum-told5 .given .1, ← c .argument-of .ensures)
 
 returns-8 : tie.Need-returns-8
 unfolding acceptsPart
@@ -107,8 +115,7 @@ returns-13 c = simp (c .before .enum-told9 .given .1, ne-eqb _ _ (c .if2 .left))
 returns-14 : tie.Need-returns-14
 unfolding acceptsPart
 returns-14 c =
-    simp
-    (c .before .before .enum-told10 .given .1, ne-eqb _ _ (c .before .if3 .left), ne-eqb _ _ (c .if4 .left))
+    simp (c .before .before .enum-told10 .given .1, ne-eqb _ _ (c .before .if3 .left), ne-eqb _ _ (c .if4 .left))
 
 returns-15 : tie.Need-returns-15
 unfolding acceptsPart
@@ -122,10 +129,20 @@ returns-17 : tie.Need-returns-17
 unfolding acceptsPart
 returns-17 c = simp (c .enum-told12 .given .1)
 
+returns-18 : tie.Need-returns-18
+unfolding acceptsPart
+returns-18 c =
+    simp (c .before .before .before .enum-told13 .given .1, eq-eqb _ _ (c .before .before .if6 .taken), ← c .byte-at
+      .ensures)
+
+returns-19 : tie.Need-returns-19
+unfolding acceptsPart
+returns-19 c = simp (c .before .enum-told13 .given .1, ne-eqb _ _ (c .if6 .left))
+
 pub accepts-part-spec : {M : Type 1} → statement M
 accepts-part-spec =
-    tie.close (tie.spec
-    enum-told enum-told-2 enum-told-3 enum-told-4 enum-told-5 accepts-argument-requires enum-told-6 enum-told-7
-    operand-type-requires enum-told-8 add-result enum-told-9 enum-told-10 returns returns-2 enum-told-11
-    enum-told-12 returns-3 returns-4 returns-5 returns-6 returns-7 returns-8 returns-9 returns-10 returns-11
-    returns-12 returns-13 returns-14 returns-15 returns-16 returns-17)
+    tie.close (tie.spec enum-told enum-told-2 enum-told-3 enum-told-4 enum-told-5 argument-of-requires enum-told-6
+    enum-told-7 operand-type-requires enum-told-8 add-result enum-told-9 enum-told-10 returns returns-2 enum-told-11
+    enum-told-12 enum-told-13 add-byte-at byte-at-requires returns-3 returns-4 returns-5 returns-6 returns-7 returns-8
+    returns-9 returns-10 returns-11 returns-12 returns-13 returns-14 returns-15 returns-16 returns-17 returns-18
+    returns-19)

@@ -20,8 +20,8 @@ enum-told-4 c = search needs
 enum-told-5 : tie.Need-enum-told-5
 enum-told-5 c = search needs
 
-use-type-requires : tie.Need-use-type-requires
-use-type-requires c κs = search needs
+result-of-requires : tie.Need-result-of-requires
+result-of-requires c κs = search needs
 
 enum-told-6 : tie.Need-enum-told-6
 enum-told-6 c = search needs
@@ -47,6 +47,9 @@ enum-told-11 c = search needs
 enum-told-12 : tie.Need-enum-told-12
 enum-told-12 c = search needs
 
+enum-told-13 : tie.Need-enum-told-13
+enum-told-13 c = search needs
+
 returns : tie.Need-returns
 unfolding partType
 returns c = simp (c .enum-told .given .1)
@@ -65,7 +68,7 @@ returns-4 c = simp (c .enum-told4 .given .1)
 
 returns-5 : tie.Need-returns-5
 unfolding partType
-returns-5 c = simp (c .before .enum-told5 .given .1, ← c .use-type .ensures)
+returns-5 c = simp (c .before .enum-told5 .given .1, ← c .result-of .ensures)
 
 returns-6 : tie.Need-returns-6
 unfolding partType
@@ -99,10 +102,13 @@ returns-13 : tie.Need-returns-13
 unfolding partType
 returns-13 c = simp (c .enum-told12 .given .1)
 
+returns-14 : tie.Need-returns-14
+unfolding partType
+returns-14 c = simp (c .enum-told13 .given .1)
+
 pub type-of-spec : {M : Type 1} → statement M
 type-of-spec =
-    tie.close (tie.spec
-    enum-told enum-told-2 enum-told-3 enum-told-4 enum-told-5 use-type-requires enum-told-6 enum-told-7
-    result-type-requires enum-told-8 enum-told-9 enum-told-10 enum-told-11 enum-told-12 returns returns-2
-    returns-3 returns-4 returns-5 returns-6 returns-7 returns-8 returns-9 returns-10 returns-11 returns-12
-    returns-13)
+    tie.close (tie.spec enum-told enum-told-2 enum-told-3 enum-told-4 enum-told-5 result-of-requires enum-told-6
+    enum-told-7 result-type-requires enum-told-8 enum-told-9 enum-told-10 enum-told-11 enum-told-12 enum-told-13
+    returns returns-2 returns-3 returns-4 returns-5 returns-6 returns-7 returns-8 returns-9 returns-10 returns-11
+    returns-12 returns-13 returns-14)

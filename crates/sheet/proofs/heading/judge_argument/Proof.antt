@@ -1,6 +1,6 @@
 -- By the count the type is there or not.
 use borrow.Author.Needs.{needs}
-use borrow.Author.Tests.{le-leb, lt-leb, lt-ltb, le-ltb, eq-eqb, ne-eqb, not-true, not-false}
+use borrow.Author.Tests.{lt-ltb, le-ltb}
 use Rattle.sheet.specs.Heading.{argument}
 use Rattle.sheet.proofs.heading.judge_argument.Statement.{statement}
 use Rattle.sheet.proofs.heading.judge_argument.Tie as tie

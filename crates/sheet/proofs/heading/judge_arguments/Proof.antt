@@ -1,7 +1,5 @@
 -- The four argument types, one after the other.
 use borrow.Author.Needs.{needs}
-use borrow.Author.Tests.{le-leb, lt-leb, lt-ltb, le-ltb, eq-eqb, ne-eqb, not-true, not-false}
-use Rattle.sheet.specs.Heading.{arguments}
 use Rattle.sheet.proofs.heading.judge_arguments.Statement.{statement}
 use Rattle.sheet.proofs.heading.judge_arguments.Tie as tie
 
@@ -27,7 +25,6 @@ judge-both-requires-3 : tie.Need-judge-both-requires-3
 judge-both-requires-3 c κs = search needs
 
 returns : tie.Need-returns
-unfolding arguments
 returns c =
     simp (← c .before .before .before .before .before .before .judge-argument .ensures, ← c .before .before .before
     .before .before .judge-argument2 .ensures, ← c .before .before .before .before .judge-both .ensures, ← c .before

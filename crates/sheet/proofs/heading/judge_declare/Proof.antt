@@ -1,6 +1,5 @@
 -- Id, result type, count and argument types, in this order.
 use borrow.Author.Needs.{needs}
-use borrow.Author.Tests.{le-leb, lt-leb, lt-ltb, le-ltb, eq-eqb, ne-eqb, not-true, not-false}
 use Rattle.sheet.specs.Heading.{declareOf}
 use Rattle.sheet.proofs.heading.judge_declare.Statement.{statement}
 use Rattle.sheet.proofs.heading.judge_declare.Tie as tie

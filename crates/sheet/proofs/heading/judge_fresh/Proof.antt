@@ -1,7 +1,8 @@
 -- The id's range, then its standing.
 use borrow.Author.Needs.{needs}
-use borrow.Author.Tests.{le-leb, lt-leb, lt-ltb, le-ltb, eq-eqb, ne-eqb, not-true, not-false}
-use Rattle.sheet.specs.Heading.{fresh, andThen}
+use borrow.Author.Tests.{eq-eqb, ne-eqb}
+use Rattle.records.specs.Judge.{andThen}
+use Rattle.sheet.specs.Heading.{fresh}
 use mathlib.Core.Path.{sym, _∙_}
 use Rattle.sheet.proofs.heading.judge_fresh.Statement.{statement}
 use Rattle.sheet.proofs.heading.judge_fresh.Tie as tie

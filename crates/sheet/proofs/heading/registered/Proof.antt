@@ -1,6 +1,5 @@
 -- The id of the record gets the standing.
 use borrow.Author.Needs.{needs}
-use borrow.Author.Tests.{le-leb, lt-leb, lt-ltb, le-ltb, eq-eqb, ne-eqb, not-true, not-false}
 use Rattle.sheet.proofs.heading.registered.Statement.{statement}
 use Rattle.sheet.proofs.heading.registered.Tie as tie
 

@@ -1,7 +1,6 @@
 -- The cycle of name records: how many are still allowed falls.
 use Prim.Native.Nat.{ℕ, _<_, _+_, _*_}
 use borrow.Author.Needs.{needs}
-use native.Mathlib.Omega.{arith}
 use mathlib.Core.Path.{sym, _∙_}
 use Rattle.sheet.proofs.Whole.{names-short, names-unknown, names-term, names-declare, names-retire, after-full}
 use Rattle.sheet.proofs.Whole.{after-bad, after-good}

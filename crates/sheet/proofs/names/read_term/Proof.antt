@@ -1,6 +1,5 @@
 -- The answer of the root, handed on.
 use borrow.Author.Needs.{needs}
-use borrow.Author.Tests.{le-leb, lt-leb, lt-ltb, le-ltb, eq-eqb, ne-eqb, not-true, not-false}
 use Rattle.sheet.proofs.Whole.{term-read, term-refused}
 use Rattle.sheet.proofs.names.read_term.Statement.{statement}
 use Rattle.sheet.proofs.names.read_term.Tie as tie

@@ -1,7 +1,5 @@
 -- The first two bytes.
 use borrow.Author.Needs.{needs}
-use borrow.Author.Tests.{le-leb, lt-leb, lt-ltb, le-ltb, eq-eqb, ne-eqb, not-true, not-false}
-use Rattle.sheet.specs.Reader.{numbersAt}
 use Rattle.sheet.proofs.reading.numbers_of.Statement.{statement}
 use Rattle.sheet.proofs.reading.numbers_of.Tie as tie
 
@@ -12,7 +10,6 @@ byte-at-requires-2 : tie.Need-byte-at-requires-2
 byte-at-requires-2 c κs = search needs
 
 returns : tie.Need-returns
-unfolding numbersAt
 returns c = simp (← c .before .byte-at .ensures, ← c .byte-at2 .ensures)
 
 pub numbers-of-spec : {M : Type 1} → statement M

@@ -1,6 +1,5 @@
 -- The first two bytes judged, then the names and the term, then the end.
 use borrow.Author.Needs.{needs}
-use borrow.Author.Tests.{le-leb, lt-leb, lt-ltb, le-ltb, eq-eqb, ne-eqb, not-true, not-false}
 use Rattle.sheet.proofs.Tabling.{tabled, sheet-told}
 use Rattle.sheet.proofs.Whole.{sheet-closed, closes-sheet, too-long, empty, z-zero, z-large}
 use Rattle.sheet.proofs.Whole.{no-rule, rule-large, opened}

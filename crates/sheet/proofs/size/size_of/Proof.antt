@@ -1,8 +1,7 @@
 -- Sums and products held at 4,097.
 use borrow.Author.Needs.{needs}
 use native.Mathlib.Omega.{arith}
-use borrow.Author.Tests.{le-leb, lt-leb, lt-ltb, le-ltb, eq-eqb, ne-eqb, not-true, not-false}
-use Rattle.sheet.specs.Reader.{sizeOf}
+use Rattle.sheet.specs.Size.{sizeOf}
 use Rattle.sheet.proofs.size.size_of.Statement.{statement}
 use Rattle.sheet.proofs.size.size_of.Tie as tie
 

@@ -1,0 +1,530 @@
+-- The cycle of the expansion: a bound of the turns to come falls.
+use Prim.Native.Nat.{_+_, _*_, ℕ, _<_}
+use borrow.Author.Needs.{needs}
+use borrow.Author.Tests.{not-false}
+use native.Mathlib.Omega.{arith}
+use mathlib.Core.Path.{refl, sym, _∙_}
+use Rattle.expand.proofs.Joins.{piece-none, piece-some, pieces-four, row-made, entered, record-block}
+use Rattle.expand.proofs.Joins.{record-plain, kind-stays}
+use Rattle.expand.proofs.Expansion.{by-come, by-end, by-kind}
+use Rattle.expand.proofs.Turns.{Led, led-first, led-end, led-come, led-scope, led-use, led-record}
+use borrow.Fn.Kinds.{In}
+use borrow.Fn.PlainCycle.{Measures, is, falls, and}
+use Rattle.expand.proofs.expand.enter.Reads as enter
+use Rattle.expand.proofs.expand.enter.Kinds as enter-kinds
+use Rattle.expand.proofs.expand.+enter+expand+expand_own+expand_part+expand_parts+expand_record+expand_row.Lts-enter as enter-lts
+use Rattle.expand.proofs.expand.expand.Reads as expand
+use Rattle.expand.proofs.expand.expand.Kinds as expand-kinds
+use Rattle.expand.proofs.expand.+enter+expand+expand_own+expand_part+expand_parts+expand_record+expand_row.Lts-expand as expand-lts
+use Rattle.expand.proofs.expand.expand_own.Reads as expand-own
+use Rattle.expand.proofs.expand.expand_own.Kinds as expand-own-kinds
+use Rattle.expand.proofs.expand.+enter+expand+expand_own+expand_part+expand_parts+expand_record+expand_row.Lts-expand_own as expand-own-lts
+use Rattle.expand.proofs.expand.expand_part.Reads as expand-part
+use Rattle.expand.proofs.expand.expand_part.Kinds as expand-part-kinds
+use Rattle.expand.proofs.expand.+enter+expand+expand_own+expand_part+expand_parts+expand_record+expand_row.Lts-expand_part as expand-part-lts
+use Rattle.expand.proofs.expand.expand_parts.Reads as expand-parts
+use Rattle.expand.proofs.expand.expand_parts.Kinds as expand-parts-kinds
+use Rattle.expand.proofs.expand.+enter+expand+expand_own+expand_part+expand_parts+expand_record+expand_row.Lts-expand_parts as expand-parts-lts
+use Rattle.expand.proofs.expand.expand_record.Reads as expand-record
+use Rattle.expand.proofs.expand.expand_record.Kinds as expand-record-kinds
+use Rattle.expand.proofs.expand.+enter+expand+expand_own+expand_part+expand_parts+expand_record+expand_row.Lts-expand_record as expand-record-lts
+use Rattle.expand.proofs.expand.expand_row.Reads as expand-row
+use Rattle.expand.proofs.expand.expand_row.Kinds as expand-row-kinds
+use Rattle.expand.proofs.expand.+enter+expand+expand_own+expand_part+expand_parts+expand_record+expand_row.Lts-expand_row as expand-row-lts
+use Rattle.expand.proofs.close.close_row.Reads as close-row-reads
+use Rattle.expand.proofs.close.parts_of.Reads as parts-of-reads
+use Rattle.expand.proofs.close.stays.Reads as stays-reads
+use Rattle.expand.proofs.words.come_at.Reads as come-at-reads
+use Rattle.expand.proofs.words.more.Reads as more-reads
+use Rattle.expand.proofs.words.pass.Reads as pass-reads
+use Rattle.expand.proofs.words.passed_of.Reads as passed-of-reads
+use Rattle.expand.proofs.words.procedure_of.Reads as procedure-of-reads
+use Rattle.expand.proofs.words.put_slot.Reads as put-slot-reads
+use Rattle.expand.proofs.words.slot_at.Reads as slot-at-reads
+use Rattle.expand.proofs.words.used_at.Reads as used-at-reads
+use Rattle.expand.proofs.words.word_at.Reads as word-at-reads
+use Rattle.expand.proofs.expand.+enter+expand+expand_own+expand_part+expand_parts+expand_record+expand_row.{statement}
+use Rattle.expand.proofs.expand.+enter+expand+expand_own+expand_part+expand_parts+expand_record+expand_row.Tie.{close}
+
+abbrev μ-enter : Measures 4 enter-kinds.ps ℕ
+μ-enter κs a = 8 * a .1 .1 .1 .1 .1 .0 + 4
+
+abbrev μ-expand : Measures 4 expand-kinds.ps ℕ
+μ-expand κs a = 8 * a .1 .1 .1 .1 .1 .0 + 1
+
+abbrev μ-expand-own : Measures 4 expand-own-kinds.ps ℕ
+μ-expand-own κs a = 8 * a .1 .1 .1 .1 .1 .0
+
+abbrev μ-expand-part : Measures 4 expand-part-kinds.ps ℕ
+μ-expand-part κs a = 8 * a .1 .1 .1 .1 .1 .0 + 2
+
+abbrev μ-expand-parts : Measures 4 expand-parts-kinds.ps ℕ
+μ-expand-parts κs a = 8 * a .1 .1 .1 .1 .1 .0 + 3
+
+abbrev μ-expand-record : Measures 4 expand-record-kinds.ps ℕ
+μ-expand-record κs a = 8 * a .1 .1 .1 .1 .1 .0 + 5
+
+abbrev μ-expand-row : Measures 4 expand-row-kinds.ps ℕ
+μ-expand-row κs a = 8 * a .1 .1 .1 .1 .1 .0 + 4
+
+abbrev enter-at : ℕ → In 4 enter-kinds.ps
+enter-at t = and 4 enter-kinds.ps (is 4 enter-kinds.ps μ-enter t) enter.Pre
+
+abbrev enter-below : ℕ → In 4 enter-kinds.ps
+enter-below t = and 4 enter-kinds.ps (falls 4 enter-kinds.ps _<_ μ-enter t) enter.Pre
+
+abbrev expand-at : ℕ → In 4 expand-kinds.ps
+expand-at t = and 4 expand-kinds.ps (is 4 expand-kinds.ps μ-expand t) expand.Pre
+
+abbrev expand-below : ℕ → In 4 expand-kinds.ps
+expand-below t = and 4 expand-kinds.ps (falls 4 expand-kinds.ps _<_ μ-expand t) expand.Pre
+
+abbrev expand-own-at : ℕ → In 4 expand-own-kinds.ps
+expand-own-at t = and 4 expand-own-kinds.ps (is 4 expand-own-kinds.ps μ-expand-own t) expand-own.Pre
+
+abbrev expand-own-below : ℕ → In 4 expand-own-kinds.ps
+expand-own-below t = and 4 expand-own-kinds.ps (falls 4 expand-own-kinds.ps _<_ μ-expand-own t) expand-own.Pre
+
+abbrev expand-part-at : ℕ → In 4 expand-part-kinds.ps
+expand-part-at t = and 4 expand-part-kinds.ps (is 4 expand-part-kinds.ps μ-expand-part t) expand-part.Pre
+
+abbrev expand-part-below : ℕ → In 4 expand-part-kinds.ps
+expand-part-below t = and 4 expand-part-kinds.ps (falls 4 expand-part-kinds.ps _<_ μ-expand-part t) expand-part.Pre
+
+abbrev expand-parts-at : ℕ → In 4 expand-parts-kinds.ps
+expand-parts-at t = and 4 expand-parts-kinds.ps (is 4 expand-parts-kinds.ps μ-expand-parts t) expand-parts.Pre
+
+abbrev expand-parts-below : ℕ → In 4 expand-parts-kinds.ps
+expand-parts-below t = and 4 expand-parts-kinds.ps (falls 4 expand-parts-kinds.ps _<_ μ-expand-parts t) expand-parts.Pre
+
+abbrev expand-record-at : ℕ → In 4 expand-record-kinds.ps
+expand-record-at t = and 4 expand-record-kinds.ps (is 4 expand-record-kinds.ps μ-expand-record t) expand-record.Pre
+
+abbrev expand-record-below : ℕ → In 4 expand-record-kinds.ps
+expand-record-below t =
+    and 4 expand-record-kinds.ps (falls 4 expand-record-kinds.ps _<_ μ-expand-record t) expand-record.Pre
+
+abbrev expand-row-at : ℕ → In 4 expand-row-kinds.ps
+expand-row-at t = and 4 expand-row-kinds.ps (is 4 expand-row-kinds.ps μ-expand-row t) expand-row.Pre
+
+abbrev expand-row-below : ℕ → In 4 expand-row-kinds.ps
+expand-row-below t = and 4 expand-row-kinds.ps (falls 4 expand-row-kinds.ps _<_ μ-expand-row t) expand-row.Pre
+
+abbrev enter-calls : ℕ → enter-lts.Claims
+enter-calls t =
+    (word-at-reads.Asked, word-at-reads.Learnt, procedure-of-reads.Asked, procedure-of-reads.Learnt,
+        used-at-reads.Asked, used-at-reads.Learnt, expand-parts-below t, expand-parts.Post, pass-reads.Asked,
+        pass-reads.Learnt, passed-of-reads.Asked, passed-of-reads.Learnt, more-reads.Asked, more-reads.Learnt)
+
+abbrev expand-calls : ℕ → expand-lts.Claims
+expand-calls t =
+    (word-at-reads.Asked, word-at-reads.Learnt, stays-reads.Asked, stays-reads.Learnt, expand-own-below t,
+        expand-own.Post, expand-row-below t, expand-row.Post)
+
+abbrev expand-own-calls : ℕ → expand-own-lts.Claims
+expand-own-calls t =
+    (come-at-reads.Asked, come-at-reads.Learnt, slot-at-reads.Asked, slot-at-reads.Learnt, word-at-reads.Asked,
+        word-at-reads.Learnt, more-reads.Asked, more-reads.Learnt, expand-record-below t, expand-record.Post,
+        enter-below t, enter.Post)
+
+abbrev expand-part-calls : ℕ → expand-part-lts.Claims
+expand-part-calls t =
+    (word-at-reads.Asked, word-at-reads.Learnt, come-at-reads.Asked, come-at-reads.Learnt, slot-at-reads.Asked,
+        slot-at-reads.Learnt, expand-below t, expand.Post)
+
+abbrev expand-parts-calls : ℕ → expand-parts-lts.Claims
+expand-parts-calls t =
+    (expand-part-below t, expand-part.Post)
+
+abbrev expand-record-calls : ℕ → expand-record-lts.Claims
+expand-record-calls t =
+    (word-at-reads.Asked, word-at-reads.Learnt, put-slot-reads.Asked, put-slot-reads.Learnt, more-reads.Asked,
+        more-reads.Learnt, expand-row-below t, expand-row.Post)
+
+abbrev expand-row-calls : ℕ → expand-row-lts.Claims
+expand-row-calls t =
+    (word-at-reads.Asked, word-at-reads.Learnt, parts-of-reads.Asked, parts-of-reads.Learnt, more-reads.Asked,
+        more-reads.Learnt, expand-parts-below t, expand-parts.Post, close-row-reads.Asked, close-row-reads.Learnt)
+
+-- what the present part becomes, the first one becomes
+abbrev expand-own-Inv-loop : expand-own-lts.InvT-loop
+expand-own-Inv-loop t marks slots rows₀ level left n at own₀ here₀ around₀ turns₀ made₀ rows own here around turns
+    made =
+    Led t marks slots level left at rows₀ n own rows around turns here made
+
+abbrev expand-own-μ-loop : expand-own-lts.MeasureT-loop
+expand-own-μ-loop t marks slots rows₀ level left n at own₀ here₀ around₀ turns₀ made₀ rows own here around turns
+    made =
+    turns
+
+-- enter
+module _ (t : ℕ) where
+  enter-word-at-requires : enter-lts.Need-word-at-requires (enter-calls t) (enter-at t) enter.Post
+  enter-word-at-requires c κs = search needs
+
+  enter-procedure-of-requires : enter-lts.Need-procedure-of-requires (enter-calls t) (enter-at t) enter.Post
+  enter-procedure-of-requires c κs = search needs
+
+  enter-word-at-requires-2 : enter-lts.Need-word-at-requires-2 (enter-calls t) (enter-at t) enter.Post
+  enter-word-at-requires-2 c κs = search needs
+
+  enter-word-at-requires-3 : enter-lts.Need-word-at-requires-3 (enter-calls t) (enter-at t) enter.Post
+  enter-word-at-requires-3 c κs = search needs
+
+  enter-used-at-requires : enter-lts.Need-used-at-requires (enter-calls t) (enter-at t) enter.Post
+  enter-used-at-requires c κs = search needs
+
+  enter-expand-parts-requires : enter-lts.Need-expand-parts-requires (enter-calls t) (enter-at t) enter.Post
+  enter-expand-parts-requires c κs = search needs
+
+  enter-pass-requires : enter-lts.Need-pass-requires (enter-calls t) (enter-at t) enter.Post
+  enter-pass-requires c κs = search needs
+
+  enter-passed-of-requires : enter-lts.Need-passed-of-requires (enter-calls t) (enter-at t) enter.Post
+  enter-passed-of-requires c κs = search needs
+
+  enter-more-requires : enter-lts.Need-more-requires (enter-calls t) (enter-at t) enter.Post
+  enter-more-requires c κs = search needs
+
+  enter-same-length : enter-lts.Need-same-length (enter-calls t) (enter-at t) enter.Post
+  enter-same-length c = search needs
+
+  enter-returns : enter-lts.Need-returns (enter-calls t) (enter-at t) enter.Post
+  enter-returns c = entered _ _ _ _ _ _ _ _ _ _ _ _ _ _ _ _ _ _ _ _ _ _ (c .before .before .before .before .before
+      .before .before .before .before .before .before .before .before .word-at .ensures) (c .before .before .before
+      .before .before .before .before .before .before .before .before .before .procedure-of .ensures) (c .before
+      .before .before .before .before .before .before .before .before .before .before .word-at2 .ensures) (c .before
+      .before .before .before .before .before .before .before .before .before .word-at3 .ensures) (c .before .before
+      .before .before .before .before .before .used-at .ensures) (c .before .passed-of .ensures) (c .more .ensures) (c
+      .before .before .pass .ensures) (c .before .before .before .before .before .before .expand-parts .ensures)
+
+-- expand
+module _ (t : ℕ) where
+  expand-word-at-requires : expand-lts.Need-word-at-requires (expand-calls t) (expand-at t) expand.Post
+  expand-word-at-requires c κs = search needs
+
+  expand-stays-requires : expand-lts.Need-stays-requires (expand-calls t) (expand-at t) expand.Post
+  expand-stays-requires c κs = search needs
+
+  expand-expand-own-requires : expand-lts.Need-expand-own-requires (expand-calls t) (expand-at t) expand.Post
+  expand-expand-own-requires c κs = search needs
+
+  expand-same-length : expand-lts.Need-same-length (expand-calls t) (expand-at t) expand.Post
+  expand-same-length c = search needs
+
+  expand-returns : expand-lts.Need-returns (expand-calls t) (expand-at t) expand.Post
+  expand-returns c = c .before .before .expand-own .ensures
+
+  expand-returns-2 : expand-lts.Need-returns-2 (expand-calls t) (expand-at t) expand.Post
+  expand-returns-2 c = by-end _ _ _ _ _ _ _ _ (c .if2 .taken)
+
+  expand-sub-expand-row : expand-lts.Need-sub-expand-row (expand-calls t) (expand-at t) expand.Post
+  expand-sub-expand-row c = search needs
+
+  expand-expand-row-requires : expand-lts.Need-expand-row-requires (expand-calls t) (expand-at t) expand.Post
+  expand-expand-row-requires c κs = search needs
+
+  expand-same-length-2 : expand-lts.Need-same-length-2 (expand-calls t) (expand-at t) expand.Post
+  expand-same-length-2 c = search needs
+
+  expand-returns-3 : expand-lts.Need-returns-3 (expand-calls t) (expand-at t) expand.Post
+  expand-returns-3 c = by-kind _ _ _ _ _ _ _ _ _ (sym (c .before .before .before .before .before .before .before
+      .before .before .before .before .pre .1)) (omega arith) (c .before .before .before .before .if2 .left)
+      (kind-stays _ _ _ _ _ _ _ _ _ _ _ _ (c .before .before .before .before .before .before .before .word-at
+      .ensures) (c .before .before .before .before .before .before .stays .ensures) (not-false _ (c .before .before
+      .before .before .before .if1 .left)) refl (c .before .before .expand-row .ensures))
+
+-- expand_own
+module _ (t : ℕ) where
+  expand-own-loop-holds : expand-own-lts.Need-loop-holds (expand-own-calls t) (expand-own-at t) expand-own.Post
+      expand-own-Inv-loop expand-own-μ-loop
+  expand-own-loop-holds c = led-first _ _ _ _ _ _ _ _
+
+  expand-own-sub-turns : expand-own-lts.Need-sub-turns (expand-own-calls t) (expand-own-at t) expand-own.Post
+      expand-own-Inv-loop expand-own-μ-loop
+  expand-own-sub-turns c = search needs
+
+  expand-own-come-at-requires : expand-own-lts.Need-come-at-requires (expand-own-calls t) (expand-own-at t)
+      expand-own.Post expand-own-Inv-loop expand-own-μ-loop
+  expand-own-come-at-requires c κs = search needs
+
+  expand-own-sub-slot-at : expand-own-lts.Need-sub-slot-at (expand-own-calls t) (expand-own-at t) expand-own.Post
+      expand-own-Inv-loop expand-own-μ-loop
+  expand-own-sub-slot-at c = search needs
+
+  expand-own-slot-at-requires : expand-own-lts.Need-slot-at-requires (expand-own-calls t) (expand-own-at t)
+      expand-own.Post expand-own-Inv-loop expand-own-μ-loop
+  expand-own-slot-at-requires c κs = search needs
+
+  expand-own-same-length : expand-own-lts.Need-same-length (expand-own-calls t) (expand-own-at t) expand-own.Post
+      expand-own-Inv-loop expand-own-μ-loop
+  expand-own-same-length c = c .before .before .before .before .before .loop .inv .long
+
+  expand-own-returns : expand-own-lts.Need-returns (expand-own-calls t) (expand-own-at t) expand-own.Post
+      expand-own-Inv-loop expand-own-μ-loop
+  expand-own-returns c = led-come _ _ _ _ _ _ _ _ _ _ _ _ _ _ (c .before .before .before .before .before .loop .inv) _
+      (c .before .before .before .come-at .ensures) _ (c .before .before .if1 .taken) (c .slot-at .ensures)
+
+  expand-own-word-at-requires : expand-own-lts.Need-word-at-requires (expand-own-calls t) (expand-own-at t)
+      expand-own.Post expand-own-Inv-loop expand-own-μ-loop
+  expand-own-word-at-requires c κs = search needs
+
+  expand-own-add-word-at : expand-own-lts.Need-add-word-at (expand-own-calls t) (expand-own-at t) expand-own.Post
+      expand-own-Inv-loop expand-own-μ-loop
+  expand-own-add-word-at c = search needs
+
+  expand-own-word-at-requires-2 : expand-own-lts.Need-word-at-requires-2 (expand-own-calls t) (expand-own-at t)
+      expand-own.Post expand-own-Inv-loop expand-own-μ-loop
+  expand-own-word-at-requires-2 c κs = search needs
+
+  expand-own-more-requires : expand-own-lts.Need-more-requires (expand-own-calls t) (expand-own-at t) expand-own.Post
+      expand-own-Inv-loop expand-own-μ-loop
+  expand-own-more-requires c κs = search needs
+
+  expand-own-loop-less : expand-own-lts.Need-loop-less (expand-own-calls t) (expand-own-at t) expand-own.Post
+      expand-own-Inv-loop expand-own-μ-loop
+  expand-own-loop-less c = omega (arith, c .before .before .before .before .before .before .loop-test .taken)
+
+  expand-own-loop-again : expand-own-lts.Need-loop-again (expand-own-calls t) (expand-own-at t) expand-own.Post
+      expand-own-Inv-loop expand-own-μ-loop
+  expand-own-loop-again c = led-scope _ _ _ _ _ _ _ _ _ _ _ _ _ _ (c .before .before .before .before .before .before
+      .before .loop .inv) _ (c .before .before .before .before .before .come-at .ensures) (c .before .before .before
+      .before .if1 .left) (c .before .before .before .before .before .before .loop-test .taken) _ (c .before .before
+      .before .word-at .ensures) _ _ (c .before .before .if2 .taken) (c .before .word-at2 .ensures) (c .more .ensures)
+
+  expand-own-expand-record-requires : expand-own-lts.Need-expand-record-requires (expand-own-calls t) (expand-own-at
+      t) expand-own.Post expand-own-Inv-loop expand-own-μ-loop
+  expand-own-expand-record-requires c κs = omega (arith, c .before .before .before .before .before .before .before
+      .before .before .before .before .before .before .pre .0, c .before .before .before .before .before .before
+      .before .before .loop .inv .fewer, c .before .before .before .before .before .before .before .loop-test .taken)
+
+  expand-own-same-length-2 : expand-own-lts.Need-same-length-2 (expand-own-calls t) (expand-own-at t) expand-own.Post
+      expand-own-Inv-loop expand-own-μ-loop
+  expand-own-same-length-2 c = c .before .rows .given ∙ c .before .before .before .before .before .before .before
+      .before .before .before .before .loop .inv .long
+
+  expand-own-returns-2 : expand-own-lts.Need-returns-2 (expand-own-calls t) (expand-own-at t) expand-own.Post
+      expand-own-Inv-loop expand-own-μ-loop
+  expand-own-returns-2 c = led-record _ _ _ _ _ _ _ _ _ _ _ _ _ _ (c .before .before .before .before .before .before
+      .before .before .before .before .before .loop .inv) _ (c .before .before .before .before .before .before .before
+      .before .before .come-at .ensures) (c .before .before .before .before .before .before .before .before .if1
+      .left) (c .before .before .before .before .before .before .before .before .before .before .loop-test .taken) _
+      (c .before .before .before .before .before .before .before .word-at .ensures) _ _ _ (c .before .before .before
+      .before .before .before .if2 .left) (c .before .before .before .before .before .if3 .taken) (c .before .before
+      .expand-record .ensures)
+
+  expand-own-enter-requires : expand-own-lts.Need-enter-requires (expand-own-calls t) (expand-own-at t)
+      expand-own.Post expand-own-Inv-loop expand-own-μ-loop
+  expand-own-enter-requires c κs = omega (arith, c .before .before .before .before .before .before .before .before
+      .before .before .before .before .before .pre .0, c .before .before .before .before .before .before .before
+      .before .loop .inv .fewer, c .before .before .before .before .before .before .before .loop-test .taken)
+
+  expand-own-loop-less-2 : expand-own-lts.Need-loop-less-2 (expand-own-calls t) (expand-own-at t) expand-own.Post
+      expand-own-Inv-loop expand-own-μ-loop
+  expand-own-loop-less-2 c = omega (arith, c .before .before .before .before .before .before .before .before .before
+      .before .loop-test .taken)
+
+  expand-own-loop-again-2 : expand-own-lts.Need-loop-again-2 (expand-own-calls t) (expand-own-at t) expand-own.Post
+      expand-own-Inv-loop expand-own-μ-loop
+  expand-own-loop-again-2 c = led-use _ _ _ _ _ _ _ _ _ _ _ _ _ _ (c .before .before .before .before .before .before
+      .before .before .before .before .before .loop .inv) _ (c .before .before .before .before .before .before .before
+      .before .before .come-at .ensures) (c .before .before .before .before .before .before .before .before .if1
+      .left) (c .before .before .before .before .before .before .before .before .before .before .loop-test .taken) _
+      (c .before .before .before .before .before .before .before .word-at .ensures) _ _ _ _ _ (c .before .before
+      .before .before .before .if3 .left) (c .before .rows2 .given) (c .before .before .enter .ensures)
+
+  expand-own-same-length-3 : expand-own-lts.Need-same-length-3 (expand-own-calls t) (expand-own-at t) expand-own.Post
+      expand-own-Inv-loop expand-own-μ-loop
+  expand-own-same-length-3 c = c .before .loop .inv .long
+
+  expand-own-returns-3 : expand-own-lts.Need-returns-3 (expand-own-calls t) (expand-own-at t) expand-own.Post
+      expand-own-Inv-loop expand-own-μ-loop
+  expand-own-returns-3 c = led-end _ _ _ _ _ _ _ _ _ _ _ _ _ _ (c .before .loop .inv) (c .loop-test .left)
+
+-- expand_part
+module _ (t : ℕ) where
+  expand-part-returns : expand-part-lts.Need-returns (expand-part-calls t) (expand-part-at t) expand-part.Post
+  expand-part-returns c = piece-none _ _ _ _ _ _ _ _ _ _ (c .if1 .taken)
+
+  expand-part-add-word-at : expand-part-lts.Need-add-word-at (expand-part-calls t) (expand-part-at t) expand-part.Post
+  expand-part-add-word-at c = search needs
+
+  expand-part-word-at-requires : expand-part-lts.Need-word-at-requires (expand-part-calls t) (expand-part-at t)
+      expand-part.Post
+  expand-part-word-at-requires c κs = search needs
+
+  expand-part-come-at-requires : expand-part-lts.Need-come-at-requires (expand-part-calls t) (expand-part-at t)
+      expand-part.Post
+  expand-part-come-at-requires c κs = search needs
+
+  expand-part-sub-slot-at : expand-part-lts.Need-sub-slot-at (expand-part-calls t) (expand-part-at t) expand-part.Post
+  expand-part-sub-slot-at c = search needs
+
+  expand-part-slot-at-requires : expand-part-lts.Need-slot-at-requires (expand-part-calls t) (expand-part-at t)
+      expand-part.Post
+  expand-part-slot-at-requires c κs = search needs
+
+  expand-part-returns-2 : expand-part-lts.Need-returns-2 (expand-part-calls t) (expand-part-at t) expand-part.Post
+  expand-part-returns-2 c = piece-some _ _ _ _ _ _ _ _ _ _ _ _ _ _ (c .before .before .before .before .if1 .left) (c
+      .before .before .before .word-at .ensures) (by-come _ _ _ _ _ _ _ _ (c .before .before .come-at .ensures) (c
+      .before .if2 .taken) (c .slot-at .ensures))
+
+  expand-part-expand-requires : expand-part-lts.Need-expand-requires (expand-part-calls t) (expand-part-at t)
+      expand-part.Post
+  expand-part-expand-requires c κs = (omega (arith, c .before .before .before .before .before .before .before .before
+      .pre .0), omega (arith, c .before .before .come-at .ensures, c .before .if2 .left))
+
+  expand-part-same-length : expand-part-lts.Need-same-length (expand-part-calls t) (expand-part-at t) expand-part.Post
+  expand-part-same-length c = search needs
+
+  expand-part-returns-3 : expand-part-lts.Need-returns-3 (expand-part-calls t) (expand-part-at t) expand-part.Post
+  expand-part-returns-3 c = piece-some _ _ _ _ _ _ _ _ _ _ _ _ _ _ (c .before .before .before .before .before .before
+      .before .if1 .left) (c .before .before .before .before .before .before .word-at .ensures) (c .before .before
+      .expand .ensures)
+
+-- expand_parts
+module _ (t : ℕ) where
+  expand-parts-expand-part-requires : expand-parts-lts.Need-expand-part-requires (expand-parts-calls t)
+      (expand-parts-at t) expand-parts.Post
+  expand-parts-expand-part-requires c κs = search needs
+
+  expand-parts-expand-part-requires-2 : expand-parts-lts.Need-expand-part-requires-2 (expand-parts-calls t)
+      (expand-parts-at t) expand-parts.Post
+  expand-parts-expand-part-requires-2 c κs = search needs
+
+  expand-parts-expand-part-requires-3 : expand-parts-lts.Need-expand-part-requires-3 (expand-parts-calls t)
+      (expand-parts-at t) expand-parts.Post
+  expand-parts-expand-part-requires-3 c κs = search needs
+
+  expand-parts-expand-part-requires-4 : expand-parts-lts.Need-expand-part-requires-4 (expand-parts-calls t)
+      (expand-parts-at t) expand-parts.Post
+  expand-parts-expand-part-requires-4 c κs = search needs
+
+  expand-parts-same-length : expand-parts-lts.Need-same-length (expand-parts-calls t) (expand-parts-at t)
+      expand-parts.Post
+  expand-parts-same-length c = search needs
+
+  expand-parts-returns : expand-parts-lts.Need-returns (expand-parts-calls t) (expand-parts-at t) expand-parts.Post
+  expand-parts-returns c = pieces-four _ _ _ _ _ _ (c .before .before .before .before .before .before .before .before
+      .before .before .before .before .before .before .before .before .before .before .before .args .wanted) _ _ _ _ _
+      _ _ _ _ _ _ _ _ _ (c .before .before .before .before .before .before .before .before .before .before .before
+      .before .before .before .expand-part .ensures) (c .before .before .before .before .before .before .before
+      .before .before .before .expand-part2 .ensures) (c .before .before .before .before .before .before .expand-part3
+      .ensures) (c .before .before .expand-part4 .ensures)
+
+-- expand_record
+module _ (t : ℕ) where
+  expand-record-word-at-requires : expand-record-lts.Need-word-at-requires (expand-record-calls t) (expand-record-at
+      t) expand-record.Post
+  expand-record-word-at-requires c κs = search needs
+
+  expand-record-put-slot-requires : expand-record-lts.Need-put-slot-requires (expand-record-calls t) (expand-record-at
+      t) expand-record.Post
+  expand-record-put-slot-requires c κs = search needs
+
+  expand-record-more-requires : expand-record-lts.Need-more-requires (expand-record-calls t) (expand-record-at t)
+      expand-record.Post
+  expand-record-more-requires c κs = search needs
+
+  expand-record-expand-row-requires : expand-record-lts.Need-expand-row-requires (expand-record-calls t)
+      (expand-record-at t) expand-record.Post
+  expand-record-expand-row-requires c κs = search needs
+
+  expand-record-same-length : expand-record-lts.Need-same-length (expand-record-calls t) (expand-record-at t)
+      expand-record.Post
+  expand-record-same-length c = search needs
+
+  expand-record-returns : expand-record-lts.Need-returns (expand-record-calls t) (expand-record-at t)
+      expand-record.Post
+  expand-record-returns c = record-block _ _ _ _ _ _ _ _ _ _ _ _ (c .before .before .before .before .before .before
+      .before .before .before .word-at .ensures) _ _ (c .before .before .before .before .before .before .before
+      .before .if1 .taken) (c .before .before .before .before .before .before .put-slot .ensures) (c .before .before
+      .before .more .ensures) refl (c .before .before .expand-row .ensures)
+
+  expand-record-expand-row-requires-2 : expand-record-lts.Need-expand-row-requires-2 (expand-record-calls t)
+      (expand-record-at t) expand-record.Post
+  expand-record-expand-row-requires-2 c κs = search needs
+
+  expand-record-same-length-2 : expand-record-lts.Need-same-length-2 (expand-record-calls t) (expand-record-at t)
+      expand-record.Post
+  expand-record-same-length-2 c = search needs
+
+  expand-record-returns-2 : expand-record-lts.Need-returns-2 (expand-record-calls t) (expand-record-at t)
+      expand-record.Post
+  expand-record-returns-2 c = record-plain _ _ _ _ _ _ _ _ _ _ _ _ (c .before .before .before .before .before .before
+      .word-at .ensures) (c .before .before .before .before .before .if1 .left) refl (c .before .before .expand-row2
+      .ensures)
+
+-- expand_row
+module _ (t : ℕ) where
+  expand-row-word-at-requires : expand-row-lts.Need-word-at-requires (expand-row-calls t) (expand-row-at t)
+      expand-row.Post
+  expand-row-word-at-requires c κs = search needs
+
+  expand-row-word-at-requires-2 : expand-row-lts.Need-word-at-requires-2 (expand-row-calls t) (expand-row-at t)
+      expand-row.Post
+  expand-row-word-at-requires-2 c κs = search needs
+
+  expand-row-parts-of-requires : expand-row-lts.Need-parts-of-requires (expand-row-calls t) (expand-row-at t)
+      expand-row.Post
+  expand-row-parts-of-requires c κs = search needs
+
+  expand-row-more-requires : expand-row-lts.Need-more-requires (expand-row-calls t) (expand-row-at t) expand-row.Post
+  expand-row-more-requires c κs = search needs
+
+  expand-row-expand-parts-requires : expand-row-lts.Need-expand-parts-requires (expand-row-calls t) (expand-row-at t)
+      expand-row.Post
+  expand-row-expand-parts-requires c κs = search needs
+
+  expand-row-close-row-requires : expand-row-lts.Need-close-row-requires (expand-row-calls t) (expand-row-at t)
+      expand-row.Post
+  expand-row-close-row-requires c κs = search needs
+
+  expand-row-same-length : expand-row-lts.Need-same-length (expand-row-calls t) (expand-row-at t) expand-row.Post
+  expand-row-same-length c = search needs
+
+  expand-row-returns : expand-row-lts.Need-returns (expand-row-calls t) (expand-row-at t) expand-row.Post
+  expand-row-returns c = row-made _ _ _ _ _ _ _ _ _ _ _ _ _ _ _ _ _ _ _ (c .before .before .before .before .before
+      .before .before .before .before .before .before .word-at .ensures) (c .before .before .before .before .before
+      .before .before .before .before .before .word-at2 .ensures) (c .before .before .before .before .before .before
+      .before .before .before .parts-of .ensures) (c .before .before .before .before .before .before .before .more
+      .ensures) (c .before .before .before .before .before .before .expand-parts .ensures) (c .before .before
+      .close-row .ensures)
+
+pub +enter+expand+expand-own+expand-part+expand-parts+expand-record+expand-row-spec : {M : Type 1} → statement M
++enter+expand+expand-own+expand-part+expand-parts+expand-record+expand-row-spec =
+    close μ-enter μ-expand μ-expand-own μ-expand-part μ-expand-parts μ-expand-record μ-expand-row
+    (λ t. enter-lts.spec (enter-calls t) (enter-at t) enter.Post
+      (enter-word-at-requires t) (enter-procedure-of-requires t) (enter-word-at-requires-2 t)
+          (enter-word-at-requires-3 t) (enter-used-at-requires t) (enter-expand-parts-requires t) (enter-pass-requires
+          t) (enter-passed-of-requires t) (enter-more-requires t) (enter-same-length t) (enter-returns t))
+    (λ t. expand-lts.spec (expand-calls t) (expand-at t) expand.Post
+      (expand-word-at-requires t) (expand-stays-requires t) (expand-expand-own-requires t) (expand-same-length t)
+          (expand-returns t) (expand-returns-2 t) (expand-sub-expand-row t) (expand-expand-row-requires t)
+          (expand-same-length-2 t) (expand-returns-3 t))
+    (λ t. expand-own-lts.spec (expand-own-calls t) (expand-own-at t) expand-own.Post expand-own-Inv-loop
+      expand-own-μ-loop
+      (expand-own-loop-holds t) (expand-own-sub-turns t) (expand-own-come-at-requires t) (expand-own-sub-slot-at t)
+          (expand-own-slot-at-requires t) (expand-own-same-length t) (expand-own-returns t)
+          (expand-own-word-at-requires t) (expand-own-add-word-at t) (expand-own-word-at-requires-2 t)
+          (expand-own-more-requires t) (expand-own-loop-less t) (expand-own-loop-again t)
+          (expand-own-expand-record-requires t) (expand-own-same-length-2 t) (expand-own-returns-2 t)
+          (expand-own-enter-requires t) (expand-own-loop-less-2 t) (expand-own-loop-again-2 t)
+          (expand-own-same-length-3 t) (expand-own-returns-3 t))
+    (λ t. expand-part-lts.spec (expand-part-calls t) (expand-part-at t) expand-part.Post
+      (expand-part-returns t) (expand-part-add-word-at t) (expand-part-word-at-requires t)
+          (expand-part-come-at-requires t) (expand-part-sub-slot-at t) (expand-part-slot-at-requires t)
+          (expand-part-returns-2 t) (expand-part-expand-requires t) (expand-part-same-length t) (expand-part-returns-3
+          t))
+    (λ t. expand-parts-lts.spec (expand-parts-calls t) (expand-parts-at t) expand-parts.Post
+      (expand-parts-expand-part-requires t) (expand-parts-expand-part-requires-2 t)
+          (expand-parts-expand-part-requires-3 t) (expand-parts-expand-part-requires-4 t) (expand-parts-same-length t)
+          (expand-parts-returns t))
+    (λ t. expand-record-lts.spec (expand-record-calls t) (expand-record-at t) expand-record.Post
+      (expand-record-word-at-requires t) (expand-record-put-slot-requires t) (expand-record-more-requires t)
+          (expand-record-expand-row-requires t) (expand-record-same-length t) (expand-record-returns t)
+          (expand-record-expand-row-requires-2 t) (expand-record-same-length-2 t) (expand-record-returns-2 t))
+    (λ t. expand-row-lts.spec (expand-row-calls t) (expand-row-at t) expand-row.Post
+      (expand-row-word-at-requires t) (expand-row-word-at-requires-2 t) (expand-row-parts-of-requires t)
+          (expand-row-more-requires t) (expand-row-expand-parts-requires t) (expand-row-close-row-requires t)
+          (expand-row-same-length t) (expand-row-returns t))

@@ -1,0 +1,79 @@
+-- What loading a sheet leaves, from what judging and expanding it leave.
+use Prim.Native.Nat.{ℕ, _≤_, _<_}
+use native.Mathlib.Omega.{arith}
+use mathlib.Core.Path.{_≡_, refl, sym, ap, ap₂, _∙_, subst, subst₂}
+use mathlib.Core.List.{List, []}
+use lib.ListN.{length}
+use Rattle.language.specs.declared.Numbers.{Numbers}
+use Rattle.records.specs.declared.refusal.Refusal.{Refusal}
+use Rattle.procedures.specs.Written as written
+use Rattle.procedures.specs.Meaning.{tyOf, termOf, typeOf}
+use Rattle.procedures.specs.Fine.{Accepted}
+use Rattle.procedures.specs.Made.{made, madeSheet}
+use Rattle.procedures.specs.Context.{whole, forms, makes}
+use Rattle.procedures.specs.Table.{Shown}
+use Rattle.procedures.specs.Marks.{Marked}
+use Rattle.procedures.proofs.Rows.{rows-sheet}
+use Rattle.procedures.proofs.Valuing.{accepted-nodes}
+use Rattle.nodes.specs.Rep.{Rep}
+use Rattle.expand.specs.Contract as expand
+use Rattle.expand.proofs.Places.{shown-row}
+use Rattle.expand.proofs.Automaton.{rows-represent}
+use Rattle.sheet.specs.Reader.{numbersAt}
+use Rattle.sheet.specs.table.Tabled.{places}
+use Rattle.sheet.specs.table.Judged.{Judged, JudgedBy}
+use Rattle.sheet.specs.declared.judge.Judgement.{Judgement}
+use Rattle.sheet.specs.declared.judge.Judgement.the-variants as judged
+use Rattle.sheet.proofs.Right.{gives}
+use Rattle.load.specs.Loaded.{Expanded, Ready, LoadedBy}
+use Rattle.load.specs.declared.load.Loaded.the-variants.{Sheet, Refused}
+
+-- a sheet that is judged
+pub judged-of : (s u M : List ℕ) {x : Judgement} {root ty size : ℕ} → JudgedBy s x u M → x ≡ judged.Sheet root ty size →
+    Judged s root ty size u M
+unfolding JudgedBy
+judged-of s u M J e = rw e at J
+
+-- one that is refused
+pub load-refused : (s u M after : List ℕ) {x : Judgement} {y : Refusal} → JudgedBy s x u M → x ≡ judged.Refused y →
+    LoadedBy s (Refused y) after
+unfolding JudgedBy LoadedBy
+load-refused s u M after J e = rw e at J
+
+module _ {s u M : List ℕ} {root ty size : ℕ} (J : Judged s root ty size u M) where
+  abbrev S : written.Sheet
+  S = J .sheet
+
+  -- it is in order, and has its type
+  ordered : Accepted S
+  ordered = gives s S ty size (J .accepts) .1 .ordered
+
+  types : ty ≡ typeOf S
+  types = gives s S ty size (J .accepts) .2
+
+  -- its term stands within 4,096 places
+  pub root-small : root < 4096
+  root-small =
+      let r = shown-row (numbersAt s) (S .names) u (J .shown) .1 in
+      omega (arith, r .before, r .within)
+
+  ready : expand.Ready (S .numbers) (S .names) u M places (S .term) root (J .end)
+  unfolding madeSheet forms makes
+  ready = record {
+      shown = subst (λ N. Shown N (S .names) u whole places root (J .end) (S .term)) (sym (J .numbered)) (J .shown);
+      marked = subst (λ N. Marked N (S .names) u M whole root (S .term)) (sym (J .numbered)) (J .marked);
+      fine = ordered .fine-term;
+      shallow = ordered .shallow;
+      room = omega (arith, rows-sheet S, accepted-nodes S ordered) }
+
+  -- THEOREM: the rows to which it is expanded represent its term
+  pub load-sheet : {r : ℕ} {rows after : List ℕ} → Expanded u M root rows after r → length rows ≡ 110592 →
+      LoadedBy s (Sheet root r ty size) after
+  unfolding LoadedBy
+  load-sheet {r} {rows} {after} T l =
+      let n : ℕ = T .count in
+      let w = T .expands .of (S .numbers) (S .names) places (S .term) (J .end) ready l in
+      let p = rows-represent S ordered after r n (w .expands) (w .local) in
+      record {
+        sheet = S; accepts = J .accepts; numbered = J .numbered; rooted = J .rooted;
+        represents = subst₂ (λ N i. Rep N after 6144 r [] [] (termOf S) (tyOf N i)) (J .numbered) (sym types) p }

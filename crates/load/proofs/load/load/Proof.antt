@@ -1,0 +1,35 @@
+-- A sheet that is judged, and its term expanded.
+use borrow.Author.Needs.{needs}
+use native.Mathlib.Omega.{arith}
+use Rattle.load.proofs.Loading.{judged-of, load-refused, root-small, load-sheet}
+use Rattle.load.proofs.load.load.Statement.{statement}
+use Rattle.load.proofs.load.load.Tie as tie
+
+judge-sheet-requires : tie.Need-judge-sheet-requires
+judge-sheet-requires c κs = search needs
+
+enum-known-x : tie.Need-enum-known-x
+enum-known-x c = search needs
+
+enum-known-x-2 : tie.Need-enum-known-x-2
+enum-known-x-2 c = search needs
+
+expand-root-requires : tie.Need-expand-root-requires
+expand-root-requires c κs =
+    let J = judged-of _ _ _ (c .before .before .before .before .before .before .judge-sheet .ensures) (c .before
+      .before .before .before .x2 .given .1) in
+    omega (arith, root-small J)
+
+returns : tie.Need-returns
+returns c = load-refused _ _ _ _ (c .before .before .before .judge-sheet .ensures) (c .before .x .given .1)
+
+returns-2 : tie.Need-returns-2
+returns-2 c =
+    let J = judged-of _ _ _ (c .before .before .before .before .before .before .before .judge-sheet .ensures) (c
+      .before .before .before .before .before .x2 .given .1) in
+    load-sheet J (c .expand-root .ensures) (c .before .before .before .before .before .before .before .before .before .before .before .pre)
+
+pub load-spec : {M : Type 1} → statement M
+load-spec =
+    tie.close
+    (tie.spec judge-sheet-requires enum-known-x enum-known-x-2 expand-root-requires returns returns-2)

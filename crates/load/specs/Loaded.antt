@@ -1,0 +1,30 @@
+-- What loading a sheet leaves: the sheet is accepted, and the rows represent its term; or why it is refused. Only inner
+-- contracts cite it.
+use Prim.Native.Nat.{ℕ}
+use mathlib.Core.Path.{_≡_}
+use mathlib.Core.List.{List, []}
+use Rattle.procedures.specs.Written as written
+use Rattle.procedures.specs.Meaning.{tyOf, termOf}
+use Rattle.nodes.specs.Rep.{Rep}
+use Rattle.expand.specs.Contract.{Top}
+use Rattle.sheet.specs.Encoding.{headingLength}
+use Rattle.sheet.specs.Reader.{numbersAt, readSheet, accepted, rejected}
+use Rattle.load.specs.declared.load.Loaded.{Loaded}
+use Rattle.load.specs.declared.load.Loaded.the-variants.{Sheet, Refused}
+
+-- the term whose parts the table t has from the root on becomes the row r
+pub record Expanded (t marks : List ℕ) (root : ℕ) (rows after : List ℕ) (r : ℕ) : Type 0 where
+  pub count : ℕ
+  pub expands : Top t marks root rows after r count
+
+-- the sheet is accepted with type ty and the given size, its term stands at root, and the rows u represent it at a row
+pub record Ready (s : List ℕ) (root row ty size : ℕ) (u : List ℕ) : Type 0 where
+  pub sheet : written.Sheet
+  pub accepts : readSheet s ≡ accepted sheet ty size
+  pub numbered : sheet .numbers ≡ numbersAt s
+  pub rooted : root ≡ headingLength sheet
+  pub represents : Rep (numbersAt s) u 6144 row [] [] (termOf sheet) (tyOf (numbersAt s) ty)
+
+unfoldable pub LoadedBy : List ℕ → Loaded → List ℕ → Type 0
+LoadedBy s (Sheet root row ty size) u = Ready s root row ty size u
+LoadedBy s (Refused x) u = readSheet s ≡ rejected (x .number) (x .place)

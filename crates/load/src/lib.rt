@@ -1,0 +1,2 @@
+// From the bytes of a sheet to the rows of its term.
+pub mod load;

@@ -1,0 +1,63 @@
+// Loading a sheet: it is judged, and its term is expanded to rows.
+use expand::expand::expand_term;
+use records::refusal::Refusal;
+use sheet::judge::Judgement;
+use sheet::judge::judge_sheet;
+ghost use Rattle.load.specs.Loaded.{Expanded, LoadedBy};
+ghost use mathlib.Core.Path.{_≡_};
+ghost use Prim.Native.Nat.{_<_};
+ghost use lib.ListN.{length};
+
+// The words of a table of parts, how many places a sheet has, and the words of the rows of a term.
+const PARTS: usize = 36864;
+
+const PLACES: usize = 4096;
+
+pub const ROWS: usize = 110592;
+
+// What loading a sheet gives: the place of its term, the row of the term, its type and the sheet's size; or the refusal.
+pub enum Loaded {
+    Sheet {
+        root: usize,
+        row: usize,
+        ty: u8,
+        size: u32,
+    },
+    Refused(Refusal),
+}
+
+// Expands the term whose parts the table has from the root on, and gives its row.
+fn expand_root(
+    t: &[u16; PARTS],
+    marks: &[u16; PLACES],
+    rows: &mut [u16; ROWS],
+    root: usize,
+) -> usize
+    requires { ⌜ root < 65536 ⌝ }
+    ensures { λ r. ⌜ Expanded (now (t .entry)) (now (marks .entry)) root (now (rows .entry)) (now (rows .exit)) r ⌝ }
+{
+    let made = expand_term(t, marks, rows, root as u16);
+    made.row as usize
+}
+
+// Loads a sheet, and leaves the rows of its term.
+pub fn load(s: &[u8], rows: &mut [u16; ROWS]) -> Loaded
+    requires { ⌜ length (now rows) ≡ 110592 ⌝ }
+    ensures { λ x. ⌜ LoadedBy (now (s .entry)) x (now (rows .exit)) ⌝ }
+{
+    let mut t = [0u16; PARTS];
+    let mut marks = [0u16; PLACES];
+    let x = judge_sheet(s, &mut t, &mut marks);
+    match x {
+        Judgement::Refused(refusal) => Loaded::Refused(refusal),
+        Judgement::Sheet { root, ty, size } => {
+            let row = expand_root(&t, &marks, rows, root);
+            Loaded::Sheet {
+                root,
+                row,
+                ty,
+                size,
+            }
+        }
+    }
+}

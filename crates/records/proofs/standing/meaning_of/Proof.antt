@@ -1,0 +1,48 @@
+-- The ranges of standings, one after the other.
+use borrow.Author.Needs.{needs}
+use native.Mathlib.Omega.{arith}
+use mathlib.Core.Path.{sym}
+use Rattle.records.proofs.StandingLaws.{is-free, is-retired, is-declared, is-first-declared, is-variable, is-parameter, is-procedure}
+use Rattle.records.proofs.standing.meaning_of.Statement.{statement}
+use Rattle.records.proofs.standing.meaning_of.Tie as tie
+
+returns : tie.Need-returns
+returns c = sym (is-free _ (c .if1 .taken))
+
+returns-2 : tie.Need-returns-2
+returns-2 c = sym (is-retired _ (c .if2 .taken))
+
+returns-3 : tie.Need-returns-3
+returns-3 c = sym (is-first-declared _ (omega arith) (c .if3 .taken))
+
+returns-4 : tie.Need-returns-4
+returns-4 c = sym (is-declared _ (omega arith) (c .if4 .taken))
+
+cast-t8 : tie.Need-cast-t8
+cast-t8 c = search needs
+
+cast-t10 : tie.Need-cast-t10
+cast-t10 c = search needs
+
+returns-5 : tie.Need-returns-5
+returns-5 c = sym (is-variable _ (c .before .if4 .left) (c .if5 .taken))
+
+cast-t12 : tie.Need-cast-t12
+cast-t12 c = search needs
+
+cast-t14 : tie.Need-cast-t14
+cast-t14 c = search needs
+
+returns-6 : tie.Need-returns-6
+returns-6 c = sym (is-parameter _ (c .before .if5 .left) (c .if6 .taken))
+
+cast-t16 : tie.Need-cast-t16
+cast-t16 c = search needs
+
+returns-7 : tie.Need-returns-7
+returns-7 c = sym (is-procedure _ (c .if6 .left))
+
+pub meaning-of-spec : {M : Type 1} → statement M
+meaning-of-spec =
+    tie.close (tie.spec returns returns-2 returns-3 returns-4 cast-t8 cast-t10 returns-5 cast-t12 cast-t14 returns-6
+    cast-t16 returns-7)

@@ -1,0 +1,166 @@
+// Judgements of single bytes, one after the other.
+use crate::kind::COUNT;
+use crate::kind::ID;
+use crate::kind::PARAMETER_IDS;
+use crate::kind::PARAMETER_TYPES;
+use crate::kind::RESULT;
+use crate::read::byte_at;
+use crate::read::standing_of;
+use crate::refusal::CUT_SHORT;
+use crate::refusal::ID_TAKEN;
+use crate::refusal::OUT_OF_RANGE;
+use crate::refusal::Refusal;
+use crate::refusal::refuse;
+use crate::standing::is_named;
+ghost use mathlib.Core.Path.{_≡_};
+ghost use Prim.Native.Nat.{_+_, _<_};
+ghost use Rattle.records.specs.Judge.{andThen, below, unused, bound, earlier, parameterId, pair, procedureOf};
+
+// Where the ranges of bytes end: ids, types, counts of parameters.
+const IDS: u8 = 255;
+
+const TYPES: u8 = 5;
+
+const COUNTS: u8 = 5;
+
+// The byte of something that is not there.
+const UNUSED: u8 = 255;
+
+// A judgement of bytes: good, or the refusal's number and place.
+pub enum Judged {
+    Good,
+    Refused(Refusal),
+}
+
+// A judgement, then another.
+pub fn judge_both(first: Judged, then: Judged) -> Judged
+    ensures { λ r. ⌜ r ≡ andThen first then ⌝ }
+{
+    match first {
+        Judged::Good => then,
+        Judged::Refused(reason) => Judged::Refused(reason),
+    }
+}
+
+// A byte below a limit.
+pub fn judge_below(s: &[u8], at: usize, limit: u8) -> Judged
+    ensures { λ r. ⌜ r ≡ below (now (s .entry)) at limit ⌝ }
+{
+    if s.len() <= at {
+        return Judged::Refused(refuse(CUT_SHORT, s.len()));
+    }
+    if limit <= s[at] {
+        return Judged::Refused(refuse(OUT_OF_RANGE, at));
+    }
+    Judged::Good
+}
+
+// A byte of something that is not there.
+pub fn judge_unused(s: &[u8], at: usize) -> Judged
+    ensures { λ r. ⌜ r ≡ unused (now (s .entry)) at ⌝ }
+{
+    if s.len() <= at {
+        return Judged::Refused(refuse(CUT_SHORT, s.len()));
+    }
+    if s[at] == UNUSED {
+        return Judged::Good;
+    }
+    Judged::Refused(refuse(OUT_OF_RANGE, at))
+}
+
+// The id of a binder, which is neither declared nor retired.
+pub(crate) fn judge_bound(s: &[u8], st: &[u32; 255], at: usize) -> Judged
+    ensures { λ r. ⌜ r ≡ bound (now (s .entry)) (now (st .entry)) at ⌝ }
+{
+    let range = judge_below(s, at, IDS);
+    match range {
+        Judged::Refused(refusal) => Judged::Refused(refusal),
+        Judged::Good => {
+            let id = byte_at(s, at);
+            if is_named(standing_of(st, id)) {
+                return Judged::Refused(refuse(ID_TAKEN, at));
+            }
+            Judged::Good
+        }
+    }
+}
+
+// Whether one of the first j parameters of the procedure at a place has an id.
+pub(crate) fn is_earlier(s: &[u8], place: usize, j: u8, id: u8) -> bool
+    requires { ⌜ place < 65536 ⌝ }
+    ensures { λ r. ⌜ r ≡ earlier (now (s .entry)) place j id ⌝ }
+{
+    let mut i = j;
+    while 0 < i {
+        i -= 1;
+        if byte_at(s, place + PARAMETER_IDS + 2 * (i as usize)) == id {
+            return true;
+        }
+    }
+    false
+}
+
+// The id of parameter j, which no earlier parameter has.
+pub(crate) fn judge_parameter_id(s: &[u8], st: &[u32; 255], place: usize, j: u8) -> Judged
+    requires { ⌜ place < 65536 ⌝ }
+    ensures { λ r. ⌜ r ≡ parameterId (now (s .entry)) (now (st .entry)) place j ⌝ }
+{
+    let at = place + PARAMETER_IDS + 2 * (j as usize);
+    let free = judge_bound(s, st, at);
+    match free {
+        Judged::Refused(refusal) => Judged::Refused(refusal),
+        Judged::Good => {
+            let id = byte_at(s, at);
+            if is_earlier(s, place, j, id) {
+                return Judged::Refused(refuse(ID_TAKEN, at));
+            }
+            Judged::Good
+        }
+    }
+}
+
+// Pair j of the procedure at a place: a parameter's id and type, or 255 255.
+pub(crate) fn judge_pair(s: &[u8], st: &[u32; 255], place: usize, j: u8) -> Judged
+    requires { ⌜ place < 65536 ⌝ }
+    ensures { λ r. ⌜ r ≡ pair (now (s .entry)) (now (st .entry)) place j ⌝ }
+{
+    let id_at = place + PARAMETER_IDS + 2 * (j as usize);
+    let type_at = place + PARAMETER_TYPES + 2 * (j as usize);
+    if j < byte_at(s, place + COUNT) {
+        return judge_both(
+            judge_parameter_id(s, st, place, j),
+            judge_below(s, type_at, TYPES),
+        );
+    }
+    judge_both(judge_unused(s, id_at), judge_unused(s, type_at))
+}
+
+// The four pairs of the procedure at a place.
+fn judge_pairs(s: &[u8], st: &[u32; 255], place: usize) -> Judged
+    requires { ⌜ place < 65536 ⌝ }
+    ensures { λ r. ⌜ r ≡ andThen (pair (now (s .entry)) (now (st .entry)) place 0)
+        (andThen (pair (now (s .entry)) (now (st .entry)) place 1)
+        (andThen (pair (now (s .entry)) (now (st .entry)) place 2)
+        (pair (now (s .entry)) (now (st .entry)) place 3))) ⌝ }
+{
+    let last = judge_both(judge_pair(s, st, place, 2), judge_pair(s, st, place, 3));
+    judge_both(
+        judge_pair(s, st, place, 0),
+        judge_both(judge_pair(s, st, place, 1), last),
+    )
+}
+
+// The body of the procedure at a place: id, result type, count of parameters, pairs.
+pub(crate) fn judge_procedure(s: &[u8], st: &[u32; 255], place: usize) -> Judged
+    requires { ⌜ place < 65536 ⌝ }
+    ensures { λ r. ⌜ r ≡ procedureOf (now (s .entry)) (now (st .entry)) place ⌝ }
+{
+    let counted = judge_both(
+        judge_below(s, place + COUNT, COUNTS),
+        judge_pairs(s, st, place),
+    );
+    judge_both(
+        judge_bound(s, st, place + ID),
+        judge_both(judge_below(s, place + RESULT, TYPES), counted),
+    )
+}

@@ -1,0 +1,38 @@
+// A whole sheet judged: read, weighed, and held to the greatest size.
+use crate::names::Reading;
+use crate::reading::numbers_of;
+use crate::reading::read_sheet;
+use crate::size::size_of;
+use records::refusal::Refusal;
+use records::refusal::TOO_LARGE;
+use records::refusal::refuse;
+use records::weight::LIMIT;
+use weigh::term::weigh;
+ghost use mathlib.Core.Path.{_≡_};
+ghost use lib.ListN.{length};
+ghost use Rattle.sheet.specs.table.Judged.{JudgedBy};
+
+// What judging a sheet gives: the place of its term, its type and its size; or the refusal.
+pub enum Judgement {
+    Sheet { root: usize, ty: u8, size: u32 },
+    Refused(Refusal),
+}
+
+// Judges a whole sheet, and leaves the rows of its parts in the table and their marks.
+pub fn judge_sheet(s: &[u8], t: &mut [u16; 36864], marks: &mut [u16; 4096]) -> Judgement
+    requires { ⌜ length (now t) ≡ 36864 ⌝ }
+    ensures { λ x. ⌜ JudgedBy (now (s .entry)) x (now (t .exit)) (now (marks .exit)) ⌝ }
+{
+    let x = read_sheet(s, t);
+    match x {
+        Reading::Refused(refusal) => Judgement::Refused(refusal),
+        Reading::Sheet { root, ty, next: _ } => {
+            let weight = weigh(t, root, marks);
+            let size = size_of(numbers_of(s), ty, weight);
+            if LIMIT < size {
+                return Judgement::Refused(refuse(TOO_LARGE, 0));
+            }
+            Judgement::Sheet { root, ty, size }
+        }
+    }
+}
