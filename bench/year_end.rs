@@ -1,17 +1,17 @@
 //! `year-end FOLDER [each]`: times the library and the peer on the pairs of sheets in the folder, and holds their
 //! answers to each other. The exit status is 0 only if all agree.
 
+#[allow(dead_code)]
+#[path = "../include/negyvosal.rs"]
+mod boundary;
 mod peer;
 
+use boundary::{negyvosal_check, negyvosal_compare, ACCEPTED, APART, SAME, WORDS};
 use peer::{Answer, Peer};
 use std::path::Path;
 use std::process::ExitCode;
 
 const RUNS: usize = 15;
-const WORDS: usize = 5;
-const ACCEPTED: u32 = 1;
-const SAME: u32 = 3;
-const APART: u32 = 4;
 const IN_OLD: u32 = 0;
 /// What play space is filled with, so that what the library leaves is seen.
 const UNTOUCHED: u8 = 0;
@@ -28,21 +28,6 @@ struct Time {
 
 extern "C" {
     fn clock_gettime(clock: i32, time: *mut Time) -> i32;
-
-    fn negyvosal_check(sheet: *const u8, sheet_length: usize, out: *mut u32, out_length: usize) -> u32;
-
-    fn negyvosal_compare(
-        old: *const u8,
-        old_length: usize,
-        new: *const u8,
-        new_length: usize,
-        words: *mut u32,
-        words_length: usize,
-        space: *mut u8,
-        space_length: usize,
-        out: *mut u32,
-        out_length: usize,
-    ) -> u32;
 }
 
 /// The processor time of this thread so far, in microseconds.

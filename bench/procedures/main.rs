@@ -1,6 +1,9 @@
 //! `procedures`: times check and compare of each hard sheet with itself. `procedures write FOLDER`: writes the sheets
 //! into the folder. The exit status is 0 only if the answers are as they should be.
 
+#[allow(dead_code)]
+#[path = "../../include/negyvosal.rs"]
+mod boundary;
 mod chains;
 #[allow(dead_code)]
 #[path = "../../tests/independent/reader.rs"]
@@ -13,37 +16,17 @@ mod terms;
 #[path = "../../tests/independent/weigh.rs"]
 mod weigh;
 
+use boundary::{negyvosal_check, negyvosal_compare, ACCEPTED, REFUSED, SAME, WORDS};
 use sheets::Hard;
 use std::path::Path;
 use std::process::ExitCode;
 use std::time::Instant;
 
 const RUNS: usize = 21;
-const WORDS: usize = 5;
-const REFUSED: u32 = 0;
-const ACCEPTED: u32 = 1;
-const SAME: u32 = 3;
 const TOO_LARGE: u32 = 11;
 /// The most milliseconds that a check and a comparison may take.
 const CHECK_LIMIT: f64 = 1.0;
 const COMPARE_LIMIT: f64 = 40.0;
-
-extern "C" {
-    fn negyvosal_check(sheet: *const u8, sheet_length: usize, out: *mut u32, out_length: usize) -> u32;
-
-    fn negyvosal_compare(
-        old: *const u8,
-        old_length: usize,
-        new: *const u8,
-        new_length: usize,
-        words: *mut u32,
-        words_length: usize,
-        space: *mut u8,
-        space_length: usize,
-        out: *mut u32,
-        out_length: usize,
-    ) -> u32;
-}
 
 fn check(sheet: &[u8]) -> [u32; WORDS] {
     let mut out = [0; WORDS];

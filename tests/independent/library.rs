@@ -1,42 +1,9 @@
 //! The proved library through its C boundary. Every call tests that the library changes nothing but what it may.
 
+pub use crate::boundary::WORDS;
+use crate::boundary::{negyvosal_check, negyvosal_compare, negyvosal_follow};
+use crate::boundary::{ACCEPTED, APART, FOLLOWS, REFUSED, SAME};
 use crate::services::{records, Answer};
-
-extern "C" {
-    fn negyvosal_check(sheet: *const u8, sheet_length: usize, out: *mut u32, out_length: usize) -> u32;
-
-    fn negyvosal_follow(
-        sheet: *const u8,
-        sheet_length: usize,
-        play: *const u8,
-        play_length: usize,
-        words: *mut u32,
-        words_length: usize,
-        out: *mut u32,
-        out_length: usize,
-    ) -> u32;
-
-    fn negyvosal_compare(
-        old: *const u8,
-        old_length: usize,
-        new: *const u8,
-        new_length: usize,
-        words: *mut u32,
-        words_length: usize,
-        space: *mut u8,
-        space_length: usize,
-        out: *mut u32,
-        out_length: usize,
-    ) -> u32;
-}
-
-/// How many words an answer has, and its kinds.
-pub const WORDS: usize = 5;
-const REFUSED: u32 = 0;
-const ACCEPTED: u32 = 1;
-const FOLLOWS: u32 = 2;
-const SAME: u32 = 3;
-const APART: u32 = 4;
 
 pub type Words = [u32; WORDS];
 

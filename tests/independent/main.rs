@@ -9,6 +9,8 @@
 //!
 //! After the word `procedures`, `random` and `write` have cases with procedures, kind 28 of document 02.
 
+#[path = "../../include/negyvosal.rs"]
+mod boundary;
 mod cases;
 mod compare;
 mod generate;

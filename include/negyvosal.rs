@@ -1,0 +1,38 @@
+//! The boundary of the library for the Rust programs here, as `negyvosal.h` has it for C: the words of an answer and the
+//! services. A program takes it in as a module of its own.
+
+/// How many words an answer has, and its kinds.
+pub const WORDS: usize = 5;
+pub const REFUSED: u32 = 0;
+pub const ACCEPTED: u32 = 1;
+pub const FOLLOWS: u32 = 2;
+pub const SAME: u32 = 3;
+pub const APART: u32 = 4;
+
+extern "C" {
+    pub fn negyvosal_check(sheet: *const u8, sheet_length: usize, out: *mut u32, out_length: usize) -> u32;
+
+    pub fn negyvosal_follow(
+        sheet: *const u8,
+        sheet_length: usize,
+        play: *const u8,
+        play_length: usize,
+        words: *mut u32,
+        words_length: usize,
+        out: *mut u32,
+        out_length: usize,
+    ) -> u32;
+
+    pub fn negyvosal_compare(
+        old: *const u8,
+        old_length: usize,
+        new: *const u8,
+        new_length: usize,
+        words: *mut u32,
+        words_length: usize,
+        space: *mut u8,
+        space_length: usize,
+        out: *mut u32,
+        out_length: usize,
+    ) -> u32;
+}
