@@ -18,7 +18,7 @@ extern "C" {
  *   NEGYVOSAL_SAME (3)       0          0            0            0             compare
  *   NEGYVOSAL_APART (4)      sheet      moves low    moves high   0             compare
  *
- * number:   the cause of the refusal, 1 to 15.
+ * number:   the cause of the refusal, 1 to 16.
  * sheet:    which sheet: NEGYVOSAL_OLD, NEGYVOSAL_NEW or NEGYVOSAL_BOTH. A service on one sheet names it old.
  * place:    the byte at which it is refused, counted from 0, or as the cause says.
  * type:     0 command, 1 truth expression, 2 number expression, 3 truth variable, 4 number variable.
@@ -39,7 +39,11 @@ extern "C" {
  * has no play.
  *
  * Kind 28 of a sheet is a procedure of the routine's own: id, result type, number of parameters, four pairs of id and type
- * (unused ones 255 255); then the procedure's term, and the term in which it may be used. */
+ * (unused ones 255 255); then the procedure's term, and the term in which it may be used.
+ *
+ * A new (kind 27), a procedure or a parameter may not have an id that an enclosing one holds: number 16, at the id
+ * byte. A procedure encloses the term in which it may be used, a parameter the procedure's term. Side by side the same
+ * id is fine. */
 
 #define NEGYVOSAL_REFUSED 0
 #define NEGYVOSAL_ACCEPTED 1

@@ -23,27 +23,10 @@ fn accepted(bytes: &[u8]) -> Result<Sheet, String> {
     if sheet.size <= SMALLEST {
         return Err(format!("size {}", sheet.size));
     }
-    if hides(&sheet.term, &mut Vec::new()) {
-        return Err("a new stands inside a new with the same id".to_string());
-    }
     if takes_remainders(&sheet.term) {
         return Err("a remainder".to_string());
     }
     Ok(sheet)
-}
-
-/// Whether a new takes an id that one around it holds.
-fn hides(term: &Term, scope: &mut Vec<u8>) -> bool {
-    let outside = scope.len();
-    if let Kind::New { id, .. } = term.kind {
-        if scope.contains(&id) {
-            return true;
-        }
-        scope.push(id);
-    }
-    let found = term.parts.iter().any(|part| hides(part, scope));
-    scope.truncate(outside);
-    found
 }
 
 fn takes_remainders(term: &Term) -> bool {

@@ -3,6 +3,7 @@
 mod counter;
 mod damage;
 pub mod deep;
+mod hiding;
 mod limits;
 mod long;
 pub mod near;
@@ -17,6 +18,7 @@ use crate::reader::read;
 use crate::services::{space_to_compare, words_to_compare, words_to_follow};
 use crate::sheet::{written, Data, Heading, Term, Type};
 use damage::{damaged, misnamed, random_bytes};
+use hiding::hidden;
 use limits::sheet_at_a_limit;
 use long::Long;
 use plays::{play_for, random_play};
@@ -84,7 +86,7 @@ fn heading(random: &mut Random) -> Heading {
 fn heading_and_term(random: &mut Random) -> (Heading, Term) {
     let heading = heading(random);
     let (wanted, size) = (whole_type(random), size(random));
-    let term = Generator::new(random, &heading).whole(wanted, size);
+    let term = Generator::new(random, &heading).hiding_at_times().whole(wanted, size);
     (heading, term)
 }
 
@@ -105,11 +107,15 @@ fn arithmetic_sheet(random: &mut Random) -> Vec<u8> {
 }
 
 fn sheet_to_check(random: &mut Random) -> Vec<u8> {
-    match random.below(10) {
+    match random.below(12) {
         0..=1 => sheet(random),
         2..=4 => sheet_at_a_limit(random),
         5 => random_bytes(random),
         6 => misnamed(random),
+        7..=8 => {
+            let sheet = sheet(random);
+            hidden(random, sheet)
+        }
         _ => {
             let sheet = sheet(random);
             damaged(random, sheet)
@@ -132,8 +138,10 @@ fn near_needed(random: &mut Random, needed: u64) -> usize {
 
 fn case_to_follow(random: &mut Random) -> Case {
     let mut sheet = if random.one_in(6) { arithmetic_sheet(random) } else { sheet(random) };
-    if random.one_in(20) {
-        sheet = damaged(random, sheet);
+    match random.below(40) {
+        0..=1 => sheet = damaged(random, sheet),
+        2 => sheet = hidden(random, sheet),
+        _ => {}
     }
     follow_of(random, sheet)
 }
@@ -167,9 +175,11 @@ fn case_to_compare(random: &mut Random) -> Case {
         }
         3 => new = sheet(random),
         4 => new[random.below(2)] ^= 1,
+        5 => old = hidden(random, old),
+        6 => new = hidden(random, new),
         _ => {}
     }
-    alike &= spoilt > 4;
+    alike &= spoilt > 6;
     compare_of(random, (old, new, alike))
 }
 

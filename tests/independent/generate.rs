@@ -50,9 +50,11 @@ pub enum Meaning {
 pub struct Generator<'a> {
     pub random: &'a mut Random,
     pub heading: &'a Heading,
-    /// The ids that binders take; they are few, so that inner ones hide outer ones now and then.
+    /// The ids that binders take where they can; they are few, so that many stand side by side with the same.
     pool: Vec<u8>,
-    /// An id that no name record and no other private variable has.
+    /// Whether a binder may take an id that an enclosing one holds.
+    hides: bool,
+    /// An id that no name record and none of the pool has.
     pub spare: u8,
     /// Another one, for procedures that are put in; none where there are to be no procedures.
     pub helper: Option<u8>,
@@ -65,7 +67,13 @@ impl<'a> Generator<'a> {
         let mut free: Vec<u8> = (0..255).filter(|&id| heading.record(id).is_none()).collect();
         let spare = free.remove(random.below(free.len()));
         let pool = (0..random.between(1, 3)).map(|_| random.choose(&free)).collect();
-        Generator { random, heading, pool, spare, helper: None, scope: Vec::new() }
+        Generator { random, heading, pool, hides: false, spare, helper: None, scope: Vec::new() }
+    }
+
+    /// One whose binders may hide others, now and then.
+    pub fn hiding_at_times(mut self) -> Generator<'a> {
+        self.hides = self.random.one_in(10);
+        self
     }
 
     /// One that makes procedures too.
@@ -285,7 +293,7 @@ impl<'a> Generator<'a> {
     }
 
     fn block(&mut self, weight: u64, depth: usize) -> Term {
-        let (id, data) = (self.random.choose(&self.pool), self.random.choose(&Data::ALL));
+        let (id, data) = (self.binder_id(&[]), self.random.choose(&Data::ALL));
         self.scope.push((id, Meaning::Private(data)));
         let body = self.term(Type::Command, weight / data.count(self.heading.z), depth - 1);
         self.scope.pop();
@@ -361,10 +369,10 @@ impl<'a> Generator<'a> {
 
     /// A procedure's record with random ids and types.
     pub fn signature(&mut self) -> Procedure {
-        let (id, result) = (self.pooled_id(), self.kind_of_type());
+        let (id, result) = (self.binder_id(&[]), self.kind_of_type());
         let mut procedure = Procedure { id, result, parameters: Vec::new() };
         for _ in 0..self.random.choose(&[0, 1, 1, 1, 2, 2, 3, 4]) {
-            let id = self.pooled_id();
+            let id = self.binder_id(&[]);
             if procedure.parameter(id).is_none() {
                 procedure.parameters.push((id, self.kind_of_type()));
             }
@@ -381,9 +389,40 @@ impl<'a> Generator<'a> {
         }
     }
 
-    /// An id for a block that may hide another.
-    pub fn pooled_id(&mut self) -> u8 {
-        self.random.choose(&self.pool)
+    /// An id for a binder around the terms: one of a few, or another where these are taken.
+    pub fn binder_id(&mut self, around: &[&Term]) -> u8 {
+        let fitting: Vec<u8> = self.pool.iter().copied().filter(|&id| self.may_bind(id, around)).collect();
+        if fitting.is_empty() {
+            self.other_id(around)
+        } else {
+            self.random.choose(&fitting)
+        }
+    }
+
+    /// That id for a binder around the terms, or another where it is taken.
+    pub fn id_or_other(&mut self, id: u8, around: &[&Term]) -> u8 {
+        if self.may_bind(id, around) {
+            id
+        } else {
+            self.other_id(around)
+        }
+    }
+
+    /// Whether a binder around the terms may have the id: it hides nothing and nothing hides it, or this may be.
+    fn may_bind(&self, id: u8, around: &[&Term]) -> bool {
+        self.hides || (self.meaning(id).is_none() && !around.iter().any(|term| term.binds(id)))
+    }
+
+    /// An id for a binder around the terms that none of those kept for something has; the spare one where none is left.
+    fn other_id(&mut self, around: &[&Term]) -> u8 {
+        let kept = |id: u8| self.pool.contains(&id) || id == self.spare || Some(id) == self.helper;
+        let free = |&id: &u8| self.heading.record(id).is_none() && !kept(id) && self.may_bind(id, around);
+        let free: Vec<u8> = (0..255).filter(free).collect();
+        if free.is_empty() {
+            self.spare
+        } else {
+            self.random.choose(&free)
+        }
     }
 }
 

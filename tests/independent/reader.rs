@@ -10,6 +10,15 @@ pub const LARGEST: u64 = 4096;
 pub const DEEPEST: usize = 32;
 pub const MOST_RECORDS: usize = 32;
 
+/// Whether a binder may take an id that an enclosing one holds.
+#[derive(Clone, Copy, Debug, PartialEq)]
+pub enum Rule {
+    /// It may, as before document 02's request [3], and hides the other.
+    Earlier,
+    /// It may not.
+    Present,
+}
+
 /// The number of a refusal of one sheet, and its place.
 #[derive(Clone, Copy, Debug, PartialEq)]
 pub struct Fault {
@@ -48,6 +57,7 @@ enum Demand {
 }
 
 struct Reader<'a> {
+    rule: Rule,
     bytes: &'a [u8],
     at: usize,
     heading: Heading,
@@ -56,11 +66,16 @@ struct Reader<'a> {
 
 /// The sheet with these bytes, or its refusal.
 pub fn read(bytes: &[u8]) -> Result<Sheet, Fault> {
+    read_under(Rule::Present, bytes)
+}
+
+/// The same by one rule or the other.
+pub fn read_under(rule: Rule, bytes: &[u8]) -> Result<Sheet, Fault> {
     if bytes.len() > LONGEST {
         return fault(1, LONGEST);
     }
     let heading = Heading { z: 0, wraps: false, records: Vec::new() };
-    let mut reader = Reader { bytes, at: 0, heading, open: Vec::new() };
+    let mut reader = Reader { rule, bytes, at: 0, heading, open: Vec::new() };
     reader.read_heading()?;
     let heading_length = reader.at;
     let term = reader.read_term()?;
@@ -102,6 +117,22 @@ impl Reader<'_> {
             Some(_) => fault(4, self.at - 1),
             None => Ok(id),
         }
+    }
+
+    /// The id just read, for a binder: by the present rule no enclosing one has it.
+    fn for_binder(&self, id: u8) -> Result<u8, Fault> {
+        let enclosed = self.open.iter().any(|open| open.bound(id).is_some());
+        if self.rule == Rule::Present && enclosed {
+            fault(16, self.at - 1)
+        } else {
+            Ok(id)
+        }
+    }
+
+    /// The id of a new or of a procedure.
+    fn next_binder(&mut self) -> Result<u8, Fault> {
+        let id = self.next_unused_id()?;
+        self.for_binder(id)
     }
 
     fn read_heading(&mut self) -> Result<(), Fault> {
@@ -172,7 +203,7 @@ impl Reader<'_> {
             24 => Kind::Sequence,
             25 => Kind::If,
             26 => Kind::While,
-            27 => Kind::New { id: self.next_unused_id()?, data: self.next(Data::from_byte)? },
+            27 => Kind::New { id: self.next_binder()?, data: self.next(Data::from_byte)? },
             _ => Kind::Procedure(self.read_procedure()?),
         };
         Ok(Open { place, kind, declared, parts: Vec::new() })
@@ -185,7 +216,7 @@ impl Reader<'_> {
 
     /// The body of a procedure's record.
     fn read_procedure(&mut self) -> Result<Procedure, Fault> {
-        let id = self.next_unused_id()?;
+        let id = self.next_binder()?;
         let result = self.next_type()?;
         let count = self.next(|b| (b <= 4).then_some(b as usize))?;
         let mut procedure = Procedure { id, result, parameters: Vec::new() };
@@ -207,7 +238,7 @@ impl Reader<'_> {
         if procedure.parameter(id).is_some() {
             return fault(4, self.at - 1);
         }
-        Ok((id, self.next_type()?))
+        Ok((self.for_binder(id)?, self.next_type()?))
     }
 
     /// A use: of what the innermost open record binds to that id, else of the name declared.

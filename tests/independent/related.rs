@@ -156,17 +156,18 @@ impl Generator<'_> {
     fn wrap(&mut self, term: Term, helper: u8) -> Term {
         let other = self.random.choose(&Type::ALL);
         let junk = self.term(other, 6, 3);
+        let helper = self.id_or_other(helper, &[&term, &junk]);
         let result = term.gives;
         let call = |arguments| Term::new(Kind::Call { id: helper, result }, arguments);
         let record = |parameters| Kind::Procedure(Procedure { id: helper, result, parameters });
-        let id = if self.random.one_in(3) { helper } else { self.pooled_id() };
+        let id = if self.random.one_in(3) { helper } else { self.binder_id(&[]) };
         let parameter = Term::new(Kind::Parameter { id, result }, vec![]);
         match self.random.below(4) {
             _ if term.mentions(helper) || junk.mentions(helper) => Term::new(record(vec![]), vec![term, call(vec![])]),
             0 => Term::new(record(vec![]), vec![term, call(vec![])]),
             1 => Term::new(record(vec![(id, result)]), vec![parameter, call(vec![term])]),
             2 => {
-                let parameters = vec![(self.spare, other), (id, result)];
+                let parameters = vec![(self.id_or_other(self.spare, &[]), other), (id, result)];
                 Term::new(record(parameters), vec![sequence(skip(), parameter), call(vec![junk, term])])
             }
             _ => {
@@ -191,8 +192,8 @@ impl Generator<'_> {
         match self.random.below(3) {
             0 => sequence(term, skip()),
             _ => {
-                let data = self.random.choose(&Data::ALL);
-                Term::new(Kind::New { id: self.spare, data }, vec![term])
+                let (id, data) = (self.id_or_other(self.spare, &[&term]), self.random.choose(&Data::ALL));
+                Term::new(Kind::New { id, data }, vec![term])
             }
         }
     }
@@ -244,7 +245,7 @@ impl Generator<'_> {
             (0, _) => sequence(endless(skip()), term),
             (1..=2, Type::Command) => sequence(term.clone(), term),
             (3, Type::Command) => {
-                let (id, data) = (self.pooled_id(), self.random.choose(&Data::ALL));
+                let (id, data) = (self.binder_id(&[&term]), self.random.choose(&Data::ALL));
                 Term::new(Kind::New { id, data }, vec![term])
             }
             (4, Type::Command) => {

@@ -305,6 +305,22 @@ impl Term {
         }
     }
 
+    /// The ids that the record binds in one of its parts.
+    pub fn bound_in(&self, part: usize) -> Vec<u8> {
+        match (&self.kind, part) {
+            (Kind::New { id, .. }, _) => vec![*id],
+            (Kind::Procedure(procedure), 0) => procedure.parameters.iter().map(|p| p.0).collect(),
+            (Kind::Procedure(procedure), _) => vec![procedure.id],
+            _ => vec![],
+        }
+    }
+
+    /// Whether some binder in the term has the id.
+    pub fn binds(&self, id: u8) -> bool {
+        let part = |(i, part): (usize, &Term)| self.bound_in(i).contains(&id) || part.binds(id);
+        self.parts.iter().enumerate().any(part)
+    }
+
     /// The number of records.
     pub fn records(&self) -> usize {
         1 + self.parts.iter().map(Term::records).sum::<usize>()

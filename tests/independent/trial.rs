@@ -4,7 +4,7 @@ use crate::cases::{near, Case};
 use crate::library::{self, bytes_of, words_of, Compared, Words, WORDS};
 use crate::machine::Machine;
 use crate::random::Random;
-use crate::reader::Sheet;
+use crate::reader::{read, read_under, Rule, Sheet};
 use crate::services::{self, Answer, Which};
 use crate::vectors::hex;
 
@@ -20,7 +20,9 @@ struct Counts {
     same: usize,
     apart: usize,
     capped: usize,
-    refused: [usize; 16],
+    refused: [usize; 17],
+    /// Sheets that check refuses and that the rule before request [3] accepts.
+    turned_away: usize,
     /// Comparisons of two sheets without any play.
     empty: usize,
     longest_play: usize,
@@ -55,6 +57,7 @@ impl Counts {
 
     fn print(&self) {
         println!("check: {} accepted, sizes up to {}", self.accepted, self.largest);
+        println!("check: {} refused that the earlier rule accepts", self.turned_away);
         println!("follow: {} followed, {} of them complete", self.followed, self.complete);
         println!("compare: {} same, {} of them without plays", self.same, self.empty);
         println!("compare: {} apart, by up to {} moves", self.apart, self.longest_play);
@@ -102,6 +105,7 @@ fn run_case(case: &Case, room: usize, counts: &mut Counts) -> Result<(), String>
         Case::Check { sheet } => {
             let answer = services::check(sheet);
             counts.note(&answer);
+            counts.turned_away += (read(sheet).is_err() && read_under(Rule::Earlier, sheet).is_ok()) as usize;
             expect_words(&answer, library::check(sheet, room)?)
         }
         Case::Follow { sheet, play, words } => {

@@ -1,6 +1,6 @@
--- Demand 1, of the numbers: check, follow and compare refuse by document 01's numbers and no others.
-use Prim.Native.Nat.{ℕ, _+_, _-_, _*_, _≤_}
-use native.Mathlib.Omega.{arith}
+-- Demand 1, of the numbers: check, follow and compare refuse by the numbers of documents 01 and 02 and no
+-- others.
+use Prim.Native.Nat.{ℕ, _+_, _-_, _*_}
 use mathlib.Core.Path.{_≡_, refl}
 use mathlib.Core.Bool.{Bool, true, false}
 use mathlib.Core.Logic.{_⊎_, inl, inr}
@@ -8,27 +8,24 @@ use mathlib.Core.List.{List}
 use mathlib.Core.Option.{Option, none, some}
 use lib.Dec.{ltb}
 use Rattle.language.specs.Choice.{pick}
+use Rattle.records.specs.declared.edition.Edition.the-variants.{Present}
 use Rattle.sheet.specs.Encoding.{headingLength}
 use Rattle.sheet.specs.Reader.{Checks, accepted, rejected, readSheet}
 use Rattle.sheet.proofs.Places.{check-refused}
 use Rattle.comparer.specs.Records.{Given, moves, bad, parse}
 use Rattle.comparer.specs.Refusals.{Refusal, refusing, matching, onRead, onGiven, followRefusal}
 use Rattle.comparer.specs.Refusals.{compareRefusal}
-use Rattle.comparer.specs.Demands.{FollowNumber, CompareNumber, NumbersOnly}
+use Rattle.comparer.specs.Demands.{CheckNumber, FollowNumber, CompareNumber, NumbersOnly}
 
 -- no refusal, or one whose number is among P
 unfoldable Among : (ℕ → Type 0) → Option Refusal → Type 0
 Among P none = Unit
 Among P (some x) = P (x .number)
 
--- the numbers of check
-abbrev FromCheck : ℕ → Type 0
-FromCheck k = (1 ≤ k) × (k ≤ 11)
+from-check : (s : List ℕ) (number place : ℕ) → readSheet s ≡ rejected number place → CheckNumber number
+from-check s number place e = check-refused Present s e .known
 
-from-check : (s : List ℕ) (number place : ℕ) → readSheet s ≡ rejected number place → FromCheck number
-from-check s number place e = let r = check-refused s e in (r .0, r .1)
-
-on-read : (P : ℕ → Type 0) → ((k : ℕ) → FromCheck k → P k) → (s : List ℕ) (sheet : ℕ)
+on-read : (P : ℕ → Type 0) → ((k : ℕ) → CheckNumber k → P k) → (s : List ℕ) (sheet : ℕ)
     (k : ℕ → ℕ → ℕ → Option Refusal) → ((root ty size : ℕ) → Among P (k root ty size)) →
     Among P (onRead (readSheet s) sheet k)
 unfolding onRead Among
@@ -43,7 +40,7 @@ choice P true a b p q = p
 choice P false a b p q = q
 
 -- follow: the sheet's, 13, 15
-from-sheet : (k : ℕ) → FromCheck k → FollowNumber k
+from-sheet : (k : ℕ) → CheckNumber k → FollowNumber k
 unfolding FollowNumber
 from-sheet k h = inl h
 
@@ -60,16 +57,16 @@ follow-among s play words =
         (unfold Among FollowNumber in inr (inl refl)) (given (parse 0 play)))
 
 -- compare: the sheets', 12, 13, 14
-from-sheets : (k : ℕ) → FromCheck k → CompareNumber k
+from-sheets : (k : ℕ) → CheckNumber k → CompareNumber k
 unfolding CompareNumber
-from-sheets k h = (h .0, omega (arith, h .1))
+from-sheets k h = inl h
 
 lent : (t u v : Bool) →
     Among CompareNumber (pick t (pick u (refusing 13 2 0) (pick v (refusing 14 2 0) none)) (refusing 12 2 0))
 unfolding Among CompareNumber
-lent false u v = (omega arith, omega arith)
-lent true true v = (omega arith, omega arith)
-lent true false true = (omega arith, omega arith)
+lent false u v = inr (inl refl)
+lent true true v = inr (inr (inl refl))
+lent true false true = inr (inr (inr refl))
 lent true false false = tt
 
 compare-among : (old new : List ℕ) (words space : ℕ) → Among CompareNumber (compareRefusal old new words space)

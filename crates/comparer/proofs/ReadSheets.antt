@@ -15,6 +15,7 @@ use Rattle.procedures.specs.Meaning.{tyOf, termOf, typeOf}
 use Rattle.nodes.specs.Rep.{Rep}
 use Rattle.sheet.specs.Encoding.{headingLength}
 use Rattle.sheet.specs.Fine.{Accepted}
+use Rattle.records.specs.declared.edition.Edition.the-variants.{Present}
 use Rattle.sheet.specs.Reader.{numbersAt, readSheet, accepted, rejected}
 use Rattle.sheet.proofs.Right.{gives}
 use Rattle.sheet.proofs.WellTyped.{accepted-typed}
@@ -83,7 +84,7 @@ module _ (S : Sheet) (A : Accepted S) (s t : List ℕ) (row all ty : ℕ) (h : r
 pub fit : {s : List ℕ} {root row ty all : ℕ} {t : List ℕ} → Ready s root row ty all t →
     Fit (numbersAt s) ty s row all t
 fit {s} {root} {row} {ty} {all} {t} b =
-    let g = gives s (b .sheet) ty all (b .accepts) in
+    let g = gives Present s (b .sheet) ty all (b .accepts) in
     fits (b .sheet) (g .1) s t row all ty (b .accepts) (b .numbered) (sym (g .2))
       (ap (λ N. size (tyOf N ty) (termOf (b .sheet))) (sym (b .numbered)) ∙ sym (g .3)) (b .represents)
 
@@ -107,7 +108,7 @@ module _ {N : Numbers} {ty : ℕ} {s : List ℕ} {row all : ℕ} {t : List ℕ} 
 
   -- it is in order
   pub fit-fine : Accepted (F .sheet)
-  fit-fine = gives s (F .sheet) ty all (F .reads) .1
+  fit-fine = gives Present s (F .sheet) ty all (F .reads) .1
 
   -- the type of its whole term
   pub fit-type : tyOf (F .sheet .numbers) (typeOf (F .sheet)) ≡ tyOf N ty

@@ -10,9 +10,9 @@ use Rattle.language.specs.Move.{kind, valueOf}
 use Rattle.language.specs.Ty as types
 use Rattle.language.specs.Weight.{weight, size}
 use Rattle.records.specs.Kind.{shapeOf}
-use Rattle.records.specs.Standing.{standingOf, isNamed, variableStanding, declaredStanding, resultOf, countOf}
+use Rattle.records.specs.Standing.{standingOf, isNamed, isHeld, variableStanding, declaredStanding, resultOf, countOf}
 use Rattle.records.specs.Standing.{argumentOf}
-use Rattle.records.specs.Judge.{andThen, unused}
+use Rattle.records.specs.Judge.{andThen, unused, hides}
 use Rattle.records.specs.Judge as judge
 use Rattle.records.specs.Head as head
 use Rattle.records.specs.Head.{byteOf, onByte, withBody, limited, constant, used, useOf, dataByte, newOf, bodyOf}
@@ -27,7 +27,7 @@ use Rattle.procedures.specs.Meaning.{declared, idOf, meant, tyOf, useType, type
 use Rattle.procedures.specs.Meaning.{resolve, termOf}
 use Rattle.sheet.specs.Reader as reader
 use Rattle.sheet.specs.Reader.{bind, onHead, onJudged, partsOf, scopeParts, readPart, withName, wholeOfShape, nameOf}
-use Rattle.sheet.specs.Reader.{namesStep, namesOf, sizeIn, wholeOf, rest, build, written, checks, sheetIn, readSheet}
+use Rattle.sheet.specs.Reader.{namesStep, namesOf, sizeIn, wholeOf, rest, build, written, checks, sheetIn, readUnder}
 use Rattle.machine.specs.Action.{who, heard, mapNext, mapAction}
 use Rattle.machine.specs.Decide.{when, map-dec, fits?, answers-to, answers?, fits-at?, hears?, same-move?}
 use Rattle.machine.specs.Position.{entry}
@@ -48,10 +48,10 @@ use Rattle.comparer.proofs.Worked.{firstFound, decided, rowRead, rowChe
 
 -- the rows of the table are checked
 table-checked : all rowChecked table ≡ true
-unfolding readSheet checks wholeOf reader.closed bind namesOf namesStep wholeOfShape nameOf onJudged declareOf andThen
+unfolding readUnder checks wholeOf reader.closed bind namesOf namesStep wholeOfShape nameOf onJudged declareOf andThen
   judge.below unused fresh argument declareAt withName readPart scopeParts scope.opens reader.readRecord partsOf
   onHead sizeIn sheetIn values operandType resultType acceptsPart partType standingOf resultOf countOf argumentOf
-  entered shapeOf isNamed variableStanding declaredStanding byteOf onByte withBody limited
+  entered shapeOf isNamed isHeld hides variableStanding declaredStanding byteOf onByte withBody limited
   constant used useOf dataByte newOf bodyOf blank headOf head.headOfShape numbers inRange reader.first rest build
   written modulo code signed fromByte apply operands fit truth operate kind valueOf declared idOf meant beyond
   meaning.meaning tyOf useType typed byMeaning no-terms with-level resolve termOf meaning.typeOf size weight

@@ -17,7 +17,8 @@ use Rattle.procedures.specs.Written.{Sheet}
 use Rattle.sheet.specs.Fine.{Accepted}
 use Rattle.sheet.specs.Encoding.{headingLength}
 use Rattle.sheet.specs.Reader.{Answer, got, refused, Whole, whole, sizeIn, numbersAt, wholeOf, sheetIn, checks, written}
-use Rattle.sheet.specs.Reader.{Checks, accepted, rejected, readSheet}
+use Rattle.records.specs.declared.edition.Edition.the-variants.{Present}
+use Rattle.sheet.specs.Reader.{Checks, accepted, rejected, readSheet, readUnder}
 use Rattle.records.specs.Refusal.{too-large}
 use Rattle.sheet.proofs.Right.{gives}
 use Rattle.comparer.specs.Plays.{Alike, Only, FirstPlay}
@@ -37,12 +38,12 @@ one-sheet h k = let e = sym (h .reads) ∙ k .reads in cc
 
 -- a sheet that bytes hold is in order
 pub held-accepted : {s : List ℕ} {S : Sheet} → Holds s S → Accepted S
-held-accepted {s} {S} h = gives s S (h .type) (h .size) (h .reads) .1
+held-accepted {s} {S} h = gives Present s S (h .type) (h .size) (h .reads) .1
 
 -- its numbers are those of the first two bytes
 pub held-numbers : {s : List ℕ} {S : Sheet} → Holds s S → S .numbers ≡ numbersAt s
-unfolding readSheet checks sheetIn
-held-numbers {s} {S} h = go (wholeOf s) (h .reads)
+unfolding readUnder checks sheetIn
+held-numbers {s} {S} h = go (wholeOf Present s) (h .reads)
   where
     sized : (x : Whole) (ty n : ℕ) (u : Bool) →
         pick u (rejected too-large 0) (accepted (sheetIn s x) ty n) ≡ accepted S (h .type) (h .size) →

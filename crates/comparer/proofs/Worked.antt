@@ -12,6 +12,7 @@ use Rattle.language.specs.Move.{Word}
 use Rattle.procedures.specs.Written.{Sheet}
 use Rattle.procedures.specs.Meaning.{termOf}
 use Rattle.sheet.specs.Fine.{Accepted}
+use Rattle.records.specs.declared.edition.Edition.the-variants.{Present}
 use Rattle.sheet.specs.Reader.{Checks, accepted, rejected, readSheet}
 use Rattle.sheet.proofs.Right.{gives}
 use Rattle.sheet.proofs.WellTyped.{accepted-typed}
@@ -118,7 +119,7 @@ checked-row r e = by (readSheet (r .old)) (readSheet (r .new)) refl refl e
           { first-sheet = S; second-sheet = T; first-type = a; second-type = b
           ; first-reads = f ∙ ap (accepted S a) (eqb-true n (r .old-size) (p .0))
           ; second-reads = g ∙ ap (accepted T b) (eqb-true m (r .new-size) (q .0))
-          ; says = decided-so S T (gives (r .old) S a n f .1) (gives (r .new) T b m g .1) (r .result) (q .1) }
+          ; says = decided-so S T (gives Present (r .old) S a n f .1) (gives Present (r .new) T b m g .1) (r .result) (q .1) }
     by (accepted S a n) (rejected k p) f g e = absurd (false≢true e)
     by (rejected k p) y f g e = absurd (false≢true e)
 

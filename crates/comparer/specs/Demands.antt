@@ -7,10 +7,12 @@ use mathlib.Core.Option.{none, some}
 use Prim.Native.Nat.{ℕ, _+_, _-_, _≤_}
 use lib.ListN.{length, take}
 use Rattle.language.specs.Move.{Word, records}
+use Rattle.records.specs.declared.edition.Edition.the-variants.{Present}
 use Rattle.procedures.specs.Written.{Sheet}
 use Rattle.procedures.specs.Meaning.{typeOf}
 use Rattle.sheet.specs.Fine.{Accepted}
 use Rattle.sheet.specs.Reader.{readSheet, rejected}
+use Rattle.sheet.specs.Check.{NumberOf}
 use Rattle.comparer.specs.Plays.{CompletePlay, reckoned, Alike, Only, FirstPlay}
 use Rattle.comparer.specs.Refusals.{Refusal, followRefusal, compareRefusal}
 use Rattle.comparer.specs.Promise.{Holds, FollowPromise, ComparePromise}
@@ -18,15 +20,15 @@ use Rattle.comparer.specs.declared.Following.{Following}
 use Rattle.comparer.specs.declared.Comparison.{Comparison}
 use Rattle.comparer.specs.declared.Comparison.the-variants.{Same, Apart}
 
--- Demand 1, of the numbers: check refuses by 1 to 11, follow also by 13 and 15, compare also by 12, 13 and 14
+-- Demand 1, of the numbers: check refuses by 1 to 11 and 16, follow also by 13 and 15, compare also by 12, 13 and 14
 abbrev pub CheckNumber : ℕ → Type 0
-CheckNumber k = (1 ≤ k) × (k ≤ 11)
+CheckNumber k = NumberOf Present k
 
 unfoldable pub FollowNumber : ℕ → Type 0
 FollowNumber k = CheckNumber k ⊎ ((k ≡ 13) ⊎ (k ≡ 15))
 
 unfoldable pub CompareNumber : ℕ → Type 0
-CompareNumber k = (1 ≤ k) × (k ≤ 14)
+CompareNumber k = CheckNumber k ⊎ ((k ≡ 12) ⊎ ((k ≡ 13) ⊎ (k ≡ 14)))
 
 pub record NumbersOnly : Type 0 where
   pub of-check : (s : List ℕ) (number place : ℕ) → readSheet s ≡ rejected number place → CheckNumber number

@@ -5,6 +5,7 @@ use mathlib.Core.Path.{_≡_, refl, sym, ap, ap₂, _∙_, subst, subst₂}
 use mathlib.Core.List.{List, []}
 use lib.ListN.{length}
 use Rattle.language.specs.declared.Numbers.{Numbers}
+use Rattle.records.specs.declared.edition.Edition.the-variants.{Present}
 use Rattle.records.specs.declared.refusal.Refusal.{Refusal}
 use Rattle.procedures.specs.Written as written
 use Rattle.procedures.specs.Meaning.{tyOf, termOf, typeOf}
@@ -29,27 +30,27 @@ use Rattle.load.specs.Loaded.{Expanded, Ready, LoadedBy}
 use Rattle.load.specs.declared.load.Loaded.the-variants.{Sheet, Refused}
 
 -- a sheet that is judged
-pub judged-of : (s u M : List ℕ) {x : Judgement} {root ty size : ℕ} → JudgedBy s x u M → x ≡ judged.Sheet root ty size →
-    Judged s root ty size u M
+pub judged-of : (s u M : List ℕ) {x : Judgement} {root ty size : ℕ} → JudgedBy Present s x u M →
+    x ≡ judged.Sheet root ty size → Judged Present s root ty size u M
 unfolding JudgedBy
 judged-of s u M J e = rw e at J
 
 -- one that is refused
-pub load-refused : (s u M after : List ℕ) {x : Judgement} {y : Refusal} → JudgedBy s x u M → x ≡ judged.Refused y →
-    LoadedBy s (Refused y) after
+pub load-refused : (s u M after : List ℕ) {x : Judgement} {y : Refusal} → JudgedBy Present s x u M →
+    x ≡ judged.Refused y → LoadedBy s (Refused y) after
 unfolding JudgedBy LoadedBy
 load-refused s u M after J e = rw e at J
 
-module _ {s u M : List ℕ} {root ty size : ℕ} (J : Judged s root ty size u M) where
+module _ {s u M : List ℕ} {root ty size : ℕ} (J : Judged Present s root ty size u M) where
   abbrev S : written.Sheet
   S = J .sheet
 
   -- it is in order, and has its type
   ordered : Accepted S
-  ordered = gives s S ty size (J .accepts) .1 .ordered
+  ordered = gives Present s S ty size (J .accepts) .1 .ordered
 
   types : ty ≡ typeOf S
-  types = gives s S ty size (J .accepts) .2
+  types = gives Present s S ty size (J .accepts) .2
 
   -- its term stands within 4,096 places
   pub root-small : root < 4096

@@ -1,5 +1,6 @@
 // Loading a sheet: it is judged, and its term is expanded to rows.
 use expand::expand::expand_term;
+use records::edition::Edition;
 use records::refusal::Refusal;
 use sheet::judge::Judgement;
 use sheet::judge::judge_sheet;
@@ -47,7 +48,7 @@ pub fn load(s: &[u8], rows: &mut [u16; ROWS]) -> Loaded
 {
     let mut t = [0u16; PARTS];
     let mut marks = [0u16; PLACES];
-    let x = judge_sheet(s, &mut t, &mut marks);
+    let x = judge_sheet(Edition::Present, s, &mut t, &mut marks);
     match x {
         Judgement::Refused(refusal) => Loaded::Refused(refusal),
         Judgement::Sheet { root, ty, size } => {

@@ -10,7 +10,8 @@ use borrow.Author.Tests.{eqb-false}
 use Rattle.language.specs.Number.{inRange}
 use Rattle.language.specs.declared.Numbers.{Numbers}
 use Rattle.records.specs.Standing.{standingOf, isNamed}
-use Rattle.records.specs.Judge.{procedureOf}
+use Rattle.records.specs.Judge.{hides, procedureOf}
+use Rattle.records.specs.declared.edition.Edition.{Edition}
 use Rattle.records.specs.Head.{withBody, limited, constant, used, useOf, dataByte, newOf, onJudged}
 use Rattle.records.specs.Head.{procedureHead, bodyOf}
 use Rattle.records.specs.declared.kind.Rule.{Rule}
@@ -69,25 +70,26 @@ module _ (s : List ℕ) (b r : Record) where
 
   -- a new: its id, whose standing is c, and its data
   pub new-body :
-      (st : List ℕ) (id d c : ℕ) →
-      id ≡ getD s (b .place + 1) 0 → d ≡ getD s (b .place + 2) 0 → c ≡ getD st id 0 → newOf s st b ≡ Good r →
+      (ed : Edition) (st : List ℕ) (id d c : ℕ) →
+      id ≡ getD s (b .place + 1) 0 → d ≡ getD s (b .place + 2) 0 → c ≡ getD st id 0 → newOf ed s st b ≡ Good r →
       (b .place + 2 < length s) × (id < 255) × (0 < d) × (d ≤ 2) × (isNamed (standingOf c) ≡ false)
-      × (r ≡ withBody b id d)
+      × (hides ed (standingOf c) ≡ false) × (r ≡ withBody b id d)
   unfolding newOf
-  new-body st id d c e e₁ e₂ h =
+  new-body ed st id d c e e₁ e₂ h =
       let g = byte-good s (b .place + 1) 255 _ r h in
       let p = pick-false (isNamed (standingOf c)) bad-good (rw (← e, ← e₂) at (g .2)) in
-      let q = data-body id d e₁ (p .1) in
+      let a = pick-false (hides ed (standingOf c)) bad-good (p .1) in
+      let q = data-body id d e₁ (a .1) in
       let n = q .2 in
-      (q .0, rw e (g .1), omega arith, omega arith, p .0, q .3)
+      (q .0, rw e (g .1), omega arith, omega arith, p .0, a .0, q .3)
 
   -- a procedure: its id and how many parameters it has
   pub procedure-body :
-      (st : List ℕ) → procedureHead s st b ≡ Good r →
-      (procedureOf s st (b .place) ≡ Fine)
+      (ed : Edition) (st : List ℕ) → procedureHead ed s st b ≡ Good r →
+      (procedureOf ed s st (b .place) ≡ Fine)
       × (r ≡ withBody b (getD s (b .place + 1) 0) (getD s (b .place + 3) 0))
   unfolding procedureHead onJudged
-  procedure-body st = go (procedureOf s st (b .place))
+  procedure-body ed st = go (procedureOf ed s st (b .place))
     where
       go : (x : Judged) → onJudged x (Good (withBody b (getD s (b .place + 1) 0) (getD s (b .place + 3) 0))) ≡ Good r →
           (x ≡ Fine) × (r ≡ withBody b (getD s (b .place + 1) 0) (getD s (b .place + 3) 0))
@@ -125,26 +127,26 @@ module _ (s st : List ℕ) (N : Numbers) (b r : Record) (i : b .place < length s
       let j = g .0 in
       kept-as R s b r (omega arith) (g .2) refl refl refl refl
 
-  pub body-kept : (R : Rule) → bodyOf R s st N b ≡ Good r → Kept R s b r
+  pub body-kept : (ed : Edition) (R : Rule) → bodyOf ed R s st N b ≡ Good r → Kept R s b r
   unfolding bodyOf withBody used
-  body-kept Skip h = plain Skip refl h
-  body-kept Diverge h = one Diverge 5 refl h
-  body-kept Truth h = one Truth 2 refl h
-  body-kept Number h =
+  body-kept ed Skip h = plain Skip refl h
+  body-kept ed Diverge h = one Diverge 5 refl h
+  body-kept ed Truth h = one Truth 2 refl h
+  body-kept ed Number h =
       let g = constant-body s b r N h in
       kept-as Number s b r (g .0) (g .3) refl refl refl refl
-  body-kept Use h =
+  body-kept ed Use h =
       let g = use-body s b r st _ _ refl refl h in
       kept-as Use s b r (g .0) (g .4) refl refl refl refl
-  body-kept Fetch h = plain Fetch refl h
-  body-kept Operate h = one Operate 9 refl h
-  body-kept Assign h = plain Assign refl h
-  body-kept Sequence h = plain Sequence refl h
-  body-kept If h = plain If refl h
-  body-kept While h = plain While refl h
-  body-kept New h =
-      let g = new-body s b r st _ _ _ refl refl refl h in
-      kept-as New s b r (g .0) (g .5) refl refl refl refl
-  body-kept Procedure h =
-      let g = procedure-body s b r st h in
-      kept-as Procedure s b r (procedure-inside s st (b .place) (g .0)) (g .1) refl refl refl refl
+  body-kept ed Fetch h = plain Fetch refl h
+  body-kept ed Operate h = one Operate 9 refl h
+  body-kept ed Assign h = plain Assign refl h
+  body-kept ed Sequence h = plain Sequence refl h
+  body-kept ed If h = plain If refl h
+  body-kept ed While h = plain While refl h
+  body-kept ed New h =
+      let g = new-body s b r ed st _ _ _ refl refl refl h in
+      kept-as New s b r (g .0) (g .6) refl refl refl refl
+  body-kept ed Procedure h =
+      let g = procedure-body s b r ed st h in
+      kept-as Procedure s b r (procedure-inside ed s st (b .place) (g .0)) (g .1) refl refl refl refl

@@ -9,6 +9,7 @@ use borrow.Author.Tests.{leb-false, eqb-false}
 use Rattle.language.specs.declared.Numbers.{Numbers}
 use Rattle.records.specs.Kind.{shapeOf}
 use Rattle.records.specs.Head.{headOfShape, bodyOf, blank, headOf}
+use Rattle.records.specs.declared.edition.Edition.{Edition}
 use Rattle.records.specs.declared.kind.Rule.{Rule}
 use Rattle.records.specs.declared.kind.Shape.{Shape}
 use Rattle.records.specs.declared.kind.Shape.the-variants.{Part, Declare, Retire, Unknown}
@@ -38,24 +39,26 @@ shaped (Retire body) at k r h = absurd (bad-good h)
 shaped Unknown at k r h = absurd (bad-good h)
 
 -- the kind and the body of an accepted part, where its rule is R
-pub record Opened (R : Rule) (s st : List ℕ) (N : Numbers) (left at : ℕ) (r : Record) : Type 0 where
+pub record Opened (ed : Edition) (R : Rule) (s st : List ℕ) (N : Numbers) (left at : ℕ) (r : Record) : Type 0 where
   pub inside : at < length s
   pub kind : getD s at 0 ≡ kindOf R
   pub depth : left ≡ 0 → ⊥
-  pub body : bodyOf R s st N (start at R) ≡ Good r
+  pub body : bodyOf ed R s st N (start at R) ≡ Good r
 
 at-start :
-    (s st : List ℕ) (N : Numbers) (at : ℕ) (r : Record) (k body parts : ℕ) (R : Rule) → Fits k body parts R →
-    bodyOf R s st N (blank at k body parts R) ≡ Good r → bodyOf R s st N (start at R) ≡ Good r
-at-start s st N at r k body parts R f h = rw (f .0, f .1, f .2) at h
+    (ed : Edition) (s st : List ℕ) (N : Numbers) (at : ℕ) (r : Record) (k body parts : ℕ) (R : Rule) →
+    Fits k body parts R →
+    bodyOf ed R s st N (blank at k body parts R) ≡ Good r → bodyOf ed R s st N (start at R) ≡ Good r
+at-start ed s st N at r k body parts R f h = rw (f .0, f .1, f .2) at h
 
 -- the same with its rule
-record Found (s st : List ℕ) (N : Numbers) (left at : ℕ) (r : Record) : Type 0 where
+record Found (ed : Edition) (s st : List ℕ) (N : Numbers) (left at : ℕ) (r : Record) : Type 0 where
   rule : Rule
-  opened : Opened rule s st N left at r
+  opened : Opened ed rule s st N left at r
 
-module _ (s st : List ℕ) (N : Numbers) (left at : ℕ) (r : Record) (h : headOf s st N left at ≡ Good r) where
-  found : Found s st N left at r
+module _
+    (ed : Edition) (s st : List ℕ) (N : Numbers) (left at : ℕ) (r : Record) (h : headOf ed s st N left at ≡ Good r) where
+  found : Found ed s st N left at r
   unfolding headOf
   found =
       let o = pick-false (leb (length s) at) bad-good h in
@@ -68,19 +71,19 @@ module _ (s st : List ℕ) (N : Numbers) (left at : ℕ) (r : Record) (h : headO
           inside = leb-false (length s) at (o .0);
           kind = f .0;
           depth = eqb-false left 0 (q .0);
-          body = at-start s st N at r (getD s at 0) (x .body) (x .parts) (x .rule) f (q .1);
+          body = at-start ed s st N at r (getD s at 0) (x .body) (x .parts) (x .rule) f (q .1);
         };
       }
 
   kept : Kept (found .rule) s (start at (found .rule)) r
   unfolding blank
-  kept = body-kept s st N (start at (found .rule)) r (found .opened .inside) (found .rule) (found .opened .body)
+  kept = body-kept s st N (start at (found .rule)) r (found .opened .inside) ed (found .rule) (found .opened .body)
 
   rule-same : r .rule ≡ found .rule
   unfolding blank
   rule-same = kept .rule
 
-  pub opened-as : (R : Rule) → r .rule ≡ R → Opened R s st N left at r
+  pub opened-as : (R : Rule) → r .rule ≡ R → Opened ed R s st N left at r
   opened-as R e = rw (sym rule-same ∙ e) at (found .opened)
 
 -- an accepted part: its place, kind and depth, and the place after its body
@@ -97,11 +100,12 @@ pub record GoodHead (s : List ℕ) (left at : ℕ) (r : Record) : Type 0 where
   pub next : r .next ≡ at + 1 + body
 
 pub head-good :
-    (s st : List ℕ) (N : Numbers) (left at : ℕ) (r : Record) → headOf s st N left at ≡ Good r → GoodHead s left at r
+    (ed : Edition) (s st : List ℕ) (N : Numbers) (left at : ℕ) (r : Record) → headOf ed s st N left at ≡ Good r →
+    GoodHead s left at r
 unfolding blank
-head-good s st N left at r h =
-    let o = opened-as s st N left at r h (r .rule) refl in
-    let k = body-kept s st N (start at (r .rule)) r (o .inside) (r .rule) (o .body) in
+head-good ed s st N left at r h =
+    let o = opened-as ed s st N left at r h (r .rule) refl in
+    let k = body-kept s st N (start at (r .rule)) r (o .inside) ed (r .rule) (o .body) in
     let n : r .next ≡ at + 1 + bytesOf (r .rule) = k .next in
     let i : at + bytesOf (r .rule) < length s = k .inside in
     record {

@@ -6,10 +6,11 @@ use mathlib.Core.Bool.{Bool, true, false}
 use mathlib.Core.List.{List}
 use lib.ListN.{length, getD}
 use lib.Dec.{leb, eqb, ltb}
-use borrow.Author.Tests.{eq-eqb, ne-eqb, eqb-true, leb-false, lt-leb}
+use borrow.Author.Tests.{eq-eqb, ne-eqb, eqb-true, leb-false}
 use Rattle.language.specs.Choice.{pick}
-use Rattle.records.specs.Standing.{standingOf, isNamed}
-use Rattle.records.specs.Judge.{andThen, below, unused, bound, earlier, parameterId, pair, procedureOf}
+use Rattle.records.specs.Judge.{andThen, below, unused, bound, apart, earlier, parameterId, pair}
+use Rattle.records.specs.Judge.{procedureOf}
+use Rattle.records.specs.declared.edition.Edition.{Edition}
 use Rattle.records.specs.declared.refusal.Refusal.{Refusal}
 use Rattle.records.specs.declared.judge.Judged.{Judged}
 use Rattle.records.specs.declared.judge.Judged.the-variants.{Good, Refused}
@@ -24,10 +25,6 @@ unfolding andThen
 both-good Good y h = (refl, h)
 both-good (Refused x) y h = absurd (not-good h)
 
-pub both-made : (x y : Judged) → x ≡ Good → y ≡ Good → andThen x y ≡ Good
-unfolding andThen
-both-made x y e f = rw (e, f)
-
 module _ (s : List ℕ) (at : ℕ) where
   -- a byte below a limit
   pub below-good : (limit : ℕ) → below s at limit ≡ Good → (at < length s) × (getD s at 0 < limit)
@@ -37,10 +34,6 @@ module _ (s : List ℕ) (at : ℕ) where
       let i = pick-false (leb limit (getD s at 0)) not-good (o .1) in
       (leb-false (length s) at (o .0), leb-false limit (getD s at 0) (i .0))
 
-  pub below-made : (limit : ℕ) → at < length s → getD s at 0 < limit → below s at limit ≡ Good
-  unfolding below
-  below-made limit h l = rw (lt-leb (length s) at h, lt-leb limit (getD s at 0) l)
-
   -- a byte of something that is not there
   pub unused-good : unused s at ≡ Good → (at < length s) × (getD s at 0 ≡ 255)
   unfolding unused
@@ -49,69 +42,29 @@ module _ (s : List ℕ) (at : ℕ) where
       let i = pick-true (eqb (getD s at 0) 255) not-good (o .1) in
       (leb-false (length s) at (o .0), eqb-true (getD s at 0) 255 (i .0))
 
-  pub unused-made : at < length s → getD s at 0 ≡ 255 → unused s at ≡ Good
-  unfolding unused
-  unused-made h e = rw (lt-leb (length s) at h, eq-eqb (getD s at 0) 255 e)
-
-  -- the id of a binder
-  pub bound-good :
-      (st : List ℕ) → bound s st at ≡ Good →
-      (at < length s) × (getD s at 0 < 255) × (isNamed (standingOf (getD st (getD s at 0) 0)) ≡ false)
-  unfolding bound
-  bound-good st h =
-      let b = both-good _ _ h in
-      let g = below-good 255 (b .0) in
-      let n = pick-false (isNamed (standingOf (getD st (getD s at 0) 0))) not-good (b .1) in
-      (g .0, g .1, n .0)
-
-  pub bound-made :
-      (st : List ℕ) → at < length s → getD s at 0 < 255 →
-      isNamed (standingOf (getD st (getD s at 0) 0)) ≡ false → bound s st at ≡ Good
-  unfolding bound
-  bound-made st h l e = both-made _ _ (below-made 255 h l) (rw e)
-
 -- the id and the type of a pair that is good stand in the list
 pub pair-inside :
-    (s st : List ℕ) (place j : ℕ) → pair s st place j ≡ Good → place + 5 + 2 * j < length s
+    (ed : Edition) (s st : List ℕ) (place j : ℕ) → pair ed s st place j ≡ Good → place + 5 + 2 * j < length s
 unfolding pair
-pair-inside s st place j h = go (ltb j (getD s (place + 3) 0)) h
+pair-inside ed s st place j h = go (ltb j (getD s (place + 3) 0)) h
   where
-    go : (t : Bool) → pick t (andThen (parameterId s st place j) (below s (place + 5 + 2 * j) 5))
+    go : (t : Bool) → pick t (andThen (parameterId ed s st place j) (below s (place + 5 + 2 * j) 5))
         (andThen (unused s (place + 4 + 2 * j)) (unused s (place + 5 + 2 * j))) ≡ Good → place + 5 + 2 * j < length s
     go true h = below-good s (place + 5 + 2 * j) 5 (both-good _ _ h .1) .0
     go false h = unused-good s (place + 5 + 2 * j) (both-good _ _ h .1) .0
 
--- the body of a procedure that is good: id, result type, count of parameters and pairs are
-pub record ProcedureFine (s st : List ℕ) (place : ℕ) : Type 0 where
-  pub id : bound s st (place + 1) ≡ Good
-  pub result : below s (place + 2) 5 ≡ Good
-  pub count : below s (place + 3) 5 ≡ Good
-  pub pair₀ : pair s st place 0 ≡ Good
-  pub pair₁ : pair s st place 1 ≡ Good
-  pub pair₂ : pair s st place 2 ≡ Good
-  pub pair₃ : pair s st place 3 ≡ Good
-
-pub procedure-fine : (s st : List ℕ) (place : ℕ) → procedureOf s st place ≡ Good → ProcedureFine s st place
-unfolding procedureOf
-procedure-fine s st place h =
-    let b = both-good (bound s st (place + 1)) _ h in
-    let r = both-good (below s (place + 2) 5) _ (b .1) in
-    let n = both-good (below s (place + 3) 5) _ (r .1) in
-    let p = both-good (pair s st place 0) _ (n .1) in
-    let q = both-good (pair s st place 1) _ (p .1) in
-    let u = both-good (pair s st place 2) (pair s st place 3) (q .1) in
-    record { id = b .0; result = r .0; count = n .0; pair₀ = p .0; pair₁ = q .0; pair₂ = u .0; pair₃ = u .1 }
-
-pub procedure-made : (s st : List ℕ) (place : ℕ) → ProcedureFine s st place → procedureOf s st place ≡ Good
-unfolding procedureOf
-procedure-made s st place P =
-    both-made _ _ (P .id) (both-made _ _ (P .result) (both-made _ _ (P .count) (both-made _ _ (P .pair₀)
-      (both-made _ _ (P .pair₁) (both-made _ _ (P .pair₂) (P .pair₃))))))
-
 -- all its eleven bytes stand in the list
-pub procedure-inside : (s st : List ℕ) (place : ℕ) → procedureOf s st place ≡ Good → place + 11 < length s
-procedure-inside s st place h =
-    let i = pair-inside s st place 3 (procedure-fine s st place h .pair₃) in
+pub procedure-inside :
+    (ed : Edition) (s st : List ℕ) (place : ℕ) → procedureOf ed s st place ≡ Good → place + 11 < length s
+unfolding procedureOf
+procedure-inside ed s st place h =
+    let a = both-good (bound s st (place + 1)) _ h .1 in
+    let r = both-good (apart ed s st (place + 1)) _ a .1 in
+    let n = both-good (below s (place + 2) 5) _ r .1 in
+    let p = both-good (below s (place + 3) 5) _ n .1 in
+    let q = both-good (pair ed s st place 0) _ p .1 in
+    let u = both-good (pair ed s st place 1) _ q .1 in
+    let i = pair-inside ed s st place 3 (both-good (pair ed s st place 2) (pair ed s st place 3) u .1) in
     omega arith
 
 -- earlier parameters, the last one first: one has the id

@@ -4,7 +4,5 @@ pub mod ByteLaws
 pub mod JudgeLaws
 pub mod BodyLaws
 pub mod HeadLaws
-pub mod RuleLaws
-pub mod HeadMade
 pub mod ScopeLaws
 pub mod RowSteps

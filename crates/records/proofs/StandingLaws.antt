@@ -7,7 +7,7 @@ use lib.Dec.{eqb, ltb}
 use borrow.Author.Tests.{eq-eqb, ne-eqb, lt-ltb, le-ltb}
 use Rattle.language.specs.Choice.{pick}
 use Rattle.records.specs.Standing.{declaredStanding, variableStanding, parameterStanding, procedureStanding}
-use Rattle.records.specs.Standing.{standingOf}
+use Rattle.records.specs.Standing.{standingOf, isHeld}
 use Rattle.records.specs.declared.standing.Standing.{Standing}
 use Rattle.records.specs.declared.standing.Standing.the-variants.{Free, Retired, Declared, Variable, Parameter}
 use Rattle.records.specs.declared.standing.Standing.the-variants.{Procedure}
@@ -44,6 +44,28 @@ module _ (c : ℕ) where
   is-procedure l =
       rw (ne-eqb c 0 (λ z. omega arith), ne-eqb c 1 (λ z. omega arith), le-ltb c 8192 (omega arith),
         le-ltb c 16384 (omega arith), le-ltb c 32768 l)
+
+  -- enclosing binders have the standings from those of variables on
+  pub held-below : c < 8192 → false ≡ isHeld (standingOf c)
+  unfolding standingOf isHeld
+  held-below h = rw (lt-ltb c 8192 h) (go (eqb c 0) (eqb c 1))
+    where
+      go : (a b : Bool) → false ≡ isHeld (pick a Free (pick b Retired (Declared (c - 256))))
+      go true b = refl
+      go false true = refl
+      go false false = refl
+
+  pub held-from : 8192 ≤ c → true ≡ isHeld (standingOf c)
+  unfolding standingOf isHeld
+  held-from l =
+      rw (ne-eqb c 0 (λ z. omega arith), ne-eqb c 1 (λ z. omega arith), le-ltb c 8192 l)
+        (go (ltb c 16384) (ltb c 32768))
+    where
+      go : (a b : Bool) → true ≡ isHeld (pick a (Variable ((c - 8192) / 4) ((c - 8192) % 4))
+        (pick b (Parameter ((c - 16384) / 8) ((c - 16384) % 8)) (Procedure ((c - 32768) % 128) ((c - 32768) / 128))))
+      go true b = refl
+      go false true = refl
+      go false false = refl
 
 -- the data of a variable is below 4
 abbrev holdsOf : Standing → ℕ

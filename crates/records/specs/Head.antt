@@ -11,8 +11,10 @@ use Rattle.language.specs.Number.{inRange}
 use Rattle.language.specs.declared.Numbers.{Numbers}
 use Rattle.records.specs.Kind.{shapeOf}
 use Rattle.records.specs.Standing.{free, retired, standingOf, isNamed, countOf}
-use Rattle.records.specs.Judge.{procedureOf}
+use Rattle.records.specs.Judge.{hides, procedureOf}
 use Rattle.records.specs.Refusal.{refusal, cut-short, out-of-range, id-taken, id-unknown, id-retired, too-deep}
+use Rattle.records.specs.Refusal.{id-enclosed}
+use Rattle.records.specs.declared.edition.Edition.{Edition}
 use Rattle.records.specs.declared.kind.Rule.{Rule}
 use Rattle.records.specs.declared.kind.Rule.the-variants.{Skip, Diverge, Truth, Number, Use, Fetch, Operate}
 use Rattle.records.specs.declared.kind.Rule.the-variants.{Assign, Sequence, If, While, New, Procedure}
@@ -71,36 +73,37 @@ dataByte s r id =
     onByte (byteOf s (r .place + 2) 3) (λ d.
       pick (eqb d 0) (Refused (refusal out-of-range (r .place + 2))) (Good (withBody r id d)))
 
--- "id declared or retired before, or a new on such an id: 4"
-unfoldable pub newOf : List ℕ → List ℕ → Record → Head
-newOf s st r =
+-- "id declared or retired before, or a new on such an id: 4"; "16 at the id byte, judged after 4"
+unfoldable pub newOf : Edition → List ℕ → List ℕ → Record → Head
+newOf ed s st r =
     onByte (byteOf s (r .place + 1) 255) (λ id.
-      pick (isNamed (standingOf (getD st id 0))) (Refused (refusal id-taken (r .place + 1))) (dataByte s r id))
+      pick (isNamed (standingOf (getD st id 0))) (Refused (refusal id-taken (r .place + 1)))
+      (pick (hides ed (standingOf (getD st id 0))) (Refused (refusal id-enclosed (r .place + 1))) (dataByte s r id)))
 
 unfoldable pub onJudged : Judged → Head → Head
 onJudged Fine h = h
 onJudged (Bad x) h = Refused x
 
 -- a procedure: its id and how many parameters it has
-unfoldable pub procedureHead : List ℕ → List ℕ → Record → Head
-procedureHead s st r =
-    onJudged (procedureOf s st (r .place)) (Good (withBody r (getD s (r .place + 1) 0) (getD s (r .place + 3) 0)))
+unfoldable pub procedureHead : Edition → List ℕ → List ℕ → Record → Head
+procedureHead ed s st r =
+    onJudged (procedureOf ed s st (r .place)) (Good (withBody r (getD s (r .place + 1) 0) (getD s (r .place + 3) 0)))
 
 -- the body of a record
-unfoldable pub bodyOf : Rule → List ℕ → List ℕ → Numbers → Record → Head
-bodyOf Skip s st N r = Good r
-bodyOf Diverge s st N r = limited s r 5
-bodyOf Truth s st N r = limited s r 2
-bodyOf Number s st N r = constant s N r
-bodyOf Use s st N r = useOf s st r
-bodyOf Fetch s st N r = Good r
-bodyOf Operate s st N r = limited s r 9
-bodyOf Assign s st N r = Good r
-bodyOf Sequence s st N r = Good r
-bodyOf If s st N r = Good r
-bodyOf While s st N r = Good r
-bodyOf New s st N r = newOf s st r
-bodyOf Procedure s st N r = procedureHead s st r
+unfoldable pub bodyOf : Edition → Rule → List ℕ → List ℕ → Numbers → Record → Head
+bodyOf ed Skip s st N r = Good r
+bodyOf ed Diverge s st N r = limited s r 5
+bodyOf ed Truth s st N r = limited s r 2
+bodyOf ed Number s st N r = constant s N r
+bodyOf ed Use s st N r = useOf s st r
+bodyOf ed Fetch s st N r = Good r
+bodyOf ed Operate s st N r = limited s r 9
+bodyOf ed Assign s st N r = Good r
+bodyOf ed Sequence s st N r = Good r
+bodyOf ed If s st N r = Good r
+bodyOf ed While s st N r = Good r
+bodyOf ed New s st N r = newOf ed s st r
+bodyOf ed Procedure s st N r = procedureHead ed s st r
 
 -- a record of which only the kind byte has been read
 unfoldable pub blank : ℕ → ℕ → ℕ → ℕ → Rule → Record
@@ -115,9 +118,9 @@ headOfShape (Retire body) at k = Refused (refusal out-of-range at)
 headOfShape Unknown at k = Refused (refusal out-of-range at)
 
 -- the record of the part at a place, with `left` levels of depth left
-unfoldable pub headOf : List ℕ → List ℕ → Numbers → ℕ → ℕ → Head
-headOf s st N left at =
+unfoldable pub headOf : Edition → List ℕ → List ℕ → Numbers → ℕ → ℕ → Head
+headOf ed s st N left at =
     pick (leb (length s) at) (Refused (refusal cut-short (length s)))
     (headOfShape (shapeOf (getD s at 0)) at (λ body parts rule.
       pick (eqb left 0) (Refused (refusal too-deep at))
-      (bodyOf rule s st N (blank at (getD s at 0) body parts rule))))
+      (bodyOf ed rule s st N (blank at (getD s at 0) body parts rule))))

@@ -5,7 +5,7 @@ use Rattle.records.specs.declared.refusal.Refusal.{Refusal}
 abbrev pub refusal : ℕ → ℕ → Refusal
 refusal number place = record { number = number; place = place }
 
--- the numbers of check's causes, as the table has them
+-- the numbers of check's causes, as the table has them; document 02 [3] for 16
 abbrev pub too-long : ℕ
 too-long = 1
 
@@ -38,3 +38,6 @@ left-over = 10
 
 abbrev pub too-large : ℕ
 too-large = 11
+
+abbrev pub id-enclosed : ℕ
+id-enclosed = 16

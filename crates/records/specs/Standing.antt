@@ -64,6 +64,15 @@ isNamed (Variable number holds) = false
 isNamed (Parameter number ty) = false
 isNamed (Procedure number place) = false
 
+-- whether an enclosing binder holds the id
+unfoldable pub isHeld : Standing → Bool
+isHeld Free = false
+isHeld Retired = false
+isHeld (Declared place) = false
+isHeld (Variable number holds) = true
+isHeld (Parameter number ty) = true
+isHeld (Procedure number place) = true
+
 -- the type of a use of the id; an id that is free or retired has none
 unfoldable pub resultOf : List ℕ → Standing → ℕ
 resultOf s Free = 0

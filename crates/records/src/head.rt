@@ -1,5 +1,7 @@
 // The kind byte and the body of a part of a term: every judgement of its bytes.
+use crate::edition::Edition;
 use crate::judge::Judged;
+use crate::judge::is_hiding;
 use crate::judge::judge_procedure;
 use crate::kind::COUNT;
 use crate::kind::ID;
@@ -9,6 +11,7 @@ use crate::kind::shape_of;
 use crate::read::byte_at;
 use crate::read::standing_of;
 use crate::refusal::CUT_SHORT;
+use crate::refusal::ID_ENCLOSED;
 use crate::refusal::ID_RETIRED;
 use crate::refusal::ID_TAKEN;
 use crate::refusal::ID_UNKNOWN;
@@ -26,6 +29,7 @@ ghost use mathlib.Core.List.{List};
 ghost use Prim.Native.Nat.{ℕ, _+_, _≤_, _<_};
 ghost use lib.ListN.{getD, length};
 ghost use Rattle.language.specs.declared.Numbers.{Numbers};
+ghost use Rattle.records.specs.declared.edition.Edition.{Edition};
 ghost use Rattle.records.specs.Head.{byteOf, withBody, limited, constant, used, useOf, dataByte, newOf, bodyOf};
 ghost use Rattle.records.specs.Head.{procedureHead, blank, headOfShape, headOf};
 ghost use Rattle.records.specs.Bare.{bare};
@@ -195,18 +199,22 @@ pub(crate) fn data_body(s: &[u8], r: Record, id: u8) -> Head
     }
 }
 
-// A new: refused where the id is declared or retired.
-pub(crate) fn new_body(s: &[u8], st: &[u32; 255], r: Record) -> Head
+// A new: refused where the id is declared or retired, or held by an enclosing binder.
+pub(crate) fn new_body(edition: Edition, s: &[u8], st: &[u32; 255], r: Record) -> Head
     requires { ⌜ r .place < 65536 ⌝ }
-    ensures { λ x. ⌜ x ≡ newOf (now (s .entry)) (now (st .entry)) r ⌝ }
+    ensures { λ x. ⌜ x ≡ newOf edition (now (s .entry)) (now (st .entry)) r ⌝ }
 {
     let id_at = r.place + 1;
     let found = byte_below(s, id_at, IDS);
     match found {
         Byte::Refused(refusal) => Head::Refused(refusal),
         Byte::Is { byte } => {
-            if is_named(standing_of(st, byte)) {
+            let c = standing_of(st, byte);
+            if is_named(c) {
                 return Head::Refused(refuse(ID_TAKEN, id_at));
+            }
+            if is_hiding(edition, c) {
+                return Head::Refused(refuse(ID_ENCLOSED, id_at));
             }
             data_body(s, r, byte)
         }
@@ -214,11 +222,11 @@ pub(crate) fn new_body(s: &[u8], st: &[u32; 255], r: Record) -> Head
 }
 
 // A procedure: its id and how many parameters it has.
-pub(crate) fn procedure_body(s: &[u8], st: &[u32; 255], r: Record) -> Head
+pub(crate) fn procedure_body(edition: Edition, s: &[u8], st: &[u32; 255], r: Record) -> Head
     requires { ⌜ r .place < 65536 ⌝ }
-    ensures { λ x. ⌜ x ≡ procedureHead (now (s .entry)) (now (st .entry)) r ⌝ }
+    ensures { λ x. ⌜ x ≡ procedureHead edition (now (s .entry)) (now (st .entry)) r ⌝ }
 {
-    let judged = judge_procedure(s, st, r.place);
+    let judged = judge_procedure(edition, s, st, r.place);
     match judged {
         Judged::Refused(refusal) => Head::Refused(refusal),
         Judged::Good => {
@@ -232,9 +240,16 @@ pub(crate) fn procedure_body(s: &[u8], st: &[u32; 255], r: Record) -> Head
 }
 
 // The body of a record, by its rule.
-pub(crate) fn body_at(rule: Rule, s: &[u8], st: &[u32; 255], n: Numbers, r: Record) -> Head
+pub(crate) fn body_at(
+    edition: Edition,
+    rule: Rule,
+    s: &[u8],
+    st: &[u32; 255],
+    n: Numbers,
+    r: Record,
+) -> Head
     requires { ⌜ r .place < 65536 ⌝ }
-    ensures { λ x. ⌜ x ≡ bodyOf rule (now (s .entry)) (now (st .entry)) n r ⌝ }
+    ensures { λ x. ⌜ x ≡ bodyOf edition rule (now (s .entry)) (now (st .entry)) n r ⌝ }
 {
     match rule {
         Rule::Skip => Head::Good { record: r },
@@ -248,8 +263,8 @@ pub(crate) fn body_at(rule: Rule, s: &[u8], st: &[u32; 255], n: Numbers, r: Reco
         Rule::Sequence => Head::Good { record: r },
         Rule::If => Head::Good { record: r },
         Rule::While => Head::Good { record: r },
-        Rule::New => new_body(s, st, r),
-        Rule::Procedure => procedure_body(s, st, r),
+        Rule::New => new_body(edition, s, st, r),
+        Rule::Procedure => procedure_body(edition, s, st, r),
     }
 }
 
@@ -303,7 +318,7 @@ fn deep_number(shape: Shape) -> u8
 
 // The refusal of the part at a place, where no depth is left.
 fn too_deep(s: &[u8], at: usize) -> Head
-    ensures { λ x. ⌜ ((st : List ℕ) (N : Numbers) → x ≡ headOf (now (s .entry)) st N 0 at) ⌝ }
+    ensures { λ x. ⌜ ((ed : Edition) (st : List ℕ) (N : Numbers) → x ≡ headOf ed (now (s .entry)) st N 0 at) ⌝ }
 {
     if s.len() <= at {
         return Head::Refused(refuse(CUT_SHORT, s.len()));
@@ -314,9 +329,9 @@ fn too_deep(s: &[u8], at: usize) -> Head
 
 // The record of the part at a place, with `left` levels of depth left. No depth is a case of its own, so that nothing is
 // tested between the decision over the kind byte and the body.
-pub fn head_at(s: &[u8], st: &[u32; 255], n: Numbers, left: u8, at: usize) -> Head
+pub fn head_at(edition: Edition, s: &[u8], st: &[u32; 255], n: Numbers, left: u8, at: usize) -> Head
     requires { ⌜ length (now s) ≤ 4096 ⌝ }
-    ensures { λ x. ⌜ x ≡ headOf (now (s .entry)) (now (st .entry)) n left at ⌝ }
+    ensures { λ x. ⌜ x ≡ headOf edition (now (s .entry)) (now (st .entry)) n left at ⌝ }
 {
     if left == 0 {
         return too_deep(s, at);
@@ -331,6 +346,7 @@ pub fn head_at(s: &[u8], st: &[u32; 255], n: Numbers, left: u8, at: usize) -> He
         Shape::Declare { body: _ } => Head::Refused(refuse(OUT_OF_RANGE, at)),
         Shape::Retire { body: _ } => Head::Refused(refuse(OUT_OF_RANGE, at)),
         Shape::Part { body, parts, rule } => body_at(
+            edition,
             rule,
             s,
             st,

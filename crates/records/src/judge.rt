@@ -1,4 +1,5 @@
 // Judgements of single bytes, one after the other.
+use crate::edition::Edition;
 use crate::kind::COUNT;
 use crate::kind::ID;
 use crate::kind::PARAMETER_IDS;
@@ -7,14 +8,18 @@ use crate::kind::RESULT;
 use crate::read::byte_at;
 use crate::read::standing_of;
 use crate::refusal::CUT_SHORT;
+use crate::refusal::ID_ENCLOSED;
 use crate::refusal::ID_TAKEN;
 use crate::refusal::OUT_OF_RANGE;
 use crate::refusal::Refusal;
 use crate::refusal::refuse;
+use crate::standing::is_held;
 use crate::standing::is_named;
 ghost use mathlib.Core.Path.{_≡_};
 ghost use Prim.Native.Nat.{_+_, _<_};
-ghost use Rattle.records.specs.Judge.{andThen, below, unused, bound, earlier, parameterId, pair, procedureOf};
+ghost use Rattle.records.specs.Standing.{standingOf};
+ghost use Rattle.records.specs.Judge.{andThen, below, unused, bound, hides, apart, earlier, unlike, parameterId};
+ghost use Rattle.records.specs.Judge.{pair, procedureOf};
 
 // Where the ranges of bytes end: ids, types, counts of parameters.
 const IDS: u8 = 255;
@@ -85,6 +90,27 @@ pub(crate) fn judge_bound(s: &[u8], st: &[u32; 255], at: usize) -> Judged
     }
 }
 
+// Whether a binder that takes an id with standing `c` hides an enclosing one, by the rule of an edition.
+pub(crate) fn is_hiding(edition: Edition, c: u32) -> bool
+    ensures { λ r. ⌜ r ≡ hides edition (standingOf c) ⌝ }
+{
+    match edition {
+        Edition::Earlier => false,
+        Edition::Present => is_held(c),
+    }
+}
+
+// The id of a binder, which hides no enclosing one.
+pub(crate) fn judge_apart(edition: Edition, s: &[u8], st: &[u32; 255], at: usize) -> Judged
+    ensures { λ r. ⌜ r ≡ apart edition (now (s .entry)) (now (st .entry)) at ⌝ }
+{
+    let id = byte_at(s, at);
+    if is_hiding(edition, standing_of(st, id)) {
+        return Judged::Refused(refuse(ID_ENCLOSED, at));
+    }
+    Judged::Good
+}
+
 // Whether one of the first j parameters of the procedure at a place has an id.
 pub(crate) fn is_earlier(s: &[u8], place: usize, j: u8, id: u8) -> bool
     requires { ⌜ place < 65536 ⌝ }
@@ -101,34 +127,45 @@ pub(crate) fn is_earlier(s: &[u8], place: usize, j: u8, id: u8) -> bool
 }
 
 // The id of parameter j, which no earlier parameter has.
-pub(crate) fn judge_parameter_id(s: &[u8], st: &[u32; 255], place: usize, j: u8) -> Judged
+pub(crate) fn judge_unlike(s: &[u8], place: usize, j: u8) -> Judged
     requires { ⌜ place < 65536 ⌝ }
-    ensures { λ r. ⌜ r ≡ parameterId (now (s .entry)) (now (st .entry)) place j ⌝ }
+    ensures { λ r. ⌜ r ≡ unlike (now (s .entry)) place j ⌝ }
 {
     let at = place + PARAMETER_IDS + 2 * (j as usize);
-    let free = judge_bound(s, st, at);
-    match free {
-        Judged::Refused(refusal) => Judged::Refused(refusal),
-        Judged::Good => {
-            let id = byte_at(s, at);
-            if is_earlier(s, place, j, id) {
-                return Judged::Refused(refuse(ID_TAKEN, at));
-            }
-            Judged::Good
-        }
+    let id = byte_at(s, at);
+    if is_earlier(s, place, j, id) {
+        return Judged::Refused(refuse(ID_TAKEN, at));
     }
+    Judged::Good
+}
+
+// The id of parameter j: in no name record, no earlier parameter's, and hiding no enclosing binder.
+pub(crate) fn judge_parameter_id(
+    edition: Edition,
+    s: &[u8],
+    st: &[u32; 255],
+    place: usize,
+    j: u8,
+) -> Judged
+    requires { ⌜ place < 65536 ⌝ }
+    ensures { λ r. ⌜ r ≡ parameterId edition (now (s .entry)) (now (st .entry)) place j ⌝ }
+{
+    let at = place + PARAMETER_IDS + 2 * (j as usize);
+    let other = judge_unlike(s, place, j);
+    let apart = judge_apart(edition, s, st, at);
+    judge_both(judge_bound(s, st, at), judge_both(other, apart))
 }
 
 // Pair j of the procedure at a place: a parameter's id and type, or 255 255.
-pub(crate) fn judge_pair(s: &[u8], st: &[u32; 255], place: usize, j: u8) -> Judged
+pub(crate) fn judge_pair(edition: Edition, s: &[u8], st: &[u32; 255], place: usize, j: u8) -> Judged
     requires { ⌜ place < 65536 ⌝ }
-    ensures { λ r. ⌜ r ≡ pair (now (s .entry)) (now (st .entry)) place j ⌝ }
+    ensures { λ r. ⌜ r ≡ pair edition (now (s .entry)) (now (st .entry)) place j ⌝ }
 {
     let id_at = place + PARAMETER_IDS + 2 * (j as usize);
     let type_at = place + PARAMETER_TYPES + 2 * (j as usize);
     if j < byte_at(s, place + COUNT) {
         return judge_both(
-            judge_parameter_id(s, st, place, j),
+            judge_parameter_id(edition, s, st, place, j),
             judge_below(s, type_at, TYPES),
         );
     }
@@ -136,31 +173,35 @@ pub(crate) fn judge_pair(s: &[u8], st: &[u32; 255], place: usize, j: u8) -> Judg
 }
 
 // The four pairs of the procedure at a place.
-fn judge_pairs(s: &[u8], st: &[u32; 255], place: usize) -> Judged
+fn judge_pairs(edition: Edition, s: &[u8], st: &[u32; 255], place: usize) -> Judged
     requires { ⌜ place < 65536 ⌝ }
-    ensures { λ r. ⌜ r ≡ andThen (pair (now (s .entry)) (now (st .entry)) place 0)
-        (andThen (pair (now (s .entry)) (now (st .entry)) place 1)
-        (andThen (pair (now (s .entry)) (now (st .entry)) place 2)
-        (pair (now (s .entry)) (now (st .entry)) place 3))) ⌝ }
+    ensures { λ r. ⌜ r ≡ andThen (pair edition (now (s .entry)) (now (st .entry)) place 0)
+        (andThen (pair edition (now (s .entry)) (now (st .entry)) place 1)
+        (andThen (pair edition (now (s .entry)) (now (st .entry)) place 2)
+        (pair edition (now (s .entry)) (now (st .entry)) place 3))) ⌝ }
 {
-    let last = judge_both(judge_pair(s, st, place, 2), judge_pair(s, st, place, 3));
+    let last = judge_both(
+        judge_pair(edition, s, st, place, 2),
+        judge_pair(edition, s, st, place, 3),
+    );
     judge_both(
-        judge_pair(s, st, place, 0),
-        judge_both(judge_pair(s, st, place, 1), last),
+        judge_pair(edition, s, st, place, 0),
+        judge_both(judge_pair(edition, s, st, place, 1), last),
     )
 }
 
 // The body of the procedure at a place: id, result type, count of parameters, pairs.
-pub(crate) fn judge_procedure(s: &[u8], st: &[u32; 255], place: usize) -> Judged
+pub(crate) fn judge_procedure(edition: Edition, s: &[u8], st: &[u32; 255], place: usize) -> Judged
     requires { ⌜ place < 65536 ⌝ }
-    ensures { λ r. ⌜ r ≡ procedureOf (now (s .entry)) (now (st .entry)) place ⌝ }
+    ensures { λ r. ⌜ r ≡ procedureOf edition (now (s .entry)) (now (st .entry)) place ⌝ }
 {
     let counted = judge_both(
         judge_below(s, place + COUNT, COUNTS),
-        judge_pairs(s, st, place),
+        judge_pairs(edition, s, st, place),
     );
+    let typed = judge_both(judge_below(s, place + RESULT, TYPES), counted);
     judge_both(
         judge_bound(s, st, place + ID),
-        judge_both(judge_below(s, place + RESULT, TYPES), counted),
+        judge_both(judge_apart(edition, s, st, place + ID), typed),
     )
 }

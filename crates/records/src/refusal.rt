@@ -1,4 +1,5 @@
-// A refusal, and what the numbers of check's refusals stand for. Document 01, "Three services".
+// A refusal, and what the numbers of check's refusals stand for. Document 01, "Three services"; document
+// 02 [3] for 16.
 ghost use mathlib.Core.Path.{_≡_};
 ghost use Rattle.records.specs.Refusal.{refusal};
 
@@ -28,6 +29,8 @@ pub const TOO_MANY_NAMES: u8 = 9;
 pub const LEFT_OVER: u8 = 10;
 
 pub const TOO_LARGE: u8 = 11;
+
+pub const ID_ENCLOSED: u8 = 16;
 
 // The refusal with a number, at a place.
 pub fn refuse(number: u8, place: usize) -> Refusal

@@ -7,7 +7,7 @@ use crate::read::byte_at;
 ghost use mathlib.Core.Path.{_≡_};
 ghost use Prim.Native.Nat.{_+_, _≤_, _<_};
 ghost use Rattle.records.specs.Standing.{declaredStanding, variableStanding, parameterStanding};
-ghost use Rattle.records.specs.Standing.{procedureStanding, standingOf, isNamed, resultOf, countOf, argumentOf};
+ghost use Rattle.records.specs.Standing.{procedureStanding, standingOf, isNamed, isHeld, resultOf, countOf, argumentOf};
 
 pub const FREE: u32 = 0;
 
@@ -132,6 +132,16 @@ pub(crate) fn is_named(c: u32) -> bool
             place: _,
         } => false,
     }
+}
+
+// Whether an enclosing binder holds the id whose standing is `c`: a variable, a parameter or a procedure.
+pub(crate) fn is_held(c: u32) -> bool
+    ensures { λ r. ⌜ r ≡ isHeld (standingOf c) ⌝ }
+{
+    if VARIABLES <= c {
+        return true;
+    }
+    false
 }
 
 // The type of a use of an id whose standing is `c`.

@@ -17,6 +17,7 @@ use Rattle.explicit.specs.Letter.{Small}
 use Rattle.procedures.specs.Written.{Sheet}
 use Rattle.sheet.specs.Fine.{Accepted}
 use Rattle.procedures.specs.Meaning.{tyOf, termOf}
+use Rattle.records.specs.declared.edition.Edition.the-variants.{Present}
 use Rattle.sheet.specs.Reader.{readSheet, accepted}
 use Rattle.sheet.proofs.Right.{gives}
 use Rattle.explicit.specs.Letter.{AllSmall}
@@ -74,7 +75,7 @@ small-of S T A B (suc (suc k)) u h = absurd h
 held-reckoned : {s : List ℕ} {S : Sheet} → Holds s S → sizeIn (readSheet s) ≡ reckoned S
 unfolding sizeIn
 held-reckoned {s} {S} h =
-    let g = gives s S (h .type) (h .size) (h .reads) in
+    let g = gives Present s S (h .type) (h .size) (h .reads) in
     rw (h .reads) (g .3 ∙ ap (λ (t : ℕ). size (tyOf (S .numbers) t) (termOf S)) (g .2))
 
 -- the text of an accepted call
@@ -105,7 +106,7 @@ buffer-holds old new ws space r ws′ space′ a b p =
         ComparedBy x old new ws space r ws′ space′ → length (textOf old new r space′) ≤ 8192
     go none n c = accepted-text (c .first-held) (c .second-held) n (c .decided) .holds
     go (some x) n c =
-        let p = refused-short (x .number) (x .sheet) (x .place) (omega (arith, n .0)) (omega (arith, n .1)) in
+        let p = refused-short (x .number) (x .sheet) (x .place) (omega (arith, n .0)) (omega (arith, n .2)) in
         rw (c .0) (looser 8192 (omega arith) p .holds)
 
 -- THEOREM: what is printed is the whole text

@@ -5,28 +5,37 @@ use native.Mathlib.Omega.{arith}
 use mathlib.Core.Path.{_≡_, refl, sym}
 use mathlib.Core.Bool.{Bool, true, false}
 use mathlib.Core.List.{List}
+use mathlib.Core.Logic.{inl, inr}
 use mathlib.Core.Option.{Option, none, some}
 use lib.Dec.{ltb}
 use borrow.Author.Tests.{ltb-true, ltb-false}
 use Rattle.language.specs.Choice.{pick}
 use Rattle.sheet.specs.Encoding.{headingLength}
+use Rattle.records.specs.declared.edition.Edition.the-variants.{Present}
 use Rattle.sheet.specs.Reader.{Checks, accepted, rejected, readSheet}
+use Rattle.sheet.specs.Check.{NumberOf}
 use Rattle.sheet.proofs.Places.{check-refused}
 use Rattle.comparer.specs.Refusals.{Refusal, refusing, matching, onRead, pairRefusal, compareRefusal}
 use Rattle.report.specs.Program.{Never14}
 use Rattle.report.specs.Text.{sizeIn}
 
--- sizes that add up to 511 at most; or a refusal by a number up to 13, at a place up to 4,096
+-- sizes that add up to 511 at most; or a refusal by a number up to 16 but not 14, at a place up to 4,096
 unfoldable pub Bounded : ℕ → Option Refusal → Type 0
 Bounded n none = n ≤ 511
-Bounded n (some x) = (x .number ≤ 13) × (x .place ≤ 4096)
+Bounded n (some x) = (x .number ≤ 16) × (x .number ≡ 14 → ⊥) × (x .place ≤ 4096)
+
+-- a number of check's
+from-check : {k : ℕ} → NumberOf Present k → (k ≤ 16) × (k ≡ 14 → ⊥)
+unfolding NumberOf
+from-check (inl h) = (omega (arith, h .1), λ e. omega (arith, h .1))
+from-check (inr e) = (omega arith, λ f. omega arith)
 
 -- the words and the bytes, for sizes that add up to n
 lent : (t u v : Bool) (n : ℕ) → u ≡ ltb 16384 (32 * (n + 1)) → v ≡ ltb 2040 (4 * (n - 1)) →
     Bounded n (pick t (pick u (refusing 13 2 0) (pick v (refusing 14 2 0) none)) (refusing 12 2 0))
 unfolding Bounded
-lent false u v n d e = (omega arith, omega arith)
-lent true true v n d e = (omega arith, omega arith)
+lent false u v n d e = (omega arith, λ z. omega arith, omega arith)
+lent true true v n d e = (omega arith, λ z. omega arith, omega arith)
 lent true false true n d e =
     absurd (omega (arith, ltb-false 16384 (32 * (n + 1)) (sym d), ltb-true 2040 (4 * (n - 1)) (sym e)))
 lent true false false n d e = omega (arith, ltb-false 16384 (32 * (n + 1)) (sym d))
@@ -44,11 +53,15 @@ bounded old new = go (readSheet old) (readSheet new) refl refl
     go (accepted S ty n) (accepted T b m) e f =
         lent (matching old new (headingLength S) (headingLength T) ty b) _ _ (n + m) refl refl
     go (accepted S ty n) (rejected k p) e f =
-        let r = check-refused new f in (omega (arith, r .1), r .2)
+        let r = check-refused Present new f in
+        let k = from-check (r .known) in
+        (k .0, k .1, r .within)
     go (rejected k p) B e f =
-        let r = check-refused old e in (omega (arith, r .1), r .2)
+        let r = check-refused Present old e in
+        let k = from-check (r .known) in
+        (k .0, k .1, r .within)
 
 -- THEOREM: the program never prints 14
 pub never-14 : Never14
 unfolding Bounded
-never-14 old new x e h = let b = rw e at (bounded old new) in omega (arith, b .0)
+never-14 old new x e = let b = rw e at (bounded old new) in b .1

@@ -1,6 +1,6 @@
 // Sheets worked through: document 01's table, document 001's examples for every range and rule, document 02's
-// remainders and procedures, sheets for each refusal, and what the services are lent. The answers, made by the same function as the
-// program's, go to standard output.
+// remainders and procedures, sheets for each refusal, and what the services are lent. The answers, made by the same
+// function as the program's, go to standard output.
 
 // Titles, sheets and reports.
 mod show;
@@ -27,6 +27,7 @@ fn main() {
     examples::all();
     refused::sheets();
     refused::more_sheets();
+    refused::enclosed();
     refused::pairs();
     lent::compared();
     lent::followed();

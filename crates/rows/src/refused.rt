@@ -138,7 +138,31 @@ pub fn more_sheets() {
     sheet(b"10 bytes after the term", &[1, 0, 16, 16]);
     sheet(
         b"11 size 6,978",
-        &[7, 0, 27, 0, 2, 27, 0, 2, 23, 20, 0, 19, 0],
+        &[7, 0, 27, 0, 2, 27, 1, 2, 23, 20, 0, 19, 0],
+    );
+}
+
+// Document 02, [3]: a binder with the id of an enclosing one.
+pub fn enclosed() {
+    sheet(
+        b"16 a new inside one with its id",
+        &[1, 0, 27, 1, 2, 27, 1, 2, 16],
+    );
+    sheet(
+        b"16 a procedure inside a new with its id",
+        &[1, 0, 27, 1, 2, 28, 1],
+    );
+    sheet(
+        b"16 a parameter inside a new with its id",
+        &[1, 0, 27, 1, 2, 28, 2, 0, 1, 1],
+    );
+    sheet(
+        b"16 a procedure inside another with its id",
+        b"\x01\x00\x1c\x02\x00\x00\xff\xff\xff\xff\xff\xff\xff\xff\x10\x1c\x02",
+    );
+    sheet(
+        b"16 a new with a parameter's id in the procedure's term",
+        b"\x01\x00\x1c\x02\x00\x01\x04\x00\xff\xff\xff\xff\xff\xff\x1b\x04",
     );
 }
 
@@ -152,7 +176,7 @@ pub fn pairs() {
     pair(b"12 the result types differ", &[1, 0, 16], &[1, 0, 17, 1]);
     pair(
         b"13 sizes 3,378 and 4",
-        &[7, 0, 27, 0, 2, 27, 0, 2, 27, 0, 2, 16],
+        &[7, 0, 27, 0, 2, 27, 1, 2, 27, 2, 2, 16],
         &[7, 0, 16],
     );
 }

@@ -1,5 +1,5 @@
-// Document 02, [1]: procedures. p has id 2; its parameters are a command s (4), a number expression n (5) and a number
-// variable w (6). v is a private variable (1).
+// Document 02, [1]: procedures. p has id 2, a second one, q, id 3; the parameters are a command s (4), a number
+// expression n (5) and a number variable w (6). v is a private variable (1), u one inside it (0).
 use crate::show::row;
 use crate::terms::C;
 use crate::terms::E;
@@ -798,8 +798,8 @@ const GIVEN: [u8; 41] = [
     1,
 ];
 
-// procedure p() = c in procedure p() = p; p in p
-const OWN_ID: [u8; 33] = [
+// procedure p() = c in procedure q() = p; p in q
+const HANDED_ON: [u8; 33] = [
     28,
     2,
     0,
@@ -815,7 +815,7 @@ const OWN_ID: [u8; 33] = [
     20,
     8,
     28,
-    2,
+    3,
     0,
     0,
     255,
@@ -832,10 +832,43 @@ const OWN_ID: [u8; 33] = [
     20,
     2,
     20,
+    3,
+];
+
+// procedure p() = new p in (p := 1; x := !p) in p
+const OWN_VARIABLE: [u8; 29] = [
+    28,
+    2,
+    0,
+    0,
+    255,
+    255,
+    255,
+    255,
+    255,
+    255,
+    255,
+    255,
+    27,
+    2,
+    2,
+    24,
+    23,
+    20,
+    2,
+    19,
+    1,
+    23,
+    20,
+    10,
+    21,
+    20,
+    2,
+    20,
     2,
 ];
 
-// new v in (v := 1; procedure p() = x := !v in new v in p)
+// new v in (v := 1; procedure p() = x := !v in new u in p)
 const STATIC: [u8; 32] = [
     27,
     1,
@@ -865,7 +898,7 @@ const STATIC: [u8; 32] = [
     20,
     1,
     27,
-    1,
+    0,
     2,
     20,
     2,
@@ -1115,18 +1148,27 @@ pub fn variables() {
 
 // What an id and an argument mean where they stand.
 pub fn ids() {
-    // The own id means what it means outside.
+    // A procedure uses one that is around it.
     row(
-        b"procedure p() = c in procedure p() = p; p in p | c; c",
+        b"procedure p() = c in procedure q() = p; p in q | c; c",
         1,
         0,
         &C,
-        &OWN_ID,
+        &HANDED_ON,
         &[24, 20, 8, 20, 8],
     );
-    // Static scope.
+    // In its own term the procedure's id is free.
     row(
-        b"new v in (v := 1; procedure p() = x := !v in new v in p) | x := 1",
+        b"procedure p() = new p in (p := 1; x := !p) in p | x := 1",
+        1,
+        0,
+        &X,
+        &OWN_VARIABLE,
+        &[23, 20, 10, 19, 1],
+    );
+    // A variable around the procedure, used inside another.
+    row(
+        b"new v in (v := 1; procedure p() = x := !v in new u in p) | x := 1",
         1,
         0,
         &X,

@@ -26,12 +26,6 @@ unfolding Holds
 all-holds P A (one p) = p
 all-holds P A none′ = tt
 
-pub all-got :
-    {X : Type 0} (P : X → ℕ → ℕ → Type 0) {A : Answer X} {x : X} {ty n : ℕ} → All P A → A ≡ got x ty n →
-    P x ty n
-unfolding Holds
-all-got P {A} a e = subst (λ (B : Answer _). Holds P B) e (all-holds P A a)
-
 pub all-map :
     {X : Type 0} (P Q : X → ℕ → ℕ → Type 0) (A : Answer X) →
     ((x : X) (ty n : ℕ) → P x ty n → Q x ty n) → All P A → All Q A

@@ -10,6 +10,7 @@ use Rattle.language.specs.declared.Numbers.{Numbers}
 use Rattle.records.specs.Head.{headOf}
 use Rattle.records.specs.Rule.{acceptsPart}
 use Rattle.records.specs.Scope.{opens, entered, passed, usable}
+use Rattle.records.specs.declared.edition.Edition.{Edition}
 use Rattle.records.specs.declared.scope.Opens.{Opens}
 use Rattle.records.specs.declared.scope.Opens.the-variants.{Nothing, Block, Routine}
 use Rattle.records.specs.declared.head.Record.{Record}
@@ -95,13 +96,13 @@ module _ (s : List ℕ) where
   headed at (Good r) k f = f r refl
   headed at (Unheaded x) k f = tt
 
-  part-next : (N : Numbers) (left : ℕ) (st : List ℕ) (around at : ℕ) → Whole at (readPart left N s st around at)
+  part-next : (ed : Edition) (N : Numbers) (left : ℕ) (st : List ℕ) (around at : ℕ) → Whole at (readPart ed left N s st around at)
   unfolding readPart Next
-  part-next N zero st around at = headed at (headOf s st N 0 at) (λ r. refused 8 at) (λ r e. tt)
-  part-next N (suc left) st around at =
-      headed at (headOf s st N (suc left) at) _ (λ r e.
-        let g = head-good s st N (suc left) at r e in
-        record-next (readPart left N s) (λ st′ around′ at′. part-next N left st′ around′ at′) st around r
+  part-next ed N zero st around at = headed at (headOf ed s st N 0 at) (λ r. refused 8 at) (λ r e. tt)
+  part-next ed N (suc left) st around at =
+      headed at (headOf ed s st N (suc left) at) _ (λ r e.
+        let g = head-good ed s st N (suc left) at r e in
+        record-next (readPart ed left N s) (λ st′ around′ at′. part-next ed N left st′ around′ at′) st around r
           (g .next-inside) at (g .next-beyond))
 
 beyond-of : {X : Type 0} (at n : ℕ) (A : Answer X) → Next (After at n) A → Beyond at n (erase A)
@@ -111,10 +112,10 @@ beyond-of at n (refused a b) p = tt
 
 -- so is the place that the code answers
 pub part-beyond :
-    (left : ℕ) (N : Numbers) (s st : List ℕ) (around at : ℕ) {x : Part} → x ≡ erase (readPart left N s st around at) →
-    Beyond at (length s) x
-part-beyond left N s st around at e =
-    rw e (beyond-of at (length s) (readPart left N s st around at) (part-next s N left st around at))
+    (ed : Edition) (left : ℕ) (N : Numbers) (s st : List ℕ) (around at : ℕ) {x : Part} →
+    x ≡ erase (readPart ed left N s st around at) → Beyond at (length s) x
+part-beyond ed left N s st around at e =
+    rw e (beyond-of at (length s) (readPart ed left N s st around at) (part-next s ed N left st around at))
 
 pub beyond-within : (at n : ℕ) {ty next : ℕ} {x : Part} → Beyond at n x → x ≡ Read ty next → next ≤ n
 unfolding Beyond
@@ -126,19 +127,19 @@ unfolding Next erase Ends
 ends-of at n (got x ty next) p = p .1
 ends-of at n (refused a b) p = tt
 
-module _ (left : ℕ) (N : Numbers) (s st : List ℕ) (around : ℕ) (r : Record) where
+module _ (ed : Edition) (left : ℕ) (N : Numbers) (s st : List ℕ) (around : ℕ) (r : Record) where
   pub scope-ends : {x : Part} → r .next ≤ length s →
-      x ≡ erase (scopeParts (opens (r .rule)) (readPart left N s) s st around r) → Ends (length s) x
+      x ≡ erase (scopeParts (opens (r .rule)) (readPart ed left N s) s st around r) → Ends (length s) x
   scope-ends h e =
-      rw e (ends-of (r .next) (length s) (scopeParts (opens (r .rule)) (readPart left N s) s st around r)
-        (scope-next s (readPart left N s) (λ st′ around′ at′. part-next s N left st′ around′ at′) st around r h
+      rw e (ends-of (r .next) (length s) (scopeParts (opens (r .rule)) (readPart ed left N s) s st around r)
+        (scope-next s (readPart ed left N s) (λ st′ around′ at′. part-next s ed N left st′ around′ at′) st around r h
           (opens (r .rule))))
 
   pub parts-end : (n j prev at : ℕ) {x : Part} → at ≤ length s →
-      x ≡ erase (partsOf (readPart left N s st around) s r n j prev at) → Ends (length s) x
+      x ≡ erase (partsOf (readPart ed left N s st around) s r n j prev at) → Ends (length s) x
   parts-end n j prev at h e =
-      rw e (ends-of at (length s) (partsOf (readPart left N s st around) s r n j prev at)
-        (parts-next s (readPart left N s st around) (λ at′. part-next s N left st around at′) r n j prev at h))
+      rw e (ends-of at (length s) (partsOf (readPart ed left N s st around) s r n j prev at)
+        (parts-next s (readPart ed left N s st around) (λ at′. part-next s ed N left st around at′) r n j prev at h))
 
 pub ends-within : (n : ℕ) {ty next : ℕ} {x : Part} → Ends n x → x ≡ Read ty next → next ≤ n
 unfolding Ends

@@ -13,6 +13,8 @@ use Rattle.language.specs.declared.Numbers.{Numbers}
 use Rattle.records.specs.Standing.{standingOf, countOf, resultOf, argumentOf}
 use Rattle.records.specs.Scope.{opens, entered, passed, usable}
 use Rattle.records.specs.Rule.{operandType, acceptsPart, partType}
+use Rattle.records.specs.declared.edition.Edition.{Edition}
+use Rattle.records.specs.declared.edition.Edition.the-variants.{Present}
 use Rattle.records.specs.declared.kind.Rule.the-variants.{Use, Fetch, Operate, Assign, Sequence, If, While, New}
 use Rattle.records.specs.declared.kind.Rule.the-variants.{Procedure}
 use Rattle.records.specs.declared.scope.Opens.the-variants.{Routine as Terms}
@@ -23,12 +25,13 @@ use Rattle.procedures.specs.Written.{assign, sequence, while, choose, new, proc
 use Rattle.procedures.specs.Meaning.{Binder, a-block, Meaning, private, argument, routine, named, retired, free}
 use Rattle.procedures.specs.Meaning.{declared, meaning, inside, after, useType, typed}
 use Rattle.procedures.specs.Fine.{depth, depths, FineUse, FineParameters, Fine, FineArgs}
+use Rattle.procedures.specs.Hiding.{Apart, AllApart}
 use Rattle.sheet.specs.Encoding.{pairs, encode, encodes}
 use Rattle.sheet.specs.Reader.{Tree, node, Trees, leaf, branch, Answer, got, bind, onHead, partsOf, joined}
 use Rattle.sheet.specs.Reader.{scopeParts, readRecord, readPart, build, first, rest, written, writtens}
 use Rattle.sheet.proofs.Parsed.{Byte, Pairs}
 use Rattle.sheet.proofs.Standings.{Agrees, Matches, matches-entered, matches-passed, matches-usable}
-use Rattle.sheet.proofs.Standings.{binder-standing, naming-says, variable-says, passed-says, routine-says}
+use Rattle.sheet.proofs.Standings.{binder-standing, apart-unhiding, naming-says, variable-says, passed-says, routine-says}
 use Rattle.sheet.proofs.Standings.{variable-taken, passed-taken, routine-taken, naming-taken}
 use Rattle.sheet.proofs.Heads.{made, Heads, h-skip, h-diverge, h-truth, h-number, h-use, h-fetch, h-operate}
 use Rattle.sheet.proofs.Heads.{h-assign, h-sequence, h-if, h-while, h-new, h-procedure, head-is}
@@ -79,24 +82,25 @@ reading :
     ty ≡ ty′ → n ≡ n′ → Read s A W ty′ n′
 reading {s} {A} {t} {W} {ty} {ty′} {n} {n′} e f a c = record { tree = t; reads = rw (← a, ← c) e; writes = f }
 
-module _ (N : Numbers) (s : List ℕ) (ns : List Name) (left : ℕ) (bs : List Binder) (st : List ℕ) (at : ℕ) where
+module _
+    (ed : Edition) (N : Numbers) (s : List ℕ) (ns : List Name) (left : ℕ) (bs : List Binder) (st : List ℕ) (at : ℕ) where
   abbrev sub : List ℕ → ℕ → ℕ → Answer Tree
-  sub = readPart left N s
+  sub = readPart ed left N s
 
   abbrev rec : ℕ → Answer Tree
-  rec = readPart left N s st (length bs)
+  rec = readPart ed left N s st (length bs)
 
   abbrev Part : ℕ → Written → Type 0
   Part p W = Read s (rec p) W (typed ns bs W) (p + length (encode W))
 
   abbrev Whole : Written → Type 0
-  Whole W = Read s (readPart (suc left) N s st (length bs) at) W (typed ns bs W) (at + length (encode W))
+  Whole W = Read s (readPart ed (suc left) N s st (length bs) at) W (typed ns bs W) (at + length (encode W))
 
   record-read :
-      {r : Record} → Heads s st N at r →
-      readPart (suc left) N s st (length bs) at ≡ readRecord sub s st (length bs) r
+      {r : Record} → Heads ed s st N at r →
+      readPart ed (suc left) N s st (length bs) at ≡ readRecord sub s st (length bs) r
   unfolding readPart onHead
-  record-read {r} h = rw (head-is s st N at left r h) refl
+  record-read {r} h = rw (head-is ed s st N at left r h) refl
 
   complete-skip : Byte s at 16 → Whole skip
   unfolding opens scopeParts partsOf partType encode typed written writtens build
@@ -198,36 +202,37 @@ module _ (N : Numbers) (s : List ℕ) (ns : List Name) (left : ℕ) (bs : List B
   complete-new :
       {π : ℕ → ℕ} (a d : ℕ) (c : Written) → Byte s at 27 → Byte s (at + 1) a → Byte s (at + 2) d →
       Matches s ns bs π st → Fine N ns bs (new a d c) →
+      (ed ≡ Present → Apart bs (new a d c)) →
       Read s (sub (entered st (made s at New 1 a d (at + 1 + 2)) (length bs)) (suc (length bs)) (at + 1 + 2)) c
         (typed ns (a-block a d ∷ bs) c) (at + 1 + 2 + length (encode c)) →
       Whole (new a d c)
-  unfolding Fine opens scopeParts partsOf acceptsPart partType encode typed written writtens build first rest
-  complete-new a d c b b′ b″ M f p =
+  unfolding Fine Apart opens scopeParts partsOf acceptsPart partType encode typed written writtens build first rest
+  complete-new a d c b b′ b″ M f u p =
       let x = made s at New 1 a d (at + 1 + 2) in
       let k = binder-standing M a (f .0) (f .1) in
       let rec′ = sub (entered st x (length bs)) (length bs + 1) in
-      reading (record-read (h-new b b′ (f .0) k b″ (f .2) (f .3)) ∙ record-step sub s st (length bs) x
+      reading (record-read (h-new b b′ (f .0) k (apart-unhiding ed M a (f .0) (λ q. u q .0)) b″ (f .2) (f .3)) ∙ record-step sub s st (length bs) x
         (part-step rec′ s x 0 0 0 (at + 1 + 2) (rw (← add-one (length bs)) at (p .reads)) (eq-eqb _ 0 (f .5)) refl))
       (ap (λ (x : Written). new a d x) (p .writes)) refl (omega arith)
 
   complete-procedure :
       {π : ℕ → ℕ} (a ty : ℕ) (ps : List Parameter) (x y : Written) → Byte s at 28 → Byte s (at + 1) a →
       Byte s (at + 2) ty → Byte s (at + 3) (length ps) → Pairs s ns at (length ps) ps → Matches s ns bs π st →
-      Fine N ns bs (procedure a ty ps x y) →
+      Fine N ns bs (procedure a ty ps x y) → (ed ≡ Present → Apart bs (procedure a ty ps x y)) →
       Read s (sub (passed s at (length bs) (length ps) st) (length bs + length ps) (at + 12)) x
         (typed ns (inside ps bs) x) (at + 12 + length (encode x)) →
       Read s (sub (usable st (made s at Procedure 2 a (length ps) (at + 12)) (length bs)) (length bs + 1)
           (at + 12 + length (encode x))) y
         (typed ns (after a ty ps bs) y) (at + 12 + length (encode x) + length (encode y)) →
       Whole (procedure a ty ps x y)
-  unfolding Fine opens partsOf joined acceptsPart partType encode typed written writtens build first rest
-  complete-procedure a ty ps x y b b′ b″ c P M f p q =
+  unfolding Fine Apart opens partsOf joined acceptsPart partType encode typed written writtens build first rest
+  complete-procedure a ty ps x y b b′ b″ c P M f u p q =
       let r = made s at Procedure 2 a (length ps) (at + 12) in
       let n : at + 1 + 11 ≡ at + 12 = omega arith in
-      let B = pairs-body P M b′ (f .0) (f .1) b″ (f .2) c (f .3) in
-      let h₀ : Heads s st N at (made s at Procedure 2 (getD s (at + 1) 0) (getD s (at + 3) 0) (at + 1 + 11)) =
+      let B = pairs-body P ed M b′ (f .0) (f .1) (λ q. u q .0) b″ (f .2) c (f .3) (λ q. u q .1) in
+      let h₀ : Heads ed s st N at (made s at Procedure 2 (getD s (at + 1) 0) (getD s (at + 3) 0) (at + 1 + 11)) =
           h-procedure b B in
-      let h : Heads s st N at r = rw (b′ .1, c .1, n) at h₀ in
+      let h : Heads ed s st N at r = rw (b′ .1, c .1, n) at h₀ in
       reading (record-read h ∙ record-step sub s st (length bs) r
         (terms-step sub s st (length bs) r
           (part-step (sub (passed s at (length bs) (length ps) st) (length bs + length ps)) s r 0 0 0 (at + 12)
@@ -308,35 +313,36 @@ depth-above (while b c) = omega arith
 depth-above (new id d c) = omega arith
 depth-above (procedure id ty ps x y) = omega arith
 
-module _ (N : Numbers) (s : List ℕ) (ns : List Name) where
+module _ (ed : Edition) (N : Numbers) (s : List ℕ) (ns : List Name) where
   -- every part of at most so many levels is read
   abbrev Reads : ℕ → Type 0
   Reads left =
       (W : Written) (bs : List Binder) (π : ℕ → ℕ) (st : List ℕ) (at : ℕ) (rest : List ℕ) → Fine N ns bs W →
-      depth W ≤ left → drop at s ≡ encode W ++ rest → Matches s ns bs π st → length bs + 4 * left ≤ 128 →
-      Read s (readPart left N s st (length bs) at) W (typed ns bs W) (at + length (encode W))
+      (ed ≡ Present → Apart bs W) → depth W ≤ left → drop at s ≡ encode W ++ rest → Matches s ns bs π st → length bs + 4 * left ≤ 128 →
+      Read s (readPart ed left N s st (length bs) at) W (typed ns bs W) (at + length (encode W))
 
   complete-args :
       (left : ℕ) (bs : List Binder) (π : ℕ → ℕ) (st : List ℕ) (at m a c : ℕ) → Reads left → Matches s ns bs π st →
       length bs + 4 * left ≤ 128 →
-      (ws : Writtens) (tys : List ℕ) (j prev p : ℕ) (rest : List ℕ) → FineArgs N ns bs ws tys → depths ws ≤ left →
+      (ws : Writtens) (tys : List ℕ) (j prev p : ℕ) (rest : List ℕ) → FineArgs N ns bs ws tys →
+      (ed ≡ Present → AllApart bs ws) → depths ws ≤ left →
       drop p s ≡ encodes ws ++ rest →
       ((k : ℕ) → k < length tys → argumentOf s (standingOf c) (j + k) ≡ getD tys k 0) →
-      Args N s ns left bs st at m a c ws tys j prev p
-  unfolding FineArgs depths encodes
-  complete-args left bs π st at m a c R M l none [] j prev p rest f d e g =
-      complete-none N s ns left bs st at m a c j prev p
-  complete-args left bs π st at m a c R M l none (ty ∷ tys) j prev p rest f d e g = absurd f
-  complete-args left bs π st at m a c R M l (more w ws) [] j prev p rest f d e g = absurd f
-  complete-args left bs π st at m a c R M l (more w ws) (ty ∷ tys) j prev p rest f d e g =
+      Args ed N s ns left bs st at m a c ws tys j prev p
+  unfolding FineArgs AllApart depths encodes
+  complete-args left bs π st at m a c R M l none [] j prev p rest f u d e g =
+      complete-none ed N s ns left bs st at m a c j prev p
+  complete-args left bs π st at m a c R M l none (ty ∷ tys) j prev p rest f u d e g = absurd f
+  complete-args left bs π st at m a c R M l (more w ws) [] j prev p rest f u d e g = absurd f
+  complete-args left bs π st at m a c R M l (more w ws) (ty ∷ tys) j prev p rest f u d e g =
       let e′ : drop p s ≡ encode w ++ (encodes ws ++ rest) = e ∙ append-assoc (encode w) (encodes ws) rest in
-      complete-more N s ns left bs st at m a c w ws ty tys j prev p (f .1)
+      complete-more ed N s ns left bs st at m a c w ws ty tys j prev p (f .1)
         (ap (λ (x : ℕ). argumentOf s (standingOf c) x) (sym (add-zero j)) ∙ g 0 (omega arith))
-        (R w bs π st p (encodes ws ++ rest) (f .0) (omega arith) e′ M l)
+        (R w bs π st p (encodes ws ++ rest) (f .0) (λ q. u q .0) (omega arith) e′ M l)
         (complete-args left bs π st at m a c R M l ws tys (j + 1) (typed ns bs w) (p + length (encode w)) rest (f .2)
-          (omega arith)
+          (λ q. u q .1) (omega arith)
           (past s p (encode w) (encodes ws ++ rest) e′)
-          (λ k u. ap (λ (x : ℕ). argumentOf s (standingOf c) x) (shift j k) ∙ g (suc k) (omega arith)))
+          (λ k i. ap (λ (x : ℕ). argumentOf s (standingOf c) x) (shift j k) ∙ g (suc k) (omega arith)))
     where
       shift : (j k : ℕ) → j + 1 + k ≡ j + suc k
       shift j k = omega arith
@@ -346,35 +352,35 @@ module _ (N : Numbers) (s : List ℕ) (ns : List Name) where
       (left : ℕ) (bs : List Binder) (π : ℕ → ℕ) (st : List ℕ) (at a : ℕ) (ws : Writtens) (rest : List ℕ) → Reads left →
       a < 255 → depths ws ≤ left → drop at s ≡ 20 ∷ a ∷ (encodes ws ++ rest) → Matches s ns bs π st →
       length bs + 4 * left ≤ 128 →
-      (m : Meaning) → meaning ns bs a ≡ m → FineUse m (ws ≡ none) (λ tys. FineArgs N ns bs ws tys) →
-      Agrees s π (length bs) (declared ns a) m (getD st a 0) → Whole N s ns left bs st at (call a ws)
+      (ed ≡ Present → AllApart bs ws) → (m : Meaning) → meaning ns bs a ≡ m → FineUse m (ws ≡ none) (λ tys. FineArgs N ns bs ws tys) →
+      Agrees s π (length bs) (declared ns a) m (getD st a 0) → Whole ed N s ns left bs st at (call a ws)
   unfolding FineUse Agrees useType countOf resultOf argumentOf
-  complete-call left bs π st at a ws rest R l d e M k (private i h) q f v =
+  complete-call left bs π st at a ws rest R l d e M k w (private i h) q f v =
       let o = open-one s at 20 a _ e in
       let y = variable-says v (M .nested) in
-      subst (λ (x : Writtens). Whole N s ns left bs st at (call a x)) (sym f)
-      (complete-bare N s ns left bs st at a (o .0) (o .1) l (variable-taken v) (rw y refl) (rw (y, q) refl))
-  complete-call left bs π st at a ws rest R l d e M k (argument i ty) q f v =
+      subst (λ (x : Writtens). Whole ed N s ns left bs st at (call a x)) (sym f)
+      (complete-bare ed N s ns left bs st at a (o .0) (o .1) l (variable-taken v) (rw y refl) (rw (y, q) refl))
+  complete-call left bs π st at a ws rest R l d e M k w (argument i ty) q f v =
       let o = open-one s at 20 a _ e in
       let y = passed-says v (M .nested) in
-      subst (λ (x : Writtens). Whole N s ns left bs st at (call a x)) (sym f)
-      (complete-bare N s ns left bs st at a (o .0) (o .1) l (passed-taken v) (rw y refl) (rw (y, q) refl))
-  complete-call left bs π st at a ws rest R l d e M k (routine i ty tys) q f v =
+      subst (λ (x : Writtens). Whole ed N s ns left bs st at (call a x)) (sym f)
+      (complete-bare ed N s ns left bs st at a (o .0) (o .1) l (passed-taken v) (rw y refl) (rw (y, q) refl))
+  complete-call left bs π st at a ws rest R l d e M k w (routine i ty tys) q f v =
       let o = open-one s at 20 a _ e in
       let y = routine-says v (M .nested) in
-      complete-using N s ns left bs st at a ws tys (o .0) (o .1) l (routine-taken v) (rw y (v .bytes .count))
+      complete-using ed N s ns left bs st at a ws tys (o .0) (o .1) l (routine-taken v) (rw y (v .bytes .count))
         (rw (y, q) (v .bytes .result))
-        (complete-args left bs π st at (length tys) a (getD st a 0) R M k ws tys 0 0 (at + 1 + 1) rest f d (o .2)
-          (λ j u. rw (y, zero-add j) (v .bytes .argument j u)))
-  complete-call left bs π st at a ws rest R l d e M k (named ty tys) q f v =
+        (complete-args left bs π st at (length tys) a (getD st a 0) R M k ws tys 0 0 (at + 1 + 1) rest f w d (o .2)
+          (λ j i. rw (y, zero-add j) (v .bytes .argument j i)))
+  complete-call left bs π st at a ws rest R l d e M k w (named ty tys) q f v =
       let o = open-one s at 20 a _ e in
       let y = naming-says v (M .short) in
-      complete-using N s ns left bs st at a ws tys (o .0) (o .1) l (naming-taken v) (rw y (v .bytes .count))
+      complete-using ed N s ns left bs st at a ws tys (o .0) (o .1) l (naming-taken v) (rw y (v .bytes .count))
         (rw (y, q) (v .bytes .result))
-        (complete-args left bs π st at (length tys) a (getD st a 0) R M k ws tys 0 0 (at + 1 + 1) rest f d (o .2)
-          (λ j u. rw (y, zero-add j) (v .bytes .argument j u)))
-  complete-call left bs π st at a ws rest R l d e M k retired q f v = absurd f
-  complete-call left bs π st at a ws rest R l d e M k free q f v = absurd f
+        (complete-args left bs π st at (length tys) a (getD st a 0) R M k ws tys 0 0 (at + 1 + 1) rest f w d (o .2)
+          (λ j i. rw (y, zero-add j) (v .bytes .argument j i)))
+  complete-call left bs π st at a ws rest R l d e M k w retired q f v = absurd f
+  complete-call left bs π st at a ws rest R l d e M k w free q f v = absurd f
 
   -- the bytes of a procedure, and what follows
   record Opened (at a ty : ℕ) (ps : List Parameter) (x y rest : List ℕ) : Type 0 where
@@ -406,11 +412,12 @@ module _ (N : Numbers) (s : List ℕ) (ns : List Name) where
 
   complete-routine :
       (left : ℕ) (bs : List Binder) (π : ℕ → ℕ) (st : List ℕ) (at a ty : ℕ) (ps : List Parameter) (x y : Written)
-      (rest : List ℕ) → Reads left → Fine N ns bs (procedure a ty ps x y) → depth x ≤ left → depth y ≤ left →
+      (rest : List ℕ) → Reads left → Fine N ns bs (procedure a ty ps x y) →
+      (ed ≡ Present → Apart bs (procedure a ty ps x y)) → depth x ≤ left → depth y ≤ left →
       drop at s ≡ encode (procedure a ty ps x y) ++ rest → Matches s ns bs π st → length bs + 4 * suc left ≤ 128 →
-      Whole N s ns left bs st at (procedure a ty ps x y)
-  unfolding Fine encode passed after
-  complete-routine left bs π st at a ty ps x y rest R f dx dy e M l =
+      Whole ed N s ns left bs st at (procedure a ty ps x y)
+  unfolding Fine Apart encode passed after
+  complete-routine left bs π st at a ty ps x y rest R f u dx dy e M l =
       let O = open-procedure at a ty ps (encode x) (encode y) rest e (f .3) (f .4) in
       let P = O .pairs-are in
       let r = made s at Procedure 2 a (length ps) (at + 12) in
@@ -418,81 +425,83 @@ module _ (N : Numbers) (s : List ℕ) (ns : List Name) where
       let c = f .3 in
       let k : length (inside ps bs) ≡ length bs + length ps = inside-length ps bs in
       let M′ = matches-passed st at (length bs) ps 0 bs [] M (omega arith) (omega arith) (pairs-at P) (f .4) in
-      let X = R x (inside ps bs) π (passed s at (length bs) (length ps) st) (at + 12) (encode y ++ rest) (f .5) dx
+      let X = R x (inside ps bs) π (passed s at (length bs) (length ps) st) (at + 12) (encode y ++ rest) (f .5) (λ q. u q .2) dx
             (O .first-term) (rw (zero-add (length ps)) at M′) (omega arith) in
       let Y = R y (after a ty ps bs) (beyond (length bs) π (λ j. at)) (usable st r (length bs))
-            (at + 12 + length (encode x)) rest (f .7) dy (O .second-term)
+            (at + 12 + length (encode x)) rest (f .7) (λ q. u q .3) dy (O .second-term)
             (matches-usable ps r M (omega arith) (f .0) (f .1) D) (omega arith) in
-      complete-procedure N s ns left bs st at a ty ps x y (O .kind) (O .id) (O .type) (O .count) P M f
+      complete-procedure ed N s ns left bs st at a ty ps x y (O .kind) (O .id) (O .type) (O .count) P M f u
         (rw k at X) (rw (add-one (length bs)) Y)
 
   -- THEOREM: every part that is in order is read
   pub complete-part : (left : ℕ) → Reads left
-  unfolding Fine encode depth
-  complete-part zero W bs π st at rest f d e M l = absurd (omega (arith, depth-above W))
-  complete-part (suc left) skip bs π st at rest f d e M l =
-      complete-skip N s ns left bs st at (open-none s at 16 _ e .0)
-  complete-part (suc left) (diverge a) bs π st at rest f d e M l =
-      let o = open-one s at 17 a _ e in complete-diverge N s ns left bs st at a (o .0) (o .1) f
-  complete-part (suc left) (truth a) bs π st at rest f d e M l =
-      let o = open-one s at 18 a _ e in complete-truth N s ns left bs st at a (o .0) (o .1) f
-  complete-part (suc left) (number a) bs π st at rest f d e M l =
-      let o = open-one s at 19 a _ e in complete-number N s ns left bs st at a (o .0) (o .1) (f .0) (f .1)
-  complete-part (suc left) (call a ws) bs π st at rest f d e M l =
+  unfolding Fine Apart encode depth
+  complete-part zero W bs π st at rest f u d e M l = absurd (omega (arith, depth-above W))
+  complete-part (suc left) skip bs π st at rest f u d e M l =
+      complete-skip ed N s ns left bs st at (open-none s at 16 _ e .0)
+  complete-part (suc left) (diverge a) bs π st at rest f u d e M l =
+      let o = open-one s at 17 a _ e in complete-diverge ed N s ns left bs st at a (o .0) (o .1) f
+  complete-part (suc left) (truth a) bs π st at rest f u d e M l =
+      let o = open-one s at 18 a _ e in complete-truth ed N s ns left bs st at a (o .0) (o .1) f
+  complete-part (suc left) (number a) bs π st at rest f u d e M l =
+      let o = open-one s at 19 a _ e in complete-number ed N s ns left bs st at a (o .0) (o .1) (f .0) (f .1)
+  complete-part (suc left) (call a ws) bs π st at rest f u d e M l =
       let R = complete-part left in
-      complete-call left bs π st at a ws rest R (f .0) (omega arith) e M (omega arith) (meaning ns bs a) refl (f .1)
+      complete-call left bs π st at a ws rest R (f .0) (omega arith) e M (omega arith) u (meaning ns bs a) refl (f .1)
         (M .standing a (f .0))
-  complete-part (suc left) (fetch v) bs π st at rest f d e M l =
+  complete-part (suc left) (fetch v) bs π st at rest f u d e M l =
       let R = complete-part left in
       let o = open-none s at 21 _ e in
-      complete-fetch N s ns left bs st at v (o .0) f
-        (R v bs π st (at + 1 + 0) rest (f .0) (omega arith) (o .1) M (omega arith))
-  complete-part (suc left) (operate op x y) bs π st at rest f d e M l =
+      complete-fetch ed N s ns left bs st at v (o .0) f
+        (R v bs π st (at + 1 + 0) rest (f .0) u (omega arith) (o .1) M (omega arith))
+  complete-part (suc left) (operate op x y) bs π st at rest f u d e M l =
       let R = complete-part left in
       let o = open-one s at 22 op _ e in
       let t = two-parts s (at + 1 + 1) (encode x) (encode y) rest (o .2) in
-      complete-operate N s ns left bs st at op x y (o .0) (o .1) f
-        (R x bs π st (at + 1 + 1) (encode y ++ rest) (f .1) (omega arith) (t .0) M (omega arith))
-        (R y bs π st (at + 1 + 1 + length (encode x)) rest (f .3) (omega arith) (t .1) M (omega arith))
-  complete-part (suc left) (assign x y) bs π st at rest f d e M l =
+      complete-operate ed N s ns left bs st at op x y (o .0) (o .1) f
+        (R x bs π st (at + 1 + 1) (encode y ++ rest) (f .1) (λ q. u q .0) (omega arith) (t .0) M (omega arith))
+        (R y bs π st (at + 1 + 1 + length (encode x)) rest (f .3) (λ q. u q .1) (omega arith) (t .1) M (omega arith))
+  complete-part (suc left) (assign x y) bs π st at rest f u d e M l =
       let R = complete-part left in
       let o = open-none s at 23 _ e in
       let t = two-parts s (at + 1 + 0) (encode x) (encode y) rest (o .1) in
-      complete-assign N s ns left bs st at x y (o .0) f
-        (R x bs π st (at + 1 + 0) (encode y ++ rest) (f .0) (omega arith) (t .0) M (omega arith))
-        (R y bs π st (at + 1 + 0 + length (encode x)) rest (f .2) (omega arith) (t .1) M (omega arith))
-  complete-part (suc left) (sequence x y) bs π st at rest f d e M l =
+      complete-assign ed N s ns left bs st at x y (o .0) f
+        (R x bs π st (at + 1 + 0) (encode y ++ rest) (f .0) (λ q. u q .0) (omega arith) (t .0) M (omega arith))
+        (R y bs π st (at + 1 + 0 + length (encode x)) rest (f .2) (λ q. u q .1) (omega arith) (t .1) M (omega arith))
+  complete-part (suc left) (sequence x y) bs π st at rest f u d e M l =
       let R = complete-part left in
       let o = open-none s at 24 _ e in
       let t = two-parts s (at + 1 + 0) (encode x) (encode y) rest (o .1) in
-      complete-sequence N s ns left bs st at x y (o .0) f
-        (R x bs π st (at + 1 + 0) (encode y ++ rest) (f .0) (omega arith) (t .0) M (omega arith))
-        (R y bs π st (at + 1 + 0 + length (encode x)) rest (f .2) (omega arith) (t .1) M (omega arith))
-  complete-part (suc left) (choose b x y) bs π st at rest f d e M l =
+      complete-sequence ed N s ns left bs st at x y (o .0) f
+        (R x bs π st (at + 1 + 0) (encode y ++ rest) (f .0) (λ q. u q .0) (omega arith) (t .0) M (omega arith))
+        (R y bs π st (at + 1 + 0 + length (encode x)) rest (f .2) (λ q. u q .1) (omega arith) (t .1) M (omega arith))
+  complete-part (suc left) (choose b x y) bs π st at rest f u d e M l =
       let R = complete-part left in
       let o = open-none s at 25 _ e in
       let t = two-parts s (at + 1 + 0) (encode b) (encode x ++ encode y) rest (o .1) in
-      let u = two-parts s (at + 1 + 0 + length (encode b)) (encode x) (encode y) rest (t .1) in
-      complete-choose N s ns left bs st at b x y (o .0) f
-        (R b bs π st (at + 1 + 0) ((encode x ++ encode y) ++ rest) (f .0) (omega arith) (t .0) M (omega arith))
-        (R x bs π st (at + 1 + 0 + length (encode b)) (encode y ++ rest) (f .2) (omega arith) (u .0) M (omega arith))
-        (R y bs π st (at + 1 + 0 + length (encode b) + length (encode x)) rest (f .3) (omega arith) (u .1) M
+      let v = two-parts s (at + 1 + 0 + length (encode b)) (encode x) (encode y) rest (t .1) in
+      complete-choose ed N s ns left bs st at b x y (o .0) f
+        (R b bs π st (at + 1 + 0) ((encode x ++ encode y) ++ rest) (f .0) (λ q. u q .0) (omega arith) (t .0) M
           (omega arith))
-  complete-part (suc left) (while x y) bs π st at rest f d e M l =
+        (R x bs π st (at + 1 + 0 + length (encode b)) (encode y ++ rest) (f .2) (λ q. u q .1) (omega arith) (v .0) M
+          (omega arith))
+        (R y bs π st (at + 1 + 0 + length (encode b) + length (encode x)) rest (f .3) (λ q. u q .2) (omega arith) (v .1) M
+          (omega arith))
+  complete-part (suc left) (while x y) bs π st at rest f u d e M l =
       let R = complete-part left in
       let o = open-none s at 26 _ e in
       let t = two-parts s (at + 1 + 0) (encode x) (encode y) rest (o .1) in
-      complete-while N s ns left bs st at x y (o .0) f
-        (R x bs π st (at + 1 + 0) (encode y ++ rest) (f .0) (omega arith) (t .0) M (omega arith))
-        (R y bs π st (at + 1 + 0 + length (encode x)) rest (f .2) (omega arith) (t .1) M (omega arith))
-  complete-part (suc left) (new a k c) bs π st at rest f d e M l =
+      complete-while ed N s ns left bs st at x y (o .0) f
+        (R x bs π st (at + 1 + 0) (encode y ++ rest) (f .0) (λ q. u q .0) (omega arith) (t .0) M (omega arith))
+        (R y bs π st (at + 1 + 0 + length (encode x)) rest (f .2) (λ q. u q .1) (omega arith) (t .1) M (omega arith))
+  complete-part (suc left) (new a k c) bs π st at rest f u d e M l =
       let R = complete-part left in
       let o = open-two s at 27 a k _ e in
       let r = made s at New 1 a k (at + 1 + 2) in
-      complete-new N s ns left bs st at a k c (o .0) (o .1) (o .2) M f
-        (R c (a-block a k ∷ bs) π (entered st r (length bs)) (at + 1 + 2) rest (f .4) (omega arith)
+      complete-new ed N s ns left bs st at a k c (o .0) (o .1) (o .2) M f u
+        (R c (a-block a k ∷ bs) π (entered st r (length bs)) (at + 1 + 2) rest (f .4) (λ q. u q .1) (omega arith)
           (o .3)
           (matches-entered r M (omega arith) (f .0) (f .1) (f .2) (f .3)) (omega arith))
-  complete-part (suc left) (procedure a ty ps x y) bs π st at rest f d e M l =
+  complete-part (suc left) (procedure a ty ps x y) bs π st at rest f u d e M l =
       let R = complete-part left in
-      complete-routine left bs π st at a ty ps x y rest R f (omega arith) (omega arith) e M l
+      complete-routine left bs π st at a ty ps x y rest R f u (omega arith) (omega arith) e M l

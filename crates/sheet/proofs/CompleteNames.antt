@@ -9,6 +9,8 @@ use borrow.Author.Tests.{lt-leb}
 use Rattle.language.specs.declared.Numbers.{Numbers}
 use Rattle.records.specs.Kind.{shapeOf}
 use Rattle.records.specs.Standing.{declaredStanding}
+use Rattle.records.specs.declared.edition.Edition.{Edition}
+use Rattle.records.specs.declared.edition.Edition.the-variants.{Present}
 use Rattle.records.specs.declared.kind.Rule.{Rule}
 use Rattle.records.specs.declared.kind.Rule.the-variants.{Skip, Diverge, Truth, Number, Use, Fetch, Operate, Assign}
 use Rattle.records.specs.declared.kind.Rule.the-variants.{Sequence, If, While, New, Procedure}
@@ -17,6 +19,7 @@ use Rattle.procedures.specs.Written.{Written, skip, diverge, truth, number, cal
 use Rattle.procedures.specs.Written.{while, choose, new, procedure, Name, declare, retire}
 use Rattle.procedures.specs.Meaning.{typed}
 use Rattle.procedures.specs.Fine.{depth, Fine, FineNames}
+use Rattle.procedures.specs.Hiding.{Apart}
 use Rattle.sheet.specs.Encoding.{encode, padded, encodeName, encodeNames}
 use Rattle.sheet.specs.Heading.{retireAt}
 use Rattle.sheet.specs.Reader.{Tree, Answer, got, bind, onJudged, Whole, whole, withName, wholeOfShape, nameOf}
@@ -68,7 +71,8 @@ pub record RestRead (s : List ℕ) (A : Answer Whole) (ns : List Name) (W : Writ
   pub reads : A ≡ got (whole ns root tree) ty end
   pub writes : written s tree ≡ W
 
-module _ (N : Numbers) (s : List ℕ) (π : ℕ → ℕ) (names : List Name) (W : Written) (fine : Fine N names [] W)
+module _ (ed : Edition) (N : Numbers) (s : List ℕ) (π : ℕ → ℕ) (names : List Name) (W : Written)
+    (fine : Fine N names [] W) (apart : ed ≡ Present → Apart [] W)
     (shallow : depth W ≤ 32) where
   abbrev Rest : List Name → Answer Whole → ℕ → Type 0
   Rest ns A at = RestRead s A ns W (typed names [] W) (at + length (encodeNames ns ++ encode W))
@@ -76,11 +80,11 @@ module _ (N : Numbers) (s : List ℕ) (π : ℕ → ℕ) (names : List Name) (W 
   complete-term :
       (rec : List ℕ → ℕ → Answer Whole) (n : ℕ) (st : List ℕ) (at : ℕ) → Matches s names [] π st → drop at s ≡ encode W
         →
-      Rest [] (namesStep rec n N s st at) at
+      Rest [] (namesStep ed rec n N s st at) at
   unfolding namesStep wholeOfShape bind encodeNames
   complete-term rec n st at M e =
       let R =
-          complete-part N s names 32 W [] π st at [] fine shallow (e ∙ sym (append-nil (encode W))) M (omega arith) in
+          complete-part ed N s names 32 W [] π st at [] fine apart shallow (e ∙ sym (append-nil (encode W))) M (omega arith) in
       let K = kind-of W in
       let b = byte-there s at (K .kind) (K .tail) (e ∙ K .bytes) in
       record {
@@ -92,7 +96,7 @@ module _ (N : Numbers) (s : List ℕ) (π : ℕ → ℕ) (names : List Name) (W 
       (rec : List ℕ → ℕ → Answer Whole) (n : ℕ) (st : List ℕ) (at id ty : ℕ) (tys : List ℕ) (ns : List Name) →
       Declared s at id ty tys (encodeNames ns ++ encode W) → Declaration s st at → length tys < 5 →
       Rest ns (rec (set st id (declaredStanding at)) (at + 1 + 7)) (at + 1 + 7) →
-      Rest (declare id ty tys ∷ ns) (namesStep rec (suc n) N s st at) at
+      Rest (declare id ty tys ∷ ns) (namesStep ed rec (suc n) N s st at) at
   unfolding namesStep wholeOfShape shapeOf nameOf onJudged bind withName encodeNames encodeName
   complete-declare rec n st at id ty tys ns D G c R =
       let ty′ = typed names [] W in
@@ -111,7 +115,7 @@ module _ (N : Numbers) (s : List ℕ) (π : ℕ → ℕ) (names : List Name) (W 
       (rec : List ℕ → ℕ → Answer Whole) (n : ℕ) (st : List ℕ) (at id : ℕ) (ns : List Name) →
       Byte s at 2 → Byte s (at + 1) id → id < 255 → getD st id 0 ≡ 0 →
       Rest ns (rec (set st id 1) (at + 1 + 1)) (at + 1 + 1) →
-      Rest (retire id ∷ ns) (namesStep rec (suc n) N s st at) at
+      Rest (retire id ∷ ns) (namesStep ed rec (suc n) N s st at) at
   unfolding namesStep wholeOfShape shapeOf nameOf onJudged bind withName encodeNames encodeName retireAt
   complete-retire rec n st at id ns b b′ l f R =
       let ty′ = typed names [] W in
@@ -127,7 +131,7 @@ module _ (N : Numbers) (s : List ℕ) (π : ℕ → ℕ) (names : List Name) (W 
   pub complete-names :
       (ns : List Name) (n : ℕ) (earlier : List Name) (st : List ℕ) (at : ℕ) → Matches s earlier [] π st →
       Extends names earlier ns → FineNames earlier ns → length ns ≤ n → drop at s ≡ encodeNames ns ++ encode W →
-      Rest ns (namesOf n N s st at) at
+      Rest ns (namesOf ed n N s st at) at
   unfolding namesOf FineNames encodeNames encodeName
   complete-names [] zero earlier st at M E f l e = complete-term _ 0 st at (matches-same (extends-last E) M) e
   complete-names [] (suc n) earlier st at M E f l e =
@@ -137,13 +141,13 @@ module _ (N : Numbers) (s : List ℕ) (π : ℕ → ℕ) (names : List Name) (W 
       let D = declared-there s at id ty tys (encodeNames ns ++ encode W)
         (e ∙ append-assoc (encodeName (declare id ty tys)) (encodeNames ns) (encode W)) in
       let G = declared-good s st at id ty tys _ D (f .0) (free-standing M id (f .0) (f .1)) (f .2) (f .3) (f .4) in
-      complete-declare (namesOf n N s) n st at id ty tys ns D G (f .3)
+      complete-declare (namesOf ed n N s) n st at id ty tys ns D G (f .3)
         (complete-names ns n (declare id ty tys ∷ earlier) (set st id (declaredStanding at)) (at + 1 + 7)
           (matches-declare M (f .0) (declared-declares s st at id ty tys _ D (f .2) (f .3)))
           (extends-declare id ty tys ns (f .1) E) (f .5) (omega arith) (declared-past s st at id ty tys _ D))
   complete-names (retire id ∷ ns) (suc n) earlier st at M E f l e =
       let o = open-one s at 2 id (encodeNames ns ++ encode W)
         (e ∙ append-assoc (encodeName (retire id)) (encodeNames ns) (encode W)) in
-      complete-retire (namesOf n N s) n st at id ns (o .0) (o .1) (f .0) (free-standing M id (f .0) (f .1))
+      complete-retire (namesOf ed n N s) n st at id ns (o .0) (o .1) (f .0) (free-standing M id (f .0) (f .1))
         (complete-names ns n (retire id ∷ earlier) (set st id 1) (at + 1 + 1) (matches-retire M (f .0))
           (extends-retire id ns (f .1) E) (f .2) (omega arith) (o .2))

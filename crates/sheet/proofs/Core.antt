@@ -12,19 +12,19 @@ use Rattle.records.specs.Head.{headOf}
 use Rattle.records.specs.Rule.{acceptsPart, partType}
 use Rattle.records.specs.Row as row
 use Rattle.records.specs.Scope.{opens}
-use Rattle.records.specs.declared.kind.Rule.{Rule}
-use Rattle.records.specs.declared.kind.Rule.the-variants.{Skip, Diverge, Truth, Number, Use, Fetch, Operate, Assign}
-use Rattle.records.specs.declared.kind.Rule.the-variants.{Sequence, If, While, New, Procedure}
+use Rattle.records.specs.declared.edition.Edition.{Edition}
 use Rattle.records.specs.declared.scope.Opens.the-variants.{Block, Routine}
 use Rattle.records.specs.declared.head.Record.{Record}
 use Rattle.records.specs.declared.head.Head.the-variants.{Good}
-use Rattle.records.proofs.JudgeLaws.{below-good}
-use Rattle.records.proofs.RuleLaws.{new-good, procedure-good}
+use Rattle.records.proofs.HeadLaws.{head-good}
 use Rattle.sheet.specs.Reader.{Tree, node, Trees, branch, Answer, got, refused, bind, onHead, partsOf}
 use Rattle.sheet.specs.Reader.{readRecord, readPart}
 use Rattle.sheet.specs.table.Fill.{fill, fills, erase, Leaves, Reads, closedAnswer, closedTable}
 use Rattle.sheet.specs.declared.part.Part.{Part}
 use Rattle.sheet.specs.declared.part.Part.the-variants.{Read, Refused}
+use Rattle.sheet.proofs.Answers.{HeadAll}
+use Rattle.sheet.proofs.Heads.{Heads, h-skip, h-diverge, h-truth, h-number, h-use, h-fetch, h-operate}
+use Rattle.sheet.proofs.Heads.{h-assign, h-sequence, h-if, h-while, h-new, h-procedure, heads}
 
 -- a refusal is handed on
 pub reads-hand :
@@ -48,12 +48,12 @@ reads-then (refused n p) k R e h = let z : _≡_ {A = ℕ} 0 1 = cc (R .answer) 
 
 -- one step of reading a part
 pub part-step :
-    (left : ℕ) (N : Numbers) (s st : List ℕ) (around at : ℕ) →
-    readPart left N s st around at ≡ onHead (headOf s st N left at) (λ r.
-      pick (eqb left 0) (refused 8 at) (readRecord (readPart (left - 1) N s) s st around r))
+    (ed : Edition) (left : ℕ) (N : Numbers) (s st : List ℕ) (around at : ℕ) →
+    readPart ed left N s st around at ≡ onHead (headOf ed s st N left at) (λ r.
+      pick (eqb left 0) (refused 8 at) (readRecord (readPart ed (left - 1) N s) s st around r))
 unfolding readPart
-part-step zero N s st around at = refl
-part-step (suc left) N s st around at = simp (sub-one, eqb·suc-zero)
+part-step ed zero N s st around at = refl
+part-step ed (suc left) N s st around at = simp (sub-one, eqb·suc-zero)
 
 -- one step of reading parts
 pub parts-step :
@@ -88,45 +88,50 @@ closes N s around r (got ts last end) R e d =
     record { answer = e ∙ rw (R .answer); table = d ∙ rw (R .answer) (rw (R .table)) }
 closes N s around r (refused n p) R e d = record { answer = e ∙ rw (R .answer); table = tt }
 
--- only a new opens a block, only a procedure its two scopes
-opens-block : (R : Rule) → opens R ≡ Block → R ≡ New
+-- the data of a new, which alone opens a block, is a truth or a number
+small-block : {ed : Edition} (s st : List ℕ) (N : Numbers) (at : ℕ) (r : Record) → Heads ed s st N at r →
+    opens (r .rule) ≡ Block → r .b ≤ 2
 unfolding opens
-opens-block Skip e = let z : _≡_ {A = ℕ} 0 1 = cc in absurd (omega arith)
-opens-block Diverge e = let z : _≡_ {A = ℕ} 0 1 = cc in absurd (omega arith)
-opens-block Truth e = let z : _≡_ {A = ℕ} 0 1 = cc in absurd (omega arith)
-opens-block Number e = let z : _≡_ {A = ℕ} 0 1 = cc in absurd (omega arith)
-opens-block Use e = let z : _≡_ {A = ℕ} 0 1 = cc in absurd (omega arith)
-opens-block Fetch e = let z : _≡_ {A = ℕ} 0 1 = cc in absurd (omega arith)
-opens-block Operate e = let z : _≡_ {A = ℕ} 0 1 = cc in absurd (omega arith)
-opens-block Assign e = let z : _≡_ {A = ℕ} 0 1 = cc in absurd (omega arith)
-opens-block Sequence e = let z : _≡_ {A = ℕ} 0 1 = cc in absurd (omega arith)
-opens-block If e = let z : _≡_ {A = ℕ} 0 1 = cc in absurd (omega arith)
-opens-block While e = let z : _≡_ {A = ℕ} 0 1 = cc in absurd (omega arith)
-opens-block New e = refl
-opens-block Procedure e = let z : _≡_ {A = ℕ} 0 1 = cc in absurd (omega arith)
+small-block s st N at r (h-skip h) e = let z : _≡_ {A = ℕ} 0 1 = cc in absurd (omega arith)
+small-block s st N at r (h-diverge h b l) e = let z : _≡_ {A = ℕ} 0 1 = cc in absurd (omega arith)
+small-block s st N at r (h-truth h b l) e = let z : _≡_ {A = ℕ} 0 1 = cc in absurd (omega arith)
+small-block s st N at r (h-number h b l f) e = let z : _≡_ {A = ℕ} 0 1 = cc in absurd (omega arith)
+small-block s st N at r (h-use h b l f g) e = let z : _≡_ {A = ℕ} 0 1 = cc in absurd (omega arith)
+small-block s st N at r (h-fetch h) e = let z : _≡_ {A = ℕ} 0 1 = cc in absurd (omega arith)
+small-block s st N at r (h-operate h b l) e = let z : _≡_ {A = ℕ} 0 1 = cc in absurd (omega arith)
+small-block s st N at r (h-assign h) e = let z : _≡_ {A = ℕ} 0 1 = cc in absurd (omega arith)
+small-block s st N at r (h-sequence h) e = let z : _≡_ {A = ℕ} 0 1 = cc in absurd (omega arith)
+small-block s st N at r (h-if h) e = let z : _≡_ {A = ℕ} 0 1 = cc in absurd (omega arith)
+small-block s st N at r (h-while h) e = let z : _≡_ {A = ℕ} 0 1 = cc in absurd (omega arith)
+small-block s st N at r (h-new h b l f u c k k′) e = omega arith
+small-block s st N at r (h-procedure h B) e = let z : _≡_ {A = ℕ} 0 1 = cc in absurd (omega arith)
 
-opens-routine : (R : Rule) → opens R ≡ Routine → R ≡ Procedure
+-- a procedure, which alone opens two scopes, has four parameters at most
+small-routine : {ed : Edition} (s st : List ℕ) (N : Numbers) (at : ℕ) (r : Record) → Heads ed s st N at r →
+    opens (r .rule) ≡ Routine → r .b ≤ 4
 unfolding opens
-opens-routine Skip e = let z : _≡_ {A = ℕ} 0 1 = cc in absurd (omega arith)
-opens-routine Diverge e = let z : _≡_ {A = ℕ} 0 1 = cc in absurd (omega arith)
-opens-routine Truth e = let z : _≡_ {A = ℕ} 0 1 = cc in absurd (omega arith)
-opens-routine Number e = let z : _≡_ {A = ℕ} 0 1 = cc in absurd (omega arith)
-opens-routine Use e = let z : _≡_ {A = ℕ} 0 1 = cc in absurd (omega arith)
-opens-routine Fetch e = let z : _≡_ {A = ℕ} 0 1 = cc in absurd (omega arith)
-opens-routine Operate e = let z : _≡_ {A = ℕ} 0 1 = cc in absurd (omega arith)
-opens-routine Assign e = let z : _≡_ {A = ℕ} 0 1 = cc in absurd (omega arith)
-opens-routine Sequence e = let z : _≡_ {A = ℕ} 0 1 = cc in absurd (omega arith)
-opens-routine If e = let z : _≡_ {A = ℕ} 0 1 = cc in absurd (omega arith)
-opens-routine While e = let z : _≡_ {A = ℕ} 0 1 = cc in absurd (omega arith)
-opens-routine New e = let z : _≡_ {A = ℕ} 0 1 = cc in absurd (omega arith)
-opens-routine Procedure e = refl
+small-routine s st N at r (h-skip h) e = let z : _≡_ {A = ℕ} 0 1 = cc in absurd (omega arith)
+small-routine s st N at r (h-diverge h b l) e = let z : _≡_ {A = ℕ} 0 1 = cc in absurd (omega arith)
+small-routine s st N at r (h-truth h b l) e = let z : _≡_ {A = ℕ} 0 1 = cc in absurd (omega arith)
+small-routine s st N at r (h-number h b l f) e = let z : _≡_ {A = ℕ} 0 1 = cc in absurd (omega arith)
+small-routine s st N at r (h-use h b l f g) e = let z : _≡_ {A = ℕ} 0 1 = cc in absurd (omega arith)
+small-routine s st N at r (h-fetch h) e = let z : _≡_ {A = ℕ} 0 1 = cc in absurd (omega arith)
+small-routine s st N at r (h-operate h b l) e = let z : _≡_ {A = ℕ} 0 1 = cc in absurd (omega arith)
+small-routine s st N at r (h-assign h) e = let z : _≡_ {A = ℕ} 0 1 = cc in absurd (omega arith)
+small-routine s st N at r (h-sequence h) e = let z : _≡_ {A = ℕ} 0 1 = cc in absurd (omega arith)
+small-routine s st N at r (h-if h) e = let z : _≡_ {A = ℕ} 0 1 = cc in absurd (omega arith)
+small-routine s st N at r (h-while h) e = let z : _≡_ {A = ℕ} 0 1 = cc in absurd (omega arith)
+small-routine s st N at r (h-new h b l f u c k k′) e = let z : _≡_ {A = ℕ} 0 1 = cc in absurd (omega arith)
+small-routine s st N at r (h-procedure h B) e = omega (arith, B .few)
 
--- the data of a new is a truth or a number, and a procedure has four parameters at most
-module _ (s st : List ℕ) (N : Numbers) (left at : ℕ) (r : Record) (e : headOf s st N left at ≡ Good r) where
-  pub block-small : opens (r .rule) ≡ Block → r .b ≤ 2
-  block-small n = new-good s st N left at r e (opens-block (r .rule) n) .small
+module _ (ed : Edition) (s st : List ℕ) (N : Numbers) (at : ℕ) (r : Record) where
+  headed : (left : ℕ) → headOf ed s st N left at ≡ Good r → Heads ed s st N at r
+  unfolding HeadAll
+  headed zero e = absurd (head-good ed s st N 0 at r e .depth refl)
+  headed (suc left) e = rw e at (heads ed s st N at left)
 
-  pub routine-small : opens (r .rule) ≡ Routine → r .b ≤ 4
-  routine-small n =
-      let g = procedure-good s st N left at r e (opens-routine (r .rule) n) in
-      omega (arith, g .b, below-good s (at + 3) 5 (g .fine .count) .1)
+  pub block-small : (left : ℕ) → headOf ed s st N left at ≡ Good r → opens (r .rule) ≡ Block → r .b ≤ 2
+  block-small left e = small-block s st N at r (headed left e)
+
+  pub routine-small : (left : ℕ) → headOf ed s st N left at ≡ Good r → opens (r .rule) ≡ Routine → r .b ≤ 4
+  routine-small left e = small-routine s st N at r (headed left e)

@@ -12,7 +12,8 @@ use Rattle.language.specs.Number.{inRange}
 use Rattle.language.specs.declared.Numbers.{Numbers}
 use Rattle.records.specs.Kind.{shapeOf}
 use Rattle.records.specs.Standing.{standingOf, isNamed, countOf}
-use Rattle.records.specs.Judge.{procedureOf}
+use Rattle.records.specs.Judge.{hides, procedureOf}
+use Rattle.records.specs.declared.edition.Edition.{Edition}
 use Rattle.records.specs.Head.{byteOf, onByte, withBody, limited, constant, used, useOf, dataByte, newOf, onJudged}
 use Rattle.records.specs.Head.{procedureHead, bodyOf, blank, headOfShape, headOf}
 use Rattle.records.specs.declared.kind.Rule.{Rule}
@@ -65,27 +66,27 @@ made s at rule parts a b n =
     record { place = at; kind = getD s at 0; rule = rule; parts = parts; a = a; b = b; next = n }
 
 -- the record at a place, by its kind
-pub data Heads (s st : List ℕ) (N : Numbers) (at : ℕ) : Record → Type 0 where
-  h-skip : Byte s at 16 → Heads s st N at (made s at Skip 0 0 0 (at + 1 + 0))
+pub data Heads (ed : Edition) (s st : List ℕ) (N : Numbers) (at : ℕ) : Record → Type 0 where
+  h-skip : Byte s at 16 → Heads ed s st N at (made s at Skip 0 0 0 (at + 1 + 0))
   h-diverge : {a : ℕ} → Byte s at 17 → Byte s (at + 1) a → a < 5 →
-    Heads s st N at (made s at Diverge 0 a 0 (at + 1 + 1))
-  h-truth : {a : ℕ} → Byte s at 18 → Byte s (at + 1) a → a < 2 → Heads s st N at (made s at Truth 0 a 0 (at + 1 + 1))
+    Heads ed s st N at (made s at Diverge 0 a 0 (at + 1 + 1))
+  h-truth : {a : ℕ} → Byte s at 18 → Byte s (at + 1) a → a < 2 → Heads ed s st N at (made s at Truth 0 a 0 (at + 1 + 1))
   h-number : {a : ℕ} → Byte s at 19 → Byte s (at + 1) a → a < 256 → inRange N a ≡ true →
-    Heads s st N at (made s at Number 0 a 0 (at + 1 + 1))
+    Heads ed s st N at (made s at Number 0 a 0 (at + 1 + 1))
   h-use : {a : ℕ} → Byte s at 20 → Byte s (at + 1) a → a < 255 → (getD st a 0 ≡ 0 → ⊥) → (getD st a 0 ≡ 1 → ⊥) →
-    Heads s st N at
+    Heads ed s st N at
       (made s at Use (countOf s (standingOf (getD st a 0))) a (getD st a 0) (at + 1 + 1))
-  h-fetch : Byte s at 21 → Heads s st N at (made s at Fetch 1 0 0 (at + 1 + 0))
+  h-fetch : Byte s at 21 → Heads ed s st N at (made s at Fetch 1 0 0 (at + 1 + 0))
   h-operate : {a : ℕ} → Byte s at 22 → Byte s (at + 1) a → a < 9 →
-    Heads s st N at (made s at Operate 2 a 0 (at + 1 + 1))
-  h-assign : Byte s at 23 → Heads s st N at (made s at Assign 2 0 0 (at + 1 + 0))
-  h-sequence : Byte s at 24 → Heads s st N at (made s at Sequence 2 0 0 (at + 1 + 0))
-  h-if : Byte s at 25 → Heads s st N at (made s at If 3 0 0 (at + 1 + 0))
-  h-while : Byte s at 26 → Heads s st N at (made s at While 2 0 0 (at + 1 + 0))
+    Heads ed s st N at (made s at Operate 2 a 0 (at + 1 + 1))
+  h-assign : Byte s at 23 → Heads ed s st N at (made s at Assign 2 0 0 (at + 1 + 0))
+  h-sequence : Byte s at 24 → Heads ed s st N at (made s at Sequence 2 0 0 (at + 1 + 0))
+  h-if : Byte s at 25 → Heads ed s st N at (made s at If 3 0 0 (at + 1 + 0))
+  h-while : Byte s at 26 → Heads ed s st N at (made s at While 2 0 0 (at + 1 + 0))
   h-new : {a d : ℕ} → Byte s at 27 → Byte s (at + 1) a → a < 255 → isNamed (standingOf (getD st a 0)) ≡ false →
-    Byte s (at + 2) d → 0 < d → d < 3 → Heads s st N at (made s at New 1 a d (at + 1 + 2))
-  h-procedure : Byte s at 28 → Body s st at →
-    Heads s st N at (made s at Procedure 2 (getD s (at + 1) 0) (getD s (at + 3) 0) (at + 1 + 11))
+    hides ed (standingOf (getD st a 0)) ≡ false → Byte s (at + 2) d → 0 < d → d < 3 → Heads ed s st N at (made s at New 1 a d (at + 1 + 2))
+  h-procedure : Byte s at 28 → Body ed s st at →
+    Heads ed s st N at (made s at Procedure 2 (getD s (at + 1) 0) (getD s (at + 3) 0) (at + 1 + 11))
 
 -- a body byte that was read
 byte-all :
@@ -97,9 +98,9 @@ byte-all P s at limit f h =
     (λ e. pick-all (λ x. HeadAll P (onByte x f)) (leb limit (getD s at 0)) (λ e′. tt)
       (λ e′. h (getD s at 0) (leb-false (length s) at e, refl) (leb-false limit (getD s at 0) e′)))
 
-module _ (s st : List ℕ) (N : Numbers) (at : ℕ) where
+module _ (ed : Edition) (s st : List ℕ) (N : Numbers) (at : ℕ) where
   abbrev Fit : Head → Type 0
-  Fit = HeadAll (Heads s st N at)
+  Fit = HeadAll (Heads ed s st N at)
 
   number-fit : Byte s at 19 → Fit (constant s N (blank at (getD s at 0) 1 0 Number))
   unfolding constant HeadAll blank withBody
@@ -114,14 +115,15 @@ module _ (s st : List ℕ) (N : Numbers) (at : ℕ) where
         (λ e. pick-all Fit (eqb (getD st a 0) 1) (λ e′. tt)
           (λ e′. h-use h b l (eqb-false (getD st a 0) 0 e) (eqb-false (getD st a 0) 1 e′))))
 
-  new-fit : Byte s at 27 → Fit (newOf s st (blank at (getD s at 0) 2 1 New))
+  new-fit : Byte s at 27 → Fit (newOf ed s st (blank at (getD s at 0) 2 1 New))
   unfolding newOf HeadAll blank withBody dataByte
   new-fit h =
       byte-all _ s (at + 1) 255 _ (λ a b l.
         pick-all Fit (isNamed (standingOf (getD st a 0))) (λ e. tt)
-        (λ e. byte-all _ s (at + 2) 3 _ (λ d b′ l′.
+        (λ e. pick-all Fit (hides ed (standingOf (getD st a 0))) (λ u. tt)
+        (λ u. byte-all _ s (at + 2) 3 _ (λ d b′ l′.
           pick-all Fit (eqb d 0) (λ e′. tt)
-          (λ e′. h-new h b l e b′ (omega (arith, above d (eqb-false d 0 e′))) l′))))
+          (λ e′. h-new h b l e u b′ (omega (arith, above d (eqb-false d 0 e′))) l′)))))
     where
       above : (d : ℕ) → (d ≡ 0 → ⊥) → 0 < d
       above d h = omega arith
@@ -132,14 +134,14 @@ module _ (s st : List ℕ) (N : Numbers) (at : ℕ) where
   judged-fit j k (good p) f = f p
   judged-fit j k bad f = tt
 
-  procedure-fit : Byte s at 28 → Fit (procedureHead s st (blank at (getD s at 0) 11 2 Procedure))
+  procedure-fit : Byte s at 28 → Fit (procedureHead ed s st (blank at (getD s at 0) 11 2 Procedure))
   unfolding procedureHead HeadAll blank withBody
-  procedure-fit h = judged-fit (procedureOf s st at) _ (procedure-all s st at) (λ b. h-procedure h b)
+  procedure-fit h = judged-fit (procedureOf ed s st at) _ (procedure-all ed s st at) (λ b. h-procedure h b)
 
   -- the body, by the kind
   body-fit :
       (x : Shape) → at < length s → Shaped (getD s at 0) x →
-      Fit (headOfShape x at (λ body parts rule. bodyOf rule s st N (blank at (getD s at 0) body parts rule)))
+      Fit (headOfShape x at (λ body parts rule. bodyOf ed rule s st N (blank at (getD s at 0) body parts rule)))
   unfolding HeadAll headOfShape bodyOf limited blank withBody
   body-fit x l (s-declare e) = tt
   body-fit x l (s-retire e) = tt
@@ -159,7 +161,7 @@ module _ (s st : List ℕ) (N : Numbers) (at : ℕ) where
   body-fit x l s-unknown = tt
 
   -- a head is a record of some kind
-  pub heads : (left : ℕ) → Fit (headOf s st N (suc left) at)
+  pub heads : (left : ℕ) → Fit (headOf ed s st N (suc left) at)
   unfolding headOf HeadAll
   heads left =
       pick-all Fit (leb (length s) at) (λ e. tt)
@@ -172,29 +174,29 @@ unfolding byteOf
 byte-is s p limit {a} (l, e) h = rw (lt-leb (length s) p l, e, lt-leb limit a h) refl
 
 pub head-is :
-    (s st : List ℕ) (N : Numbers) (at left : ℕ) (r : Record) → Heads s st N at r → headOf s st N (suc left) at ≡ Good
-      r
+    (ed : Edition) (s st : List ℕ) (N : Numbers) (at left : ℕ) (r : Record) → Heads ed s st N at r →
+    headOf ed s st N (suc left) at ≡ Good r
 unfolding headOf shapeOf headOfShape bodyOf limited constant useOf newOf dataByte procedureHead onByte onJudged withBody
   used blank
-head-is s st N at left r (h-skip (l, e)) = rw (lt-leb (length s) at l, e, eqb·suc-zero left) refl
-head-is s st N at left r (h-diverge (l, e) b h) =
+head-is ed s st N at left r (h-skip (l, e)) = rw (lt-leb (length s) at l, e, eqb·suc-zero left) refl
+head-is ed s st N at left r (h-diverge (l, e) b h) =
     rw (lt-leb (length s) at l, e, eqb·suc-zero left, byte-is s (at + 1) 5 b h) refl
-head-is s st N at left r (h-truth (l, e) b h) =
+head-is ed s st N at left r (h-truth (l, e) b h) =
     rw (lt-leb (length s) at l, e, eqb·suc-zero left, byte-is s (at + 1) 2 b h) refl
-head-is s st N at left r (h-number (l, e) b h i) =
+head-is ed s st N at left r (h-number (l, e) b h i) =
     rw (lt-leb (length s) at l, e, eqb·suc-zero left, byte-is s (at + 1) 256 b h, i) refl
-head-is s st N at left r (h-use {a = a} (l, e) b h f g) =
+head-is ed s st N at left r (h-use {a = a} (l, e) b h f g) =
     rw (lt-leb (length s) at l, e, eqb·suc-zero left, byte-is s (at + 1) 255 b h, ne-eqb (getD st a 0) 0 f,
       ne-eqb (getD st a 0) 1 g) refl
-head-is s st N at left r (h-fetch (l, e)) = rw (lt-leb (length s) at l, e, eqb·suc-zero left) refl
-head-is s st N at left r (h-operate (l, e) b h) =
+head-is ed s st N at left r (h-fetch (l, e)) = rw (lt-leb (length s) at l, e, eqb·suc-zero left) refl
+head-is ed s st N at left r (h-operate (l, e) b h) =
     rw (lt-leb (length s) at l, e, eqb·suc-zero left, byte-is s (at + 1) 9 b h) refl
-head-is s st N at left r (h-assign (l, e)) = rw (lt-leb (length s) at l, e, eqb·suc-zero left) refl
-head-is s st N at left r (h-sequence (l, e)) = rw (lt-leb (length s) at l, e, eqb·suc-zero left) refl
-head-is s st N at left r (h-if (l, e)) = rw (lt-leb (length s) at l, e, eqb·suc-zero left) refl
-head-is s st N at left r (h-while (l, e)) = rw (lt-leb (length s) at l, e, eqb·suc-zero left) refl
-head-is s st N at left r (h-new {a = a} {d = d} (l, e) b h f b′ k k′) =
-    rw (lt-leb (length s) at l, e, eqb·suc-zero left, byte-is s (at + 1) 255 b h, f, byte-is s (at + 2) 3 b′ k′,
+head-is ed s st N at left r (h-assign (l, e)) = rw (lt-leb (length s) at l, e, eqb·suc-zero left) refl
+head-is ed s st N at left r (h-sequence (l, e)) = rw (lt-leb (length s) at l, e, eqb·suc-zero left) refl
+head-is ed s st N at left r (h-if (l, e)) = rw (lt-leb (length s) at l, e, eqb·suc-zero left) refl
+head-is ed s st N at left r (h-while (l, e)) = rw (lt-leb (length s) at l, e, eqb·suc-zero left) refl
+head-is ed s st N at left r (h-new {a = a} {d = d} (l, e) b h f u b′ k k′) =
+    rw (lt-leb (length s) at l, e, eqb·suc-zero left, byte-is s (at + 1) 255 b h, f, u, byte-is s (at + 2) 3 b′ k′,
       ne-eqb d 0 (λ z. omega arith)) refl
-head-is s st N at left r (h-procedure (l, e) B) =
-    rw (lt-leb (length s) at l, e, eqb·suc-zero left, procedure-is s st at B) refl
+head-is ed s st N at left r (h-procedure (l, e) B) =
+    rw (lt-leb (length s) at l, e, eqb·suc-zero left, procedure-is ed s st at B) refl

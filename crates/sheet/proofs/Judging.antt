@@ -10,6 +10,8 @@ use Rattle.language.specs.Weight.{size, weight}
 use Rattle.language.specs.declared.Numbers.{Numbers}
 use Rattle.records.specs.Refusal.{refusal, too-large}
 use Rattle.records.specs.Rule.{questions}
+use Rattle.records.specs.declared.edition.Edition.{Edition}
+use Rattle.records.specs.declared.edition.Edition.the-variants.{Present}
 use Rattle.records.specs.declared.refusal.Refusal.{Refusal}
 use Rattle.procedures.specs.Written as written
 use Rattle.procedures.specs.Meaning.{tyOf, termOf}
@@ -18,9 +20,8 @@ use Rattle.procedures.specs.Held.{held}
 use Rattle.procedures.proofs.FormLaw.{form-sheet}
 use Rattle.procedures.proofs.Types.{questions-of, answers-of}
 use Rattle.weigh.specs.Weighed.{Weighs}
-use Rattle.sheet.specs.Reader.{Answer, got, refused, Whole, whole, numbersAt, wholeOf, checks, readSheet,
-  accepted}
-use Rattle.sheet.specs.Reader.{rejected}
+use Rattle.sheet.specs.Reader.{Answer, got, refused, Whole, whole, numbersAt, wholeOf, checks, readUnder}
+use Rattle.sheet.specs.Reader.{readSheet, accepted, rejected}
 use Rattle.sheet.specs.Size.{sizeOf}
 use Rattle.sheet.specs.Check.{checkedOf}
 use Rattle.sheet.specs.table.Fill.{eraseSheet}
@@ -55,7 +56,7 @@ size-of-weight : (N : Numbers) (ty : ℕ) (S : written.Sheet) →
 unfolding size sizeOf
 size-of-weight N ty S = rw (questions-of N ty, answers-of N ty) refl
 
-module _ (s u M : List ℕ) (root ty next : ℕ) (T : Tabled s root ty next u) where
+module _ (ed : Edition) (s u M : List ℕ) (root ty next : ℕ) (T : Tabled ed s root ty next u) where
   abbrev S : written.Sheet
   S = T .sheet
 
@@ -77,13 +78,13 @@ module _ (s u M : List ℕ) (root ty next : ℕ) (T : Tabled s root ty next u) w
         h ∙ rw (e, weighed W) (held-size (numbersAt s) ty (weight (termOf S))
         ∙ ap (λ k. min k 4097) (sym (size-of-weight (numbersAt s) ty S)))
 
-    pub judged-large : 4096 < n → JudgedBy s (Refused (refusal too-large 0)) u M
+    pub judged-large : 4096 < n → JudgedBy ed s (Refused (refusal too-large 0)) u M
     unfolding JudgedBy
     judged-large l =
         let k : 4096 < full = omega (arith, sized) in
         T .finds ∙ rw (lt-ltb 4096 full k) refl
 
-    pub judged-accepted : n ≤ 4096 → JudgedBy s (Sheet root ty n) u M
+    pub judged-accepted : n ≤ 4096 → JudgedBy ed s (Sheet root ty n) u M
     unfolding JudgedBy
     judged-accepted l =
         let k : full ≤ 4096 = omega (arith, sized) in
@@ -104,24 +105,25 @@ unfolding eraseSheet checks
 refused-as s (got (whole ns root t) ty end) e = let z : _≡_ {A = ℕ} 0 1 = cc in absurd (omega arith)
 refused-as s (refused n p) {x} e = let h : x ≡ refusal n p = cc in rw h refl
 
-pub judged-refused : (s u M : List ℕ) {y : Reading} {x : Refusal} → y ≡ eraseSheet (wholeOf s) → y ≡ Unread x →
-    JudgedBy s (Refused x) u M
-unfolding JudgedBy readSheet
-judged-refused s u M e f = refused-as s (wholeOf s) (sym f ∙ e)
+pub judged-refused :
+    (ed : Edition) (s u M : List ℕ) {y : Reading} {x : Refusal} → y ≡ eraseSheet (wholeOf ed s) → y ≡ Unread x →
+    JudgedBy ed s (Refused x) u M
+unfolding JudgedBy readUnder
+judged-refused ed s u M e f = refused-as s (wholeOf ed s) (sym f ∙ e)
 
 -- a sheet that is read
-pub tabled-read : (s u : List ℕ) {y : Reading} {root ty next : ℕ} → TabledBy s y u → y ≡ Read root ty next →
-    Tabled s root ty next u
+pub tabled-read : (ed : Edition) (s u : List ℕ) {y : Reading} {root ty next : ℕ} → TabledBy ed s y u →
+    y ≡ Read root ty next → Tabled ed s root ty next u
 unfolding TabledBy
-tabled-read s u T e = rw e at T
+tabled-read ed s u T e = rw e at T
 
 -- the answer of check
-pub checked-refused : (s u M : List ℕ) {y : Judgement} {x : Refusal} → JudgedBy s y u M → y ≡ Refused x →
+pub checked-refused : (s u M : List ℕ) {y : Judgement} {x : Refusal} → JudgedBy Present s y u M → y ≡ Refused x →
     Turned (x .number) 0 (x .place) ≡ checkedOf (readSheet s)
 unfolding JudgedBy checkedOf
 checked-refused s u M J e = let j = rw e at J in rw j refl
 
-pub checked-accepted : (s u M : List ℕ) {y : Judgement} {root ty size : ℕ} → JudgedBy s y u M → y ≡ Sheet root ty size →
-    Accepted ty size ≡ checkedOf (readSheet s)
+pub checked-accepted : (s u M : List ℕ) {y : Judgement} {root ty size : ℕ} → JudgedBy Present s y u M →
+    y ≡ Sheet root ty size → Accepted ty size ≡ checkedOf (readSheet s)
 unfolding JudgedBy checkedOf
 checked-accepted s u M J e = let j = rw e at J in rw (j .accepts) refl

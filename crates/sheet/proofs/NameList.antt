@@ -9,6 +9,7 @@ use borrow.Author.Tests.{eqb-true, eqb-false, leb-false}
 use Rattle.language.specs.declared.Numbers.{Numbers}
 use Rattle.records.specs.Kind.{shapeOf}
 use Rattle.records.specs.Standing.{declaredStanding}
+use Rattle.records.specs.declared.edition.Edition.{Edition}
 use Rattle.records.specs.declared.kind.Shape.{Shape}
 use Rattle.records.specs.declared.kind.Shape.the-variants.{Part, Declare, Retire, Unknown}
 use Rattle.records.specs.declared.judge.Judged.{Judged}
@@ -106,14 +107,14 @@ module _ {s st : List ℕ} {ns : List Name} {π : ℕ → ℕ} (M : Matches s ns
   free-standing e = rw e at (M .standing id b)
 
 -- the rest of a sheet, as read from a place on, after the earlier name records: at most n name records and the term
-pub data NamesRead (N : Numbers) (s : List ℕ) (π : ℕ → ℕ) (n : ℕ) (earlier : List Name) (at : ℕ) :
+pub data NamesRead (ed : Edition) (N : Numbers) (s : List ℕ) (π : ℕ → ℕ) (n : ℕ) (earlier : List Name) (at : ℕ) :
   Whole → ℕ → ℕ → Type 0
   where
   names-read :
       {ns : List Name} {root : ℕ} {t : Tree} {ty end : ℕ} → length ns ≤ n → FineNames earlier ns →
       drop at s ≡ encodeNames ns ++ drop root s →
-      ((names : List Name) → Extends names earlier ns → Parsed N s names 32 [] π root t ty end) →
-      NamesRead N s π n earlier at (whole ns root t) ty end
+      ((names : List Name) → Extends names earlier ns → Parsed ed N s names 32 [] π root t ty end) →
+      NamesRead ed N s π n earlier at (whole ns root t) ty end
 
 judged-onto :
     {X : Type 0} {P : Type 0} (Q : X → ℕ → ℕ → Type 0) {j : Judged} (k : Answer X) → JudgedAll P j → (P → All Q k)
@@ -131,14 +132,14 @@ unfolding Holds
 all-each P (got x ty n) f = one (λ i. all-holds (P i) (got x ty n) (f i))
 all-each P (refused a b) f = none′
 
-module _ (N : Numbers) (s : List ℕ) (π : ℕ → ℕ) where
+module _ (ed : Edition) (N : Numbers) (s : List ℕ) (π : ℕ → ℕ) where
   -- one name record more
   with-name :
       {n m at at′ : ℕ} {earlier : List Name} (nm : Name) → n ≡ suc m → drop at s ≡ encodeName nm ++ drop at′ s →
       ((ns : List Name) → FineNames (nm ∷ earlier) ns → FineNames earlier (nm ∷ ns)) →
       ((names ns : List Name) → Extends names earlier (nm ∷ ns) → Extends names (nm ∷ earlier) ns) →
-      {x : Whole} {ty end : ℕ} → NamesRead N s π m (nm ∷ earlier) at′ x ty end →
-      NamesRead N s π n earlier at (withName nm x) ty end
+      {x : Whole} {ty end : ℕ} → NamesRead ed N s π m (nm ∷ earlier) at′ x ty end →
+      NamesRead ed N s π n earlier at (withName nm x) ty end
   unfolding withName encodeNames
   with-name nm e b f g (names-read {ns = ns} {root = root} l fine d p) =
       names-read {ns = nm ∷ ns} (omega arith) (f ns fine)
@@ -151,9 +152,9 @@ module _ (N : Numbers) (s : List ℕ) (π : ℕ → ℕ) where
       (n : ℕ) (earlier : List Name) (st : List ℕ) (at : ℕ) (M : Matches s earlier [] π st)
       (rec : List ℕ → ℕ → Answer Whole)
       (sub : (m : ℕ) → n ≡ suc m → (ns : List Name) (st′ : List ℕ) (at′ : ℕ) → Matches s ns [] π st′ →
-        All (λ x ty end. NamesRead N s π m ns at′ x ty end) (rec st′ at′)) where
+        All (λ x ty end. NamesRead ed N s π m ns at′ x ty end) (rec st′ at′)) where
     abbrev Here : Whole → ℕ → ℕ → Type 0
-    Here x ty end = NamesRead N s π n earlier at x ty end
+    Here x ty end = NamesRead ed N s π n earlier at x ty end
 
     reads-declare :
         Byte s at 1 → All Here (nameOf rec n s st at 7 (declaredStanding at) (declareOf s st at) (declareAt s at))
@@ -185,16 +186,16 @@ module _ (N : Numbers) (s : List ℕ) (π : ℕ → ℕ) where
               (λ x ty end q. one (with-name (retireAt s at) k (retire-bytes s st at F b) (λ ns q. (F .below, f, q))
                 (λ names ns E. extends-retire _ ns f E) q))))
 
-    reads-term : All Here (bind (readPart 32 N s st 0 at) (λ t ty end. got (whole [] at t) ty end))
+    reads-term : All Here (bind (readPart ed 32 N s st 0 at) (λ t ty end. got (whole [] at t) ty end))
     unfolding encodeNames FineNames
     reads-term =
-        bind-all _ Here (readPart 32 N s st 0 at) _
+        bind-all _ Here (readPart ed 32 N s st 0 at) _
           (all-each {I = (names : List Name) × Extends names earlier []}
-            (λ i t ty end. Parsed N s (i .0) 32 [] π at t ty end) (readPart 32 N s st 0 at)
-            (λ i. parse-all N s (i .0) 32 [] π st at (matches-same (extends-last (i .1)) M) (omega arith)))
+            (λ i t ty end. Parsed ed N s (i .0) 32 [] π at t ty end) (readPart ed 32 N s st 0 at)
+            (λ i. parse-all ed N s (i .0) 32 [] π st at (matches-same (extends-last (i .1)) M) (omega arith)))
           (λ t ty end p. one (names-read {ns = []} (omega arith) tt refl (λ names E. p (names, E))))
 
-    reads-step : All Here (namesStep rec n N s st at)
+    reads-step : All Here (namesStep ed rec n N s st at)
     unfolding namesStep wholeOfShape
     reads-step =
         pick-all (All Here) (leb (length s) at) (λ e. none′)
@@ -203,7 +204,7 @@ module _ (N : Numbers) (s : List ℕ) (π : ℕ → ℕ) where
         go : (x : Shape) → at < length s → Shaped (getD s at 0) x → All Here (wholeOfShape x
           (λ body. nameOf rec n s st at body (declaredStanding at) (declareOf s st at) (declareAt s at))
           (λ body. nameOf rec n s st at body 1 (retireOf s st at) (retireAt s at))
-          (bind (readPart 32 N s st 0 at) (λ t ty end. got (whole [] at t) ty end))
+          (bind (readPart ed 32 N s st 0 at) (λ t ty end. got (whole [] at t) ty end))
           (refused 3 at))
         go (Part body parts rule) l h = reads-term
         go (Declare body) l (s-declare e) = reads-declare (l, e)
@@ -213,10 +214,10 @@ module _ (N : Numbers) (s : List ℕ) (π : ℕ → ℕ) where
   -- THEOREM: the rest of a sheet, as it is read
   pub names-all :
       (n : ℕ) (earlier : List Name) (st : List ℕ) (at : ℕ) → Matches s earlier [] π st →
-      All (λ x ty end. NamesRead N s π n earlier at x ty end) (namesOf n N s st at)
+      All (λ x ty end. NamesRead ed N s π n earlier at x ty end) (namesOf ed n N s st at)
   unfolding namesOf
   names-all zero earlier st at M = reads-step 0 earlier st at M _ (λ m e. absurd (omega arith))
   names-all (suc n) earlier st at M =
       let sub = names-all n in
-      reads-step (suc n) earlier st at M (namesOf n N s)
+      reads-step (suc n) earlier st at M (namesOf ed n N s)
         (λ m e ns st′ at′ M′. let k : n ≡ m = omega arith in rw (← k) (sub ns st′ at′ M′))

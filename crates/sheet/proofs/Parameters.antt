@@ -11,13 +11,17 @@ use lib.Dec.{eqb}
 use borrow.Author.Tests.{eqb-false, ne-eqb}
 use Rattle.language.specs.Choice.{pick}
 use Rattle.records.specs.Judge.{earlier}
+use Rattle.records.specs.declared.edition.Edition.{Edition}
+use Rattle.records.specs.declared.edition.Edition.the-variants.{Present}
 use Rattle.procedures.specs.Written.{Name, Parameter}
 use Rattle.procedures.specs.Meaning.{Binder, free, declared, typesOf}
 use Rattle.procedures.specs.Fine.{Unlike, FineParameters}
+use Rattle.procedures.specs.Hiding.{Unheld, ApartParameters}
 use Rattle.sheet.specs.Encoding.{pairs}
 use Rattle.sheet.specs.Reader.{parametersOf}
 use Rattle.sheet.proofs.Parsed.{Byte, Pairs}
 use Rattle.sheet.proofs.Standings.{Procedures, ParametersAt, Matches, binder-id, binder-standing}
+use Rattle.sheet.proofs.Standings.{unhiding-apart, apart-unhiding}
 use Rattle.sheet.proofs.Pairs.{pairs-length, parameters-length, pairs-parameters, pairs-unused, pairs-of}
 use Rattle.sheet.proofs.Pairs.{parameters-at, types-length, types-at}
 use Rattle.sheet.proofs.Bodies.{Given, Blank, Body, body-within}
@@ -53,11 +57,12 @@ before-unlike s at (suc j) [] id b u = absurd b
 before-unlike s at (suc j) (p ∷ es) id b u =
     rw (ne-eqb (getD s (at + 4 + 2 * j) 0) id (λ q. u .0 (sym (b .0) ∙ q))) (before-unlike s at j es id (b .1) (u .1))
 
-module _ {s st : List ℕ} {ns : List Name} {bs : List Binder} {π : ℕ → ℕ} (M : Matches s ns bs π st) (at : ℕ) where
+module _
+    (ed : Edition) {s st : List ℕ} {ns : List Name} {bs : List Binder} {π : ℕ → ℕ} (M : Matches s ns bs π st) (at : ℕ) where
   -- parameters that are judged good are in order
   fine-given :
       (ps : List Parameter) (j : ℕ) (es : List Parameter) → Before s at j es → ParametersAt s at j ps →
-      ((k : ℕ) → j ≤ k → k < j + length ps → Given s st at k) → FineParameters ns es ps
+      ((k : ℕ) → j ≤ k → k < j + length ps → Given ed s st at k) → FineParameters ns es ps
   unfolding FineParameters ParametersAt Before
   fine-given [] j es b a f = tt
   fine-given (p ∷ ps) j es b a f =
@@ -69,30 +74,43 @@ module _ {s st : List ℕ} {ns : List Name} {bs : List Binder} {π : ℕ → ℕ
         subst (λ (x : ℕ). x < 5) (a .1) (G .known),
         fine-given ps (suc j) (p ∷ es) (e, b) (a .2) (λ k h l. f k (omega arith) (omega arith)))
 
+  -- and hide no enclosing binder
+  apart-given :
+      (ps : List Parameter) (j : ℕ) → ParametersAt s at j ps →
+      ((k : ℕ) → j ≤ k → k < j + length ps → Given ed s st at k) → ed ≡ Present → ApartParameters bs ps
+  unfolding ApartParameters ParametersAt
+  apart-given [] j a f e = tt
+  apart-given (p ∷ ps) j a f e =
+      let G = f j (omega arith) (omega arith) in
+      (subst (λ (x : ℕ). Unheld bs x) (a .0) (unhiding-apart ed M _ (G .id .below) (G .id .unhiding) e),
+        apart-given ps (suc j) (a .2) (λ k h l. f k (omega arith) (omega arith)) e)
+
   -- parameters that are in order are judged good
   given-fine :
       at + 12 ≤ length s → (ps : List Parameter) (j : ℕ) (es : List Parameter) → Before s at j es →
-      ParametersAt s at j ps → FineParameters ns es ps → j + length ps ≤ 4 → (k : ℕ) → k < length ps →
-      Given s st at (j + k)
-  unfolding FineParameters ParametersAt Before
-  given-fine w [] j es b a f l k h = absurd (omega arith)
-  given-fine w (p ∷ ps) j es b a f l zero h =
+      ParametersAt s at j ps → FineParameters ns es ps → (ed ≡ Present → ApartParameters bs ps) → j + length ps ≤ 4 →
+      (k : ℕ) → k < length ps → Given ed s st at (j + k)
+  unfolding FineParameters ApartParameters ParametersAt Before
+  given-fine w [] j es b a f u l k h = absurd (omega arith)
+  given-fine w (p ∷ ps) j es b a f u l zero h =
       let e = sym (a .0) in
       rw (add-zero j) (record {
         id = record {
           within = omega arith;
           below = subst (λ (x : ℕ). x < 255) e (f .0);
           unnamed = binder-standing M _ (subst (λ (x : ℕ). x < 255) e (f .0))
-            (subst (λ (x : ℕ). declared ns x ≡ free) e (f .1)) };
+            (subst (λ (x : ℕ). declared ns x ≡ free) e (f .1));
+          unhiding = apart-unhiding ed M _ (subst (λ (x : ℕ). x < 255) e (f .0))
+            (λ q. subst (λ (x : ℕ). Unheld bs x) e (u q .0)) };
         unlike = before-unlike s at j es _ b (subst (λ (x : ℕ). Unlike x es) e (f .2));
         within = omega arith;
         known = subst (λ (x : ℕ). x < 5) (sym (a .1)) (f .3) })
-  given-fine w (p ∷ ps) j es b a f l (suc k) h =
+  given-fine w (p ∷ ps) j es b a f u l (suc k) h =
       let e : j + suc k ≡ suc j + k = omega arith in
-      rw e (given-fine w ps (suc j) (p ∷ es) (a .0, b) (a .2) (f .4) (omega arith) k (omega arith))
+      rw e (given-fine w ps (suc j) (p ∷ es) (a .0, b) (a .2) (f .4) (λ q. u q .1) (omega arith) k (omega arith))
 
   -- a body that is judged good
-  module _ (B : Body s st at) where
+  module _ (B : Body ed s st at) where
     abbrev count : ℕ
     count = getD s (at + 3) 0
 
@@ -127,6 +145,12 @@ module _ {s st : List ℕ} {ns : List Name} {bs : List Binder} {π : ℕ → ℕ
             let c = parameters-length count (drop (at + 4) s) in
             B .pairs k (omega (arith, B .few)) .used (omega arith)) }
 
+    pub body-apart : ed ≡ Present → ApartParameters bs (parametersOf count (drop (at + 4) s))
+    body-apart =
+        apart-given (parametersOf count (drop (at + 4) s)) 0 here-parameters (λ k h u.
+          let c = parameters-length count (drop (at + 4) s) in
+          B .pairs k (omega (arith, B .few)) .used (omega arith))
+
 -- the parameters by the pairs
 module _ {s : List ℕ} {ns : List Name} {at n : ℕ} {ps : List Parameter} (P : Pairs s ns at n ps) where
   pub pairs-at : ParametersAt s at 0 ps
@@ -159,19 +183,21 @@ module _ {s : List ℕ} {ns : List Name} {at n : ℕ} {ps : List Parameter} (P :
           ∙ ap (λ (x : List ℕ). getD x (suc (2 * j)) 0) (P .bytes) ∙ u .1 }
 
   pub pairs-body :
-      {st : List ℕ} {bs : List Binder} {π : ℕ → ℕ} {id ty : ℕ} → Matches s ns bs π st → Byte s (at + 1) id → id < 255 →
-      declared ns id ≡ free → Byte s (at + 2) ty → ty < 5 → Byte s (at + 3) n → n < 5 → Body s st at
+      (ed : Edition) {st : List ℕ} {bs : List Binder} {π : ℕ → ℕ} {id ty : ℕ} → Matches s ns bs π st →
+      Byte s (at + 1) id → id < 255 → declared ns id ≡ free → (ed ≡ Present → Unheld bs id) →
+      Byte s (at + 2) ty → ty < 5 → Byte s (at + 3) n → n < 5 → (ed ≡ Present → ApartParameters bs ps) → Body ed s st at
   unfolding Before
-  pairs-body {st} {id = id} M b l f b′ k c h = record {
+  pairs-body ed {st} {id = id} M b l f v b′ k c h u = record {
       id = record {
-        within = b .0; below = rw (b .1) l; unnamed = rw (b .1) (binder-standing M id l f) };
+        within = b .0; below = rw (b .1) l; unnamed = rw (b .1) (binder-standing M id l f);
+        unhiding = rw (b .1) (apart-unhiding ed M id l v) };
       type-within = b′ .0; type-known = rw (b′ .1) k;
       count-within = c .0; few = rw (c .1) h;
-      pairs = λ j u. record {
-        used = λ v. subst (λ (x : ℕ). Given s st at x) (zero-add j)
-          (given-fine M at (P .within) ps 0 [] tt pairs-at (P .fine) (omega (arith, P .counted)) j
+      pairs = λ j m. record {
+        used = λ y. subst (λ (x : ℕ). Given ed s st at x) (zero-add j)
+          (given-fine ed M at (P .within) ps 0 [] tt pairs-at (P .fine) u (omega (arith, P .counted)) j
             (omega (arith, P .counted, c .1)));
-        padding = λ v. pairs-blank c j v u } }
+        padding = λ y. pairs-blank c j y m } }
 
 -- the pairs by their bytes
 pub pairs-there :

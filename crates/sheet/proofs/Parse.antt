@@ -14,6 +14,8 @@ use Rattle.records.specs.Standing.{standingOf, countOf, resultOf, argumentOf}
 use Rattle.records.specs.Rule.{operandType, acceptsPart, partType}
 use Rattle.records.specs.Head.{headOf}
 use Rattle.records.specs.Scope.{opens, entered, passed, usable}
+use Rattle.records.specs.declared.edition.Edition.{Edition}
+use Rattle.records.specs.declared.edition.Edition.the-variants.{Present}
 use Rattle.records.specs.declared.kind.Rule.{Rule}
 use Rattle.records.specs.declared.kind.Rule.the-variants.{Skip, Diverge, Truth, Number, Use, Fetch, Operate, Assign}
 use Rattle.records.specs.declared.kind.Rule.the-variants.{Sequence, If, While, New, Procedure}
@@ -22,20 +24,21 @@ use Rattle.procedures.specs.Environment.{beyond}
 use Rattle.procedures.specs.Written.{Name, Parameter}
 use Rattle.procedures.specs.Meaning.{Binder, a-block, Meaning, private, argument, routine, named, free, declared}
 use Rattle.procedures.specs.Meaning.{meaning, inside, after}
+use Rattle.procedures.specs.Hiding.{Unheld, ApartParameters}
 use Rattle.sheet.specs.Reader.{Tree, node, Trees, leaf, branch, Answer, got, bind, partsOf, joined, scopeParts}
 use Rattle.sheet.specs.Reader.{readRecord, readPart, parametersOf}
 use Rattle.sheet.proofs.Parsed.{Byte, Stands, Pairs, Parsed, p-skip, p-diverge, p-truth, p-number, p-private}
 use Rattle.sheet.proofs.Parsed.{p-parameter, p-use, p-name, p-fetch, p-operate, p-assign, p-sequence, p-if}
 use Rattle.sheet.proofs.Parsed.{p-while, p-new, p-procedure, ParsedArgs, p-none, p-more}
-use Rattle.sheet.proofs.Answers.{All, one, all-got, all-map, bind-all, head-all, head-refused, parts-more}
+use Rattle.sheet.proofs.Answers.{All, one, all-map, bind-all, head-all, head-refused, parts-more}
 use Rattle.sheet.proofs.Answers.{record-all}
 use Rattle.sheet.proofs.Standings.{Variable, Passed, Routine, Naming, Matches, matches-entered, matches-usable}
 use Rattle.sheet.proofs.Standings.{matches-passed, Used, used-private, used-parameter, used-routine, used-name}
-use Rattle.sheet.proofs.Standings.{used-id, binder-id, naming-says, variable-says, passed-says, routine-says}
+use Rattle.sheet.proofs.Standings.{used-id, binder-id, unhiding-apart, naming-says, variable-says, passed-says, routine-says}
 use Rattle.sheet.proofs.Heads.{made, Heads, h-skip, h-diverge, h-truth, h-number, h-use, h-fetch, h-operate}
 use Rattle.sheet.proofs.Heads.{h-assign, h-sequence, h-if, h-while, h-new, h-procedure, heads}
 use Rattle.sheet.proofs.Pairs.{inside-length}
-use Rattle.sheet.proofs.Parameters.{body-pairs, pairs-at, pairs-procedures}
+use Rattle.sheet.proofs.Parameters.{body-pairs, body-apart, pairs-at, pairs-procedures}
 
 stands :
     {s : List ℕ} {at kind parts a b n : ℕ} (body : ℕ) {rule : Rule} → Byte s at kind → n ≡ at + 1 + body →
@@ -60,12 +63,13 @@ data Single (R : Tree → ℕ → ℕ → Type 0) (at : ℕ) : Trees → ℕ →
   single : {t : Tree} {ty next : ℕ} → R t ty next → Single R at (branch at t leaf) ty next
 
 -- the record at a place, whose parts rec reads inside the binders bs
-module _ (N : Numbers) (s : List ℕ) (ns : List Name) (left : ℕ) (bs : List Binder) (π : ℕ → ℕ) (at : ℕ) where
+module _
+    (ed : Edition) (N : Numbers) (s : List ℕ) (ns : List Name) (left : ℕ) (bs : List Binder) (π : ℕ → ℕ) (at : ℕ) where
   abbrev Part : ℕ → Tree → ℕ → ℕ → Type 0
-  Part p t ty n = Parsed N s ns left bs π p t ty n
+  Part p t ty n = Parsed ed N s ns left bs π p t ty n
 
   abbrev Whole : Tree → ℕ → ℕ → Type 0
-  Whole t ty n = Parsed N s ns (suc left) bs π at t ty n
+  Whole t ty n = Parsed ed N s ns (suc left) bs π at t ty n
 
   module _
       (rec : List ℕ → ℕ → ℕ → Answer Tree) (st : List ℕ) (sub : (p : ℕ) → All (Part p) (rec st (length bs) p)) where
@@ -141,7 +145,7 @@ module _ (N : Numbers) (s : List ℕ) (ns : List Name) (left : ℕ) (bs : List B
     reads-args :
         (m a c n : ℕ) (tys : List ℕ) (j prev p : ℕ) →
         ((k : ℕ) → k < length tys → argumentOf s (standingOf c) (j + k) ≡ getD tys k 0) →
-        All (λ ts last n. ParsedArgs N s ns left bs π p ts tys n)
+        All (λ ts last n. ParsedArgs ed N s ns left bs π p ts tys n)
           (partsOf (rec st (length bs)) s (made s at Use m a c n) (length tys) j prev p)
     unfolding acceptsPart partsOf
     reads-args m a c n [] j prev p f = one p-none
@@ -157,7 +161,7 @@ module _ (N : Numbers) (s : List ℕ) (ns : List Name) (left : ℕ) (bs : List B
     reads-call :
         (a c : ℕ) {ty : ℕ} {tys : List ℕ} → countOf s (standingOf c) ≡ length tys → resultOf s (standingOf c) ≡ ty →
         ((j : ℕ) → j < length tys → argumentOf s (standingOf c) j ≡ getD tys j 0) →
-        ((ts : Trees) (end : ℕ) → ParsedArgs N s ns left bs π (at + 2) ts tys end →
+        ((ts : Trees) (end : ℕ) → ParsedArgs ed N s ns left bs π (at + 2) ts tys end →
           Whole (node (made s at Use (length tys) a c (at + 2)) ty (length bs) end ts) ty end) →
         Reading (made s at Use (countOf s (standingOf c)) a c (at + 1 + 1))
     unfolding opens scopeParts partType
@@ -247,27 +251,28 @@ module _ (N : Numbers) (s : List ℕ) (ns : List Name) (left : ℕ) (bs : List B
   -- a new, whose part rec reads inside one binder more
   reads-new :
       (a d : ℕ) (rec : List ℕ → ℕ → ℕ → Answer Tree) (st : List ℕ) →
-      ((p : ℕ) → All (λ t ty n. Parsed N s ns left (a-block a d ∷ bs) π p t ty n)
+      ((p : ℕ) → All (λ t ty n. Parsed ed N s ns left (a-block a d ∷ bs) π p t ty n)
         (rec (entered st (made s at New 1 a d (at + 1 + 2)) (length bs)) (length bs + 1) p)) →
-      Byte s at 27 → Byte s (at + 1) a → a < 255 → declared ns a ≡ free → Byte s (at + 2) d → 0 < d → d < 3 →
+      Byte s at 27 → Byte s (at + 1) a → a < 255 → declared ns a ≡ free → (ed ≡ Present → Unheld bs a) →
+      Byte s (at + 2) d → 0 < d → d < 3 →
       All Whole (readRecord rec s st (length bs) (made s at New 1 a d (at + 1 + 2)))
   unfolding opens scopeParts acceptsPart partType partsOf
-  reads-new a d rec st sub h b l e b′ l′ l″ =
+  reads-new a d rec st sub h b l e u b′ l′ l″ =
       let r = made s at New 1 a d (at + 1 + 2) in
-      let Q : ℕ → Tree → ℕ → ℕ → Type 0 = λ p t ty n. Parsed N s ns left (a-block a d ∷ bs) π p t ty n in
+      let Q : ℕ → Tree → ℕ → ℕ → Type 0 = λ p t ty n. Parsed ed N s ns left (a-block a d ∷ bs) π p t ty n in
       record-all rec s st (length bs) r Whole
         (parts-more Q (rec (entered st r (length bs)) (length bs + 1)) s r _ 0 0 0 (at + 1 + 2) (sub (at + 1 + 2))
         (λ t ty next p f. one
-          (rw (after-two at) (p-new (stands 2 h (sym (after-two at))) b l e b′ l′ l″
+          (rw (after-two at) (p-new (stands 2 h (sym (after-two at))) b l e u b′ l′ l″
             (rw (eqb-true ty 0 f, after-two at) at p)))))
 
   -- a procedure, whose terms rec reads in their scopes
   module _ (a n : ℕ) (ps : List Parameter) (rec : List ℕ → ℕ → ℕ → Answer Tree) (st : List ℕ) where
     abbrev Term : ℕ → Tree → ℕ → ℕ → Type 0
-    Term p t ty n = Parsed N s ns left (inside ps bs) π p t ty n
+    Term p t ty n = Parsed ed N s ns left (inside ps bs) π p t ty n
 
     abbrev Using : ℕ → Tree → ℕ → ℕ → Type 0
-    Using p t ty n = Parsed N s ns left (after a (getD s (at + 2) 0) ps bs) (beyond (length bs) π (λ j. at)) p t ty n
+    Using p t ty n = Parsed ed N s ns left (after a (getD s (at + 2) 0) ps bs) (beyond (length bs) π (λ j. at)) p t ty n
 
     -- the term has the procedure's type
     abbrev First : Tree → ℕ → ℕ → Type 0
@@ -282,14 +287,15 @@ module _ (N : Numbers) (s : List ℕ) (ns : List Name) (left : ℕ) (bs : List B
     module _
         (sub : (p : ℕ) → All (Term p) (rec (passed s at (length bs) n st) (length bs + n) p))
         (sub′ : (p : ℕ) → All (Using p) (rec (usable st routineAt (length bs)) (length bs + 1) p))
-        (h : Byte s at 28) (b : Byte s (at + 1) a) (l : a < 255) (e : declared ns a ≡ free) (w : at + 2 < length s)
-        (k : getD s (at + 2) 0 < 5) (c : Byte s (at + 3) n) (f : n < 5) (P : Pairs s ns at n ps) where
+        (h : Byte s at 28) (b : Byte s (at + 1) a) (l : a < 255) (e : declared ns a ≡ free)
+        (v : ed ≡ Present → Unheld bs a) (w : at + 2 < length s) (k : getD s (at + 2) 0 < 5) (c : Byte s (at + 3) n)
+        (f : n < 5) (P : Pairs s ns at n ps) (v′ : ed ≡ Present → ApartParameters bs ps) where
       reads-finish :
           (t : Tree) (mid : ℕ) → Term (at + 12) t (getD s (at + 2) 0) mid → (us : Trees) (last end : ℕ) →
           Single (Using mid) mid us last end → All Closed (got (joined (branch (at + 12) t leaf) us) last end)
       unfolding joined
       reads-finish t mid p us last end (single q) =
-          one (p-procedure (stands 11 h (sym (after-eleven at))) b l e (w, refl) k c f P p q)
+          one (p-procedure (stands 11 h (sym (after-eleven at))) b l e v (w, refl) k c f P v′ p q)
 
       reads-second :
           (ts : Trees) (ty mid : ℕ) → Single First (at + 12) ts ty mid →
@@ -317,8 +323,8 @@ module _ (N : Numbers) (s : List ℕ) (ns : List Name) (left : ℕ) (bs : List B
   reads-record :
       (st : List ℕ) (r : Record) (rec : List ℕ → ℕ → ℕ → Answer Tree) → Matches s ns bs π st → length bs + 4 ≤ 128 →
       ((bs′ : List Binder) (π′ : ℕ → ℕ) (st′ : List ℕ) → Matches s ns bs′ π′ st′ → length bs′ ≤ length bs + 4 →
-        (p : ℕ) → All (λ t ty n. Parsed N s ns left bs′ π′ p t ty n) (rec st′ (length bs′) p)) →
-      Heads s st N at r → All Whole (readRecord rec s st (length bs) r)
+        (p : ℕ) → All (λ t ty n. Parsed ed N s ns left bs′ π′ p t ty n) (rec st′ (length bs′) p)) →
+      Heads ed s st N at r → All Whole (readRecord rec s st (length bs) r)
   unfolding passed after
   reads-record st r rec M d sub (h-skip h) = reads-skip rec st (sub bs π st M (omega arith)) h
   reads-record st r rec M d sub (h-diverge h b l) = reads-diverge rec st (sub bs π st M (omega arith)) _ h b l
@@ -344,31 +350,32 @@ module _ (N : Numbers) (s : List ℕ) (ns : List Name) (left : ℕ) (bs : List B
   reads-record st r rec M d sub (h-sequence h) = reads-sequence rec st (sub bs π st M (omega arith)) h
   reads-record st r rec M d sub (h-if h) = reads-if rec st (sub bs π st M (omega arith)) h
   reads-record st r rec M d sub (h-while h) = reads-while rec st (sub bs π st M (omega arith)) h
-  reads-record st r rec M d sub (h-new {a = a} {d = k} h b l f b′ l′ l″) =
+  reads-record st r rec M d sub (h-new {a = a} {d = k} h b l f u b′ l′ l″) =
       let e = binder-id M a l f in
       reads-new a k rec st
         (rw (add-one (length bs)) (sub (a-block a k ∷ bs) π _
           (matches-entered (made s at New 1 a k (at + 1 + 2)) M (omega arith) l e l′ l″) (omega arith)))
-        h b l e b′ l′ l″
+        h b l e (unhiding-apart ed M a l u) b′ l′ l″
   reads-record st r rec M d sub (h-procedure h B) =
       let a = getD s (at + 1) 0 in
       let n = getD s (at + 3) 0 in
       let ps = parametersOf n (drop (at + 4) s) in
-      let P : Pairs s ns at n ps = body-pairs M at B in
+      let P : Pairs s ns at n ps = body-pairs ed M at B in
       let e = binder-id M a (B .id .below) (B .id .unnamed) in
       let D = pairs-procedures P (B .type-within, refl) (B .count-within, refl) (B .type-known) (B .few) in
       rw (after-eleven at) (reads-procedure a n ps rec st
         (scope-term P (B .few))
         (rw (add-one (length bs)) (sub (after a (getD s (at + 2) 0) ps bs) (beyond (length bs) π (λ j. at)) _
           (matches-usable ps (made s at Procedure 2 a n (at + 12)) M (omega arith) (B .id .below) e D) (scope-use ps)))
-        h (B .id .within, refl) (B .id .below) e (B .type-within) (B .type-known) (B .count-within, refl) (B .few) P)
+        h (B .id .within, refl) (B .id .below) e (unhiding-apart ed M a (B .id .below) (B .id .unhiding)) (B .type-within)
+        (B .type-known) (B .count-within, refl) (B .few) P (body-apart ed M at B))
     where
       scope-use : (ps : List Parameter) → length (after (getD s (at + 1) 0) (getD s (at + 2) 0) ps bs) ≤ length bs + 4
       scope-use ps = omega arith
 
       scope-term :
           {n : ℕ} {ps : List Parameter} → Pairs s ns at n ps → n < 5 → (p : ℕ) →
-          All (λ t ty n. Parsed N s ns left (inside ps bs) π p t ty n)
+          All (λ t ty n. Parsed ed N s ns left (inside ps bs) π p t ty n)
             (rec (passed s at (length bs) n st) (length bs + n) p)
       scope-term {n} {ps} P f p =
           let c = P .counted in
@@ -380,20 +387,13 @@ module _ (N : Numbers) (s : List ℕ) (ns : List Name) (left : ℕ) (bs : List B
 
 -- THEOREM: what the reader reads is a reading spelled out
 pub parse-all :
-    (N : Numbers) (s : List ℕ) (ns : List Name) (left : ℕ) (bs : List Binder) (π : ℕ → ℕ) (st : List ℕ) (at : ℕ) →
-    Matches s ns bs π st → length bs + 4 * left ≤ 128 →
-    All (λ t ty n. Parsed N s ns left bs π at t ty n) (readPart left N s st (length bs) at)
+    (ed : Edition) (N : Numbers) (s : List ℕ) (ns : List Name) (left : ℕ) (bs : List Binder) (π : ℕ → ℕ) (st : List ℕ)
+    (at : ℕ) → Matches s ns bs π st → length bs + 4 * left ≤ 128 →
+    All (λ t ty n. Parsed ed N s ns left bs π at t ty n) (readPart ed left N s st (length bs) at)
 unfolding readPart
-parse-all N s ns zero bs π st at M l = head-refused _ (headOf s st N 0 at) 8 at
-parse-all N s ns (suc left) bs π st at M l =
-    let sub = parse-all N s ns left in
-    head-all (Heads s st N at) _ (headOf s st N (suc left) at) _ (heads s st N at left)
-    (λ r h. reads-record N s ns left bs π at st r (readPart left N s) M (omega arith)
+parse-all ed N s ns zero bs π st at M l = head-refused _ (headOf ed s st N 0 at) 8 at
+parse-all ed N s ns (suc left) bs π st at M l =
+    let sub = parse-all ed N s ns left in
+    head-all (Heads ed s st N at) _ (headOf ed s st N (suc left) at) _ (heads ed s st N at left)
+    (λ r h. reads-record ed N s ns left bs π at st r (readPart ed left N s) M (omega arith)
       (λ bs′ π′ st′ M′ l′ p. sub bs′ π′ st′ p M′ (omega arith)) h)
-
-pub parse :
-    {N : Numbers} {s : List ℕ} {ns : List Name} {left : ℕ} {bs : List Binder} {π : ℕ → ℕ} {st : List ℕ} {at : ℕ}
-      {t : Tree} {ty next : ℕ} →
-    readPart left N s st (length bs) at ≡ got t ty next → Matches s ns bs π st → length bs + 4 * left ≤ 128 →
-    Parsed N s ns left bs π at t ty next
-parse {N} {s} {ns} {left} {bs} {π} {st} {at} e M l = all-got _ (parse-all N s ns left bs π st at M l) e

@@ -8,6 +8,8 @@ use Rattle.language.specs.Number.{inRange}
 use Rattle.language.specs.declared.Numbers.{Numbers}
 use Rattle.records.specs.Standing.{variableStanding, parameterStanding, procedureStanding, declaredStanding}
 use Rattle.records.specs.Rule.{operandType, resultType}
+use Rattle.records.specs.declared.edition.Edition.{Edition}
+use Rattle.records.specs.declared.edition.Edition.the-variants.{Present}
 use Rattle.records.specs.declared.kind.Rule.{Rule}
 use Rattle.records.specs.declared.kind.Rule.the-variants.{Skip, Diverge, Truth, Number, Use, Fetch, Operate, Assign}
 use Rattle.records.specs.declared.kind.Rule.the-variants.{Sequence, If, While, New, Procedure}
@@ -17,6 +19,7 @@ use Rattle.procedures.specs.Written.{Name, Parameter}
 use Rattle.procedures.specs.Meaning.{Binder, a-block, private, argument, routine, named, free, declared, meaning}
 use Rattle.procedures.specs.Meaning.{inside, after}
 use Rattle.procedures.specs.Fine.{FineParameters}
+use Rattle.procedures.specs.Hiding.{Unheld, ApartParameters}
 use Rattle.sheet.specs.Encoding.{pairs}
 use Rattle.sheet.specs.Reader.{Tree, node, Trees, leaf, branch, parametersOf}
 
@@ -41,8 +44,8 @@ pub record Pairs (s : List ℕ) (ns : List Name) (at n : ℕ) (ps : List Paramet
   pub fine : FineParameters ns [] ps
 
 -- at most `left` levels deep, inside the binders bs, where π says at which places the records of the procedures stand,
--- by their numbers: the part at a place, its type and the place after it
-module _ (N : Numbers) (s : List ℕ) (ns : List Name) where
+-- by their numbers: the part at a place, its type and the place after it, read by the rule of an edition
+module _ (ed : Edition) (N : Numbers) (s : List ℕ) (ns : List Name) where
   mutual
     pub data Parsed : ℕ → List Binder → (ℕ → ℕ) → ℕ → Tree → ℕ → ℕ → Type 0 where
       p-skip : {left at : ℕ} {bs : List Binder} {π : ℕ → ℕ} {r : Record} → Stands s r at 16 0 Skip →
@@ -97,14 +100,15 @@ module _ (N : Numbers) (s : List ℕ) (ns : List Name) where
         Stands s r at 26 0 While → Parsed left bs π (at + 1) t 1 mid → Parsed left bs π mid u 0 next →
         Parsed (suc left) bs π at (node r 0 (length bs) next (branch (at + 1) t (branch mid u leaf))) 0 next
       p-new : {left at next : ℕ} {bs : List Binder} {π : ℕ → ℕ} {r : Record} {t : Tree} → Stands s r at 27 2 New →
-        Byte s (at + 1) (r .a) → r .a < 255 → declared ns (r .a) ≡ free → Byte s (at + 2) (r .b) → 0 < r .b → r .b < 3
-          →
+        Byte s (at + 1) (r .a) → r .a < 255 → declared ns (r .a) ≡ free → (ed ≡ Present → Unheld bs (r .a)) →
+        Byte s (at + 2) (r .b) → 0 < r .b → r .b < 3 →
         Parsed left (a-block (r .a) (r .b) ∷ bs) π (at + 3) t 0 next →
         Parsed (suc left) bs π at (node r 0 (length bs) next (branch (at + 3) t leaf)) 0 next
       p-procedure : {left at ty last mid next : ℕ} {ps : List Parameter} {bs : List Binder} {π : ℕ → ℕ} {r : Record}
         {t u : Tree} → Stands s r at 28 11 Procedure →
-        Byte s (at + 1) (r .a) → r .a < 255 → declared ns (r .a) ≡ free → Byte s (at + 2) ty → ty < 5 →
-        Byte s (at + 3) (r .b) → r .b < 5 → Pairs s ns at (r .b) ps →
+        Byte s (at + 1) (r .a) → r .a < 255 → declared ns (r .a) ≡ free → (ed ≡ Present → Unheld bs (r .a)) →
+        Byte s (at + 2) ty → ty < 5 → Byte s (at + 3) (r .b) → r .b < 5 → Pairs s ns at (r .b) ps →
+        (ed ≡ Present → ApartParameters bs ps) →
         Parsed left (inside ps bs) π (at + 12) t ty mid →
         Parsed left (after (r .a) ty ps bs) (beyond (length bs) π (λ j. at)) mid u last next →
         Parsed (suc left) bs π at (node r last (length bs) next (branch (at + 12) t (branch mid u leaf))) last next

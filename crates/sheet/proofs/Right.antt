@@ -12,14 +12,17 @@ use Rattle.language.specs.Choice.{pick}
 use Rattle.language.specs.Weight.{size}
 use Rattle.language.specs.declared.Numbers.{Numbers}
 use Rattle.records.specs.Refusal.{too-large}
+use Rattle.records.specs.declared.edition.Edition.{Edition}
+use Rattle.records.specs.declared.edition.Edition.the-variants.{Earlier, Present}
 use Rattle.procedures.specs.Written.{Written, Name, Sheet}
 use Rattle.procedures.specs.Meaning.{tyOf, termOf, typeOf}
 use Rattle.procedures.specs.Fine.{FineNames}
+use Rattle.procedures.specs.Hiding.{Apart}
 use Rattle.sheet.specs.Encoding.{encode, encodeNames, encodeSheet}
-use Rattle.sheet.specs.Fine.{Accepted}
+use Rattle.sheet.specs.Fine.{AcceptedUnder}
 use Rattle.sheet.specs.Reader.{Tree, Answer, got, bind, Whole, whole, namesOf, closed, numbersAt, nothing}
-use Rattle.sheet.specs.Reader.{wholeOf, written, accepted, rejected, sheetIn, sizeIn, checks, readSheet}
-use Rattle.sheet.specs.Agreement.{ReaderGives, ReaderAccepts}
+use Rattle.sheet.specs.Reader.{wholeOf, written, accepted, rejected, sheetIn, sizeIn, checks, readUnder}
+use Rattle.sheet.specs.Agreement.{ReaderGives, ReaderAccepts, EarlierToo, PresentApart}
 use Rattle.sheet.proofs.Standings.{matches-nothing}
 use Rattle.sheet.proofs.Answers.{All, one, none′, pick-all, bind-all}
 use Rattle.sheet.proofs.Sound.{Sound, sound}
@@ -27,26 +30,26 @@ use Rattle.sheet.proofs.NameList.{extends-first, NamesRead, names-read,
 use Rattle.sheet.proofs.CompleteNames.{RestRead, complete-names}
 
 -- a sheet that is read passed every test but that of its size
-pub record SheetRead (s : List ℕ) (π : ℕ → ℕ) (x : Whole) (ty end : ℕ) : Type 0 where
+pub record SheetRead (ed : Edition) (s : List ℕ) (π : ℕ → ℕ) (x : Whole) (ty end : ℕ) : Type 0 where
   pub short : length s ≤ 4096
   pub long : 1 < length s
   pub z-above : 0 < getD s 0 0
   pub z-below : getD s 0 0 < 8
   pub rule-below : getD s 1 0 < 2
-  pub names : NamesRead (numbersAt s) s π 32 [] 2 x ty end
+  pub names : NamesRead ed (numbersAt s) s π 32 [] 2 x ty end
   pub ends : length s ≤ end
 
-pub sheet-all : (s : List ℕ) (π : ℕ → ℕ) → All (SheetRead s π) (wholeOf s)
+pub sheet-all : (ed : Edition) (s : List ℕ) (π : ℕ → ℕ) → All (SheetRead ed s π) (wholeOf ed s)
 unfolding wholeOf closed
-sheet-all s π =
+sheet-all ed s π =
     pick-all A (ltb 4096 (length s)) (λ e. none′) (λ e₁.
     pick-all A (leb (length s) 0) (λ e. none′) (λ e₂.
     pick-all A (eqb (getD s 0 0) 0) (λ e. none′) (λ e₃.
     pick-all A (ltb 7 (getD s 0 0)) (λ e. none′) (λ e₄.
     pick-all A (leb (length s) 1) (λ e. none′) (λ e₅.
     pick-all A (ltb 1 (getD s 1 0)) (λ e. none′) (λ e₆.
-    bind-all _ (SheetRead s π) _ _
-      (names-all (numbersAt s) s π 32 [] nothing 2 (matches-nothing s π (ltb-false 4096 (length s) e₁)))
+    bind-all _ (SheetRead ed s π) _ _
+      (names-all ed (numbersAt s) s π 32 [] nothing 2 (matches-nothing s π (ltb-false 4096 (length s) e₁)))
       (λ x ty end q.
     pick-all A (ltb end (length s)) (λ e. none′) (λ e₇.
     one (record {
@@ -59,22 +62,22 @@ sheet-all s π =
       ends = ltb-false end (length s) e₇ })))))))))
   where
     A : Answer Whole → Type 0
-    A = All (SheetRead s π)
+    A = All (SheetRead ed s π)
 
     above : (n : ℕ) → (n ≡ 0 → ⊥) → 0 < n
     above n h = omega arith
 
 -- what an accepted answer says
-Gives : List ℕ → Sheet → ℕ → ℕ → Type 0
-Gives s S ty n =
-    (s ≡ encodeSheet S) × Accepted S × (ty ≡ typeOf S) × (n ≡ size (tyOf (S .numbers) ty) (termOf S))
+Gives : Edition → List ℕ → Sheet → ℕ → ℕ → Type 0
+Gives ed s S ty n =
+    (s ≡ encodeSheet S) × AcceptedUnder ed S × (ty ≡ typeOf S) × (n ≡ size (tyOf (S .numbers) ty) (termOf S))
 
 -- the sheet that was read
 module _
-    (s : List ℕ) (π : ℕ → ℕ) (ns : List Name) (root : ℕ) (t : Tree) (ty end : ℕ)
-    (R : SheetRead s π (whole ns root t) ty end)
+    (ed : Edition) (s : List ℕ) (π : ℕ → ℕ) (ns : List Name) (root : ℕ) (t : Tree) (ty end : ℕ)
+    (R : SheetRead ed s π (whole ns root t) ty end)
     (l : length ns ≤ 32) (f : FineNames [] ns) (b : drop 2 s ≡ encodeNames ns ++ drop root s)
-    (P : Sound (numbersAt s) s ns 32 [] root (written s t) ty end) where
+    (P : Sound ed (numbersAt s) s ns 32 [] root (written s t) ty end) where
   abbrev here : Sheet
   here = record { numbers = numbersAt s; names = ns; term = written s t }
 
@@ -90,16 +93,17 @@ module _
   unfolding typeOf
   here-type = sym (P .types)
 
-  here-accepted : size (tyOf (numbersAt s) ty) (termOf here) ≤ 4096 → Accepted here
+  here-accepted : size (tyOf (numbersAt s) ty) (termOf here) ≤ 4096 → AcceptedUnder ed here
   here-accepted h = record {
       ordered = record {
         z-above = R .z-above; z-below = R .z-below; rule-below = R .rule-below; few-names = l; fine-names = f;
         fine-term = P .fine; shallow = P .shallow;
         small = subst (λ (x : ℕ). size (tyOf (numbersAt s) x) (termOf here) ≤ 4096) here-type h };
-      short = subst (λ (x : List ℕ). length x ≤ 4096) here-bytes (R .short) }
+      short = subst (λ (x : List ℕ). length x ≤ 4096) here-bytes (R .short);
+      apart = P .apart }
 
   here-gives : size (tyOf (numbersAt s) ty) (termOf here) ≤ 4096 →
-      Gives s here ty (size (tyOf (numbersAt s) ty) (termOf here))
+      Gives ed s here ty (size (tyOf (numbersAt s) ty) (termOf here))
   unfolding Gives
   here-gives h = (here-bytes, here-accepted h, here-type, refl)
 
@@ -107,9 +111,9 @@ module _
 abbrev places : ℕ → ℕ
 places k = 0
 
-read-gives : (s : List ℕ) (S : Sheet) (ty n : ℕ) → readSheet s ≡ accepted S ty n → Gives s S ty n
-unfolding readSheet checks sheetIn sizeIn
-read-gives s S ty n e = go (wholeOf s) (sheet-all s places) e
+read-gives : (ed : Edition) (s : List ℕ) (S : Sheet) (ty n : ℕ) → readUnder ed s ≡ accepted S ty n → Gives ed s S ty n
+unfolding readUnder checks sheetIn sizeIn
+read-gives ed s S ty n e = go (wholeOf ed s) (sheet-all ed s places) e
   where
     sized : (x : Whole) (ty′ : ℕ) (u : Bool) → ltb 4096 (sizeIn s x ty′) ≡ u →
       pick u (rejected too-large 0) (accepted (sheetIn s x) ty′ (sizeIn s x ty′)) ≡ accepted S ty n →
@@ -117,24 +121,24 @@ read-gives s S ty n e = go (wholeOf s) (sheet-all s places) e
     sized x ty′ true g h = let z : _≡_ {A = ℕ} 0 1 = cc in absurd (omega arith)
     sized x ty′ false g h = (ltb-false 4096 (sizeIn s x ty′) g, cc, cc, cc)
 
-    go : (A : Answer Whole) → All (SheetRead s places) A → checks s A ≡ accepted S ty n → Gives s S ty n
+    go : (A : Answer Whole) → All (SheetRead ed s places) A → checks s A ≡ accepted S ty n → Gives ed s S ty n
     go A (one {x = x} {ty = ty′} {n = end} R) h = of x (R .names) R (sized x ty′ (ltb 4096 (sizeIn s x ty′)) refl h)
       where
-        of : (x : Whole) → NamesRead (numbersAt s) s places 32 [] 2 x ty′ end → SheetRead s places x ty′ end →
-          (sizeIn s x ty′ ≤ 4096) × (sheetIn s x ≡ S) × (ty′ ≡ ty) × (sizeIn s x ty′ ≡ n) → Gives s S ty n
+        of : (x : Whole) → NamesRead ed (numbersAt s) s places 32 [] 2 x ty′ end → SheetRead ed s places x ty′ end →
+          (sizeIn s x ty′ ≤ 4096) × (sheetIn s x ≡ S) × (ty′ ≡ ty) × (sizeIn s x ty′ ≡ n) → Gives ed s S ty n
         of x (names-read {ns = ns} {root = root} {t = t} l f b p) R h =
             let P = sound (numbersAt s) s ns 32 (p ns (extends-first ns)) in
-            let G = here-gives s places ns root t ty′ end R l f b P (h .0) in
+            let G = here-gives ed s places ns root t ty′ end R l f b P (h .0) in
             rw (h .3, h .1, h .2) at G
     go A none′ h = let z : _≡_ {A = ℕ} 0 1 = cc in absurd (omega arith)
 
 -- THEOREM: what an accepted answer says is so
 pub gives : ReaderGives
 unfolding Gives
-gives s S ty n e = read-gives s S ty n e
+gives ed s S ty n e = read-gives ed s S ty n e
 
 -- the bytes of a sheet that is in order
-module _ (S : Sheet) (A : Accepted S) (s : List ℕ) (b : s ≡ encodeSheet S) where
+module _ (ed : Edition) (S : Sheet) (A : AcceptedUnder ed S) (s : List ℕ) (b : s ≡ encodeSheet S) where
   read-first : getD s 0 0 ≡ S .numbers .z
   unfolding encodeSheet
   read-first = ap (λ (x : List ℕ). getD x 0 0) b
@@ -154,10 +158,10 @@ module _ (S : Sheet) (A : Accepted S) (s : List ℕ) (b : s ≡ encodeSheet S) w
   read-short : length s ≤ 4096
   read-short = subst (λ (x : List ℕ). length x ≤ 4096) (sym b) (A .short)
 
-  read-names : RestRead s (namesOf 32 (S .numbers) s nothing 2) (S .names) (S .term) (typeOf S) (length s)
+  read-names : RestRead s (namesOf ed 32 (S .numbers) s nothing 2) (S .names) (S .term) (typeOf S) (length s)
   unfolding typeOf
   read-names =
-      rw read-length (complete-names (S .numbers) s places (S .names) (S .term) (A .ordered .fine-term)
+      rw read-length (complete-names ed (S .numbers) s places (S .names) (S .term) (A .ordered .fine-term) (A .apart)
         (A .ordered .shallow) (S .names) 32 [] nothing 2 (matches-nothing s places read-short)
         (extends-first (S .names)) (A .ordered .fine-names) (A .ordered .few-names) read-rest)
 
@@ -167,7 +171,7 @@ module _ (S : Sheet) (A : Accepted S) (s : List ℕ) (b : s ≡ encodeSheet S) w
   read-numbers : numbersAt s ≡ S .numbers
   read-numbers = ap₂ (λ (x y : ℕ). record { z = x; rule = y }) read-first read-second
 
-  read-whole : wholeOf s ≡ got wholeRead (typeOf S) (length s)
+  read-whole : wholeOf ed s ≡ got wholeRead (typeOf S) (length s)
   unfolding wholeOf closed bind
   read-whole =
       let R = read-names in
@@ -192,8 +196,8 @@ module _ (S : Sheet) (A : Accepted S) (s : List ℕ) (b : s ≡ encodeSheet S) w
       ap₂ (λ (x : Numbers) (y : Sheet). size (tyOf x (typeOf S)) (termOf y)) read-numbers read-sheet
 
   accepts-bytes :
-      readSheet s ≡ accepted S (typeOf S) (size (tyOf (S .numbers) (typeOf S)) (termOf S))
-  unfolding readSheet checks
+      readUnder ed s ≡ accepted S (typeOf S) (size (tyOf (S .numbers) (typeOf S)) (termOf S))
+  unfolding readUnder checks
   accepts-bytes =
       let n = size (tyOf (S .numbers) (typeOf S)) (termOf S) in
       ap (checks s) read-whole
@@ -203,4 +207,24 @@ module _ (S : Sheet) (A : Accepted S) (s : List ℕ) (b : s ≡ encodeSheet S) w
 
 -- THEOREM: every sheet that is in order is accepted, with its type and size
 pub accepts : ReaderAccepts
-accepts S A = accepts-bytes S A (encodeSheet S) refl
+accepts ed S A = accepts-bytes ed S A (encodeSheet S) refl
+
+-- one rule's sheet by the other: the bytes, the type and the size are those of the sheet
+module _ (s : List ℕ) (S : Sheet) (ty n : ℕ) (ed ed′ : Edition) (e : readUnder ed s ≡ accepted S ty n) where
+  also : (ed′ ≡ Present → Apart [] (S .term)) → readUnder ed′ s ≡ accepted S ty n
+  also f =
+      let G = gives ed s S ty n e in
+      let A = G .1 in
+      let a = accepts ed′ S (record { ordered = A .ordered; short = A .short; apart = f }) in
+      ap (readUnder ed′) (G .0) ∙ a
+      ∙ ap₂ (λ (x k : ℕ). accepted S x k) (sym (G .2))
+        (ap (λ (x : ℕ). size (tyOf (S .numbers) x) (termOf S)) (sym (G .2)) ∙ sym (G .3))
+
+-- THEOREM: what the present rule accepts the earlier one accepted
+pub earlier-too : EarlierToo
+earlier-too s S ty n e = also s S ty n Present Earlier e (λ p. let z : _≡_ {A = ℕ} 0 1 = cc in absurd (omega arith))
+
+-- THEOREM: what the earlier rule accepted the present one accepts exactly if no binder hides another
+pub present-apart : PresentApart
+present-apart s S ty n e =
+    ((λ h. gives Present s S ty n h .1 .apart refl), (λ a. also s S ty n Earlier Present e (λ p. a)))

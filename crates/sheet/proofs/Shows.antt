@@ -24,6 +24,7 @@ use Rattle.procedures.specs.Table.{shown-operate, shown-assign, shown-sequence,
 use Rattle.procedures.specs.Table.{shown-procedure, ShownArgs, shown-none, shown-more}
 use Rattle.sheet.specs.Reader.{Tree, written, writtens, build, first, rest}
 use Rattle.sheet.specs.table.Fill.{fill}
+use Rattle.records.specs.declared.edition.Edition.{Edition}
 use Rattle.sheet.proofs.Parsed.{Stands, Parsed, p-skip, p-diverge, p-truth, p-number, p-private, p-parameter}
 use Rattle.sheet.proofs.Parsed.{p-use, p-name, p-fetch, p-operate, p-assign, p-sequence, p-if, p-while, p-new}
 use Rattle.sheet.proofs.Parsed.{p-procedure, p-none, p-more}
@@ -33,8 +34,8 @@ use Rattle.sheet.proofs.Stored.{Stored, StoredParts, stores, own, parts
 
 -- the type of what was read
 module _ (N : Numbers) (s : List ℕ) (ns : List Name) where
-  pub types : {left at ty next : ℕ} {bs : List Binder} {π : ℕ → ℕ} {t : Tree} → Parsed N s ns left bs π at t ty next →
-      typed ns bs (written s t) ≡ ty
+  pub types : {ed : Edition} {left at ty next : ℕ} {bs : List Binder} {π : ℕ → ℕ} {t : Tree} →
+      Parsed ed N s ns left bs π at t ty next → typed ns bs (written s t) ≡ ty
   unfolding written writtens build first rest typed useType
   types d =
     elim d as (λ left bs π at t ty next d. typed ns bs (written s t) ≡ ty)
@@ -53,8 +54,8 @@ module _ (N : Numbers) (s : List ℕ) (ns : List Name) where
     | p-sequence st (d → x) (f → y) ↦ rw (st .ruled) y
     | p-if st (d → x) (f → y) (g → z) ↦ rw (st .ruled) y
     | p-while st (d → x) (f → y) ↦ rw (st .ruled) refl
-    | p-new st b h m c l g (d → x) ↦ rw (st .ruled) refl
-    | p-procedure st b h m c l n k q (d → x) (f → y) ↦ rw (st .ruled, st .place, c .1, q .are) y
+    | p-new st b h m v c l g (d → x) ↦ rw (st .ruled) refl
+    | p-procedure st b h m v c l n k q w (d → x) (f → y) ↦ rw (st .ruled, st .place, c .1, q .are) y
     | p-none ↦ tt
     | p-more (d → x) (ds → xs) ↦ tt ]
 
@@ -65,8 +66,8 @@ pub record Told (s : List ℕ) (ns : List Name) (bs : List Binder) (at : ℕ) (t
   pub within : next ≤ length s
 
 pub told :
-    (N : Numbers) (s : List ℕ) (ns : List Name) {left at ty next : ℕ} {bs : List Binder} {π : ℕ → ℕ} {t : Tree} →
-    Parsed N s ns left bs π at t ty next → Told s ns bs at t ty next
+    {ed : Edition} (N : Numbers) (s : List ℕ) (ns : List Name) {left at ty next : ℕ} {bs : List Binder} {π : ℕ → ℕ}
+    {t : Tree} → Parsed ed N s ns left bs π at t ty next → Told s ns bs at t ty next
 told N s ns d =
     let p = placed N s ns d in
     record { types = types N s ns d; before = forward (p .span); within = p .within }
@@ -93,8 +94,8 @@ detail-of {N} {r = r} {number = number} st h = h .detail ∙ ap (λ u. detail u 
 
 module _ (N : Numbers) (s : List ℕ) (ns : List Name) (U : List ℕ) (short : length s ≤ 4096) where
   -- a table that holds the rows of a reading shows its term
-  pub shows : {left at ty next : ℕ} {bs : List Binder} {π : ℕ → ℕ} {t : Tree} → Parsed N s ns left bs π at t ty next →
-      (Γ : Context) → binders Γ ≡ bs → Told s ns bs at t ty next → Stored N U at t →
+  pub shows : {ed : Edition} {left at ty next : ℕ} {bs : List Binder} {π : ℕ → ℕ} {t : Tree} →
+      Parsed ed N s ns left bs π at t ty next → (Γ : Context) → binders Γ ≡ bs → Told s ns bs at t ty next → Stored N U at t →
       Shown N ns U Γ π at next (written s t)
   unfolding written writtens build first rest typed rowKind detail useKind row.useDetail useDetail nameDetail binders
   shows d =
@@ -185,7 +186,7 @@ module _ (N : Numbers) (s : List ℕ) (ns : List Name) (U : List ℕ) (short : l
             refl)
           (place ps) (place (tail ps)) (omega arith)
           (x Γ e (told N s ns d) (head ps)) (y Γ e (told N s ns f) (head (tail ps))))
-    | p-new {r = r} {t = t} st b h m c l g (d → x) ↦ λ Γ e T S.
+    | p-new {r = r} {t = t} st b h m v c l g (d → x) ↦ λ Γ e T S.
         let ps = parts S in
         rw (st .ruled) (shown-new
           (row-of Γ 27 (w.new (r .a) (r .b) (written s t)) short e st (own S) (st .kinded) (T .before) (T .within)
@@ -193,7 +194,7 @@ module _ (N : Numbers) (s : List ℕ) (ns : List Name) (U : List ℕ) (short : l
           (detail-of st (own S)) (place ps) (omega arith)
           (x (in-block (r .a) (r .b) Γ) (ap (λ u. a-block (r .a) (r .b) ∷ u) e) (told N s ns d) (head ps)))
     | p-procedure {at = at} {ty = ty} {mid = mid} {next = next} {ps = qs} {π = π} {r = r} {t = t} {u = u}
-        st b h m c l n k q (d → x) (f → y) ↦ λ Γ e T S.
+        st b h m v c l n k q v′ (d → x) (f → y) ↦ λ Γ e T S.
         let ps = parts S in
         let Δ : Context = in-scope (r .a) ty qs (written s t) Γ in
         rw (st .ruled, st .place, c .1, q .are) (shown-procedure
@@ -212,8 +213,8 @@ module _ (N : Numbers) (s : List ℕ) (ns : List Name) (U : List ℕ) (short : l
 
 -- the table that `fill` leaves shows the whole term
 pub shows-whole :
-    (N : Numbers) (s : List ℕ) (ns : List Name) {left root ty next : ℕ} {π : ℕ → ℕ} {x : Tree} → length s ≤ 4096 →
-    Parsed N s ns left [] π root x ty next → (t : List ℕ) → length t ≡ 36864 →
+    {ed : Edition} (N : Numbers) (s : List ℕ) (ns : List Name) {left root ty next : ℕ} {π : ℕ → ℕ} {x : Tree} →
+    length s ≤ 4096 → Parsed ed N s ns left [] π root x ty next → (t : List ℕ) → length t ≡ 36864 →
     Shown N ns (fill N x t) whole π root next (written s x)
 unfolding binders
 shows-whole N s ns {x = x} short d t room =

@@ -12,6 +12,7 @@ use Rattle.procedures.specs.Meaning.{Binder}
 use Rattle.records.specs.Row.{word}
 use Rattle.sheet.specs.Reader.{Tree, node, Trees, leaf, branch}
 use Rattle.sheet.specs.table.Fill.{fill, fills}
+use Rattle.records.specs.declared.edition.Edition.{Edition}
 use Rattle.sheet.proofs.Parsed.{Parsed, p-skip, p-diverge, p-truth, p-number, p-private, p-parameter, p-use}
 use Rattle.sheet.proofs.Parsed.{p-name, p-fetch, p-operate, p-assign, p-sequence, p-if, p-while, p-new}
 use Rattle.sheet.proofs.Parsed.{p-procedure, ParsedArgs, p-none, p-more}
@@ -55,8 +56,8 @@ pub record Placed (s : List ℕ) (at next : ℕ) (t : Tree) : Type 0 where
   pub within : next ≤ length s
 
 module _ (N : Numbers) (s : List ℕ) (ns : List Name) where
-  pub placed : {left at ty next : ℕ} {bs : List Binder} {π : ℕ → ℕ} {t : Tree} →
-      Parsed N s ns left bs π at t ty next → Placed s at next t
+  pub placed : {ed : Edition} {left at ty next : ℕ} {bs : List Binder} {π : ℕ → ℕ} {t : Tree} →
+      Parsed ed N s ns left bs π at t ty next → Placed s at next t
   placed d =
     elim d as (λ left bs π at t ty next d. Placed s at next t)
       (λ left bs π at ts tys next ds.
@@ -87,22 +88,22 @@ module _ (N : Numbers) (s : List ℕ) (ns : List Name) where
           record { span = span (st .place) (three (x .span) (y .span) (z .span)) (omega arith); within = z .within }
     | p-while st (d → x) (f → y) ↦
           record { span = span (st .place) (two (x .span) (y .span)) (omega arith); within = y .within }
-    | p-new st b h m c l g (d → x) ↦
+    | p-new st b h m v c l g (d → x) ↦
           record { span = span (st .place) (one (x .span)) (omega arith); within = x .within }
-    | p-procedure st b h m c l n k q (d → x) (f → y) ↦
+    | p-procedure st b h m v c l n k q u (d → x) (f → y) ↦
           record { span = span (st .place) (two (x .span) (y .span)) (omega arith); within = y .within }
     | p-none ↦ ((λ j h. stop), (λ h. h))
     | p-more (d → x) (ds → xs) ↦ (
           (λ j h. part {j = j} (omega arith) (x .span) (xs .0 (j + 1) (omega arith))),
           (λ h. xs .1 (x .within))) ]
 
-  pub placed-args : {left at next : ℕ} {bs : List Binder} {π : ℕ → ℕ} {ts : Trees} {tys : List ℕ} →
-      ParsedArgs N s ns left bs π at ts tys next → (j : ℕ) → j + length tys ≤ 4 → Parts j at next ts
+  pub placed-args : {ed : Edition} {left at next : ℕ} {bs : List Binder} {π : ℕ → ℕ} {ts : Trees} {tys : List ℕ} →
+      ParsedArgs ed N s ns left bs π at ts tys next → (j : ℕ) → j + length tys ≤ 4 → Parts j at next ts
   placed-args p-none j h = stop
   placed-args (p-more d ds) j h = part {j = j} (omega arith) (placed d .span) (placed-args ds (j + 1) (omega arith))
 
-  pub within-args : {left at next : ℕ} {bs : List Binder} {π : ℕ → ℕ} {ts : Trees} {tys : List ℕ} →
-      ParsedArgs N s ns left bs π at ts tys next → at ≤ length s → next ≤ length s
+  pub within-args : {ed : Edition} {left at next : ℕ} {bs : List Binder} {π : ℕ → ℕ} {ts : Trees} {tys : List ℕ} →
+      ParsedArgs ed N s ns left bs π at ts tys next → at ≤ length s → next ≤ length s
   within-args p-none h = h
   within-args (p-more d ds) h = within-args ds (placed d .within)
 

@@ -11,8 +11,11 @@ use lib.Dec.{eqb}
 use borrow.Author.Tests.{eqb-true, eqb-false, eq-eqb, lt-ltb, le-ltb}
 use Rattle.language.specs.Choice.{pick}
 use Rattle.records.specs.Standing.{declaredStanding, variableStanding, parameterStanding, procedureStanding, standingOf}
-use Rattle.records.specs.Standing.{isNamed}
+use Rattle.records.specs.Standing.{isNamed, isHeld as isTaken}
 use Rattle.records.specs.Scope.{entered, passed, usable}
+use Rattle.records.specs.Judge.{hides}
+use Rattle.records.specs.declared.edition.Edition.{Edition}
+use Rattle.records.specs.declared.edition.Edition.the-variants.{Earlier, Present}
 use Rattle.records.specs.declared.head.Record.{Record}
 use Rattle.records.specs.declared.standing.Standing.the-variants.{Declared, Variable as Holding}
 use Rattle.records.specs.declared.standing.Standing.the-variants.{Parameter as Parametric, Procedure as Procedural}
@@ -23,6 +26,7 @@ use Rattle.procedures.specs.Written.{Name, declare, retire, Parameter}
 use Rattle.procedures.specs.Meaning.{Binder, a-block, a-parameter, a-procedure, idOf, meant, Meaning, private, argument}
 use Rattle.procedures.specs.Meaning.{routine, named, retired, free, declared, meaning, inside, typesOf, after}
 use Rattle.procedures.specs.Fine.{FineParameters}
+use Rattle.procedures.specs.Hiding.{isHeld, Unheld}
 use Rattle.sheet.specs.Reader.{nothing}
 
 -- the body of a declaration at a place, and its bounds
@@ -340,6 +344,64 @@ binder-standing {s} {st} {ns} {bs} {π} M id b e =
     go (named ty tys) u v = absurd u
     go retired u v = absurd u
     go free u v = rw (is-free _ v) refl
+
+-- an enclosing binder holds an id exactly if the id means one
+unfoldable isBinding : Meaning → Bool
+isBinding (private k h) = true
+isBinding (argument k ty) = true
+isBinding (routine k ty tys) = true
+isBinding (named ty tys) = false
+isBinding retired = false
+isBinding free = false
+
+binding-meant : (k : ℕ) (b : Binder) → isBinding (meant k b) ≡ true
+unfolding isBinding meant
+binding-meant k (a-block id d) = refl
+binding-meant k (a-parameter id ty) = refl
+binding-meant k (a-procedure id ty tys) = refl
+
+binding-declared : (ns : List Name) (id : ℕ) → isBinding (declared ns id) ≡ false
+unfolding isBinding declared
+binding-declared [] id = refl
+binding-declared (declare k ty tys ∷ ns) id =
+    by-test (eqb k id) (λ t. rw t refl) (λ t. rw t (binding-declared ns id))
+binding-declared (retire k ∷ ns) id = by-test (eqb k id) (λ t. rw t refl) (λ t. rw t (binding-declared ns id))
+
+binding-held : (ns : List Name) (bs : List Binder) (id : ℕ) → isBinding (meaning ns bs id) ≡ isHeld bs id
+unfolding meaning isHeld
+binding-held ns [] id = binding-declared ns id
+binding-held ns (b ∷ bs) id =
+    by-test (eqb (idOf b) id) (λ t. rw t (binding-meant (length bs) b)) (λ t. rw t (binding-held ns bs id))
+
+-- and so says its standing
+pub held-standing :
+    {s st : List ℕ} {ns : List Name} {bs : List Binder} {π : ℕ → ℕ} → Matches s ns bs π st → (id : ℕ) → id < 255 →
+    isTaken (standingOf (getD st id 0)) ≡ isHeld bs id
+unfolding Agrees isBinding isTaken
+held-standing {s} {st} {ns} {bs} {π} M id b = go (meaning ns bs id) (M .standing id b) ∙ binding-held ns bs id
+  where
+    go : (m : Meaning) → Agrees s π (length bs) (declared ns id) m (getD st id 0) →
+      isTaken (standingOf (getD st id 0)) ≡ isBinding m
+    go (private k h) v = rw (variable-says v (M .nested)) refl
+    go (argument k ty) v = rw (passed-says v (M .nested)) refl
+    go (routine k ty tys) v = rw (routine-says v (M .nested)) refl
+    go (named ty tys) v = rw (naming-says v (M .short)) refl
+    go retired v = rw (is-retired _ v) refl
+    go free v = rw (is-free _ v) refl
+
+-- an id hides none by its standing exactly if, by the present rule, no enclosing binder holds it
+module _ (ed : Edition) {s st : List ℕ} {ns : List Name} {bs : List Binder} {π : ℕ → ℕ} (M : Matches s ns bs π st)
+    (id : ℕ) (b : id < 255) where
+  pub unhiding-apart : hides ed (standingOf (getD st id 0)) ≡ false → ed ≡ Present → Unheld bs id
+  unfolding hides Unheld
+  unhiding-apart h e = sym (held-standing M id b) ∙ (rw e at h)
+
+  pub apart-unhiding : (ed ≡ Present → Unheld bs id) → hides ed (standingOf (getD st id 0)) ≡ false
+  apart-unhiding = go ed
+    where
+      go : (e : Edition) → (e ≡ Present → Unheld bs id) → hides e (standingOf (getD st id 0)) ≡ false
+      go Earlier f = unfold hides in refl
+      go Present f = unfold hides Unheld in held-standing M id b ∙ f refl
 
 -- the standings of ids that are used are neither free nor retired
 pub variable-taken : {n k h c : ℕ} {d : Meaning} → Variable n d k h c → (c ≡ 0 → ⊥) × (c ≡ 1 → ⊥)

@@ -14,6 +14,7 @@ use Rattle.records.specs.Bare.{bare}
 use Rattle.records.specs.Rule.{acceptsPart}
 use Rattle.records.specs.Row.{linked}
 use Rattle.records.specs.Scope.{opens, entered, passed, usable}
+use Rattle.records.specs.declared.edition.Edition.{Edition}
 use Rattle.records.specs.declared.kind.Rule.the-variants.{Sequence}
 use Rattle.records.specs.declared.scope.Opens.the-variants.{Nothing, Block, Routine}
 use Rattle.records.specs.declared.head.Record.{Record}
@@ -26,21 +27,21 @@ use Rattle.sheet.specs.declared.part.Part.the-variants.{Read, Refused}
 use Rattle.sheet.proofs.Bare.{core, parts-core}
 use Rattle.sheet.proofs.Core.{reads-hand, reads-then, part-step, parts-step, closes}
 
-module _ (left : ℕ) (N : Numbers) (s st : List ℕ) (around at : ℕ) where
+module _ (ed : Edition) (left : ℕ) (N : Numbers) (s st : List ℕ) (around at : ℕ) where
   -- read_part
-  pub part-bad : {x : Refusal} {t : List ℕ} → headOf s st N left at ≡ Unheaded x →
-      Reads (fill N) (readPart left N s st around at) (Refused x) t t
+  pub part-bad : {x : Refusal} {t : List ℕ} → headOf ed s st N left at ≡ Unheaded x →
+      Reads (fill N) (readPart ed left N s st around at) (Refused x) t t
   unfolding onHead erase Leaves
   part-bad e = rw part-step (rw e (record { answer = refl; table = tt }))
 
-  pub part-deep : {r : Record} {t : List ℕ} → headOf s st N left at ≡ Good r → left ≡ 0 →
-      Reads (fill N) (readPart left N s st around at) (Refused (refusal 8 at)) t t
+  pub part-deep : {r : Record} {t : List ℕ} → headOf ed s st N left at ≡ Good r → left ≡ 0 →
+      Reads (fill N) (readPart ed left N s st around at) (Refused (refusal 8 at)) t t
   unfolding onHead erase Leaves
   part-deep e z = rw part-step (rw (e, eq-eqb left 0 z) (record { answer = refl; table = tt }))
 
-  pub part-good : {r : Record} {x : Part} {t u : List ℕ} → headOf s st N left at ≡ Good r → (left ≡ 0 → ⊥) →
-      Reads (fill N) (readRecord (readPart (left - 1) N s) s st around r) x t u →
-      Reads (fill N) (readPart left N s st around at) x t u
+  pub part-good : {r : Record} {x : Part} {t u : List ℕ} → headOf ed s st N left at ≡ Good r → (left ≡ 0 → ⊥) →
+      Reads (fill N) (readRecord (readPart ed (left - 1) N s) s st around r) x t u →
+      Reads (fill N) (readPart ed left N s st around at) x t u
   unfolding onHead
   part-good e z R = rw part-step (rw (e, ne-eqb left 0 z) R)
 

@@ -5,10 +5,11 @@ use mathlib.Core.Path.{_≡_, refl, sym, ap, _∙_}
 use mathlib.Core.List.{List, []}
 use lib.ListN.{length, drop, length-append, length-drop}
 use Rattle.records.specs.Refusal.{refusal}
+use Rattle.records.specs.declared.edition.Edition.{Edition}
 use Rattle.procedures.specs.Meaning.{typeOf}
 use Rattle.sheet.specs.Encoding.{encodeNames, headingLength}
 use Rattle.sheet.specs.Reader.{Answer, got, refused, Whole, whole, numbersAt, wholeOf, sheetIn, sizeIn, checks}
-use Rattle.sheet.specs.Reader.{readSheet}
+use Rattle.sheet.specs.Reader.{readUnder}
 use Rattle.sheet.specs.table.Fill.{eraseSheet, LeavesSheet, ReadsSheet}
 use Rattle.sheet.specs.table.Tabled.{places, TabledBy}
 use Rattle.sheet.specs.declared.names.Reading.{Reading}
@@ -20,12 +21,12 @@ use Rattle.sheet.proofs.Sound.{sound}
 use Rattle.sheet.proofs.Shows.{shows-whole}
 use Rattle.sheet.proofs.Whole.{sheet-refused}
 
-module _ (s t u : List ℕ) (room : length t ≡ 36864) where
+module _ (ed : Edition) (s t u : List ℕ) (room : length t ≡ 36864) where
   tabled-whole :
-      {x : Whole} {ty end : ℕ} → wholeOf s ≡ got x ty end → SheetRead s places x ty end →
-      NamesRead (numbersAt s) s places 32 [] 2 x ty end → LeavesSheet (numbersAt s) (got x ty end) t u →
-      TabledBy s (eraseSheet (got x ty end)) u
-  unfolding TabledBy eraseSheet LeavesSheet readSheet checks sheetIn sizeIn typeOf headingLength
+      {x : Whole} {ty end : ℕ} → wholeOf ed s ≡ got x ty end → SheetRead ed s places x ty end →
+      NamesRead ed (numbersAt s) s places 32 [] 2 x ty end → LeavesSheet (numbersAt s) (got x ty end) t u →
+      TabledBy ed s (eraseSheet (got x ty end)) u
+  unfolding TabledBy eraseSheet LeavesSheet readUnder checks sheetIn sizeIn typeOf headingLength
   tabled-whole {ty = ty} e R (names-read {ns = ns} {root = root} {t = x} few fine bytes parsed) l =
       let p = parsed ns (extends-first ns) in
       let S = sound (numbersAt s) s ns 32 p in
@@ -46,21 +47,21 @@ module _ (s t u : List ℕ) (room : length t ≡ 36864) where
           sym (length-drop 2 s) ∙ ap length bytes ∙ length-append (encodeNames ns) (drop root s));
         shown = shows-whole (numbersAt s) s ns (R .short) p t room })
 
-  tabled-by : (A : Answer Whole) → wholeOf s ≡ A → All (SheetRead s places) A → LeavesSheet (numbersAt s) A t u →
-      TabledBy s (eraseSheet A) u
+  tabled-by : (A : Answer Whole) → wholeOf ed s ≡ A → All (SheetRead ed s places) A → LeavesSheet (numbersAt s) A t u →
+      TabledBy ed s (eraseSheet A) u
   unfolding TabledBy eraseSheet
   tabled-by A e (one R) l = tabled-whole e R (R .names) l
   tabled-by A e none′ l = tt
 
   -- THEOREM: where a sheet is read, the table shows its term
-  pub tabled : {x : Reading} → ReadsSheet (numbersAt s) (wholeOf s) x t u → TabledBy s x u
-  tabled R = rw (R .answer) (tabled-by (wholeOf s) refl (sheet-all s places) (R .table))
+  pub tabled : {x : Reading} → ReadsSheet (numbersAt s) (wholeOf ed s) x t u → TabledBy ed s x u
+  tabled R = rw (R .answer) (tabled-by (wholeOf ed s) refl (sheet-all ed s places) (R .table))
 
 -- a sheet that is refused: nothing is said of the table
 pub sheet-told :
-    (s t : List ℕ) {n p : ℕ} → wholeOf s ≡ refused n p →
-    ReadsSheet (numbersAt s) (wholeOf s) (Refused (refusal n p)) t t
-    × (length t ≡ 36864 → TabledBy s (Refused (refusal n p)) t)
-sheet-told s t e =
-    let R = sheet-refused (numbersAt s) s e in
-    (R, λ h. tabled s t t h R)
+    (ed : Edition) (s t : List ℕ) {n p : ℕ} → wholeOf ed s ≡ refused n p →
+    ReadsSheet (numbersAt s) (wholeOf ed s) (Refused (refusal n p)) t t
+    × (length t ≡ 36864 → TabledBy ed s (Refused (refusal n p)) t)
+sheet-told ed s t e =
+    let R = sheet-refused ed (numbersAt s) s e in
+    (R, λ h. tabled ed s t t h R)

@@ -14,6 +14,7 @@ use Rattle.records.specs.Refusal.{refusal}
 use Rattle.records.specs.declared.refusal.Refusal.{Refusal}
 use Rattle.records.specs.Kind.{shapeOf}
 use Rattle.records.specs.Standing.{declaredStanding}
+use Rattle.records.specs.declared.edition.Edition.{Edition}
 use Rattle.records.specs.declared.kind.Rule.{Rule}
 use Rattle.records.specs.declared.kind.Shape.the-variants.{Part as PartShape, Declare, Retire, Unknown}
 use Rattle.procedures.specs.Written.{Name}
@@ -56,18 +57,18 @@ refuses N n p = record { answer = refl; table = tt }
 
 -- one name record
 names-step :
-    (n : ℕ) (N : Numbers) (s st : List ℕ) (at : ℕ) →
-    namesOf n N s st at ≡ namesStep (namesOf (n - 1) N s) n N s st at
+    (ed : Edition) (n : ℕ) (N : Numbers) (s st : List ℕ) (at : ℕ) →
+    namesOf ed n N s st at ≡ namesStep ed (namesOf ed (n - 1) N s) n N s st at
 unfolding namesOf namesStep nameOf
-names-step zero N s st at = refl
-names-step (suc n) N s st at = simp sub-one
+names-step ed zero N s st at = refl
+names-step ed (suc n) N s st at = simp sub-one
 
-module _ (N : Numbers) (n : ℕ) (s st : List ℕ) (at : ℕ) where
+module _ (ed : Edition) (N : Numbers) (n : ℕ) (s st : List ℕ) (at : ℕ) where
   abbrev Names : Reading → List ℕ → List ℕ → Type 0
-  Names = ReadsSheet N (namesOf n N s st at)
+  Names = ReadsSheet N (namesOf ed n N s st at)
 
   abbrev After : ℕ → ℕ → Judged → Name → Answer Whole
-  After body c judged name = nameOf (namesOf (n - 1) N s) n s st at body c judged name
+  After body c judged name = nameOf (namesOf ed (n - 1) N s) n s st at body c judged name
 
   pub names-short : {t : List ℕ} → length s ≤ at → Names (Unread (refusal 2 (length s))) t t
   unfolding namesStep
@@ -78,7 +79,7 @@ module _ (N : Numbers) (n : ℕ) (s st : List ℕ) (at : ℕ) where
   names-unknown h e = rw (names-step, lt-leb _ _ h, e) (refuses N 3 at)
 
   pub names-term : {body parts : ℕ} {rule : Rule} {x : Reading} {t u : List ℕ} → at < length s →
-      shapeOf (getD s at 0) ≡ PartShape body parts rule → ReadsSheet N (termAt N s st at) x t u → Names x t u
+      shapeOf (getD s at 0) ≡ PartShape body parts rule → ReadsSheet N (termAt ed N s st at) x t u → Names x t u
   unfolding namesStep wholeOfShape
   names-term h e R = rw (names-step, lt-leb _ _ h, e) R
 
@@ -141,46 +142,47 @@ closes-sheet N s (got (whole ns root x) ty end) R e =
 closes-sheet N s (refused n p) R e = record { answer = e ∙ rw (R .answer); table = tt }
 
 -- the whole sheet
-pub sheet-refused : (N : Numbers) (s : List ℕ) {n p : ℕ} {t : List ℕ} → wholeOf s ≡ refused n p →
-    ReadsSheet N (wholeOf s) (Unread (refusal n p)) t t
-sheet-refused N s {n} {p} e = rw e (refuses N n p)
+pub sheet-refused : (ed : Edition) (N : Numbers) (s : List ℕ) {n p : ℕ} {t : List ℕ} → wholeOf ed s ≡ refused n p →
+    ReadsSheet N (wholeOf ed s) (Unread (refusal n p)) t t
+sheet-refused ed N s {n} {p} e = rw e (refuses N n p)
 
-pub sheet-closed : (N : Numbers) (s : List ℕ) (A : Answer Whole) {x : Reading} {t u : List ℕ} → wholeOf s ≡ A →
-    ReadsSheet N A x t u → ReadsSheet N (wholeOf s) x t u
-sheet-closed N s A e R = rw e R
+pub sheet-closed :
+    (ed : Edition) (N : Numbers) (s : List ℕ) (A : Answer Whole) {x : Reading} {t u : List ℕ} → wholeOf ed s ≡ A →
+    ReadsSheet N A x t u → ReadsSheet N (wholeOf ed s) x t u
+sheet-closed ed N s A e R = rw e R
 
 -- the first two bytes
-module _ (s : List ℕ) where
-  pub too-long : 4096 < length s → wholeOf s ≡ refused 1 4096
+module _ (ed : Edition) (s : List ℕ) where
+  pub too-long : 4096 < length s → wholeOf ed s ≡ refused 1 4096
   unfolding wholeOf
   too-long a = rw (lt-ltb _ _ a)
 
   module _ (a : length s ≤ 4096) where
-    pub empty : length s ≤ 0 → wholeOf s ≡ refused 2 (length s)
+    pub empty : length s ≤ 0 → wholeOf ed s ≡ refused 2 (length s)
     unfolding wholeOf
     empty b = rw (le-ltb _ _ a, le-leb _ _ b)
 
     module _ (b : 0 < length s) where
-      pub z-zero : getD s 0 0 ≡ 0 → wholeOf s ≡ refused 3 0
+      pub z-zero : getD s 0 0 ≡ 0 → wholeOf ed s ≡ refused 3 0
       unfolding wholeOf
       z-zero c = rw (le-ltb _ _ a, lt-leb _ _ b, eq-eqb _ _ c)
 
       module _ (c : getD s 0 0 ≡ 0 → ⊥) where
-        pub z-large : 7 < getD s 0 0 → wholeOf s ≡ refused 3 0
+        pub z-large : 7 < getD s 0 0 → wholeOf ed s ≡ refused 3 0
         unfolding wholeOf
         z-large d = rw (le-ltb _ _ a, lt-leb _ _ b, ne-eqb _ _ c, lt-ltb _ _ d)
 
         module _ (d : getD s 0 0 ≤ 7) where
-          pub no-rule : length s ≤ 1 → wholeOf s ≡ refused 2 (length s)
+          pub no-rule : length s ≤ 1 → wholeOf ed s ≡ refused 2 (length s)
           unfolding wholeOf
           no-rule e = rw (le-ltb _ _ a, lt-leb _ _ b, ne-eqb _ _ c, le-ltb _ _ d, le-leb _ _ e)
 
           module _ (e : 1 < length s) where
-            pub rule-large : 1 < getD s 1 0 → wholeOf s ≡ refused 3 1
+            pub rule-large : 1 < getD s 1 0 → wholeOf ed s ≡ refused 3 1
             unfolding wholeOf
             rule-large f = rw (le-ltb _ _ a, lt-leb _ _ b, ne-eqb _ _ c, le-ltb _ _ d, lt-leb _ _ e, lt-ltb _ _ f)
 
             pub opened : getD s 1 0 ≤ 1 →
-                wholeOf s ≡ closed s (namesOf 32 (numbersAt s) s nothing 2)
+                wholeOf ed s ≡ closed s (namesOf ed 32 (numbersAt s) s nothing 2)
             unfolding wholeOf
             opened f = rw (le-ltb _ _ a, lt-leb _ _ b, ne-eqb _ _ c, le-ltb _ _ d, lt-leb _ _ e, le-ltb _ _ f)

@@ -1,5 +1,10 @@
--- The answer of check, as the code gives it. Document 01, "Three services": "A service on one sheet names it "old"".
+-- The answer of check, as the code gives it, and the numbers by which it refuses. Document 01, "Three services": "A service on one sheet names it "old"".
 -- SHEETS 8.2.
+use Prim.Native.Nat.{ℕ, _≤_}
+use mathlib.Core.Path.{_≡_}
+use mathlib.Core.Logic.{_⊎_}
+use Rattle.records.specs.declared.edition.Edition.{Edition}
+use Rattle.records.specs.declared.edition.Edition.the-variants.{Earlier, Present}
 use Rattle.sheet.specs.Reader.{Checks, accepted, rejected}
 use Rattle.sheet.specs.declared.check.Checked.{Checked}
 use Rattle.sheet.specs.declared.check.Checked.the-variants.{Accepted, Refused}
@@ -7,3 +12,8 @@ use Rattle.sheet.specs.declared.check.Checked.the-variants.{Accepted, Re
 unfoldable pub checkedOf : Checks → Checked
 checkedOf (accepted S ty size) = Accepted ty size
 checkedOf (rejected n p) = Refused n 0 p
+
+-- document 01's 1 to 11, and from document 02 [3] on also 16
+unfoldable pub NumberOf : Edition → ℕ → Type 0
+NumberOf Earlier k = (1 ≤ k) × (k ≤ 11)
+NumberOf Present k = ((1 ≤ k) × (k ≤ 11)) ⊎ (k ≡ 16)

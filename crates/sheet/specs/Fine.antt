@@ -1,11 +1,21 @@
--- Which sheets are accepted: those in order (procedures/specs/Fine) of at most 4,096 bytes. Document 01, "The sheet, byte by
--- byte". SHEETS 2, 3.2 and 7.3.
+-- Which sheets are accepted: those in order (procedures/specs/Fine) of at most 4,096 bytes; by the present rule no binder
+-- hides another. Document 01, "The sheet, byte by byte"; document 02 [3]. SHEETS 2, 3.2 and 7.3.
 use Prim.Native.Nat.{ℕ, _≤_}
+use mathlib.Core.Path.{_≡_}
+use mathlib.Core.List.{[]}
 use lib.ListN.{length}
+use Rattle.records.specs.declared.edition.Edition.{Edition}
+use Rattle.records.specs.declared.edition.Edition.the-variants.{Present}
 use Rattle.procedures.specs.Written.{Sheet}
 use Rattle.procedures.specs.Fine as fine
+use Rattle.procedures.specs.Hiding.{Apart}
 use Rattle.sheet.specs.Encoding.{encodeSheet}
 
-pub record Accepted (S : Sheet) : Type 0 where
+pub record AcceptedUnder (ed : Edition) (S : Sheet) : Type 0 where
   pub ordered : fine.Accepted S
   pub short : length (encodeSheet S) ≤ 4096
+  -- "a new, a procedure or a parameter may not take an id that an enclosing one holds"
+  pub apart : ed ≡ Present → Apart [] (S .term)
+
+abbrev pub Accepted : Sheet → Type 0
+Accepted S = AcceptedUnder Present S

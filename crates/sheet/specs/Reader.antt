@@ -1,5 +1,6 @@
 -- The reader: for any list of bytes the sheet as written with its type and size, or the refusal with its number and place.
--- Document 01, "Three services", causes 1 to 11 and their order; document 02 [1] for procedures. SHEETS 9.1 and 9.2.
+-- Document 01, "Three services", causes 1 to 11 and their order; document 02 [1] for procedures, [3] for the
+-- rule of an edition. SHEETS 9.1 and 9.2.
 use Prim.Native.Nat.{ℕ, zero, suc, _+_}
 use mathlib.Core.List.{List, [], _∷_}
 use lib.ListN.{length, getD, set, take, drop, replicate}
@@ -14,6 +15,8 @@ use Rattle.records.specs.Standing.{retired, declaredStanding}
 use Rattle.records.specs.Head.{headOf}
 use Rattle.records.specs.Rule.{acceptsPart, partType}
 use Rattle.records.specs.Scope.{opens, entered, passed, usable}
+use Rattle.records.specs.declared.edition.Edition.{Edition}
+use Rattle.records.specs.declared.edition.Edition.the-variants.{Present}
 use Rattle.records.specs.declared.kind.Rule.{Rule}
 use Rattle.records.specs.declared.kind.Rule.the-variants.{Skip, Diverge, Truth, Number, Use, Fetch, Operate, Assign}
 use Rattle.records.specs.declared.kind.Rule.the-variants.{Sequence, If, While, New, Procedure}
@@ -91,11 +94,11 @@ readRecord rec s st around r =
     bind (scopeParts (opens (r .rule)) rec s st around r) (λ ts last end.
       got (node r (partType (r .rule) s r last) around end ts) (partType (r .rule) s r last) end)
 
--- the part at a place, with `left` levels of depth left, in standings st, inside `around` binders
-unfoldable pub readPart : ℕ → Numbers → List ℕ → List ℕ → ℕ → ℕ → Answer Tree
-readPart zero N s st around at = onHead (headOf s st N 0 at) (λ r. refused too-deep at)
-readPart (suc left) N s st around at =
-    onHead (headOf s st N (suc left) at) (λ r. readRecord (readPart left N s) s st around r)
+-- the part at a place, by the rule of an edition, with `left` levels of depth left, in standings st, inside `around` binders
+unfoldable pub readPart : Edition → ℕ → Numbers → List ℕ → List ℕ → ℕ → ℕ → Answer Tree
+readPart ed zero N s st around at = onHead (headOf ed s st N 0 at) (λ r. refused too-deep at)
+readPart ed (suc left) N s st around at =
+    onHead (headOf ed s st N (suc left) at) (λ r. readRecord (readPart ed left N s) s st around r)
 
 -- the name records, the place of the term and the term
 pub data Whole : Type 0 where
@@ -119,18 +122,18 @@ nameOf rec n s st at body c judged name =
     (bind (rec (set st (getD s (at + 1) 0) c) (at + 1 + body)) (λ x ty end. got (withName name x) ty end)))
 
 -- the rest of a sheet: name records, n of them still allowed, and the term
-unfoldable pub namesStep : (List ℕ → ℕ → Answer Whole) → ℕ → Numbers → List ℕ → List ℕ → ℕ → Answer Whole
-namesStep rec n N s st at =
+unfoldable pub namesStep : Edition → (List ℕ → ℕ → Answer Whole) → ℕ → Numbers → List ℕ → List ℕ → ℕ → Answer Whole
+namesStep ed rec n N s st at =
     pick (leb (length s) at) (refused cut-short (length s))
     (wholeOfShape (shapeOf (getD s at 0))
       (λ body. nameOf rec n s st at body (declaredStanding at) (declareOf s st at) (declareAt s at))
       (λ body. nameOf rec n s st at body retired (retireOf s st at) (retireAt s at))
-      (bind (readPart 32 N s st 0 at) (λ t ty end. got (whole [] at t) ty end))
+      (bind (readPart ed 32 N s st 0 at) (λ t ty end. got (whole [] at t) ty end))
       (refused out-of-range at))
 
-unfoldable pub namesOf : ℕ → Numbers → List ℕ → List ℕ → ℕ → Answer Whole
-namesOf zero N s st at = namesStep (λ st′ at′. refused too-many-names at) 0 N s st at
-namesOf (suc n) N s st at = namesStep (namesOf n N s) (suc n) N s st at
+unfoldable pub namesOf : Edition → ℕ → Numbers → List ℕ → List ℕ → ℕ → Answer Whole
+namesOf ed zero N s st at = namesStep ed (λ st′ at′. refused too-many-names at) 0 N s st at
+namesOf ed (suc n) N s st at = namesStep ed (namesOf ed n N s) (suc n) N s st at
 
 -- nothing after the term
 unfoldable pub closed : List ℕ → Answer Whole → Answer Whole
@@ -144,15 +147,15 @@ abbrev pub nothing : List ℕ
 nothing = replicate 255 0
 
 -- a whole sheet, judged left to right, but for its size
-unfoldable pub wholeOf : List ℕ → Answer Whole
-wholeOf s =
+unfoldable pub wholeOf : Edition → List ℕ → Answer Whole
+wholeOf ed s =
     pick (ltb 4096 (length s)) (refused too-long 4096)
     (pick (leb (length s) 0) (refused cut-short (length s))
     (pick (eqb (getD s 0 0) 0) (refused out-of-range 0)
     (pick (ltb 7 (getD s 0 0)) (refused out-of-range 0)
     (pick (leb (length s) 1) (refused cut-short (length s))
     (pick (ltb 1 (getD s 1 0)) (refused out-of-range 1)
-    (closed s (namesOf 32 (numbersAt s) s nothing 2)))))))
+    (closed s (namesOf ed 32 (numbersAt s) s nothing 2)))))))
 
 -- the records that were read
 unfoldable pub first : Writtens → Written
@@ -209,5 +212,9 @@ unfoldable pub checks : List ℕ → Answer Whole → Checks
 checks s (got x ty end) = pick (ltb 4096 (sizeIn s x ty)) (rejected too-large 0) (accepted (sheetIn s x) ty (sizeIn s x ty))
 checks s (refused n p) = rejected n p
 
-unfoldable pub readSheet : List ℕ → Checks
-readSheet s = checks s (wholeOf s)
+unfoldable pub readUnder : Edition → List ℕ → Checks
+readUnder ed s = checks s (wholeOf ed s)
+
+-- "from now on": the present rule
+abbrev pub readSheet : List ℕ → Checks
+readSheet s = readUnder Present s

@@ -1,6 +1,7 @@
 // The service check.
 use crate::judge::Judgement;
 use crate::judge::judge_sheet;
+use records::edition::Edition;
 ghost use mathlib.Core.Path.{_≡_};
 ghost use Rattle.sheet.specs.Reader.{readSheet};
 ghost use Rattle.sheet.specs.Check.{checkedOf};
@@ -17,7 +18,7 @@ pub fn check(s: &[u8]) -> Checked
 {
     let mut t = [0u16; 36864];
     let mut marks = [0u16; 4096];
-    let x = judge_sheet(s, &mut t, &mut marks);
+    let x = judge_sheet(Edition::Present, s, &mut t, &mut marks);
     match x {
         Judgement::Refused(refusal) => Checked::Refused {
             number: refusal.number,

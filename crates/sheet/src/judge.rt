@@ -3,6 +3,7 @@ use crate::names::Reading;
 use crate::reading::numbers_of;
 use crate::reading::read_sheet;
 use crate::size::size_of;
+use records::edition::Edition;
 use records::refusal::Refusal;
 use records::refusal::TOO_LARGE;
 use records::refusal::refuse;
@@ -18,12 +19,17 @@ pub enum Judgement {
     Refused(Refusal),
 }
 
-// Judges a whole sheet, and leaves the rows of its parts in the table and their marks.
-pub fn judge_sheet(s: &[u8], t: &mut [u16; 36864], marks: &mut [u16; 4096]) -> Judgement
+// Judges a whole sheet by the rule of an edition, and leaves the rows of its parts in the table and their marks.
+pub fn judge_sheet(
+    edition: Edition,
+    s: &[u8],
+    t: &mut [u16; 36864],
+    marks: &mut [u16; 4096],
+) -> Judgement
     requires { ⌜ length (now t) ≡ 36864 ⌝ }
-    ensures { λ x. ⌜ JudgedBy (now (s .entry)) x (now (t .exit)) (now (marks .exit)) ⌝ }
+    ensures { λ x. ⌜ JudgedBy edition (now (s .entry)) x (now (t .exit)) (now (marks .exit)) ⌝ }
 {
-    let x = read_sheet(s, t);
+    let x = read_sheet(edition, s, t);
     match x {
         Reading::Refused(refusal) => Judgement::Refused(refusal),
         Reading::Sheet { root, ty, next: _ } => {

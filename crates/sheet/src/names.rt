@@ -5,6 +5,7 @@ use crate::heading::registered;
 use crate::part::Part;
 use crate::part::read_root;
 use language::Numbers;
+use records::edition::Edition;
 use records::judge::Judged;
 use records::kind::Shape;
 use records::kind::shape_of;
@@ -29,12 +30,19 @@ pub enum Reading {
 }
 
 // Reads the term.
-fn read_term(s: &[u8], st: &[u32; 255], t: &mut [u16], n: Numbers, at: usize) -> Reading
+fn read_term(
+    edition: Edition,
+    s: &[u8],
+    st: &[u32; 255],
+    t: &mut [u16],
+    n: Numbers,
+    at: usize,
+) -> Reading
     requires { ⌜ length (now s) ≤ 4096 ⌝ }
-    ensures { λ x. ⌜ ReadsSheet n (termAt n (now (s .entry)) (now (st .entry)) at) x
+    ensures { λ x. ⌜ ReadsSheet n (termAt edition n (now (s .entry)) (now (st .entry)) at) x
         (now (t .entry)) (now (t .exit)) ⌝ }
 {
-    let p = read_root(s, st, t, n, at);
+    let p = read_root(edition, s, st, t, n, at);
     match p {
         Part::Refused(refusal) => Reading::Refused(refusal),
         Part::Read { ty, next } => Reading::Sheet { root: at, ty, next },
@@ -43,6 +51,7 @@ fn read_term(s: &[u8], st: &[u32; 255], t: &mut [u16], n: Numbers, at: usize) ->
 
 // Reads name records, `left` of them still allowed, and the term.
 pub(crate) fn read_names(
+    edition: Edition,
     s: &[u8],
     st: &[u32; 255],
     t: &mut [u16],
@@ -51,7 +60,7 @@ pub(crate) fn read_names(
     at: usize,
 ) -> Reading
     requires { ⌜ length (now s) ≤ 4096 ⌝ }
-    ensures { λ x. ⌜ ReadsSheet n (namesOf left n (now (s .entry)) (now (st .entry)) at) x
+    ensures { λ x. ⌜ ReadsSheet n (namesOf edition left n (now (s .entry)) (now (st .entry)) at) x
         (now (t .entry)) (now (t .exit)) ⌝ }
 {
     if s.len() <= at {
@@ -65,20 +74,22 @@ pub(crate) fn read_names(
             body: _,
             parts: _,
             rule: _,
-        } => read_term(s, st, t, n, at),
+        } => read_term(edition, s, st, t, n, at),
         Shape::Declare { body } => {
             let judged = judge_declare(s, st, at);
-            read_after(s, st, t, n, left, at, body, declared_standing(at), judged)
+            let c = declared_standing(at);
+            read_after(edition, s, st, t, n, left, at, body, c, judged)
         }
         Shape::Retire { body } => {
             let judged = judge_fresh(s, st, at + 1);
-            read_after(s, st, t, n, left, at, body, RETIRED, judged)
+            read_after(edition, s, st, t, n, left, at, body, RETIRED, judged)
         }
     }
 }
 
 // Goes on after the name record at a place, once its bytes are judged; its id gets standing c.
 fn read_after(
+    edition: Edition,
     s: &[u8],
     st: &[u32; 255],
     t: &mut [u16],
@@ -91,7 +102,7 @@ fn read_after(
 ) -> Reading
     requires { ⌜ (length (now s) ≤ 4096) × (at < 4096) ⌝ }
     ensures { λ x. ⌜ ((name : Name) → ReadsSheet n
-        (nameOf (namesOf (left - 1) n (now (s .entry))) left (now (s .entry)) (now (st .entry)) at body c judged name) x
+        (nameOf (namesOf edition (left - 1) n (now (s .entry))) left (now (s .entry)) (now (st .entry)) at body c judged name) x
         (now (t .entry)) (now (t .exit))) ⌝ }
 {
     if left == 0 {
@@ -101,7 +112,7 @@ fn read_after(
         Judged::Refused(refusal) => Reading::Refused(refusal),
         Judged::Good => {
             let next = registered(s, st, at, c);
-            read_names(s, &next, t, n, left - 1, at + 1 + body as usize)
+            read_names(edition, s, &next, t, n, left - 1, at + 1 + body as usize)
         }
     }
 }

@@ -2,6 +2,7 @@
 // on by its place, its rule and its body bytes, and all but `read_parts` and `read_next` are called at one place each,
 // so that the cycle is compiled into few functions.
 use language::Numbers;
+use records::edition::Edition;
 use records::head::Head;
 use records::head::Record;
 use records::head::bare_record;
@@ -58,6 +59,7 @@ fn close_record(s: &[u8], t: &mut [u16], n: Numbers, around: u8, r: Record, part
 
 // Reads the part at a place, with `left` levels of depth left, inside `around` binders.
 fn read_part(
+    edition: Edition,
     s: &[u8],
     st: &[u32; 255],
     t: &mut [u16],
@@ -67,24 +69,25 @@ fn read_part(
     at: usize,
 ) -> Part
     requires { ⌜ (length (now s) ≤ 4096) × (around + 4 * left ≤ 128) ⌝ }
-    ensures reads { λ x. ⌜ Reads (fill n) (readPart left n (now (s .entry)) (now (st .entry)) around at) x
+    ensures reads { λ x. ⌜ Reads (fill n) (readPart edition left n (now (s .entry)) (now (st .entry)) around at) x
         (now (t .entry)) (now (t .exit)) ⌝ }
     ensures beyond { λ x. ⌜ Beyond at (length (now (s .entry))) x ⌝ }
 {
-    let h = head_at(s, st, n, left, at);
+    let h = head_at(edition, s, st, n, left, at);
     match h {
         Head::Refused(refusal) => Part::Refused(refusal),
         Head::Good { record } => {
             if left == 0 {
                 return Part::Refused(refuse(TOO_DEEP, at));
             }
-            read_record(s, st, t, n, around, left - 1, record)
+            read_record(edition, s, st, t, n, around, left - 1, record)
         }
     }
 }
 
 // Reads a record whose head is judged: a use with its arguments, or another with its parts.
 fn read_record(
+    edition: Edition,
     s: &[u8],
     st: &[u32; 255],
     t: &mut [u16],
@@ -96,15 +99,16 @@ fn read_record(
     requires { ⌜ (length (now s) ≤ 4096) × (around + 4 * left + 4 ≤ 128) × (r .place < 4096)
         × (r .next ≤ length (now s)) × (opens (r .rule) ≡ Block → r .b ≤ 2) × (opens (r .rule) ≡ Routine → r .b ≤ 4) ⌝ }
     ensures { λ x. ⌜ Reads (fill n)
-        (readRecord (readPart left n (now (s .entry))) (now (s .entry)) (now (st .entry)) around r) x
+        (readRecord (readPart edition left n (now (s .entry))) (now (s .entry)) (now (st .entry)) around r) x
         (now (t .entry)) (now (t .exit)) ⌝ }
 {
-    let parts = read_scope(s, st, t, n, around, left, r);
+    let parts = read_scope(edition, s, st, t, n, around, left, r);
     close_record(s, t, n, around, r, parts)
 }
 
 // Reads the parts of a record, in the scopes that it opens.
 fn read_scope(
+    edition: Edition,
     s: &[u8],
     st: &[u32; 255],
     t: &mut [u16],
@@ -116,13 +120,15 @@ fn read_scope(
     requires { ⌜ (length (now s) ≤ 4096) × (around + 4 * left + 4 ≤ 128) × (r .place < 4096)
         × (r .next ≤ length (now s)) × (opens (r .rule) ≡ Block → r .b ≤ 2) × (opens (r .rule) ≡ Routine → r .b ≤ 4) ⌝ }
     ensures { λ x. ⌜ Reads (λ ts. fills n ts (r .place) 0)
-        (scopeParts (opens (r .rule)) (readPart left n (now (s .entry))) (now (s .entry)) (now (st .entry)) around r) x
+        (scopeParts (opens (r .rule)) (readPart edition left n (now (s .entry))) (now (s .entry)) (now (st .entry))
+        around r) x
         (now (t .entry)) (now (t .exit)) ⌝ }
 {
     let rule = r.rule;
     let opened = opens_of(rule);
     match opened {
         Opens::Nothing => read_parts(
+            edition,
             s,
             st,
             t,
@@ -138,13 +144,14 @@ fn read_scope(
             0,
             r.next,
         ),
-        Opens::Block => read_block(s, st, t, n, around, left, r),
-        Opens::Routine => read_routine(s, st, t, n, around, left, r),
+        Opens::Block => read_block(edition, s, st, t, n, around, left, r),
+        Opens::Routine => read_routine(edition, s, st, t, n, around, left, r),
     }
 }
 
 // Reads the block of a new, in which its variable is seen.
 fn read_block(
+    edition: Edition,
     s: &[u8],
     st: &[u32; 255],
     t: &mut [u16],
@@ -156,13 +163,14 @@ fn read_block(
     requires { ⌜ (length (now s) ≤ 4096) × (around + 4 * left + 4 ≤ 128) × (r .place < 4096)
         × (r .next ≤ length (now s)) × (r .b ≤ 2) ⌝ }
     ensures { λ x. ⌜ Reads (λ ts. fills n ts (r .place) 0)
-        (scopeParts Block (readPart left n (now (s .entry))) (now (s .entry)) (now (st .entry)) around r) x
+        (scopeParts Block (readPart edition left n (now (s .entry))) (now (s .entry)) (now (st .entry)) around r) x
         (now (t .entry)) (now (t .exit)) ⌝ }
 {
     let rule = r.rule;
     let mut inner = *st;
     enter(&mut inner, r, around);
     read_parts(
+        edition,
         s,
         &inner,
         t,
@@ -182,6 +190,7 @@ fn read_block(
 
 // Reads the two terms of a procedure: in the first its parameters are seen, in the second the procedure itself.
 fn read_routine(
+    edition: Edition,
     s: &[u8],
     st: &[u32; 255],
     t: &mut [u16],
@@ -193,7 +202,7 @@ fn read_routine(
     requires { ⌜ (length (now s) ≤ 4096) × (around + 4 * left + 4 ≤ 128) × (r .place < 4096)
         × (r .next ≤ length (now s)) × (r .b ≤ 4) ⌝ }
     ensures { λ x. ⌜ Reads (λ ts. fills n ts (r .place) 0)
-        (scopeParts Routine (readPart left n (now (s .entry))) (now (s .entry)) (now (st .entry)) around r) x
+        (scopeParts Routine (readPart edition left n (now (s .entry))) (now (s .entry)) (now (st .entry)) around r) x
         (now (t .entry)) (now (t .exit)) ⌝ }
 {
     let rule = r.rule;
@@ -201,6 +210,7 @@ fn read_routine(
     let mut inner = *st;
     enter_parameters(s, r.place, around, count, &mut inner);
     let own = read_parts(
+        edition,
         s,
         &inner,
         t,
@@ -219,11 +229,12 @@ fn read_routine(
     let Part::Read { ty, next } = own else {
         return own;
     };
-    read_usable(s, st, t, n, around, left, r, ty, next)
+    read_usable(edition, s, st, t, n, around, left, r, ty, next)
 }
 
 // Reads the second term of a procedure, at a place; the first has type prev.
 fn read_usable(
+    edition: Edition,
     s: &[u8],
     st: &[u32; 255],
     t: &mut [u16],
@@ -236,14 +247,15 @@ fn read_usable(
 ) -> Part
     requires { ⌜ (length (now s) ≤ 4096) × (around + 4 * left + 4 ≤ 128) × (r .place < 4096) × (at ≤ length (now s)) ⌝ }
     ensures { λ x. ⌜ Reads (λ ts. fills n ts (r .place) 1)
-        (partsOf (readPart left n (now (s .entry)) (usable (now (st .entry)) r around) (around + 1)) (now (s .entry)) r
-        1 1 prev at) x
+        (partsOf (readPart edition left n (now (s .entry)) (usable (now (st .entry)) r around) (around + 1))
+        (now (s .entry)) r 1 1 prev at) x
         (now (t .entry)) (now (t .exit)) ⌝ }
 {
     let rule = r.rule;
     let mut outer = *st;
     enter_procedure(&mut outer, r, around);
     read_parts(
+        edition,
         s,
         &outer,
         t,
@@ -264,6 +276,7 @@ fn read_usable(
 // Reads `count` parts, from part j on, of the record at a place whose rule and body bytes are given; the part before
 // them has type prev.
 fn read_parts(
+    edition: Edition,
     s: &[u8],
     st: &[u32; 255],
     t: &mut [u16],
@@ -282,8 +295,8 @@ fn read_parts(
     requires { ⌜ (length (now s) ≤ 4096) × (around + 4 * left ≤ 128) × (place < 4096) × (at ≤ length (now s))
         × (j + count ≤ 255) ⌝ }
     ensures { λ x. ⌜ Reads (λ ts. fills n ts place j)
-        (partsOf (readPart left n (now (s .entry)) (now (st .entry)) around) (now (s .entry)) (bare place rule a b)
-        count j prev at) x
+        (partsOf (readPart edition left n (now (s .entry)) (now (st .entry)) around) (now (s .entry))
+        (bare place rule a b) count j prev at) x
         (now (t .entry)) (now (t .exit)) ⌝ }
 {
     if count == 0 {
@@ -291,6 +304,7 @@ fn read_parts(
     }
     link(t, place, j, at);
     read_next(
+        edition,
         s,
         st,
         t,
@@ -310,6 +324,7 @@ fn read_parts(
 
 // Reads the first of these parts, whose place is in the row already, and the others.
 fn read_next(
+    edition: Edition,
     s: &[u8],
     st: &[u32; 255],
     t: &mut [u16],
@@ -328,11 +343,11 @@ fn read_next(
     requires { ⌜ (length (now s) ≤ 4096) × (around + 4 * left ≤ 128) × (place < 4096) × (j + count ≤ 255)
         × (0 < count) ⌝ }
     ensures { λ x. ⌜ Reads (λ ts. fillsNext n ts place j)
-        (partsOf (readPart left n (now (s .entry)) (now (st .entry)) around) (now (s .entry)) (bare place rule a b)
-        count j prev at) x
+        (partsOf (readPart edition left n (now (s .entry)) (now (st .entry)) around) (now (s .entry))
+        (bare place rule a b) count j prev at) x
         (now (t .entry)) (now (t .exit)) ⌝ }
 {
-    let p = read_part(s, st, t, n, around, left, at);
+    let p = read_part(edition, s, st, t, n, around, left, at);
     let Part::Read { ty, next } = p else {
         return p;
     };
@@ -340,6 +355,7 @@ fn read_next(
         return Part::Refused(refuse(WRONG_TYPE, at));
     }
     read_parts(
+        edition,
         s,
         st,
         t,
@@ -358,12 +374,20 @@ fn read_next(
 }
 
 // Reads the term at a place, which is no record's part: as the second part of a sequence, which may have any type.
-pub(crate) fn read_root(s: &[u8], st: &[u32; 255], t: &mut [u16], n: Numbers, at: usize) -> Part
+pub(crate) fn read_root(
+    edition: Edition,
+    s: &[u8],
+    st: &[u32; 255],
+    t: &mut [u16],
+    n: Numbers,
+    at: usize,
+) -> Part
     requires { ⌜ length (now s) ≤ 4096 ⌝ }
-    ensures { λ x. ⌜ Reads (fill n) (readPart 32 n (now (s .entry)) (now (st .entry)) 0 at) x
+    ensures { λ x. ⌜ Reads (fill n) (readPart edition 32 n (now (s .entry)) (now (st .entry)) 0 at) x
         (now (t .entry)) (now (t .exit)) ⌝ }
 {
     read_next(
+        edition,
         s,
         st,
         t,

@@ -2,6 +2,7 @@
 use crate::names::Reading;
 use crate::names::read_names;
 use language::Numbers;
+use records::edition::Edition;
 use records::read::byte_at;
 use records::refusal::CUT_SHORT;
 use records::refusal::LEFT_OVER;
@@ -41,11 +42,11 @@ fn close_sheet(s: &[u8], x: Reading) -> Reading
     x
 }
 
-// Reads a whole sheet, and leaves the rows of its parts in the table.
-pub fn read_sheet(s: &[u8], t: &mut [u16]) -> Reading
-    ensures reads { λ x. ⌜ ReadsSheet (numbersAt (now (s .entry))) (wholeOf (now (s .entry))) x
+// Reads a whole sheet by the rule of an edition, and leaves the rows of its parts in the table.
+pub fn read_sheet(edition: Edition, s: &[u8], t: &mut [u16]) -> Reading
+    ensures reads { λ x. ⌜ ReadsSheet (numbersAt (now (s .entry))) (wholeOf edition (now (s .entry))) x
         (now (t .entry)) (now (t .exit)) ⌝ }
-    ensures tabled { λ x. ⌜ (length (now (t .entry)) ≡ 36864 → TabledBy (now (s .entry)) x (now (t .exit))) ⌝ }
+    ensures tabled { λ x. ⌜ (length (now (t .entry)) ≡ 36864 → TabledBy edition (now (s .entry)) x (now (t .exit))) ⌝ }
 {
     if LENGTH < s.len() {
         return Reading::Refused(refuse(TOO_LONG, LENGTH));
@@ -69,7 +70,7 @@ pub fn read_sheet(s: &[u8], t: &mut [u16]) -> Reading
     }
     let n = Numbers { z, rule };
     let st = [0u32; 255];
-    let x = read_names(s, &st, t, n, NAMES, 2);
+    let x = read_names(edition, s, &st, t, n, NAMES, 2);
     close_sheet(s, x)
 }
 

@@ -41,16 +41,18 @@ fn too_deep(random: &mut Random, heading: &Heading, term: Term) -> Vec<u8> {
     bytes
 }
 
-/// Truth variables around a few commands: the weight is a power of 2, up to 2 to the 32nd.
+/// Truth variables around a few commands: the weight is a power of 2, up to 2 to the 32nd. Now and then they all have
+/// one id.
 fn heavy(random: &mut Random) -> Vec<u8> {
     let record = Record::Declare { id: 1, result: Type::Command, arguments: vec![] };
     let heading = Heading { z: 1, wraps: false, records: vec![record] };
     let mut term = Term::new(Kind::Name { id: 1, result: Type::Command }, vec![]);
-    for _ in 0..random.choose(&[8, 9, 10, 11, 15, 16, 24, 31, 31, 31]) {
+    let hides = random.one_in(8);
+    for i in 0..random.choose(&[8, 9, 10, 11, 15, 16, 24, 31, 31, 31]) {
         term = if random.one_in(16) {
             Term::new(Kind::Sequence, vec![term.clone(), term])
         } else {
-            Term::new(Kind::New { id: 2, data: Data::Truth }, vec![term])
+            Term::new(Kind::New { id: if hides { 2 } else { 2 + i }, data: Data::Truth }, vec![term])
         };
     }
     written(&heading, &term)

@@ -17,7 +17,7 @@ pub fn pair(random: &mut Random) -> Pair {
     let (wanted, size) = (whole_type(random), size(random));
     let style = random.below(20);
     let steps = random.between(1, 4);
-    let mut generator = Generator::new(random, &heading);
+    let mut generator = Generator::new(random, &heading).hiding_at_times();
     let old = generator.whole(wanted, size);
     let new = match style {
         0 => old.clone(),

@@ -5,6 +5,7 @@ mod scopes;
 mod wires;
 
 use super::damage::{damaged, damaging_byte, random_bytes, record_at};
+use super::hiding::hidden;
 use super::limits::fill_records;
 use super::pairs::{fitting, swapped_at_random, Pair};
 use super::{compare_of, few_or_many, follow_of, whole_type, Case};
@@ -59,7 +60,7 @@ fn heading_and_term(random: &mut Random) -> (Heading, Term) {
         _ => {
             let heading = heading(random);
             let (wanted, size) = (whole_type(random), size(random));
-            let term = Generator::with_procedures(random, &heading).whole(wanted, size);
+            let term = Generator::with_procedures(random, &heading).hiding_at_times().whole(wanted, size);
             (heading, term)
         }
     }
@@ -71,7 +72,7 @@ fn sheet(random: &mut Random) -> Vec<u8> {
 }
 
 fn sheet_to_check(random: &mut Random) -> Vec<u8> {
-    match random.below(16) {
+    match random.below(20) {
         0..=3 => sheet(random),
         4 => Chain::at_the_limit(random).sheet(),
         5 => at_the_depth(random),
@@ -80,6 +81,10 @@ fn sheet_to_check(random: &mut Random) -> Vec<u8> {
         10..=13 => {
             let sheet = sheet(random);
             damaged_record(random, sheet)
+        }
+        14..=17 => {
+            let sheet = sheet(random);
+            hidden(random, sheet)
         }
         _ => {
             let sheet = sheet(random);
@@ -149,13 +154,16 @@ fn damaged_record(random: &mut Random, mut bytes: Vec<u8>) -> Vec<u8> {
     bytes
 }
 
-/// A term in as many records as make it as deep as allowed, or a little more or less; some are procedures.
+/// A term in as many records as make it as deep as allowed, or a little more or less; some are procedures. Now and then
+/// they all have one id.
 fn at_the_depth(random: &mut Random) -> Vec<u8> {
     let (heading, mut term) = heading_and_term(random);
     let wanted = random.between(DEEPEST - 1, DEEPEST + 2);
-    let id = (0..255).find(|&id| heading.record(id).is_none() && !term.mentions(id)).unwrap_or(0);
+    let free = |term: &Term, id: u8| heading.record(id).is_none() && !term.mentions(id) && !term.binds(id);
+    let lowest = |term: &Term| (0..255).find(|&id| free(term, id)).unwrap_or(0);
+    let one_id = random.one_in(6).then(|| lowest(&term));
     while term.depth() < wanted {
-        let result = term.gives;
+        let (id, result) = (one_id.unwrap_or_else(|| lowest(&term)), term.gives);
         let procedure = Kind::Procedure(Procedure { id, result, parameters: vec![] });
         let call = Term::new(Kind::Call { id, result }, vec![]);
         term = match random.below(3) {
@@ -186,8 +194,8 @@ fn pair(random: &mut Random) -> Pair {
         _ => (generator.whole(old.gives, 30), false),
     };
     let mut bytes = (written(&heading, &old), written(&heading, &new));
-    if random.one_in(20) {
-        bytes.1 = damaged_record(random, bytes.1);
+    if random.one_in(12) {
+        bytes.1 = if random.one_in(2) { damaged_record(random, bytes.1) } else { hidden(random, bytes.1) };
         return (bytes.0, bytes.1, false);
     }
     let accepted = read(&bytes.0).is_ok() && read(&bytes.1).is_ok();

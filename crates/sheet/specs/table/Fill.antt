@@ -10,6 +10,7 @@ use Rattle.records.specs.Refusal.{refusal, left-over}
 use Rattle.records.specs.Rule.{partType}
 use Rattle.records.specs.Row as row
 use Rattle.records.specs.Row.{linked}
+use Rattle.records.specs.declared.edition.Edition.{Edition}
 use Rattle.records.specs.declared.head.Record.{Record}
 use Rattle.sheet.specs.Reader.{Tree, node, Trees, leaf, branch, Answer, got, refused, bind, readPart, Whole}
 use Rattle.sheet.specs.Reader.{whole}
@@ -66,8 +67,8 @@ closedTable N s number r (Read last next) t = row.rowWritten N r (partType (r .r
 closedTable N s number r (Refused x) t = t
 
 -- the term of a sheet, without name records
-abbrev pub termAt : Numbers → List ℕ → List ℕ → ℕ → Answer Whole
-termAt N s st at = bind (readPart 32 N s st 0 at) (λ t ty end. got (whole [] at t) ty end)
+abbrev pub termAt : Edition → Numbers → List ℕ → List ℕ → ℕ → Answer Whole
+termAt ed N s st at = bind (readPart ed 32 N s st 0 at) (λ t ty end. got (whole [] at t) ty end)
 
 -- a whole sheet: the answer and the table
 unfoldable pub eraseSheet : Answer Whole → Reading

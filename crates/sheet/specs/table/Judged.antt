@@ -3,27 +3,28 @@
 use Prim.Native.Nat.{ℕ}
 use mathlib.Core.Path.{_≡_}
 use mathlib.Core.List.{List}
+use Rattle.records.specs.declared.edition.Edition.{Edition}
 use Rattle.procedures.specs.Written as written
 use Rattle.procedures.specs.Context.{whole}
 use Rattle.procedures.specs.Table.{Shown}
 use Rattle.procedures.specs.Marks.{Marked}
 use Rattle.sheet.specs.Encoding.{headingLength}
-use Rattle.sheet.specs.Reader.{numbersAt, readSheet, accepted, rejected}
+use Rattle.sheet.specs.Reader.{numbersAt, readUnder, accepted, rejected}
 use Rattle.sheet.specs.table.Tabled.{places}
 use Rattle.sheet.specs.declared.judge.Judgement.{Judgement}
 use Rattle.sheet.specs.declared.judge.Judgement.the-variants.{Sheet, Refused}
 
 -- the sheet is accepted with type ty and the given size; the table u shows its term from root on, the marks M are its
 -- marks
-pub record Judged (s : List ℕ) (root ty size : ℕ) (u M : List ℕ) : Type 0 where
+pub record Judged (ed : Edition) (s : List ℕ) (root ty size : ℕ) (u M : List ℕ) : Type 0 where
   pub sheet : written.Sheet
   pub end : ℕ
-  pub accepts : readSheet s ≡ accepted sheet ty size
+  pub accepts : readUnder ed s ≡ accepted sheet ty size
   pub numbered : sheet .numbers ≡ numbersAt s
   pub rooted : root ≡ headingLength sheet
   pub shown : Shown (numbersAt s) (sheet .names) u whole places root end (sheet .term)
   pub marked : Marked (numbersAt s) (sheet .names) u M whole root (sheet .term)
 
-unfoldable pub JudgedBy : List ℕ → Judgement → List ℕ → List ℕ → Type 0
-JudgedBy s (Sheet root ty size) u M = Judged s root ty size u M
-JudgedBy s (Refused x) u M = readSheet s ≡ rejected (x .number) (x .place)
+unfoldable pub JudgedBy : Edition → List ℕ → Judgement → List ℕ → List ℕ → Type 0
+JudgedBy ed s (Sheet root ty size) u M = Judged ed s root ty size u M
+JudgedBy ed s (Refused x) u M = readUnder ed s ≡ rejected (x .number) (x .place)

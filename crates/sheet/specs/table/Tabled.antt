@@ -8,13 +8,14 @@ use lib.Dec.{ltb}
 use Rattle.language.specs.Choice.{pick}
 use Rattle.language.specs.Weight.{size}
 use Rattle.records.specs.Refusal.{too-large}
+use Rattle.records.specs.declared.edition.Edition.{Edition}
 use Rattle.procedures.specs.Written as written
 use Rattle.procedures.specs.Meaning.{tyOf, termOf, typeOf}
 use Rattle.procedures.specs.Fine.{Fine, FineNames, depth}
 use Rattle.procedures.specs.Context.{whole}
 use Rattle.procedures.specs.Table.{Shown}
 use Rattle.sheet.specs.Encoding.{headingLength}
-use Rattle.sheet.specs.Reader.{numbersAt, readSheet, accepted, rejected}
+use Rattle.sheet.specs.Reader.{numbersAt, readUnder, accepted, rejected}
 use Rattle.sheet.specs.declared.names.Reading.{Reading}
 use Rattle.sheet.specs.declared.names.Reading.the-variants.{Sheet, Refused}
 
@@ -23,10 +24,10 @@ abbrev pub places : ℕ → ℕ
 places k = 0
 
 -- the sheet is read with type ty and accepted by its size; the table u shows its term from root up to next
-pub record Tabled (s : List ℕ) (root ty next : ℕ) (u : List ℕ) : Type 0 where
+pub record Tabled (ed : Edition) (s : List ℕ) (root ty next : ℕ) (u : List ℕ) : Type 0 where
   pub sheet : written.Sheet
   pub finds :
-      readSheet s ≡
+      readUnder ed s ≡
       pick (ltb 4096 (size (tyOf (numbersAt s) ty) (termOf sheet))) (rejected too-large 0)
       (accepted sheet ty (size (tyOf (numbersAt s) ty) (termOf sheet)))
   pub numbered : sheet .numbers ≡ numbersAt s
@@ -42,6 +43,6 @@ pub record Tabled (s : List ℕ) (root ty next : ℕ) (u : List ℕ) : Type 0 wh
   pub rooted : root ≡ headingLength sheet
   pub shown : Shown (numbersAt s) (sheet .names) u whole places root next (sheet .term)
 
-unfoldable pub TabledBy : List ℕ → Reading → List ℕ → Type 0
-TabledBy s (Sheet root ty next) u = Tabled s root ty next u
-TabledBy s (Refused x) u = Unit
+unfoldable pub TabledBy : Edition → List ℕ → Reading → List ℕ → Type 0
+TabledBy ed s (Sheet root ty next) u = Tabled ed s root ty next u
+TabledBy ed s (Refused x) u = Unit

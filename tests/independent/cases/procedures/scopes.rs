@@ -1,4 +1,5 @@
-//! Procedures whose scopes meet: private variables with the same id, and parameters that are used further inside.
+//! Procedures whose scopes meet: private variables side by side with the same id, now and then one inside another, and
+//! parameters that are used further inside.
 
 use crate::generate::{self, Generator, Meaning};
 use crate::random::Random;
@@ -12,10 +13,14 @@ fn parameter(id: u8) -> Term {
     Term::new(Kind::Parameter { id, result: Type::Command }, vec![])
 }
 
-/// A procedure with one parameter, a command, and what it is used in.
+/// The record of a procedure with one parameter, a command.
+fn signature(id: u8, parameter: u8) -> Procedure {
+    Procedure { id, result: Type::Command, parameters: vec![(parameter, Type::Command)] }
+}
+
+/// Such a procedure, and what it is used in.
 fn procedure(id: u8, parameter: u8, body: Term, rest: Term) -> Term {
-    let parameters = vec![(parameter, Type::Command)];
-    Term::new(Kind::Procedure(Procedure { id, result: Type::Command, parameters }), vec![body, rest])
+    Term::new(Kind::Procedure(signature(id, parameter)), vec![body, rest])
 }
 
 fn call(id: u8, argument: Term) -> Term {
@@ -38,17 +43,20 @@ fn free(heading: &Heading) -> Vec<u8> {
     (0..255).filter(|&id| heading.record(id).is_none()).collect()
 }
 
-/// A caller and a procedure that have private variables with one id, and an argument that uses the caller's. The
-/// procedure stands outside the caller's block, or inside it and uses the caller's variable too.
+/// A caller and a procedure that have private variables, and an argument that uses the caller's. The procedure stands
+/// outside the caller's block, and the variables have one id; or inside it and uses the caller's variable too, and now
+/// and then its own one hides that.
 pub fn meeting(random: &mut Random) -> (Heading, Term) {
     let heading = generate::heading(random, 4);
-    let [variable, used, given] = [0, 1, 2].map(|i| free(&heading)[i]);
+    let [variable, used, given, other] = [0, 1, 2, 3].map(|i| free(&heading)[i]);
     let (twice, outside) = (random.one_in(2), random.one_in(2));
+    let inner = if outside || random.one_in(4) { variable } else { other };
     let mut generator = Generator::with_procedures(random, &heading);
     let [one, two, three] = [0; 3].map(|_| generator.constant(Data::Number));
-    let own = sequence(parameter(given), step(variable, one));
-    let own = block(variable, if twice { sequence(own, parameter(given)) } else { own });
+    let own = sequence(parameter(given), step(inner, one));
+    let own = block(inner, if twice { sequence(own, parameter(given)) } else { own });
     generator.scope.push((variable, Meaning::Private(Data::Number)));
+    generator.scope.push((used, Meaning::Procedure(signature(used, given), vec![false])));
     let argument = sequence(step(variable, two), generator.term(Type::Command, 12, 5));
     let shown = generator.term(Type::Command, 20, 5);
     let caller = sequence(call(used, argument), shown);
@@ -72,6 +80,7 @@ pub fn nested(random: &mut Random) -> (Heading, Term) {
         let argument = if i % 2 == 0 { sequence(any(i), parameter(parameters[i - 1])) } else { any(i) };
         term = procedure(procedures[i], parameters[i], term, call(procedures[i], argument));
     }
+    generator.scope.push((procedures[0], Meaning::Procedure(signature(procedures[0], parameters[0]), vec![false])));
     let argument = generator.term(Type::Command, 8, 4);
     let whole = procedure(procedures[0], parameters[0], term, call(procedures[0], argument));
     (heading, whole)

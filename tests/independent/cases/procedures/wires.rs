@@ -3,13 +3,16 @@
 use crate::random::Random;
 use crate::sheet::{Heading, Kind, Procedure, Record, Term, Type};
 
-/// The declared commands, and the ids of procedures and parameters: few, so that some hide others.
+/// The declared commands, and the ids of procedures and parameters where they can be had: few, so that many stand side
+/// by side with the same.
 const NAMES: [u8; 3] = [1, 2, 3];
 const IDS: [u8; 6] = [10, 11, 12, 13, 14, 15];
 
 /// Makes such terms.
 struct Wires<'a> {
     random: &'a mut Random,
+    /// Whether a binder may take an id that an enclosing one holds.
+    hides: bool,
     /// The ids at hand, the innermost last, with what a use of each is and how many arguments it has.
     scope: Vec<(u8, Kind, usize)>,
 }
@@ -19,8 +22,8 @@ pub fn wired(random: &mut Random) -> (Heading, Term) {
     let declare = |id| Record::Declare { id, result: Type::Command, arguments: vec![] };
     let heading = Heading { z: 1, wraps: false, records: NAMES.map(declare).to_vec() };
     let scope = NAMES.map(|id| (id, Kind::Name { id, result: Type::Command }, 0)).to_vec();
-    let procedures = random.between(1, 8);
-    let term = Wires { random, scope }.procedures(procedures);
+    let (procedures, hides) = (random.between(1, 8), random.one_in(8));
+    let term = Wires { random, hides, scope }.procedures(procedures);
     (heading, term)
 }
 
@@ -35,9 +38,9 @@ impl Wires<'_> {
 
     /// A procedure whose term is at most that deep, and the term that `rest` makes in its scope.
     fn procedure(&mut self, depth: usize, rest: impl FnOnce(&mut Self) -> Term) -> Term {
-        let mut procedure = Procedure { id: self.random.choose(&IDS), result: Type::Command, parameters: vec![] };
+        let mut procedure = Procedure { id: self.binder_id(), result: Type::Command, parameters: vec![] };
         for _ in 0..self.random.between(1, 4) {
-            let id = self.random.choose(&IDS);
+            let id = self.binder_id();
             if procedure.parameter(id).is_none() {
                 procedure.parameters.push((id, Type::Command));
             }
@@ -52,6 +55,16 @@ impl Wires<'_> {
         let rest = rest(self);
         self.scope.truncate(outside);
         Term::new(Kind::Procedure(procedure), vec![body, rest])
+    }
+
+    /// One of the few ids, or the lowest other one where these are taken.
+    fn binder_id(&mut self) -> u8 {
+        let taken = |id: u8| !self.hides && self.scope.iter().any(|bound| bound.0 == id);
+        let fitting: Vec<u8> = IDS.into_iter().filter(|&id| !taken(id)).collect();
+        match (IDS[5] + 1..255).find(|&id| !taken(id)) {
+            Some(other) if fitting.is_empty() => other,
+            _ => self.random.choose(&fitting),
+        }
     }
 
     /// A use of something at hand, most often of what was bound last, with such uses as its arguments.

@@ -11,7 +11,7 @@ too-deep-requires : tie.Need-too-deep-requires
 too-deep-requires c κs = search needs
 
 returns : tie.Need-returns
-returns c = rw (c .before .if1 .taken) (c .too-deep .ensures _ _)
+returns c = rw (c .before .if1 .taken) (c .too-deep .ensures _ _ _)
 
 refuse-requires : tie.Need-refuse-requires
 refuse-requires c κs = search needs

@@ -10,7 +10,7 @@ refuse-requires c κs = search needs
 
 returns : tie.Need-returns
 unfolding headOf
-returns c = λ st N. rw (c .refuse .ensures, le-leb _ _ (c .before .if1 .taken))
+returns c = λ ed st N. rw (c .refuse .ensures, le-leb _ _ (c .before .if1 .taken))
 
 shared-slice-read-shape-of : tie.Need-shared-slice-read-shape-of
 shared-slice-read-shape-of c = search needs
@@ -26,7 +26,7 @@ refuse-requires-2 c κs = search needs
 
 returns-2 : tie.Need-returns-2
 unfolding headOf
-returns-2 c = λ st N.
+returns-2 c = λ ed st N.
     rw (c .refuse2 .ensures, lt-leb _ _ (c .before .before .before .before .if1 .left),
       ← c .before .before .shape-of .ensures)
     (c .before .deep-number .ensures _)

@@ -23,10 +23,10 @@ use Rattle.sheet.proofs.names.+read_after+read_names.{statement}
 use Rattle.sheet.proofs.names.+read_after+read_names.Tie.{close}
 
 abbrev μ-read-after : Measures 3 read-after-kinds.ps ℕ
-μ-read-after κs a = a .1 .1 .1 .1 .0 * 2
+μ-read-after κs a = a .1 .1 .1 .1 .1 .0 * 2
 
 abbrev μ-read-names : Measures 3 read-names-kinds.ps ℕ
-μ-read-names κs a = a .1 .1 .1 .1 .0 * 2 + 1
+μ-read-names κs a = a .1 .1 .1 .1 .1 .0 * 2 + 1
 
 abbrev read-after-at : ℕ → In 3 read-after-kinds.ps
 read-after-at t =
@@ -113,7 +113,7 @@ module _ (t : ℕ) where
   read-names-refuse-requires c κs = search needs
 
   read-names-returns : read-names-lts.Need-returns (read-names-calls t) (read-names-at t) read-names.Post
-  read-names-returns c = rw (c .refuse .ensures) (names-short _ _ _ _ _ (c .before .if1 .taken))
+  read-names-returns c = rw (c .refuse .ensures) (names-short _ _ _ _ _ _ (c .before .if1 .taken))
 
   read-names-shared-slice-read-kind : read-names-lts.Need-shared-slice-read-kind (read-names-calls t)
     (read-names-at t) read-names.Post
@@ -172,7 +172,7 @@ module _ (t : ℕ) where
   read-names-returns-2 : read-names-lts.Need-returns-2 (read-names-calls t) (read-names-at t) read-names.Post
   read-names-returns-2 c =
       rw (c .refuse2 .ensures)
-      (names-unknown _ _ _ _ _ (c .before .before .before .before .before .if1 .left) (sym (c .before .before
+      (names-unknown _ _ _ _ _ _ (c .before .before .before .before .before .if1 .left) (sym (c .before .before
         .before .shape-of .ensures) ∙ c .before .enum-told .given .1))
 
   read-names-same-length : read-names-lts.Need-same-length (read-names-calls t) (read-names-at t) read-names.Post
@@ -180,7 +180,7 @@ module _ (t : ℕ) where
 
   read-names-returns-3 : read-names-lts.Need-returns-3 (read-names-calls t) (read-names-at t) read-names.Post
   read-names-returns-3 c =
-      names-term _ _ _ _ _ (c .before .before .before .before .before .before .before .before .if1 .left) (sym
+      names-term _ _ _ _ _ _ (c .before .before .before .before .before .before .before .before .if1 .left) (sym
       (c .before .before .before .before .before .before .shape-of .ensures) ∙ c .before .before .before .before
         .enum-told2 .given .1) (c .before .before .read-term .ensures)
 
@@ -189,20 +189,19 @@ module _ (t : ℕ) where
 
   read-names-returns-4 : read-names-lts.Need-returns-4 (read-names-calls t) (read-names-at t) read-names.Post
   read-names-returns-4 c =
-      names-declare _ _ _ _ _ (c .before .before .before .before .before .before .before .before .before .before
+      names-declare _ _ _ _ _ _ (c .before .before .before .before .before .before .before .before .before .before
         .before .if1 .left) (sym
       (c .before .before .before .before .before .before .before .before .before .shape-of .ensures) ∙ c .before
-        .before .before .before .before .before .before .shape .given .1) (c .before .before .before .before
-        .before .judge-declare .ensures) (c .before .before .before .declared-standing .ensures) (c .before .before
-        .read-after
-      .ensures)
+        .before .before .before .before .before .before .shape .given .1) (c .before .before .before .before .before
+        .judge-declare .ensures) (c .before .before .before .before .declared-standing .ensures) (c .before .before
+        .read-after .ensures)
 
   read-names-same-length-3 : read-names-lts.Need-same-length-3 (read-names-calls t) (read-names-at t) read-names.Post
   read-names-same-length-3 c = search needs
 
   read-names-returns-5 : read-names-lts.Need-returns-5 (read-names-calls t) (read-names-at t) read-names.Post
   read-names-returns-5 c =
-      names-retire _ _ _ _ _ (c .before .before .before .before .before .before .before .before .before .before .if1
+      names-retire _ _ _ _ _ _ (c .before .before .before .before .before .before .before .before .before .before .if1
       .left) (sym (c .before .before .before .before .before .before .before .before .shape-of .ensures) ∙ c
         .before .before .before .before .before .before .shape2 .given .1) (c .before .before .before .before
         .judge-fresh

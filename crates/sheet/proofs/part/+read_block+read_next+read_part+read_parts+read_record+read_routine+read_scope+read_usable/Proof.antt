@@ -52,28 +52,28 @@ use Rattle.sheet.proofs.part.+read_block+read_next+read_part+read_parts
 use Rattle.sheet.proofs.part.+read_block+read_next+read_part+read_parts+read_record+read_routine+read_scope+read_usable.Tie.{close}
 
 abbrev μ-read-block : Measures 3 read-block-kinds.ps ℕ
-μ-read-block κs a = a .1 .1 .1 .1 .1 .0 * 2048 + 600
+μ-read-block κs a = a .1 .1 .1 .1 .1 .1 .0 * 2048 + 600
 
 abbrev μ-read-next : Measures 3 read-next-kinds.ps ℕ
-μ-read-next κs a = a .1 .1 .1 .1 .1 .0 * 2048 + 2 * a .1 .1 .1 .1 .1 .1 .1 .1 .1 .1 .0
+μ-read-next κs a = a .1 .1 .1 .1 .1 .1 .0 * 2048 + 2 * a .1 .1 .1 .1 .1 .1 .1 .1 .1 .1 .1 .0
 
 abbrev μ-read-part : Measures 3 read-part-kinds.ps ℕ
-μ-read-part κs a = a .1 .1 .1 .1 .1 .0 * 2048
+μ-read-part κs a = a .1 .1 .1 .1 .1 .1 .0 * 2048
 
 abbrev μ-read-parts : Measures 3 read-parts-kinds.ps ℕ
-μ-read-parts κs a = a .1 .1 .1 .1 .1 .0 * 2048 + 2 * a .1 .1 .1 .1 .1 .1 .1 .1 .1 .1 .0 + 1
+μ-read-parts κs a = a .1 .1 .1 .1 .1 .1 .0 * 2048 + 2 * a .1 .1 .1 .1 .1 .1 .1 .1 .1 .1 .1 .0 + 1
 
 abbrev μ-read-record : Measures 3 read-record-kinds.ps ℕ
-μ-read-record κs a = a .1 .1 .1 .1 .1 .0 * 2048 + 700
+μ-read-record κs a = a .1 .1 .1 .1 .1 .1 .0 * 2048 + 700
 
 abbrev μ-read-routine : Measures 3 read-routine-kinds.ps ℕ
-μ-read-routine κs a = a .1 .1 .1 .1 .1 .0 * 2048 + 600
+μ-read-routine κs a = a .1 .1 .1 .1 .1 .1 .0 * 2048 + 600
 
 abbrev μ-read-scope : Measures 3 read-scope-kinds.ps ℕ
-μ-read-scope κs a = a .1 .1 .1 .1 .1 .0 * 2048 + 650
+μ-read-scope κs a = a .1 .1 .1 .1 .1 .1 .0 * 2048 + 650
 
 abbrev μ-read-usable : Measures 3 read-usable-kinds.ps ℕ
-μ-read-usable κs a = a .1 .1 .1 .1 .1 .0 * 2048 + 550
+μ-read-usable κs a = a .1 .1 .1 .1 .1 .1 .0 * 2048 + 550
 
 abbrev read-block-at : ℕ → In 3 read-block-kinds.ps
 read-block-at t = and 3 read-block-kinds.ps (is 3 read-block-kinds.ps μ-read-block t) read-block.Pre
@@ -179,7 +179,7 @@ module _ (t : ℕ) where
   read-block-returns : block-lts.Need-returns (read-block-calls t) (read-block-at t) read-block.Post
   read-block-returns c =
       let x = c .before .before .before .before .before .before .before .before .before .before .args in
-      block-read (readPart (x .left) (x .n) _) _ _ _ _ (x .r) (c .before .before .before .before .before .enter
+      block-read (readPart (x .edition) (x .left) (x .n) _) _ _ _ _ (x .r) (c .before .before .before .before .before .enter
         .ensures) (c .before .before .read-parts .ensures)
 
 -- read_next
@@ -289,9 +289,9 @@ module _ (t : ℕ) where
   read-part-returns : part-lts.Need-returns (read-part-calls t) (read-part-at t) read-part.Post
   read-part-returns c =
       rw (c .refuse .ensures)
-      (let R = part-deep _ _ _ _ _ _ (sym (c .before .before .before .before .before .head-at .ensures) ∙ c .before
+      (let R = part-deep _ _ _ _ _ _ _ (sym (c .before .before .before .before .before .head-at .ensures) ∙ c .before
         .before .before .h2 .given .1) (c .before .if1 .taken) in
-      (R, part-beyond _ _ _ _ _ _ (R .answer)))
+      (R, part-beyond _ _ _ _ _ _ _ (R .answer)))
 
   read-part-sub-read-record : part-lts.Need-sub-read-record (read-part-calls t) (read-part-at t) read-part.Post
   read-part-sub-read-record c = search needs
@@ -301,28 +301,28 @@ module _ (t : ℕ) where
   read-part-read-record-requires c κs =
       let e = sym (c .before .before .before .before .before .head-at .ensures) ∙ c .before .before .before .h2
         .given .1 in
-      let g = head-good _ _ _ _ _ _ e in
+      let g = head-good _ _ _ _ _ _ _ e in
       let i = g .inside in
       let p = g .place in
       let n = g .next-inside in
       (omega (arith, p, i, n), (omega (arith, p, i, n), omega (arith, p, i, n), omega (arith, p, i, n), n,
-        block-small _ _ _ _ _ _ e, routine-small _ _ _ _ _ _ e))
+        block-small _ _ _ _ _ _ _ e, routine-small _ _ _ _ _ _ _ e))
 
   read-part-returns-2 : part-lts.Need-returns-2 (read-part-calls t) (read-part-at t) read-part.Post
   read-part-returns-2 c =
-      let R = part-bad _ _ _ _ _ _ (sym (c .before .before .before .head-at .ensures) ∙ c .before .h .given .1) in
-      (R, part-beyond _ _ _ _ _ _ (R .answer))
+      let R = part-bad _ _ _ _ _ _ _ (sym (c .before .before .before .head-at .ensures) ∙ c .before .h .given .1) in
+      (R, part-beyond _ _ _ _ _ _ _ (R .answer))
 
   read-part-same-length : part-lts.Need-same-length (read-part-calls t) (read-part-at t) read-part.Post
   read-part-same-length c = search needs
 
   read-part-returns-3 : part-lts.Need-returns-3 (read-part-calls t) (read-part-at t) read-part.Post
   read-part-returns-3 c =
-      let R = part-good _ _ _ _ _ _ (sym (c .before .before .before .before .before .before .before .before .head-at
+      let R = part-good _ _ _ _ _ _ _ (sym (c .before .before .before .before .before .before .before .before .head-at
         .ensures) ∙ c .before .before .before .before .before .before .h2 .given .1) (c .before .before .before
         .before .if1 .left)
         (c .before .before .read-record .ensures) in
-      (R, part-beyond _ _ _ _ _ _ (R .answer))
+      (R, part-beyond _ _ _ _ _ _ _ (R .answer))
 
 -- read_parts
 module _ (t : ℕ) where
@@ -360,7 +360,7 @@ module _ (t : ℕ) where
     read-record.Post
   read-record-close-record-requires c κs =
       let q = c .before .before .before .before .before .before .before .pre .1 in
-      (q .2, ends-further _ _ _ (q .0) (scope-ends _ _ _ _ _ _ (q .3) (c .before .before .before .read-scope .ensures
+      (q .2, ends-further _ _ _ (q .0) (scope-ends _ _ _ _ _ _ _ (q .3) (c .before .before .before .read-scope .ensures
         .answer)))
 
   read-record-same-length : record-lts.Need-same-length (read-record-calls t) (read-record-at t) read-record.Post
@@ -417,7 +417,7 @@ module _ (t : ℕ) where
   read-routine-read-usable-requires c κs =
       let q = c .before .before .before .before .before .before .before .before .before .before .before .before
         .before .before .before .pre in
-      let h = ends-within _ (parts-end _ _ _ _ _ _ _ _ _ _ (q .1 .3) (c .before .before .before .before .before
+      let h = ends-within _ (parts-end _ _ _ _ _ _ _ _ _ _ _ (q .1 .3) (c .before .before .before .before .before
         .before .read-parts .ensures .answer)) (c .before .before .own .given .1) in
       omega (arith, h, q .0, q .1 .0, q .1 .1, q .1 .2, q .1 .3, q .1 .4)
 
@@ -510,7 +510,7 @@ module _ (t : ℕ) where
   read-usable-returns : usable-lts.Need-returns (read-usable-calls t) (read-usable-at t) read-usable.Post
   read-usable-returns c =
       let x = c .before .before .before .before .before .before .before .before .before .before .args in
-      usable-read (readPart (x .left) (x .n) _) _ _ _ _ (x .r) (x .prev) (x .at) (c .before .before .before .before
+      usable-read (readPart (x .edition) (x .left) (x .n) _) _ _ _ _ (x .r) (x .prev) (x .at) (c .before .before .before .before
         .before .enter-procedure .ensures)
         (c .before .before .read-parts .ensures)
 

@@ -10,14 +10,14 @@ refuse-requires : tie.Need-refuse-requires
 refuse-requires c κs = search needs
 
 returns : tie.Need-returns
-returns c = rw (c .refuse .ensures) (sheet-told _ _ (too-long _ (c .before .if1 .taken)))
+returns c = rw (c .refuse .ensures) (sheet-told _ _ _ (too-long _ _ (c .before .if1 .taken)))
 
 refuse-requires-2 : tie.Need-refuse-requires-2
 refuse-requires-2 c κs = search needs
 
 returns-2 : tie.Need-returns-2
 returns-2 c =
-    rw (c .refuse2 .ensures) (sheet-told _ _ (empty _ (c .before .before .if1 .left) (c .before .if2 .taken)))
+    rw (c .refuse2 .ensures) (sheet-told _ _ _ (empty _ _ (c .before .before .if1 .left) (c .before .if2 .taken)))
 
 shared-slice-read-z : tie.Need-shared-slice-read-z
 shared-slice-read-z c = search needs
@@ -27,7 +27,7 @@ refuse-requires-3 c κs = search needs
 
 returns-3 : tie.Need-returns-3
 returns-3 c =
-    rw (c .refuse3 .ensures) (sheet-told _ _ (z-zero _ (c .before .before .before .before .if1 .left) (c .before
+    rw (c .refuse3 .ensures) (sheet-told _ _ _ (z-zero _ _ (c .before .before .before .before .if1 .left) (c .before
       .before .before .if2 .left) (c .before .if3 .taken)))
 
 refuse-requires-4 : tie.Need-refuse-requires-4
@@ -35,7 +35,7 @@ refuse-requires-4 c κs = search needs
 
 returns-4 : tie.Need-returns-4
 returns-4 c =
-    rw (c .refuse4 .ensures) (sheet-told _ _ (z-large _ (c .before .before .before .before .before .if1 .left) (c
+    rw (c .refuse4 .ensures) (sheet-told _ _ _ (z-large _ _ (c .before .before .before .before .before .if1 .left) (c
       .before .before .before .before .if2 .left) (c .before .before .if3 .left) (c .before .if4 .taken)))
 
 refuse-requires-5 : tie.Need-refuse-requires-5
@@ -43,7 +43,7 @@ refuse-requires-5 c κs = search needs
 
 returns-5 : tie.Need-returns-5
 returns-5 c =
-    rw (c .refuse5 .ensures) (sheet-told _ _ (no-rule _ (c .before .before .before .before .before .before .if1
+    rw (c .refuse5 .ensures) (sheet-told _ _ _ (no-rule _ _ (c .before .before .before .before .before .before .if1
       .left) (c .before .before .before .before .before .if2 .left) (c .before .before .before .if3 .left) (c
       .before .before .if4 .left) (c .before .if5 .taken)))
 
@@ -55,7 +55,7 @@ refuse-requires-6 c κs = search needs
 
 returns-6 : tie.Need-returns-6
 returns-6 c =
-    rw (c .refuse6 .ensures) (sheet-told _ _ (rule-large _ (c .before .before .before .before .before .before
+    rw (c .refuse6 .ensures) (sheet-told _ _ _ (rule-large _ _ (c .before .before .before .before .before .before
       .before .before .if1 .left) (c .before .before .before .before .before .before .before .if2 .left) (c .before
       .before .before .before .before .if3 .left) (c .before .before .before .before .if4 .left) (c .before .before
       .before .if5 .left) (c .before .if6 .taken)))
@@ -72,7 +72,7 @@ same-length c = search needs
 returns-7 : tie.Need-returns-7
 returns-7 c =
     let R =
-        sheet-closed _ _ _ (opened _ (c .before .before .before .before .before .before .before .before .before
+        sheet-closed _ _ _ _ (opened _ _ (c .before .before .before .before .before .before .before .before .before
           .before .before .before .before .if1 .left) (c .before .before .before .before .before .before .before
           .before .before .before .before .before .if2 .left) (c .before .before .before .before .before .before
           .before .before .before .before .if3 .left) (c .before .before .before .before .before .before .before
@@ -80,7 +80,7 @@ returns-7 c =
         .left) (c .before .before .before .before .before .before .before .before .if5 .left) (c .before .before
           .before .before .before .before .if6 .left)) (closes-sheet _ _ _ (c .before .before .before .read-names
         .ensures) (c .close-sheet .ensures)) in
-    (R, λ h. tabled _ _ _ h R)
+    (R, λ h. tabled _ _ _ _ h R)
 
 pub read-sheet-spec : {M : Type 1} → statement M
 read-sheet-spec =
