@@ -251,6 +251,29 @@ pub fn waiting(t: &[u16], at: usize, q: usize, x: usize, m: Move) -> Out
     listen(t, at, q, x, m)
 }
 
+// The same spot, put together anew. A spot that is handed on as another function gave it lies in memory on every way to
+// the caller, also on those that give one of their own.
+fn again(d: Spot) -> Spot
+    ensures { λ r. ⌜ r ≡ d ⌝ }
+{
+    match d {
+        Spot::Here { out } => Spot::Here { out },
+        Spot::Inside {
+            part,
+            kind,
+            value,
+            k,
+            f,
+        } => Spot::Inside {
+            part,
+            kind,
+            value,
+            k,
+            f,
+        },
+    }
+}
+
 // Position k of a name.
 pub(crate) fn in_name(t: &[u16], at: usize, q: usize, x: usize, k: usize) -> Spot
     ensures { λ r. ⌜ r ≡ inName (now (t .entry)) at q x k noMove ⌝ }
@@ -273,7 +296,7 @@ pub(crate) fn in_name(t: &[u16], at: usize, q: usize, x: usize, k: usize) -> Spo
     let n = name_count(t, at);
     let all = spots(t, at, 0, n);
     if k - INNER < all {
-        return in_args(t, at, 0, n, k - INNER, INNER, sum(INNER, all));
+        return again(in_args(t, at, 0, n, k - INNER, INNER, sum(INNER, all)));
     }
     Spot::Here {
         out: reply(t, id, at, 0, n, k - INNER - all),

@@ -53,6 +53,16 @@ module _ (t marks slots : List ℕ) where
       go (suc (suc (suc zero))) h = u
       go (suc (suc (suc (suc j)))) h = absurd (omega arith)
 
+  -- the first two
+  pub pieces-two : (level left at w : ℕ) (r₀ r₁ r₂ : List ℕ) (n a b n₁ m : ℕ) → w / 2 / 2 ≡ 0 →
+      Piece t marks slots level left at (w % 2) 0 r₀ r₁ n a n₁ →
+      Piece t marks slots level left at (w / 2 % 2) 1 r₁ r₂ n₁ b m →
+      Pieces t marks slots level left at w r₀ r₂ n a b ROWS ROWS m
+  pieces-two level left at w r₀ r₁ r₂ n a b n₁ m z p q =
+      pieces-four level left at w r₀ r₁ r₂ r₂ r₂ n a b ROWS ROWS n₁ m m m p q
+        (piece-none level left at (w / 2 / 2 % 2) 2 r₂ m (omega arith))
+        (piece-none level left at (w / 2 / 2 / 2 % 2) 3 r₂ m (omega arith))
+
   -- a row
   pub row-made : (level left at : ℕ) (rows between after : List ℕ) (n a b c d m kind detail w n₁ : ℕ) →
       kind ≡ word t at KIND → detail ≡ word t at DETAIL → w ≡ partsOf kind detail → n₁ ≡ moreOf n 1 →
@@ -62,6 +72,23 @@ module _ (t marks slots : List ℕ) where
       let h : Pieces t marks slots level left at (partsOf (word t at KIND) (word t at DETAIL)) rows between (moreOf n 1)
           a b c d m = rw (f, g, k, e) at p in
       record { between = between; a = a; b = b; c = c; d = d; pieces = h; row = x }
+
+  -- a row without parts
+  pub leaf-made : (level left at : ℕ) (rows after : List ℕ) (n m kind detail w : ℕ) → kind ≡ word t at KIND →
+      detail ≡ word t at DETAIL → w ≡ partsOf kind detail → w ≡ 0 → m ≡ moreOf n 1 →
+      after ≡ closedRow t slots rows at n ROWS ROWS ROWS ROWS → Closed t marks slots level left at rows after n m
+  leaf-made level left at rows after n m kind detail w k e f z g x =
+      row-made level left at rows rows after n ROWS ROWS ROWS ROWS m kind detail w m k e f g
+        (pieces-four level left at w rows rows rows rows rows m ROWS ROWS ROWS ROWS m m m m
+          (piece-none level left at (w % 2) 0 rows m (omega arith))
+          (piece-none level left at (w / 2 % 2) 1 rows m (omega arith))
+          (piece-none level left at (w / 2 / 2 % 2) 2 rows m (omega arith))
+          (piece-none level left at (w / 2 / 2 / 2 % 2) 3 rows m (omega arith))) x
+
+-- a record whose bits are none has no parts
+pub no-parts : (t : List ℕ) (at kind detail w : ℕ) → kind ≡ word t at KIND → detail ≡ word t at DETAIL →
+    w ≡ partsOf kind detail → w ≡ 0 → partsOf (word t at KIND) (word t at DETAIL) ≡ 0
+no-parts t at kind detail w k e f z = rw (← k, ← e) (sym f ∙ z)
 
 -- a use
 pub use-made : (t marks slots : List ℕ) (level left at : ℕ) (rows between after : List ℕ)

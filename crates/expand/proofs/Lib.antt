@@ -1,4 +1,5 @@
 pub mod Stores
+pub mod Leaves
 pub mod Joins
 pub mod Places
 pub mod Frames

@@ -7,7 +7,7 @@ use lib.ListN.{set}
 use Rattle.records.specs.Row.{cell}
 use Rattle.procedures.specs.PartKind.{KIND, CLASS, VALUES}
 use Rattle.records.specs.Row.{word}
-use Rattle.expand.specs.Close.{weightOf, detailOf, headPut, partsPut, closedRow, passedSlots}
+use Rattle.expand.specs.Close.{weightOf, detailOf, headPut, partsPut, closedRow, passedSlots, fiveAt, fourAt}
 
 -- the five words, one after another
 pub five-put : (t : List ℕ) (n k h c v d : ℕ) {t₁ t₂ t₃ t₄ t₅ : List ℕ} →
@@ -22,6 +22,24 @@ pub four-put : (t : List ℕ) (n a b c d : ℕ) {t₁ t₂ t₃ t₄ : List ℕ}
     t₄ ≡ partsPut t n a b c d
 unfolding partsPut
 four-put t n a b c d p q s u = u ∙ rw (s, q, p)
+
+-- the words of a row follow each other
+pub cell-on : (n i j : ℕ) → cell n i + j ≡ cell n (i + j)
+unfolding cell
+cell-on n i j = omega arith
+
+-- the five words and the rows of four parts, from a place on
+pub head-at : (rows : List ℕ) (n at k w l v d : ℕ) {after : List ℕ} → at ≡ cell n 0 → after ≡ fiveAt rows at k w l v
+    d →
+    after ≡ headPut rows n k w l v d
+unfolding fiveAt headPut
+head-at rows n at k w l v d p q = q ∙ rw p (rw (cell-on n 0 1, cell-on n 0 2, cell-on n 0 3, cell-on n 0 4))
+
+pub parts-at : (rows : List ℕ) (n at a b c d : ℕ) {after : List ℕ} → at ≡ cell n 5 → after ≡ fourAt rows at a b c d
+    →
+    after ≡ partsPut rows n a b c d
+unfolding fourAt partsPut
+parts-at rows n at a b c d p q = q ∙ rw p (rw (cell-on n 5 1, cell-on n 5 2, cell-on n 5 3))
 
 -- the slots of a procedure, one after another
 pub four-passed : (t : List ℕ) (k a b c d : ℕ) {t₁ t₂ t₃ t₄ : List ℕ} →

@@ -1,9 +1,9 @@
 -- The turns of the loop over scopes and uses of procedures: what the present part becomes, the first one becomes.
 use Prim.Native.Nat.{ℕ, _+_, _-_, _<_, _≤_}
 use native.Mathlib.Omega.{arith}
-use mathlib.Core.Path.{_≡_, refl}
+use mathlib.Core.Path.{_≡_}
 use mathlib.Core.List.{List}
-use lib.ListN.{length, getD}
+use lib.ListN.{getD}
 use Rattle.procedures.specs.PartKind.{PROCEDURE, USE, KIND, PARTS}
 use Rattle.records.specs.Row.{word}
 use Rattle.expand.specs.Rows.{ROWS}
@@ -18,11 +18,10 @@ pub record Led (t marks slots₀ : List ℕ) (level₀ left at₀ : ℕ) (rows�
   pub leads : (after : List ℕ) (r m : ℕ) → Expanding t marks slots level turns at rows after n r m →
     Expanding t marks slots₀ level₀ left at₀ rows₀ after n₀ r m
   pub fewer : turns ≤ left
-  pub long : length rows ≡ length rows₀
 
 module _ (t marks slots₀ : List ℕ) (level₀ left at₀ : ℕ) (rows₀ : List ℕ) (n₀ : ℕ) where
   pub led-first : Led t marks slots₀ level₀ left at₀ rows₀ n₀ slots₀ rows₀ level₀ left at₀ n₀
-  led-first = record { leads = λ after r m x. x; fewer = omega arith; long = refl }
+  led-first = record { leads = λ after r m x. x; fewer = omega arith }
 
   module _ (slots rows : List ℕ) (level turns at n : ℕ)
       (l : Led t marks slots₀ level₀ left at₀ rows₀ n₀ slots rows level turns at n) where
@@ -44,17 +43,17 @@ module _ (t marks slots₀ : List ℕ) (level₀ left at₀ : ℕ) (rows₀ : Li
             leads = λ after r m x. l .leads after r m (by-kind t marks slots level turns at rows after n e z
               (λ y. omega (arith, h, y))
               (kind-scope t marks slots level (turns - 1) at rows after n r m kind k p more f g i x));
-            fewer = omega (arith, l .fewer); long = l .long }
+            fewer = omega (arith, l .fewer) }
 
         -- the term of a procedure that is used
-        pub led-use : (inner between : List ℕ) (body more i : ℕ) → kind ≡ USE → length between ≡ length rows →
+        pub led-use : (inner between : List ℕ) (body more i : ℕ) → kind ≡ USE →
             Entered t marks slots inner level (turns - 1) at rows between n body more i →
             Led t marks slots₀ level₀ left at₀ rows₀ n₀ inner between more (turns - 1) body i
-        led-use inner between body more i f g u = record {
+        led-use inner between body more i f u = record {
             leads = λ after r m x. l .leads after r m (by-kind t marks slots level turns at rows after n e z
               (λ y. omega (arith, h, y))
               (kind-use t marks slots level (turns - 1) at rows after n r m kind k f (u .used after r m x)));
-            fewer = omega (arith, l .fewer); long = omega (arith, g, l .long) }
+            fewer = omega (arith, l .fewer) }
 
         -- any other part
         pub led-record : (after : List ℕ) (r m : ℕ) → (kind ≡ PROCEDURE → ⊥) → (kind ≡ USE → ⊥) →

@@ -110,6 +110,17 @@ headPut rows n kind w class v detail =
 unfoldable pub partsPut : List ℕ → ℕ → ℕ → ℕ → ℕ → ℕ → List ℕ
 partsPut rows n a b c d = set (set (set (set rows (cell n 5) a) (cell n 6) b) (cell n 7) c) (cell n 8) d
 
+-- five words, and four, from a place on
+unfoldable pub fiveAt : List ℕ → ℕ → ℕ → ℕ → ℕ → ℕ → ℕ → List ℕ
+fiveAt rows at a b c d e = set (set (set (set (set rows at a) (at + 1) b) (at + 2) c) (at + 3) d) (at + 4) e
+
+unfoldable pub fourAt : List ℕ → ℕ → ℕ → ℕ → ℕ → ℕ → List ℕ
+fourAt rows at a b c d = set (set (set (set rows at a) (at + 1) b) (at + 2) c) (at + 3) d
+
+-- the weight of a row without parts
+unfoldable pub leafWeight : ℕ → ℕ
+leafWeight kind = pick (eqb kind NAME) 2 (pick (eqb kind PRIVATE) 2 1)
+
 -- the rows with the row n for the part at a place
 unfoldable pub closedRow : List ℕ → List ℕ → List ℕ → ℕ → ℕ → ℕ → ℕ → ℕ → ℕ → List ℕ
 closedRow t slots rows at n a b c d =

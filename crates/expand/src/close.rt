@@ -7,6 +7,7 @@ use crate::words::VALUES;
 use crate::words::WEIGHT;
 use crate::words::arguments_of;
 use crate::words::first_bits;
+use crate::words::place_of;
 use crate::words::put_word;
 use crate::words::slot_at;
 use crate::words::word_at;
@@ -14,10 +15,13 @@ use records::weight::sat_add;
 use records::weight::sat_mul;
 ghost use mathlib.Core.Path.{_≡_};
 ghost use Prim.Native.Nat.{_+_, _*_, _<_, min};
-ghost use lib.ListN.{getD, set};
+ghost use lib.ListN.{length, getD, set};
 ghost use Rattle.records.specs.Row.{word};
 ghost use Rattle.expand.specs.Close.{partsOf, staysOf, questionsBy, answersBy, argumentWeight, nameWeight};
 ghost use Rattle.expand.specs.Close.{plainWeight, firstValues, weightOf, detailOf, headPut, partsPut, closedRow};
+ghost use Rattle.expand.specs.Close.{fiveAt, fourAt, leafWeight};
+ghost use Rattle.procedures.specs.PartKind.{KIND, DETAIL};
+ghost use Rattle.expand.specs.Rows.{ROWS};
 
 // The kinds of rows.
 const NAME: u16 = 20;
@@ -41,6 +45,9 @@ pub(crate) const PROCEDURE: u16 = 28;
 const PRIVATE: u16 = 128;
 
 pub(crate) const USE: u16 = 130;
+
+// What stands in a slot, or for a part, where there is no row.
+pub(crate) const NO_ROW: u16 = 12288;
 
 // The classes of types.
 const COMMANDS: u16 = 0;
@@ -224,8 +231,47 @@ fn detail_of(t: &[u16], slots: &[u16; 128], at: u16) -> u16
     detail
 }
 
-// Stores the first five words of row n.
-fn put_head(rows: &mut [u16], n: u16, kind: u16, weight: u16, class: u16, values: u16, detail: u16)
+// Stores five words from `at` on.
+fn put_five(
+    rows: &mut [u16],
+    at: usize,
+    kind: u16,
+    weight: u16,
+    class: u16,
+    values: u16,
+    detail: u16,
+)
+    requires { ⌜ at + 4 < length (now rows) ⌝ }
+    ensures { λ x. ⌜ now (rows .exit) ≡ fiveAt (now (rows .entry)) at kind weight class values detail ⌝ }
+{
+    rows[at] = kind;
+    rows[at + 1] = weight;
+    rows[at + 2] = class;
+    rows[at + 3] = values;
+    rows[at + 4] = detail;
+}
+
+// Stores four words from `at` on.
+fn put_four(rows: &mut [u16], at: usize, a: u16, b: u16, c: u16, d: u16)
+    requires { ⌜ at + 3 < length (now rows) ⌝ }
+    ensures { λ x. ⌜ now (rows .exit) ≡ fourAt (now (rows .entry)) at a b c d ⌝ }
+{
+    rows[at] = a;
+    rows[at + 1] = b;
+    rows[at + 2] = c;
+    rows[at + 3] = d;
+}
+
+// Stores the first five words of row n one by one.
+fn put_head_each(
+    rows: &mut [u16],
+    n: u16,
+    kind: u16,
+    weight: u16,
+    class: u16,
+    values: u16,
+    detail: u16,
+)
     ensures { λ x. ⌜ now (rows .exit) ≡ headPut (now (rows .entry)) n kind weight class values detail ⌝ }
 {
     put_word(rows, n, KIND, kind);
@@ -235,14 +281,36 @@ fn put_head(rows: &mut [u16], n: u16, kind: u16, weight: u16, class: u16, values
     put_word(rows, n, DETAIL, detail);
 }
 
-// Stores the rows of the parts of row n.
-fn put_parts(rows: &mut [u16], n: u16, a: u16, b: u16, c: u16, d: u16)
+// Stores the first five words of row n: with one test where the rows have them all.
+fn put_head(rows: &mut [u16], n: u16, kind: u16, weight: u16, class: u16, values: u16, detail: u16)
+    ensures { λ x. ⌜ now (rows .exit) ≡ headPut (now (rows .entry)) n kind weight class values detail ⌝ }
+{
+    if place_of(n, DETAIL) < rows.len() {
+        put_five(rows, place_of(n, KIND), kind, weight, class, values, detail);
+        return;
+    }
+    put_head_each(rows, n, kind, weight, class, values, detail);
+}
+
+// Stores the rows of the parts of row n one by one.
+fn put_parts_each(rows: &mut [u16], n: u16, a: u16, b: u16, c: u16, d: u16)
     ensures { λ x. ⌜ now (rows .exit) ≡ partsPut (now (rows .entry)) n a b c d ⌝ }
 {
     put_word(rows, n, PARTS, a);
     put_word(rows, n, PARTS + 1, b);
     put_word(rows, n, PARTS + 2, c);
     put_word(rows, n, PARTS + 3, d);
+}
+
+// Stores the rows of the parts of row n: with one test where the rows have them all.
+fn put_parts(rows: &mut [u16], n: u16, a: u16, b: u16, c: u16, d: u16)
+    ensures { λ x. ⌜ now (rows .exit) ≡ partsPut (now (rows .entry)) n a b c d ⌝ }
+{
+    if place_of(n, PARTS + 3) < rows.len() {
+        put_four(rows, place_of(n, PARTS), a, b, c, d);
+        return;
+    }
+    put_parts_each(rows, n, a, b, c, d);
 }
 
 // Writes row n for the part at a place whose parts are the rows a, b, c and d.
@@ -267,4 +335,31 @@ pub(crate) fn close_row(
     let weight = weight_of(t, rows, at, a, b, c, d);
     put_head(rows, n, kind, weight, class, values, detail);
     put_parts(rows, n, a, b, c, d);
+}
+
+// The weight of a row without parts.
+fn leaf_weight(kind: u16) -> u16
+    ensures { λ r. ⌜ r ≡ leafWeight kind ⌝ }
+{
+    if kind == NAME {
+        return 2;
+    }
+    if kind == PRIVATE {
+        return 2;
+    }
+    1
+}
+
+// Writes row n for the part at a place, which has no parts.
+pub(crate) fn close_leaf(t: &[u16], slots: &[u16; 128], rows: &mut [u16], at: u16, n: u16)
+    requires { ⌜ partsOf (word (now t) at KIND) (word (now t) at DETAIL) ≡ 0 ⌝ }
+    ensures { λ x. ⌜ now (rows .exit) ≡
+        closedRow (now (t .entry)) (now (slots .entry)) (now (rows .entry)) at n ROWS ROWS ROWS ROWS ⌝ }
+{
+    let kind = word_at(t, at, KIND);
+    let class = word_at(t, at, CLASS);
+    let values = word_at(t, at, VALUES);
+    let detail = detail_of(t, slots, at);
+    put_head(rows, n, kind, leaf_weight(kind), class, values, detail);
+    put_parts(rows, n, NO_ROW, NO_ROW, NO_ROW, NO_ROW);
 }

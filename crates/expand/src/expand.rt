@@ -2,8 +2,10 @@
 // enclosing binders, the row of a new and the row of a parameter's argument; who changes them works on a copy, one for
 // all scopes and uses of procedures on the way to a row.
 use crate::close::NEW;
+use crate::close::NO_ROW;
 use crate::close::PROCEDURE;
 use crate::close::USE;
+use crate::close::close_leaf;
 use crate::close::close_row;
 use crate::close::parts_of;
 use crate::close::stays;
@@ -26,8 +28,13 @@ ghost use Rattle.records.specs.Row.{word};
 ghost use Rattle.expand.specs.Close.{comeOf, moreOf};
 ghost use Rattle.expand.specs.Contract.{Expanding, Piece, Pieces, Closed, Entered, Recorded, Top};
 
-// What stands in a slot, or for a part, where there is no row.
-const NO_ROW: u16 = 12288;
+// The words of a table of parts, how many places a sheet has, and the words of all rows. They are arrays and not slices
+// because a slice, which is two words, goes through memory at every call of the cycle.
+const TABLE: usize = 36864;
+
+const SHEET: usize = 4096;
+
+const ROWS: usize = 110592;
 
 // A bound of all turns: 4,097 for each place that a part may end at.
 const TURNS: u32 = 16785409;
@@ -56,10 +63,10 @@ struct Turn {
 
 // Expands the part at a place, which comes down to no parameter.
 fn expand(
-    t: &[u16],
-    marks: &[u16],
+    t: &[u16; TABLE],
+    marks: &[u16; SHEET],
     slots: &[u16; 128],
-    rows: &mut [u16],
+    rows: &mut [u16; ROWS],
     level: u16,
     left: u32,
     n: u16,
@@ -71,7 +78,11 @@ fn expand(
 {
     let kind = word_at(t, at, KIND);
     if !stays(kind) {
-        return expand_own(t, marks, slots, rows, level, left, n, at);
+        let own = expand_own(t, marks, slots, rows, level, left, n, at);
+        return Made {
+            row: own.row,
+            count: own.count,
+        };
     }
     if left == 0 {
         return Made {
@@ -86,10 +97,10 @@ fn expand(
 // Expands the part at a place in its own copy of the slots: the scopes and the terms of procedures that it comes to are
 // the turns of a loop.
 fn expand_own(
-    t: &[u16],
-    marks: &[u16],
+    t: &[u16; TABLE],
+    marks: &[u16; SHEET],
     slots: &[u16; 128],
-    rows: &mut [u16],
+    rows: &mut [u16; ROWS],
     level: u16,
     left: u32,
     n: u16,
@@ -135,10 +146,10 @@ fn expand_own(
 // Enters the procedure that is used at a place: the arguments that it uses are expanded in the slots of the caller,
 // then its slots become their rows. What is left is its term.
 fn enter(
-    t: &[u16],
-    marks: &[u16],
+    t: &[u16; TABLE],
+    marks: &[u16; SHEET],
     own: &mut [u16; 128],
-    rows: &mut [u16],
+    rows: &mut [u16; ROWS],
     level: u16,
     left: u32,
     n: u16,
@@ -162,10 +173,10 @@ fn enter(
 
 // Makes row n for a part that is neither the scope nor the use of a procedure.
 fn expand_record(
-    t: &[u16],
-    marks: &[u16],
+    t: &[u16; TABLE],
+    marks: &[u16; SHEET],
     own: &mut [u16; 128],
-    rows: &mut [u16],
+    rows: &mut [u16; ROWS],
     level: u16,
     left: u32,
     n: u16,
@@ -184,12 +195,13 @@ fn expand_record(
     Made { row: n, count }
 }
 
-// Makes row n for the part at a place, after the rows of its parts, and says how many are made then.
+// Makes row n for the part at a place, after the rows of its parts, and says how many are made then. A part without
+// parts, as every second one is, has a shorter way.
 fn expand_row(
-    t: &[u16],
-    marks: &[u16],
+    t: &[u16; TABLE],
+    marks: &[u16; SHEET],
     slots: &[u16; 128],
-    rows: &mut [u16],
+    rows: &mut [u16; ROWS],
     level: u16,
     left: u32,
     n: u16,
@@ -199,6 +211,10 @@ fn expand_row(
         (now (rows .entry)) (now (rows .exit)) n r ⌝ }
 {
     let wanted = parts_of(word_at(t, at, KIND), word_at(t, at, DETAIL));
+    if wanted == 0 {
+        close_leaf(t, slots, rows, at, n);
+        return more(n, 1);
+    }
     let four = expand_parts(t, marks, slots, rows, level, left, more(n, 1), at, wanted);
     close_row(t, slots, rows, at, n, four.a, four.b, four.c, four.d);
     four.count
@@ -206,10 +222,10 @@ fn expand_row(
 
 // Expands those parts of the part at a place whose bits are wanted, in their order.
 fn expand_parts(
-    t: &[u16],
-    marks: &[u16],
+    t: &[u16; TABLE],
+    marks: &[u16; SHEET],
     slots: &[u16; 128],
-    rows: &mut [u16],
+    rows: &mut [u16; ROWS],
     level: u16,
     left: u32,
     n: u16,
@@ -234,6 +250,15 @@ fn expand_parts(
         later % 2,
         1,
     );
+    if last == 0 {
+        return Four {
+            a: a.row,
+            b: b.row,
+            c: NO_ROW,
+            d: NO_ROW,
+            count: b.count,
+        };
+    }
     let c = expand_part(t, marks, slots, rows, level, left, b.count, at, last % 2, 2);
     let d = expand_part(
         t,
@@ -259,10 +284,10 @@ fn expand_parts(
 // Expands part j of the part at a place, where it is wanted: one that comes down to a parameter is that parameter's
 // row.
 fn expand_part(
-    t: &[u16],
-    marks: &[u16],
+    t: &[u16; TABLE],
+    marks: &[u16; SHEET],
     slots: &[u16; 128],
-    rows: &mut [u16],
+    rows: &mut [u16; ROWS],
     level: u16,
     left: u32,
     n: u16,
@@ -292,7 +317,7 @@ fn expand_part(
 }
 
 // Expands the whole term, which the table has at a place: its row, and how many rows are made.
-pub fn expand_term(t: &[u16], marks: &[u16], rows: &mut [u16], at: u16) -> Made
+pub fn expand_term(t: &[u16; TABLE], marks: &[u16; SHEET], rows: &mut [u16; ROWS], at: u16) -> Made
     ensures { λ r. ⌜ Top (now (t .entry)) (now (marks .entry)) at (now (rows .entry)) (now (rows .exit))
         (r .row) (r .count) ⌝ }
 {

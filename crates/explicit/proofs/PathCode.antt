@@ -68,6 +68,10 @@ unfolding riseAll framesOf
 climb-last N p c zero out o z inv = inv
 climb-last N p c (suc i) out o z inv = absurd (omega arith)
 
+-- a sum counted from a number by another name
+pub from-first : (a b x r : ℕ) → a ≡ b → r ≡ sumOf b x → r ≡ sumOf a x
+from-first a b x r e h = rw e h
+
 pub far-leads : (N : Numbers) (s : Site) (p : List ℕ) (c r : ℕ) (out : Silent) (o : Out) →
   Go (out .next) (out .block) (out .set) ≡ riseAll N (framesOf p c) o → r ≡ sumOf (s .o) (out .next) →
   r ≡ targetOf s (riseAll N (framesOf p c) o)

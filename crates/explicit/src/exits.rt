@@ -18,6 +18,7 @@ ghost use mathlib.Core.Path.{_≡_};
 ghost use Prim.Native.Nat.{_-_, _≤_, _<_};
 ghost use Rattle.automaton.specs.declared.Out.the-variants.{Go, Exit};
 ghost use Rattle.language.specs.declared.Numbers.{Numbers};
+ghost use Rattle.explicit.specs.declared.Site.{Site};
 ghost use Rattle.explicit.specs.inner.Path.{riseAll, blockIn, leftOf};
 ghost use Rattle.explicit.specs.inner.Levels.{framesOf, Sound};
 ghost use Rattle.explicit.specs.inner.Moves.{targetOf};
@@ -50,20 +51,21 @@ fn climb(p: &[usize; WORDS], c: usize, g: Silent) -> Silent
     out
 }
 
-// Where a silent step inside c levels leads, level by level.
-fn far(s: Site, p: &[usize; WORDS], c: usize, next: usize, block: usize, set: usize) -> usize
+// Where a silent step inside c levels leads, level by level, in a sheet whose states begin at `first`. Nothing else of the
+// site matters to a silent step, and a number is handed on more cheaply than the site.
+fn far(first: usize, p: &[usize; WORDS], c: usize, next: usize, block: usize, set: usize) -> usize
     requires { ⌜ Sound (now p) c ⌝ }
-    ensures { λ r. ⌜ ((N : Numbers) → r
+    ensures { λ r. ⌜ ((N : Numbers) (s : Site) → s .o ≡ first → r
         ≡ targetOf s (riseAll N (framesOf (now (p .entry)) c) (Go next block set))) ⌝ }
 {
     let o = climb(p, c, Silent { next, block, set });
-    sum(s.o, o.next)
+    sum(first, o.next)
 }
 
 // Where it leads that writes the variable of the block at the level m - 1: its state is counted from the first state of
 // the block's copy of the value written; level by level where the number may be too large.
 fn moved(
-    s: Site,
+    first: usize,
     p: &[usize; WORDS],
     c: usize,
     next: usize,
@@ -72,7 +74,7 @@ fn moved(
     m: usize,
 ) -> usize
     requires { ⌜ Sound (now p) c × ((next < 4294901760) × ((m ≡ blockIn (framesOf (now p) c) block) × (0 < m))) ⌝ }
-    ensures { λ r. ⌜ ((N : Numbers) → r
+    ensures { λ r. ⌜ ((N : Numbers) (s : Site) → s .o ≡ first → r
         ≡ targetOf s (riseAll N (framesOf (now (p .entry)) c) (Go next block set))) ⌝ }
 {
     let copy = mul_add(
@@ -81,15 +83,15 @@ fn moved(
         start_at(p, c) + next - start_at(p, m),
     );
     if FAR <= copy {
-        return far(s, p, c, next, block, set);
+        return far(first, p, c, next, block, set);
     }
-    sum(s.o, start_at(p, m - 1) + copy)
+    sum(first, start_at(p, m - 1) + copy)
 }
 
 // Where a silent step inside c levels leads that writes the variable of the block at the level m - 1, or no block's where m
 // is 0: its state is counted from the first state of the innermost, or of the block's copy of the value written.
 fn lead_at(
-    s: Site,
+    first: usize,
     p: &[usize; WORDS],
     c: usize,
     next: usize,
@@ -98,21 +100,21 @@ fn lead_at(
     m: usize,
 ) -> usize
     requires { ⌜ Sound (now p) c × (m ≡ blockIn (framesOf (now p) c) block) ⌝ }
-    ensures { λ r. ⌜ ((N : Numbers) → r
+    ensures { λ r. ⌜ ((N : Numbers) (s : Site) → s .o ≡ first → r
         ≡ targetOf s (riseAll N (framesOf (now (p .entry)) c) (Go next block set))) ⌝ }
 {
     if FAR <= next {
-        return far(s, p, c, next, block, set);
+        return far(first, p, c, next, block, set);
     }
     if m == 0 {
-        return sum(s.o, start_at(p, c) + next);
+        return sum(first, start_at(p, c) + next);
     }
-    moved(s, p, c, next, block, set, m)
+    moved(first, p, c, next, block, set, m)
 }
 
 // Where a silent step inside c levels leads.
 pub(crate) fn lead(
-    s: Site,
+    first: usize,
     p: &[usize; WORDS],
     c: usize,
     next: usize,
@@ -120,16 +122,16 @@ pub(crate) fn lead(
     set: usize,
 ) -> usize
     requires { ⌜ Sound (now p) c ⌝ }
-    ensures { λ r. ⌜ ((N : Numbers) → r
+    ensures { λ r. ⌜ ((N : Numbers) (s : Site) → s .o ≡ first → r
         ≡ targetOf s (riseAll N (framesOf (now (p .entry)) c) (Go next block set))) ⌝ }
 {
-    lead_at(s, p, c, next, block, set, block_at(p, c, block))
+    lead_at(first, p, c, next, block, set, block_at(p, c, block))
 }
 
 // Where a silent step inside i levels leads that follows an exit: what it writes is forgotten where the block of the
-// variable, at the level own - 1, is left.
+// variable, at the level own - 1, is left. Most exits write nothing, and their steps are led from here.
 fn led(
-    s: Site,
+    first: usize,
     p: &[usize; WORDS],
     i: usize,
     next: usize,
@@ -138,13 +140,18 @@ fn led(
     set: usize,
 ) -> usize
     requires { ⌜ Sound (now p) i × (own ≤ i → own ≡ blockIn (framesOf (now p) i) block) ⌝ }
-    ensures { λ r. ⌜ ((N : Numbers) → r
+    ensures { λ r. ⌜ ((N : Numbers) (s : Site) → s .o ≡ first → r
         ≡ targetOf s (riseAll N (framesOf (now (p .entry)) i) (Go next (leftOf i own block) (leftOf i own set)))) ⌝ }
 {
     if i < own {
-        return lead(s, p, i, next, 0, 0);
+        return lead(first, p, i, next, 0, 0);
     }
-    lead_at(s, p, i, next, block, set, own)
+    if own == 0 {
+        if next < FAR {
+            return sum(first, start_at(p, i) + next);
+        }
+    }
+    lead_at(first, p, i, next, block, set, own)
 }
 
 // Where an exit of what is inside c levels leads: a frame that does not pass it on hands on what is written as it is.
@@ -174,7 +181,7 @@ pub(crate) fn exit(
                 block: _,
                 set: _,
             } => {
-                return led(s, p, i, next, own, block, set);
+                return led(s.o, p, i, next, own, block, set);
             }
             Out::Exit {
                 kind: k,
@@ -210,7 +217,7 @@ pub(crate) fn reach(n: Numbers, s: Site, p: &[usize; WORDS], c: usize, o: Out) -
     ensures { λ r. ⌜ r ≡ targetOf s (riseAll n (framesOf (now (p .entry)) c) o) ⌝ }
 {
     match o {
-        Out::Go { next, block, set } => lead(s, p, c, next, block, set),
+        Out::Go { next, block, set } => lead(s.o, p, c, next, block, set),
         Out::Exit {
             kind,
             value,

@@ -88,7 +88,13 @@ fn write_row(
             set: _,
         } => e,
         Out::Say { said, next } => {
-            write_edge(words, s.n, e, letter_of(n, said), lead(s, p, c, next, 0, 0));
+            write_edge(
+                words,
+                s.n,
+                e,
+                letter_of(n, said),
+                lead(s.o, p, c, next, 0, 0),
+            );
             sum(e, 1)
         }
         Out::Hear {

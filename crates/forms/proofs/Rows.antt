@@ -5,7 +5,8 @@ use native.Mathlib.Omega.{arith}
 use mathlib.Core.List.{List}
 use mathlib.Core.Path.{_≡_, refl, sym, ap, _∙_}
 use lib.Dec.{eqb, ltb}
-use lib.ListN.{getD}
+use lib.ListN.{getD, set, length, length-set}
+use lib.Seq.{getD-set-same, set-set}
 use borrow.Author.Tests.{ltb-true, ltb-false, eq-eqb, ne-eqb}
 use Rattle.language.specs.Choice.{pick}
 use Rattle.procedures.specs.Form.{Form, only, unit, plus, times, lower}
@@ -14,7 +15,8 @@ use Rattle.procedures.proofs.Tests.{by-test}
 use Rattle.procedures.proofs.Holding.{held-zero}
 use Rattle.forms.specs.Shows.{wordOf, Shows, SameBut}
 use Rattle.forms.specs.Become.{Become, summed}
-use Rattle.forms.specs.Contract.{ConstantSet, UnitSet, LowerSet, Added, ConstantAdded}
+use Rattle.forms.specs.Contract.{ConstantSet, UnitSet, LowerSet, Added, ConstantAdded, AddedWith}
+use Rattle.forms.proofs.Becoming.{become-none, become-more, become-one, summed-is}
 use Rattle.forms.proofs.Holds.{held-one, held-none, held-summed, held-added}
 
 -- a word by its index in the table
@@ -128,3 +130,29 @@ constant-added F F′ to c x v p e B = record {
       constant = B .done 0 (omega arith) ∙ e ∙ held-added x c (f .constant) n (p ∙ S .constant) q;
       coefficients = λ s l. B .above (129 * to + suc s) (omega arith) ∙ S .coefficients s l ∙ held-none (f .of s) };
     same = same-of F F′ to (129 * to) 1 (λ i. v) (omega arith) (omega arith) B }
+
+-- a constant, `factor` times another, and c, in one word that is written once
+pub added-with : (F F′ : List ℕ) (to from factor c x y v w : ℕ) → 129 * to < length F → x ≡ getD F (129 * to) 0 →
+    y ≡ getD F (129 * from) 0 → v ≡ held (x + factor * y) → w ≡ held (v + c) → F′ ≡ set F (129 * to) w →
+    AddedWith F F′ to from factor 0 c
+unfolding wordOf
+added-with F F′ to from factor c x y v w l p q e g z =
+    let i : 129 * to ≡ 129 * to + 0 = omega arith in
+    let j : 129 * from ≡ 129 * from + 0 = omega arith in
+    let G : List ℕ = set F (129 * to + 0) v in
+    let n : Become F F (129 * to) 0 (summed F to from factor) = become-none F (129 * to) (summed F to from factor) in
+    let s = summed-is F F to from factor 0 x y v (summed F to from factor) n (p ∙ ap (λ k. getD F k 0) i)
+        (q ∙ ap (λ k. getD F k 0) j) e (omega arith) in
+    let B = become-more F F G (129 * to) 0 v (summed F to from factor) n refl s (omega (arith, i)) in
+    let t : F′ ≡ set G (129 * to) w = z ∙ sym (set-set F (129 * to) v w) ∙ ap (λ k. set (set F k v) (129 * to) w) i in
+    let h : 129 * to < length G = rw (length-set F (129 * to + 0) v) l in
+    record {
+      between = G;
+      added = added F G to from factor 0 (omega arith) B;
+      constant = constant-added G F′ to c v w (sym (getD-set-same F (129 * to + 0) v 0 (omega (arith, i)))) g
+        (become-one G F′ (129 * to) w t h) }
+
+-- the same where m is 0
+pub added-none : (F F′ : List ℕ) (to from factor m c : ℕ) → m ≡ 0 → AddedWith F F′ to from factor 0 c →
+    AddedWith F F′ to from factor m c
+added-none F F′ to from factor m c e A = rw e A

@@ -29,3 +29,9 @@ pub record Added (F F′ : List ℕ) (to from factor m : ℕ) : Type 0 where
 pub record ConstantAdded (F F′ : List ℕ) (to c : ℕ) : Type 0 where
   pub shows : (f : Form) (m n : ℕ) → held c ≡ held n → Shows F to m f → Shows F′ to m (plus f (only n))
   pub same : SameBut F F′ to
+
+-- both
+pub record AddedWith (F F′ : List ℕ) (to from factor m c : ℕ) : Type 0 where
+  pub between : List ℕ
+  pub added : Added F between to from factor m
+  pub constant : ConstantAdded between F′ to c

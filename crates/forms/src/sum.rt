@@ -10,7 +10,7 @@ ghost use Prim.Native.Nat.{_+_, _*_, _<_, _≤_};
 ghost use lib.ListN.{length};
 ghost use Rattle.procedures.specs.Held.{held};
 ghost use Rattle.forms.specs.Become.{Become, summed};
-ghost use Rattle.forms.specs.Contract.{Added, ConstantAdded};
+ghost use Rattle.forms.specs.Contract.{Added, ConstantAdded, AddedWith};
 ghost use Rattle.forms.specs.Shows.{formRows, formWords};
 
 // x + factor * y, held at 4,097.
@@ -38,7 +38,7 @@ fn add_words(s: &mut [u16], to: usize, from: usize, factor: u32, n: usize)
 }
 
 // A row becomes itself and `factor` times another.
-pub fn add(f: &mut [u16; WORDS], to: usize, from: usize, factor: u32, m: usize)
+fn add(f: &mut [u16; WORDS], to: usize, from: usize, factor: u32, m: usize)
     requires { ⌜ (to < formRows) × ((from < formRows) × (m ≤ 128)) ⌝ }
     ensures { λ r. ⌜ Added (now (f .entry)) (now (f .exit)) to from factor m ⌝ }
 {
@@ -46,7 +46,7 @@ pub fn add(f: &mut [u16; WORDS], to: usize, from: usize, factor: u32, m: usize)
 }
 
 // A row becomes itself and the constant c.
-pub fn add_constant(f: &mut [u16; WORDS], to: usize, c: u32)
+fn add_constant(f: &mut [u16; WORDS], to: usize, c: u32)
     requires { ⌜ to < formRows ⌝ }
     ensures { λ r. ⌜ ConstantAdded (now (f .entry)) (now (f .exit)) to c ⌝ }
 {
@@ -54,4 +54,32 @@ pub fn add_constant(f: &mut [u16; WORDS], to: usize, c: u32)
     let x = at(f, b);
     let v = sat_add(x, c);
     put(f, b, v);
+}
+
+// The constant of a row becomes itself, `factor` times that of another, and c.
+fn add_first(f: &mut [u16; WORDS], to: usize, from: usize, factor: u32, c: u32)
+    requires { ⌜ (to < formRows) × (from < formRows) ⌝ }
+    ensures { λ r. ⌜ AddedWith (now (f .entry)) (now (f .exit)) to from factor 0 c ⌝ }
+{
+    let b = WIDTH * to;
+    let a = WIDTH * from;
+    let x = at(f, b);
+    let y = at(f, a);
+    let v = sum_of(x, factor, y);
+    let w = sat_add(v, c);
+    put(f, b, w);
+}
+
+// A row becomes itself, `factor` times another, and the constant c. Where no parameters are around, as in a sheet without
+// procedures, there is one word to be written, once.
+pub fn add_with(f: &mut [u16; WORDS], to: usize, from: usize, factor: u32, m: usize, c: u32)
+    requires { ⌜ (to < formRows) × ((from < formRows) × (m ≤ 128)) ⌝ }
+    ensures { λ r. ⌜ AddedWith (now (f .entry)) (now (f .exit)) to from factor m c ⌝ }
+{
+    if m == 0 {
+        add_first(f, to, from, factor, c);
+        return;
+    }
+    add(f, to, from, factor, m);
+    add_constant(f, to, c);
 }

@@ -16,8 +16,7 @@ use crate::row::word_of;
 use crate::term::TABLE;
 use forms::set::least;
 use forms::set::set_lower;
-use forms::sum::add;
-use forms::sum::add_constant;
+use forms::sum::add_with;
 use forms::table::WORDS;
 use records::row::DETAIL;
 use records::row::KIND;
@@ -87,8 +86,7 @@ fn weigh_parts(
     let factor = factor_of(t, f, kind, detail, at, place, j);
     let extra = extra_of(t, kind, place);
     weigh_part(t, f, marks, left, place, m);
-    add(f, left + 1, left, factor, m);
-    add_constant(f, left + 1, extra);
+    add_with(f, left + 1, left, factor, m, extra);
     weigh_parts(t, f, marks, left, at, m, kind, detail, count, j + 1);
 }
 

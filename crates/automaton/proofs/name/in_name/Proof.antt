@@ -36,13 +36,18 @@ sum-requires c κs = search needs
 in-args-requires : tie.Need-in-args-requires
 in-args-requires c κs = search needs
 
+again-requires : tie.Need-again-requires
+again-requires c κs = search needs
+
 returns-3 : tie.Need-returns-3
 unfolding inName
 returns-3 c =
-    simp (← c .before .before .before .before .before .before .before .name-id .ensures, ← c .before .before .before
-    .before .name-count .ensures, ← c .before .before .before .spots .ensures, ← c .before .sum .ensures, ← c .in-args
-    .ensures, ne-eqb _ _ (c .before .before .before .before .before .before .if1 .left), ne-eqb _ _
-    (c .before .before .before .before .before .if2 .left), lt-ltb _ _ (c .before .before .if3 .taken))
+    simp (← c .before .before .before .before .before .before .before .before .name-id .ensures, ← c .before .before
+        .before .before .before .name-count .ensures, ← c .before .before .before .before .spots .ensures, ← c
+        .before .before .sum .ensures, ← c .before .in-args .ensures, ← c .again .ensures, ne-eqb _ _ (c .before
+        .before .before .before .before .before .before .if1 .left), ne-eqb _ _
+    (c .before .before .before .before .before .before .if2 .left), lt-ltb _ _ (c .before .before .before .if3
+        .taken))
 
 sub-reply : tie.Need-sub-reply
 sub-reply c = search needs
@@ -58,11 +63,13 @@ unfolding inName
 returns-4 c =
     simp (← c .before .before .before .before .before .before .name-id .ensures, ← c .before .before .before
     .name-count .ensures, ← c .before .before .spots .ensures, ← c .reply .ensures, ne-eqb _ _
-    (c .before .before .before .before .before .if1 .left), ne-eqb _ _ (c .before .before .before .before .if2 .left),
+    (c .before .before .before .before .before .if1 .left), ne-eqb _ _ (c .before .before .before .before .if2
+        .left),
     le-ltb _ _ (c .before .if3 .left))
 
 pub in-name-spec : {M : Type 1} → statement M
 in-name-spec =
     tie.close (tie.spec name-id-requires said-requires returns returns-2 name-count-requires
-    spots-requires sub-if3 sub-in-args sum-requires in-args-requires returns-3 sub-reply sub-reply-2 reply-requires
+    spots-requires sub-if3 sub-in-args sum-requires in-args-requires again-requires returns-3 sub-reply sub-reply-2
+        reply-requires
     returns-4)

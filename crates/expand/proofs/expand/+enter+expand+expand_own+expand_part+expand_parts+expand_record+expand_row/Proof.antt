@@ -4,8 +4,8 @@ use borrow.Author.Needs.{needs}
 use borrow.Author.Tests.{not-false}
 use native.Mathlib.Omega.{arith}
 use mathlib.Core.Path.{refl, sym, _∙_}
-use Rattle.expand.proofs.Joins.{piece-none, piece-some, pieces-four, row-made, entered, record-block}
-use Rattle.expand.proofs.Joins.{record-plain, kind-stays}
+use Rattle.expand.proofs.Joins.{piece-none, piece-some, pieces-two, pieces-four, row-made, entered, record-block}
+use Rattle.expand.proofs.Joins.{record-plain, kind-stays, leaf-made, no-parts}
 use Rattle.expand.proofs.Expansion.{by-come, by-end, by-kind}
 use Rattle.expand.proofs.Turns.{Led, led-first, led-end, led-come, led-scope, led-use, led-record}
 use borrow.Fn.Kinds.{In}
@@ -31,6 +31,7 @@ use Rattle.expand.proofs.expand.+enter+expand+expand_own+expand_part+ex
 use Rattle.expand.proofs.expand.expand_row.Reads as expand-row
 use Rattle.expand.proofs.expand.expand_row.Kinds as expand-row-kinds
 use Rattle.expand.proofs.expand.+enter+expand+expand_own+expand_part+expand_parts+expand_record+expand_row.Lts-expand_row as expand-row-lts
+use Rattle.expand.proofs.close.close_leaf.Reads as close-leaf-reads
 use Rattle.expand.proofs.close.close_row.Reads as close-row-reads
 use Rattle.expand.proofs.close.parts_of.Reads as parts-of-reads
 use Rattle.expand.proofs.close.stays.Reads as stays-reads
@@ -95,7 +96,8 @@ abbrev expand-parts-at : ℕ → In 4 expand-parts-kinds.ps
 expand-parts-at t = and 4 expand-parts-kinds.ps (is 4 expand-parts-kinds.ps μ-expand-parts t) expand-parts.Pre
 
 abbrev expand-parts-below : ℕ → In 4 expand-parts-kinds.ps
-expand-parts-below t = and 4 expand-parts-kinds.ps (falls 4 expand-parts-kinds.ps _<_ μ-expand-parts t) expand-parts.Pre
+expand-parts-below t = and 4 expand-parts-kinds.ps (falls 4 expand-parts-kinds.ps _<_ μ-expand-parts t)
+    expand-parts.Pre
 
 abbrev expand-record-at : ℕ → In 4 expand-record-kinds.ps
 expand-record-at t = and 4 expand-record-kinds.ps (is 4 expand-record-kinds.ps μ-expand-record t) expand-record.Pre
@@ -143,8 +145,9 @@ expand-record-calls t =
 
 abbrev expand-row-calls : ℕ → expand-row-lts.Claims
 expand-row-calls t =
-    (word-at-reads.Asked, word-at-reads.Learnt, parts-of-reads.Asked, parts-of-reads.Learnt, more-reads.Asked,
-        more-reads.Learnt, expand-parts-below t, expand-parts.Post, close-row-reads.Asked, close-row-reads.Learnt)
+    (word-at-reads.Asked, word-at-reads.Learnt, parts-of-reads.Asked, parts-of-reads.Learnt, close-leaf-reads.Asked,
+        close-leaf-reads.Learnt, more-reads.Asked, more-reads.Learnt, expand-parts-below t, expand-parts.Post,
+        close-row-reads.Asked, close-row-reads.Learnt)
 
 -- what the present part becomes, the first one becomes
 abbrev expand-own-Inv-loop : expand-own-lts.InvT-loop
@@ -186,17 +189,14 @@ module _ (t : ℕ) where
   enter-more-requires : enter-lts.Need-more-requires (enter-calls t) (enter-at t) enter.Post
   enter-more-requires c κs = search needs
 
-  enter-same-length : enter-lts.Need-same-length (enter-calls t) (enter-at t) enter.Post
-  enter-same-length c = search needs
-
   enter-returns : enter-lts.Need-returns (enter-calls t) (enter-at t) enter.Post
   enter-returns c = entered _ _ _ _ _ _ _ _ _ _ _ _ _ _ _ _ _ _ _ _ _ _ (c .before .before .before .before .before
-      .before .before .before .before .before .before .before .before .word-at .ensures) (c .before .before .before
-      .before .before .before .before .before .before .before .before .before .procedure-of .ensures) (c .before
-      .before .before .before .before .before .before .before .before .before .before .word-at2 .ensures) (c .before
-      .before .before .before .before .before .before .before .before .before .word-at3 .ensures) (c .before .before
-      .before .before .before .before .before .used-at .ensures) (c .before .passed-of .ensures) (c .more .ensures) (c
-      .before .before .pass .ensures) (c .before .before .before .before .before .before .expand-parts .ensures)
+      .before .before .before .before .before .before .before .before .before .word-at .ensures) (c .before .before
+      .before .before .before .before .before .before .before .before .before .before .before .procedure-of
+      .ensures) (c .before .before .before .before .before .before .before .before .before .before .before .word-at2
+      .ensures) (c .before .before .before .before .before .before .before .before .before .word-at3 .ensures) (c
+      .before .before .before .before .before .used-at .ensures) (c .before .passed-of .ensures) (c .more .ensures)
+      (c .before .before .pass .ensures) (c .before .before .before .before .expand-parts .ensures)
 
 -- expand
 module _ (t : ℕ) where
@@ -209,11 +209,8 @@ module _ (t : ℕ) where
   expand-expand-own-requires : expand-lts.Need-expand-own-requires (expand-calls t) (expand-at t) expand.Post
   expand-expand-own-requires c κs = search needs
 
-  expand-same-length : expand-lts.Need-same-length (expand-calls t) (expand-at t) expand.Post
-  expand-same-length c = search needs
-
   expand-returns : expand-lts.Need-returns (expand-calls t) (expand-at t) expand.Post
-  expand-returns c = c .before .before .expand-own .ensures
+  expand-returns c = c .expand-own .ensures
 
   expand-returns-2 : expand-lts.Need-returns-2 (expand-calls t) (expand-at t) expand.Post
   expand-returns-2 c = by-end _ _ _ _ _ _ _ _ (c .if2 .taken)
@@ -224,15 +221,12 @@ module _ (t : ℕ) where
   expand-expand-row-requires : expand-lts.Need-expand-row-requires (expand-calls t) (expand-at t) expand.Post
   expand-expand-row-requires c κs = search needs
 
-  expand-same-length-2 : expand-lts.Need-same-length-2 (expand-calls t) (expand-at t) expand.Post
-  expand-same-length-2 c = search needs
-
   expand-returns-3 : expand-lts.Need-returns-3 (expand-calls t) (expand-at t) expand.Post
   expand-returns-3 c = by-kind _ _ _ _ _ _ _ _ _ (sym (c .before .before .before .before .before .before .before
-      .before .before .before .before .pre .1)) (omega arith) (c .before .before .before .before .if2 .left)
-      (kind-stays _ _ _ _ _ _ _ _ _ _ _ _ (c .before .before .before .before .before .before .before .word-at
-      .ensures) (c .before .before .before .before .before .before .stays .ensures) (not-false _ (c .before .before
-      .before .before .before .if1 .left)) refl (c .before .before .expand-row .ensures))
+      .pre .1)) (omega arith) (c .before .before .if2 .left)
+      (kind-stays _ _ _ _ _ _ _ _ _ _ _ _ (c .before .before .before .before .before .word-at
+      .ensures) (c .before .before .before .before .stays .ensures) (not-false _ (c .before .before .before .if1
+          .left)) refl (c .expand-row .ensures))
 
 -- expand_own
 module _ (t : ℕ) where
@@ -256,13 +250,10 @@ module _ (t : ℕ) where
       expand-own.Post expand-own-Inv-loop expand-own-μ-loop
   expand-own-slot-at-requires c κs = search needs
 
-  expand-own-same-length : expand-own-lts.Need-same-length (expand-own-calls t) (expand-own-at t) expand-own.Post
-      expand-own-Inv-loop expand-own-μ-loop
-  expand-own-same-length c = c .before .before .before .before .before .loop .inv .long
-
   expand-own-returns : expand-own-lts.Need-returns (expand-own-calls t) (expand-own-at t) expand-own.Post
       expand-own-Inv-loop expand-own-μ-loop
-  expand-own-returns c = led-come _ _ _ _ _ _ _ _ _ _ _ _ _ _ (c .before .before .before .before .before .loop .inv) _
+  expand-own-returns c = led-come _ _ _ _ _ _ _ _ _ _ _ _ _ _ (c .before .before .before .before .before .before
+      .loop .inv) _
       (c .before .before .before .come-at .ensures) _ (c .before .before .if1 .taken) (c .slot-at .ensures)
 
   expand-own-word-at-requires : expand-own-lts.Need-word-at-requires (expand-own-calls t) (expand-own-at t)
@@ -277,47 +268,47 @@ module _ (t : ℕ) where
       expand-own.Post expand-own-Inv-loop expand-own-μ-loop
   expand-own-word-at-requires-2 c κs = search needs
 
-  expand-own-more-requires : expand-own-lts.Need-more-requires (expand-own-calls t) (expand-own-at t) expand-own.Post
+  expand-own-more-requires : expand-own-lts.Need-more-requires (expand-own-calls t) (expand-own-at t)
+      expand-own.Post
       expand-own-Inv-loop expand-own-μ-loop
   expand-own-more-requires c κs = search needs
 
   expand-own-loop-less : expand-own-lts.Need-loop-less (expand-own-calls t) (expand-own-at t) expand-own.Post
       expand-own-Inv-loop expand-own-μ-loop
-  expand-own-loop-less c = omega (arith, c .before .before .before .before .before .before .loop-test .taken)
+  expand-own-loop-less c = omega (arith, c .before .before .before .before .before .before .before .before .before
+      .loop-test .taken)
 
   expand-own-loop-again : expand-own-lts.Need-loop-again (expand-own-calls t) (expand-own-at t) expand-own.Post
       expand-own-Inv-loop expand-own-μ-loop
   expand-own-loop-again c = led-scope _ _ _ _ _ _ _ _ _ _ _ _ _ _ (c .before .before .before .before .before .before
-      .before .loop .inv) _ (c .before .before .before .before .before .come-at .ensures) (c .before .before .before
-      .before .if1 .left) (c .before .before .before .before .before .before .loop-test .taken) _ (c .before .before
-      .before .word-at .ensures) _ _ (c .before .before .if2 .taken) (c .before .word-at2 .ensures) (c .more .ensures)
+      .before .before .before .before .loop .inv) _ (c .before .before .before .before .before .before .before
+      .come-at .ensures) (c .before .before .before .before .before .before .if1 .left) (c .before .before .before
+      .before .before .before .before .before .before .loop-test .taken) _ (c .before .before .before .before
+      .word-at .ensures) _ _ (c .before .before .before .if2 .taken) (c .before .word-at2 .ensures) (c .more
+      .ensures)
 
   expand-own-expand-record-requires : expand-own-lts.Need-expand-record-requires (expand-own-calls t) (expand-own-at
       t) expand-own.Post expand-own-Inv-loop expand-own-μ-loop
   expand-own-expand-record-requires c κs = omega (arith, c .before .before .before .before .before .before .before
-      .before .before .before .before .before .before .pre .0, c .before .before .before .before .before .before
-      .before .before .loop .inv .fewer, c .before .before .before .before .before .before .before .loop-test .taken)
-
-  expand-own-same-length-2 : expand-own-lts.Need-same-length-2 (expand-own-calls t) (expand-own-at t) expand-own.Post
-      expand-own-Inv-loop expand-own-μ-loop
-  expand-own-same-length-2 c = c .before .rows .given ∙ c .before .before .before .before .before .before .before
-      .before .before .before .before .loop .inv .long
+      .before .before .before .before .before .pre .0, c .before .before .before .before .before .before .before
+      .before .before .before .loop .inv .fewer, c .before .before .before .before .before .before .before .before
+      .before .loop-test .taken)
 
   expand-own-returns-2 : expand-own-lts.Need-returns-2 (expand-own-calls t) (expand-own-at t) expand-own.Post
       expand-own-Inv-loop expand-own-μ-loop
   expand-own-returns-2 c = led-record _ _ _ _ _ _ _ _ _ _ _ _ _ _ (c .before .before .before .before .before .before
-      .before .before .before .before .before .loop .inv) _ (c .before .before .before .before .before .before .before
-      .before .before .come-at .ensures) (c .before .before .before .before .before .before .before .before .if1
+      .before .before .before .before .before .loop .inv) _ (c .before .before .before .before .before .before
+      .before .before .come-at .ensures) (c .before .before .before .before .before .before .before .if1
       .left) (c .before .before .before .before .before .before .before .before .before .before .loop-test .taken) _
-      (c .before .before .before .before .before .before .before .word-at .ensures) _ _ _ (c .before .before .before
-      .before .before .before .if2 .left) (c .before .before .before .before .before .if3 .taken) (c .before .before
-      .expand-record .ensures)
+      (c .before .before .before .before .before .word-at .ensures) _ _ _ (c .before .before .before .before .if2
+          .left) (c .before .before .before .if3 .taken) (c .expand-record .ensures)
 
   expand-own-enter-requires : expand-own-lts.Need-enter-requires (expand-own-calls t) (expand-own-at t)
       expand-own.Post expand-own-Inv-loop expand-own-μ-loop
   expand-own-enter-requires c κs = omega (arith, c .before .before .before .before .before .before .before .before
-      .before .before .before .before .before .pre .0, c .before .before .before .before .before .before .before
-      .before .loop .inv .fewer, c .before .before .before .before .before .before .before .loop-test .taken)
+      .before .before .before .before .pre .0, c .before .before .before .before .before .before .before .before
+      .before .before .loop .inv .fewer, c .before .before .before .before .before .before .before .before .before
+      .loop-test .taken)
 
   expand-own-loop-less-2 : expand-own-lts.Need-loop-less-2 (expand-own-calls t) (expand-own-at t) expand-own.Post
       expand-own-Inv-loop expand-own-μ-loop
@@ -327,15 +318,11 @@ module _ (t : ℕ) where
   expand-own-loop-again-2 : expand-own-lts.Need-loop-again-2 (expand-own-calls t) (expand-own-at t) expand-own.Post
       expand-own-Inv-loop expand-own-μ-loop
   expand-own-loop-again-2 c = led-use _ _ _ _ _ _ _ _ _ _ _ _ _ _ (c .before .before .before .before .before .before
-      .before .before .before .before .before .loop .inv) _ (c .before .before .before .before .before .before .before
-      .before .before .come-at .ensures) (c .before .before .before .before .before .before .before .before .if1
+      .before .before .before .before .before .loop .inv) _ (c .before .before .before .before .before .before
+      .before .before .come-at .ensures) (c .before .before .before .before .before .before .before .if1
       .left) (c .before .before .before .before .before .before .before .before .before .before .loop-test .taken) _
-      (c .before .before .before .before .before .before .before .word-at .ensures) _ _ _ _ _ (c .before .before
-      .before .before .before .if3 .left) (c .before .rows2 .given) (c .before .before .enter .ensures)
-
-  expand-own-same-length-3 : expand-own-lts.Need-same-length-3 (expand-own-calls t) (expand-own-at t) expand-own.Post
-      expand-own-Inv-loop expand-own-μ-loop
-  expand-own-same-length-3 c = c .before .loop .inv .long
+      (c .before .before .before .before .before .word-at .ensures) _ _ _ _ _ (c .before .before .before .if3 .left)
+          (c .enter .ensures)
 
   expand-own-returns-3 : expand-own-lts.Need-returns-3 (expand-own-calls t) (expand-own-at t) expand-own.Post
       expand-own-Inv-loop expand-own-μ-loop
@@ -346,7 +333,8 @@ module _ (t : ℕ) where
   expand-part-returns : expand-part-lts.Need-returns (expand-part-calls t) (expand-part-at t) expand-part.Post
   expand-part-returns c = piece-none _ _ _ _ _ _ _ _ _ _ (c .if1 .taken)
 
-  expand-part-add-word-at : expand-part-lts.Need-add-word-at (expand-part-calls t) (expand-part-at t) expand-part.Post
+  expand-part-add-word-at : expand-part-lts.Need-add-word-at (expand-part-calls t) (expand-part-at t)
+      expand-part.Post
   expand-part-add-word-at c = search needs
 
   expand-part-word-at-requires : expand-part-lts.Need-word-at-requires (expand-part-calls t) (expand-part-at t)
@@ -357,7 +345,8 @@ module _ (t : ℕ) where
       expand-part.Post
   expand-part-come-at-requires c κs = search needs
 
-  expand-part-sub-slot-at : expand-part-lts.Need-sub-slot-at (expand-part-calls t) (expand-part-at t) expand-part.Post
+  expand-part-sub-slot-at : expand-part-lts.Need-sub-slot-at (expand-part-calls t) (expand-part-at t)
+      expand-part.Post
   expand-part-sub-slot-at c = search needs
 
   expand-part-slot-at-requires : expand-part-lts.Need-slot-at-requires (expand-part-calls t) (expand-part-at t)
@@ -365,22 +354,18 @@ module _ (t : ℕ) where
   expand-part-slot-at-requires c κs = search needs
 
   expand-part-returns-2 : expand-part-lts.Need-returns-2 (expand-part-calls t) (expand-part-at t) expand-part.Post
-  expand-part-returns-2 c = piece-some _ _ _ _ _ _ _ _ _ _ _ _ _ _ (c .before .before .before .before .if1 .left) (c
-      .before .before .before .word-at .ensures) (by-come _ _ _ _ _ _ _ _ (c .before .before .come-at .ensures) (c
-      .before .if2 .taken) (c .slot-at .ensures))
+  expand-part-returns-2 c = piece-some _ _ _ _ _ _ _ _ _ _ _ _ _ _ (c .before .before .before .before .before
+      .before .if1 .left) (c .before .before .before .before .word-at .ensures) (by-come _ _ _ _ _ _ _ _ (c .before
+      .before .come-at .ensures) (c .before .if2 .taken) (c .slot-at .ensures))
 
   expand-part-expand-requires : expand-part-lts.Need-expand-requires (expand-part-calls t) (expand-part-at t)
       expand-part.Post
-  expand-part-expand-requires c κs = (omega (arith, c .before .before .before .before .before .before .before .before
-      .pre .0), omega (arith, c .before .before .come-at .ensures, c .before .if2 .left))
-
-  expand-part-same-length : expand-part-lts.Need-same-length (expand-part-calls t) (expand-part-at t) expand-part.Post
-  expand-part-same-length c = search needs
+  expand-part-expand-requires c κs = (omega (arith, c .before .before .before .before .before .before .before .pre
+      .0), omega (arith, c .before .before .come-at .ensures, c .before .if2 .left))
 
   expand-part-returns-3 : expand-part-lts.Need-returns-3 (expand-part-calls t) (expand-part-at t) expand-part.Post
-  expand-part-returns-3 c = piece-some _ _ _ _ _ _ _ _ _ _ _ _ _ _ (c .before .before .before .before .before .before
-      .before .if1 .left) (c .before .before .before .before .before .before .word-at .ensures) (c .before .before
-      .expand .ensures)
+  expand-part-returns-3 c = piece-some _ _ _ _ _ _ _ _ _ _ _ _ _ _ (c .before .before .before .before .before
+      .before .before .if1 .left) (c .before .before .before .before .before .word-at .ensures) (c .expand .ensures)
 
 -- expand_parts
 module _ (t : ℕ) where
@@ -392,6 +377,11 @@ module _ (t : ℕ) where
       (expand-parts-at t) expand-parts.Post
   expand-parts-expand-part-requires-2 c κs = search needs
 
+  expand-parts-returns : expand-parts-lts.Need-returns (expand-parts-calls t) (expand-parts-at t) expand-parts.Post
+  expand-parts-returns c = pieces-two _ _ _ _ _ _ (c .before .before .before .before .before .args .wanted) _ _ _ _
+      _ _ _ _ (c .if1 .taken)
+      (c .before .before .before .expand-part .ensures) (c .before .expand-part2 .ensures)
+
   expand-parts-expand-part-requires-3 : expand-parts-lts.Need-expand-part-requires-3 (expand-parts-calls t)
       (expand-parts-at t) expand-parts.Post
   expand-parts-expand-part-requires-3 c κs = search needs
@@ -400,17 +390,13 @@ module _ (t : ℕ) where
       (expand-parts-at t) expand-parts.Post
   expand-parts-expand-part-requires-4 c κs = search needs
 
-  expand-parts-same-length : expand-parts-lts.Need-same-length (expand-parts-calls t) (expand-parts-at t)
+  expand-parts-returns-2 : expand-parts-lts.Need-returns-2 (expand-parts-calls t) (expand-parts-at t)
       expand-parts.Post
-  expand-parts-same-length c = search needs
-
-  expand-parts-returns : expand-parts-lts.Need-returns (expand-parts-calls t) (expand-parts-at t) expand-parts.Post
-  expand-parts-returns c = pieces-four _ _ _ _ _ _ (c .before .before .before .before .before .before .before .before
-      .before .before .before .before .before .before .before .before .before .before .before .args .wanted) _ _ _ _ _
-      _ _ _ _ _ _ _ _ _ (c .before .before .before .before .before .before .before .before .before .before .before
-      .before .before .before .expand-part .ensures) (c .before .before .before .before .before .before .before
-      .before .before .before .expand-part2 .ensures) (c .before .before .before .before .before .before .expand-part3
-      .ensures) (c .before .before .expand-part4 .ensures)
+  expand-parts-returns-2 c = pieces-four _ _ _ _ _ _ (c .before .before .before .before .before .before .before
+      .before .before .args .wanted) _ _ _ _ _
+      _ _ _ _ _ _ _ _ _ (c .before .before .before .before .before .before .before .expand-part .ensures) (c .before
+          .before .before .before .before .expand-part2 .ensures) (c .before .before .expand-part3
+      .ensures) (c .expand-part4 .ensures)
 
 -- expand_record
 module _ (t : ℕ) where
@@ -418,7 +404,8 @@ module _ (t : ℕ) where
       t) expand-record.Post
   expand-record-word-at-requires c κs = search needs
 
-  expand-record-put-slot-requires : expand-record-lts.Need-put-slot-requires (expand-record-calls t) (expand-record-at
+  expand-record-put-slot-requires : expand-record-lts.Need-put-slot-requires (expand-record-calls t)
+      (expand-record-at
       t) expand-record.Post
   expand-record-put-slot-requires c κs = search needs
 
@@ -430,29 +417,20 @@ module _ (t : ℕ) where
       (expand-record-at t) expand-record.Post
   expand-record-expand-row-requires c κs = search needs
 
-  expand-record-same-length : expand-record-lts.Need-same-length (expand-record-calls t) (expand-record-at t)
-      expand-record.Post
-  expand-record-same-length c = search needs
-
   expand-record-returns : expand-record-lts.Need-returns (expand-record-calls t) (expand-record-at t)
       expand-record.Post
   expand-record-returns c = record-block _ _ _ _ _ _ _ _ _ _ _ _ (c .before .before .before .before .before .before
-      .before .before .before .word-at .ensures) _ _ (c .before .before .before .before .before .before .before
-      .before .if1 .taken) (c .before .before .before .before .before .before .put-slot .ensures) (c .before .before
-      .before .more .ensures) refl (c .before .before .expand-row .ensures)
+      .before .word-at .ensures) _ _ (c .before .before .before .before .before .before .if1 .taken) (c .before
+      .before .before .before .put-slot .ensures) (c .before .more .ensures) refl (c .expand-row .ensures)
 
   expand-record-expand-row-requires-2 : expand-record-lts.Need-expand-row-requires-2 (expand-record-calls t)
       (expand-record-at t) expand-record.Post
   expand-record-expand-row-requires-2 c κs = search needs
 
-  expand-record-same-length-2 : expand-record-lts.Need-same-length-2 (expand-record-calls t) (expand-record-at t)
-      expand-record.Post
-  expand-record-same-length-2 c = search needs
-
   expand-record-returns-2 : expand-record-lts.Need-returns-2 (expand-record-calls t) (expand-record-at t)
       expand-record.Post
-  expand-record-returns-2 c = record-plain _ _ _ _ _ _ _ _ _ _ _ _ (c .before .before .before .before .before .before
-      .word-at .ensures) (c .before .before .before .before .before .if1 .left) refl (c .before .before .expand-row2
+  expand-record-returns-2 c = record-plain _ _ _ _ _ _ _ _ _ _ _ _ (c .before .before .before .before .word-at
+      .ensures) (c .before .before .before .if1 .left) refl (c .expand-row2
       .ensures)
 
 -- expand_row
@@ -469,10 +447,30 @@ module _ (t : ℕ) where
       expand-row.Post
   expand-row-parts-of-requires c κs = search needs
 
-  expand-row-more-requires : expand-row-lts.Need-more-requires (expand-row-calls t) (expand-row-at t) expand-row.Post
+  expand-row-close-leaf-requires : expand-row-lts.Need-close-leaf-requires (expand-row-calls t) (expand-row-at t)
+      expand-row.Post
+  expand-row-close-leaf-requires c κs =
+      no-parts _ _ _ _ _ (c .before .before .before .before .before .before .word-at .ensures) (c .before .before
+          .before .before .word-at2 .ensures) (c .before .before .before .parts-of .ensures) (c .before .before .if1
+          .taken)
+
+  expand-row-more-requires : expand-row-lts.Need-more-requires (expand-row-calls t) (expand-row-at t)
+      expand-row.Post
   expand-row-more-requires c κs = search needs
 
-  expand-row-expand-parts-requires : expand-row-lts.Need-expand-parts-requires (expand-row-calls t) (expand-row-at t)
+  expand-row-returns : expand-row-lts.Need-returns (expand-row-calls t) (expand-row-at t) expand-row.Post
+  expand-row-returns c =
+      leaf-made _ _ _ _ _ _ _ _ _ _ _ _ _ (c .before .before .before .before .before .before .before .before
+          .word-at .ensures) (c .before .before .before .before .before .before .word-at2 .ensures) (c .before
+          .before .before .before .before .parts-of .ensures) (c .before .before .before .before .if1 .taken)
+        (c .more .ensures) (c .before .close-leaf .ensures)
+
+  expand-row-more-requires-2 : expand-row-lts.Need-more-requires-2 (expand-row-calls t) (expand-row-at t)
+      expand-row.Post
+  expand-row-more-requires-2 c κs = search needs
+
+  expand-row-expand-parts-requires : expand-row-lts.Need-expand-parts-requires (expand-row-calls t) (expand-row-at
+      t)
       expand-row.Post
   expand-row-expand-parts-requires c κs = search needs
 
@@ -480,51 +478,49 @@ module _ (t : ℕ) where
       expand-row.Post
   expand-row-close-row-requires c κs = search needs
 
-  expand-row-same-length : expand-row-lts.Need-same-length (expand-row-calls t) (expand-row-at t) expand-row.Post
-  expand-row-same-length c = search needs
-
-  expand-row-returns : expand-row-lts.Need-returns (expand-row-calls t) (expand-row-at t) expand-row.Post
-  expand-row-returns c = row-made _ _ _ _ _ _ _ _ _ _ _ _ _ _ _ _ _ _ _ (c .before .before .before .before .before
-      .before .before .before .before .before .before .word-at .ensures) (c .before .before .before .before .before
-      .before .before .before .before .before .word-at2 .ensures) (c .before .before .before .before .before .before
-      .before .before .before .parts-of .ensures) (c .before .before .before .before .before .before .before .more
-      .ensures) (c .before .before .before .before .before .before .expand-parts .ensures) (c .before .before
-      .close-row .ensures)
+  expand-row-returns-2 : expand-row-lts.Need-returns-2 (expand-row-calls t) (expand-row-at t) expand-row.Post
+  expand-row-returns-2 c = row-made _ _ _ _ _ _ _ _ _ _ _ _ _ _ _ _ _ _ _ (c .before .before .before .before .before
+      .before .before .before .before .before .word-at .ensures) (c .before .before .before .before .before .before
+      .before .before .word-at2 .ensures) (c .before .before .before .before .before .before .before .parts-of
+      .ensures) (c .before .before .before .before .more2
+      .ensures) (c .before .before .before .expand-parts .ensures) (c .close-row .ensures)
 
 pub +enter+expand+expand-own+expand-part+expand-parts+expand-record+expand-row-spec : {M : Type 1} → statement M
 +enter+expand+expand-own+expand-part+expand-parts+expand-record+expand-row-spec =
     close μ-enter μ-expand μ-expand-own μ-expand-part μ-expand-parts μ-expand-record μ-expand-row
     (λ t. enter-lts.spec (enter-calls t) (enter-at t) enter.Post
       (enter-word-at-requires t) (enter-procedure-of-requires t) (enter-word-at-requires-2 t)
-          (enter-word-at-requires-3 t) (enter-used-at-requires t) (enter-expand-parts-requires t) (enter-pass-requires
-          t) (enter-passed-of-requires t) (enter-more-requires t) (enter-same-length t) (enter-returns t))
+          (enter-word-at-requires-3 t) (enter-used-at-requires t) (enter-expand-parts-requires t)
+              (enter-pass-requires
+          t) (enter-passed-of-requires t) (enter-more-requires t) (enter-returns t))
     (λ t. expand-lts.spec (expand-calls t) (expand-at t) expand.Post
-      (expand-word-at-requires t) (expand-stays-requires t) (expand-expand-own-requires t) (expand-same-length t)
+      (expand-word-at-requires t) (expand-stays-requires t) (expand-expand-own-requires t)
           (expand-returns t) (expand-returns-2 t) (expand-sub-expand-row t) (expand-expand-row-requires t)
-          (expand-same-length-2 t) (expand-returns-3 t))
+          (expand-returns-3 t))
     (λ t. expand-own-lts.spec (expand-own-calls t) (expand-own-at t) expand-own.Post expand-own-Inv-loop
       expand-own-μ-loop
       (expand-own-loop-holds t) (expand-own-sub-turns t) (expand-own-come-at-requires t) (expand-own-sub-slot-at t)
-          (expand-own-slot-at-requires t) (expand-own-same-length t) (expand-own-returns t)
+          (expand-own-slot-at-requires t) (expand-own-returns t)
           (expand-own-word-at-requires t) (expand-own-add-word-at t) (expand-own-word-at-requires-2 t)
           (expand-own-more-requires t) (expand-own-loop-less t) (expand-own-loop-again t)
-          (expand-own-expand-record-requires t) (expand-own-same-length-2 t) (expand-own-returns-2 t)
+          (expand-own-expand-record-requires t) (expand-own-returns-2 t)
           (expand-own-enter-requires t) (expand-own-loop-less-2 t) (expand-own-loop-again-2 t)
-          (expand-own-same-length-3 t) (expand-own-returns-3 t))
+          (expand-own-returns-3 t))
     (λ t. expand-part-lts.spec (expand-part-calls t) (expand-part-at t) expand-part.Post
       (expand-part-returns t) (expand-part-add-word-at t) (expand-part-word-at-requires t)
           (expand-part-come-at-requires t) (expand-part-sub-slot-at t) (expand-part-slot-at-requires t)
-          (expand-part-returns-2 t) (expand-part-expand-requires t) (expand-part-same-length t) (expand-part-returns-3
+          (expand-part-returns-2 t) (expand-part-expand-requires t) (expand-part-returns-3
           t))
     (λ t. expand-parts-lts.spec (expand-parts-calls t) (expand-parts-at t) expand-parts.Post
-      (expand-parts-expand-part-requires t) (expand-parts-expand-part-requires-2 t)
-          (expand-parts-expand-part-requires-3 t) (expand-parts-expand-part-requires-4 t) (expand-parts-same-length t)
-          (expand-parts-returns t))
+      (expand-parts-expand-part-requires t) (expand-parts-expand-part-requires-2 t) (expand-parts-returns t)
+          (expand-parts-expand-part-requires-3 t) (expand-parts-expand-part-requires-4 t)
+          (expand-parts-returns-2 t))
     (λ t. expand-record-lts.spec (expand-record-calls t) (expand-record-at t) expand-record.Post
       (expand-record-word-at-requires t) (expand-record-put-slot-requires t) (expand-record-more-requires t)
-          (expand-record-expand-row-requires t) (expand-record-same-length t) (expand-record-returns t)
-          (expand-record-expand-row-requires-2 t) (expand-record-same-length-2 t) (expand-record-returns-2 t))
+          (expand-record-expand-row-requires t) (expand-record-returns t)
+          (expand-record-expand-row-requires-2 t) (expand-record-returns-2 t))
     (λ t. expand-row-lts.spec (expand-row-calls t) (expand-row-at t) expand-row.Post
       (expand-row-word-at-requires t) (expand-row-word-at-requires-2 t) (expand-row-parts-of-requires t)
-          (expand-row-more-requires t) (expand-row-expand-parts-requires t) (expand-row-close-row-requires t)
-          (expand-row-same-length t) (expand-row-returns t))
+          (expand-row-close-leaf-requires t) (expand-row-more-requires t)
+          (expand-row-returns t) (expand-row-more-requires-2 t) (expand-row-expand-parts-requires t)
+          (expand-row-close-row-requires t) (expand-row-returns-2 t))

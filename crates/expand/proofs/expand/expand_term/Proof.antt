@@ -8,11 +8,8 @@ use Rattle.expand.proofs.expand.expand_term.Tie as tie
 expand-own-requires : tie.Need-expand-own-requires
 expand-own-requires c κs = search needs
 
-same-length : tie.Need-same-length
-same-length c = search needs
-
 returns : tie.Need-returns
-returns c = by-top _ _ _ _ _ _ _ _ refl (c .before .before .expand-own .ensures)
+returns c = by-top _ _ _ _ _ _ _ _ refl (c .expand-own .ensures)
 
 pub expand-term-spec : {M : Type 1} → statement M
-expand-term-spec = tie.close (tie.spec expand-own-requires same-length returns)
+expand-term-spec = tie.close (tie.spec expand-own-requires returns)

@@ -1,6 +1,6 @@
 use borrow.Author.Needs.{needs}
 use native.Mathlib.Omega.{arith}
-use mathlib.Core.Path.{_∙_}
+use mathlib.Core.Path.{refl, _∙_}
 use Rattle.automaton.specs.declared.Out.the-variants.{Exit}
 use Rattle.explicit.proofs.PathSteps.{Exiting, exit-first, exit-last, exit-within, exit-leads, exit-stops,
     exit-says, exit-hears}
@@ -55,7 +55,7 @@ returns c = exit-leads _ _ _ _ _ _ _ (c .before .before .before .before .before 
     _ _ _ (c .before .before .before .before .before .before .before .loop .inv) (c .before .before .before .before
     .before .before .loop-test .taken)
     (c .before .before .before .before .before .frame-at .ensures) (c .before .before .before .before .exits .ensures)
-        _ (c .before .before .o .given .1) (c .led .ensures _)
+        _ (c .before .before .o .given .1) (c .led .ensures _ _ refl)
 
 enum-known-o-2 : tie.Need-enum-known-o-2 Inv-loop μ-loop
 enum-known-o-2 c = search needs

@@ -1,6 +1,6 @@
 use borrow.Author.Needs.{needs}
 use native.Mathlib.Omega.{arith}
-use Rattle.explicit.proofs.PathCode.{far-leads}
+use Rattle.explicit.proofs.PathCode.{from-first, far-leads}
 use Rattle.explicit.proofs.exits.far.Statement.{statement}
 use Rattle.explicit.proofs.exits.far.Tie as tie
 
@@ -11,7 +11,7 @@ sum-requires : tie.Need-sum-requires
 sum-requires c κs = search needs
 
 returns : tie.Need-returns
-returns c = λ N. far-leads _ _ _ _ _ _ _ (c .before .climb .ensures N) (c .sum .ensures)
+returns c = λ N s e. far-leads _ _ _ _ _ _ _ (c .before .climb .ensures N) (from-first _ _ _ _ e (c .sum .ensures))
 
 pub far-spec : {M : Type 1} → statement M
 far-spec = tie.close (tie.spec climb-requires sum-requires returns)

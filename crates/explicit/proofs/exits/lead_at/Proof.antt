@@ -1,5 +1,6 @@
 use borrow.Author.Needs.{needs}
 use native.Mathlib.Omega.{arith}
+use Rattle.explicit.proofs.PathCode.{from-first}
 use Rattle.explicit.proofs.PathSteps.{lead-plain, lead-low}
 use Rattle.explicit.proofs.exits.lead_at.Statement.{statement}
 use Rattle.explicit.proofs.exits.lead_at.Tie as tie
@@ -21,10 +22,10 @@ sum-requires : tie.Need-sum-requires
 sum-requires c κs = search needs
 
 returns-2 : tie.Need-returns-2
-returns-2 c = λ N. lead-plain N _ _ _ _ _ _ _ _ (c .before .before .before .before .pre .0) (c .before .before .before
+returns-2 c = λ N s e. lead-plain N _ _ _ _ _ _ _ _ (c .before .before .before .before .pre .0) (c .before .before .before
     .if1 .left) (c .before .start-at .ensures) (c .before .before .before .before .pre .1) _ (c .before .before .if2
     .taken)
-    (c .sum .ensures)
+    (from-first _ _ _ _ e (c .sum .ensures))
 
 moved-requires : tie.Need-moved-requires
 moved-requires c κs = (c .before .before .pre .0, (c .before .if1 .left, (c .before .before .pre .1, omega (arith, c

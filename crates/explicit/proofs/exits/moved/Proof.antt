@@ -1,7 +1,7 @@
 use borrow.Author.Needs.{needs}
 use native.Mathlib.Omega.{arith}
 use Rattle.explicit.proofs.PathSteps.{lead-copy, lead-within, lead-low, block-within}
-use Rattle.explicit.proofs.PathCode.{fewer}
+use Rattle.explicit.proofs.PathCode.{from-first, fewer}
 use Rattle.explicit.proofs.exits.moved.Statement.{statement}
 use Rattle.explicit.proofs.exits.moved.Tie as tie
 
@@ -55,12 +55,12 @@ sum-requires : tie.Need-sum-requires
 sum-requires c κs = search needs
 
 returns-2 : tie.Need-returns-2
-returns-2 c = λ N. lead-copy N _ _ _ _ _ _ _ _ (c .before .before .before .before .before .before .before .pre .0) (c
+returns-2 c = λ N s e. lead-copy N _ _ _ _ _ _ _ _ (c .before .before .before .before .before .before .before .pre .0) (c
     .before .before .before .before .before .before .before .pre .1 .0) (c .before .before .before .before .before
     .start-at .ensures) (c .before .before .before .before .before .before .before .pre .1 .1 .0) (λ z. omega (arith, c
     .before .before .before .before .before .before .before .pre .1 .1 .1)) _ _ _ _ _ (c .before .before .before .before
     .start-at2 .ensures) (c .before .before .before .before .before .before .field .ensures) (c .before .before .before
-    .mul-add .ensures) (c .before .before .if1 .left) (c .before .start-at3 .ensures) (c .sum .ensures)
+    .mul-add .ensures) (c .before .before .if1 .left) (c .before .start-at3 .ensures) (from-first _ _ _ _ e (c .sum .ensures))
 
 pub moved-spec : {M : Type 1} → statement M
 moved-spec = tie.close (tie.spec sub-field field-requires start-at-requires add-mul-add start-at-requires-2 sub-mul-add

@@ -1,4 +1,5 @@
 use borrow.Author.Needs.{needs}
+use mathlib.Core.Path.{refl}
 use Rattle.explicit.proofs.Reaching.{reach-as, reach-say, reach-hear, reach-stuck}
 use Rattle.explicit.proofs.exits.reach.Statement.{statement}
 use Rattle.explicit.proofs.exits.reach.Tie as tie
@@ -34,7 +35,7 @@ dead-requires-3 : tie.Need-dead-requires-3
 dead-requires-3 c κs = search needs
 
 returns : tie.Need-returns
-returns c = reach-as _ _ _ _ _ _ _ (c .before .before .o .given .1) (c .lead .ensures _)
+returns c = reach-as _ _ _ _ _ _ _ (c .before .before .o .given .1) (c .lead .ensures _ _ refl)
 
 returns-2 : tie.Need-returns-2
 returns-2 c = reach-as _ _ _ _ _ _ _ (c .before .before .o2 .given .1) (c .exit .ensures)

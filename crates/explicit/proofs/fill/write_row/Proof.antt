@@ -1,5 +1,6 @@
 use borrow.Author.Needs.{needs}
 use native.Mathlib.Omega.{arith}
+use mathlib.Core.Path.{refl}
 use Rattle.explicit.proofs.PathRows.{is-go, is-exit, is-stuck, row-quiet, row-says, row-hears}
 use Rattle.explicit.proofs.PathCode.{row-listens}
 use Rattle.explicit.proofs.Loops.{WroteRow}
@@ -83,7 +84,7 @@ returns-3 c = row-says _ _ _ _ _ _ _ _ (c .before .before .before .before .befor
     .ensures) (c .before .before .before .before .before .before .before .before .before .before .before .before
         .write-head .ensures) _ _ _ _ _ _ (c .before .before .before .before .before .before .before .before .o .given
         .1)
-    (c .before .before .before .before .before .letter-of .ensures) (c .before .before .before .before .lead .ensures _)
+    (c .before .before .before .before .before .letter-of .ensures) (c .before .before .before .before .lead .ensures _ _ refl)
     (c .before .before .before .write-edge .ensures) (c .sum2 .ensures)
 
 same-length-4 : tie.Need-same-length-4

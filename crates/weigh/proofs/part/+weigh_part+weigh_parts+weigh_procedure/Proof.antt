@@ -19,8 +19,7 @@ use Rattle.weigh.proofs.part.weigh_procedure.Kinds as weigh-procedure-k
 use Rattle.weigh.proofs.part.+weigh_part+weigh_parts+weigh_procedure.Lts-weigh_procedure as weigh-procedure-lts
 use Rattle.forms.proofs.set.least.Reads as least-reads
 use Rattle.forms.proofs.set.set_lower.Reads as set-lower-reads
-use Rattle.forms.proofs.sum.add.Reads as add-reads
-use Rattle.forms.proofs.sum.add_constant.Reads as add-constant-reads
+use Rattle.forms.proofs.sum.add_with.Reads as add-with-reads
 use Rattle.weigh.proofs.mark.come_at.Reads as come-at-reads
 use Rattle.weigh.proofs.mark.come_of.Reads as come-of-reads
 use Rattle.weigh.proofs.mark.set_mark.Reads as set-mark-reads
@@ -71,8 +70,8 @@ weigh-part-calls t =
 abbrev weigh-parts-calls : ℕ → weigh-parts-lts.Claims
 weigh-parts-calls t =
     (word-of-reads.Asked, word-of-reads.Learnt, factor-of-reads.Asked, factor-of-reads.Learnt, extra-of-reads.Asked,
-    extra-of-reads.Learnt, weigh-part-below t, weigh-part.Post, add-reads.Asked, add-reads.Learnt,
-    add-constant-reads.Asked, add-constant-reads.Learnt, weigh-parts-below t, weigh-parts.Post)
+    extra-of-reads.Learnt, weigh-part-below t, weigh-part.Post, add-with-reads.Asked, add-with-reads.Learnt,
+    weigh-parts-below t, weigh-parts.Post)
 
 abbrev weigh-procedure-calls : ℕ → weigh-procedure-lts.Claims
 weigh-procedure-calls t =
@@ -143,7 +142,8 @@ module _ (t : ℕ) where
         .before .before .before .before .before .before .before .before .before .before .word-of2 .ensures .0)
         (c .before .before .before .before .before .before .before .before .before .before .if2 .left) (c .before
           .before .before .before .before .before .before .before .before .parts-of .ensures) (c .before .before
-          .before .before .before .if3 .taken) (c .before .before .before .before .before .before .start .ensures) (c
+          .before .before .before .if3 .taken) (c .before .before .before .before .before .before .start .ensures)
+              (c
           .before .before .come-of .ensures .0)
         (c .set-mark .ensures) (omega arith)
 
@@ -167,8 +167,10 @@ module _ (t : ℕ) where
     weigh-part.Post
   weigh-part-come-of-requires-2 c κs =
       (c .before .before .before .before .before .before .before .before .before .before .before .word-of2 .ensures
-        .1, c .before .before .before .before .before .before .before .before .before .before .before .before .before
-        .before .before .before .pre .1 .1, parts-few _ _ _ (c .before .before .before .before .before .before .before
+        .1, c .before .before .before .before .before .before .before .before .before .before .before .before
+            .before
+        .before .before .before .pre .1 .1, parts-few _ _ _ (c .before .before .before .before .before .before
+            .before
         .before .before .parts-of .ensures))
 
   weigh-part-set-mark-requires-2 : weigh-part-lts.Need-set-mark-requires-2 (weigh-part-calls t) (weigh-part-at t)
@@ -199,7 +201,8 @@ module _ (t : ℕ) where
   weigh-parts-returns : weigh-parts-lts.Need-returns (weigh-parts-calls t) (weigh-parts-at t) weigh-parts.Post
   weigh-parts-returns c = parts-none _ _ _ _ _ _ _ _ _ _ (c .if1 .taken)
 
-  weigh-parts-add-word-of : weigh-parts-lts.Need-add-word-of (weigh-parts-calls t) (weigh-parts-at t) weigh-parts.Post
+  weigh-parts-add-word-of : weigh-parts-lts.Need-add-word-of (weigh-parts-calls t) (weigh-parts-at t)
+      weigh-parts.Post
   weigh-parts-add-word-of c = search needs
 
   weigh-parts-word-of-requires : weigh-parts-lts.Need-word-of-requires (weigh-parts-calls t) (weigh-parts-at t)
@@ -214,55 +217,49 @@ module _ (t : ℕ) where
     weigh-parts.Post
   weigh-parts-extra-of-requires c κs = search needs
 
-  weigh-parts-weigh-part-requires : weigh-parts-lts.Need-weigh-part-requires (weigh-parts-calls t) (weigh-parts-at t)
+  weigh-parts-weigh-part-requires : weigh-parts-lts.Need-weigh-part-requires (weigh-parts-calls t) (weigh-parts-at
+      t)
     weigh-parts.Post
   weigh-parts-weigh-part-requires c κs = search needs
 
-  weigh-parts-add-add : weigh-parts-lts.Need-add-add (weigh-parts-calls t) (weigh-parts-at t) weigh-parts.Post
-  weigh-parts-add-add c = search needs
-
-  weigh-parts-add-requires : weigh-parts-lts.Need-add-requires (weigh-parts-calls t) (weigh-parts-at t)
+  weigh-parts-add-add-with : weigh-parts-lts.Need-add-add-with (weigh-parts-calls t) (weigh-parts-at t)
     weigh-parts.Post
-  weigh-parts-add-requires c κs = search needs
+  weigh-parts-add-add-with c = search needs
 
-  weigh-parts-add-add-constant : weigh-parts-lts.Need-add-add-constant (weigh-parts-calls t) (weigh-parts-at t)
+  weigh-parts-add-with-requires : weigh-parts-lts.Need-add-with-requires (weigh-parts-calls t) (weigh-parts-at t)
     weigh-parts.Post
-  weigh-parts-add-add-constant c = search needs
-
-  weigh-parts-add-constant-requires : weigh-parts-lts.Need-add-constant-requires (weigh-parts-calls t)
-      (weigh-parts-at t)
-    weigh-parts.Post
-  weigh-parts-add-constant-requires c κs = search needs
+  weigh-parts-add-with-requires c κs = search needs
 
   weigh-parts-add-weigh-parts : weigh-parts-lts.Need-add-weigh-parts (weigh-parts-calls t) (weigh-parts-at t)
     weigh-parts.Post
   weigh-parts-add-weigh-parts c = search needs
 
-  weigh-parts-weigh-parts-requires : weigh-parts-lts.Need-weigh-parts-requires (weigh-parts-calls t) (weigh-parts-at t)
+  weigh-parts-weigh-parts-requires : weigh-parts-lts.Need-weigh-parts-requires (weigh-parts-calls t) (weigh-parts-at
+      t)
     weigh-parts.Post
   weigh-parts-weigh-parts-requires c κs = search needs
 
   weigh-parts-returns-2 : weigh-parts-lts.Need-returns-2 (weigh-parts-calls t) (weigh-parts-at t) weigh-parts.Post
   weigh-parts-returns-2 c =
       let e : c .before .before .before .before .before .before .before .before .before .before .before .before
-        .before .before .before .before .before .before .args .left + 1 ≡ suc (c .before .before .before .before
-        .before .before .before .before .before .before .before .before .before .before .before .before .before
-        .before .args .left) = omega arith in
+          .before .before .before .before .args .left + 1 ≡ suc (c .before .before .before .before .before .before
+          .before .before .before .before .before .before .before .before .before .before .args .left) = omega arith
+          in
       let i : c .before .before .before .before .before .before .before .before .before .before .before .before
-        .before .before .before .before .before .before .args .j + 1 ≡ suc (c .before .before .before .before .before
-        .before .before .before .before .before .before .before .before .before .before .before .before .before .args
+          .before .before .before .before .args .j + 1 ≡ suc (c .before .before .before .before .before .before
+          .before .before .before .before .before .before .before .before .before .before .args
         .j) = omega arith in
       parts-more _ _ _ _ _ _ _ _ _ _ _ _ _ _ _ _ _ _ _ _ _ (c .before .before .before .before .before .before
-        .before .before .before .before .before .before .before .before .before .before .before .before .pre .1 .0) (c
-        .before .before .before .before .before .before .before .before .before .before .before .before .before
-        .before .before .before .before .before .pre .1 .2) (c .before .before .before .before .before .before .before
-        .before .before .before .before .before .before .before .before .before .before .if1 .left) e i
+          .before .before .before .before .before .before .before .before .before .before .pre .1 .0) (c .before
+          .before .before .before .before .before .before .before .before .before .before .before .before .before
+          .before .before .pre .1 .2) (c .before .before .before .before .before .before .before .before .before
+          .before .before .before .before .before .before .if1 .left) e i
         (c .before .before .before .before .before .before .before .before .before .before .before .before .before
-          .before .before .word-of .ensures .0) (c .before .before .before .before .before .before .before .before
-          .before .before .before .before .factor-of .ensures) (c .before .before .before .before .before .before
-          .before .before .before .before .extra-of .ensures) (c .before .before .before .before .before .before
-          .before .weigh-part .ensures) (c .before .before .before .before .before .add .ensures)
-        (c .before .before .before .add-constant .ensures) (c .weigh-parts .ensures)
+            .word-of .ensures .0) (c .before .before .before .before .before .before .before .before .before .before
+            .factor-of .ensures) (c .before .before .before .before .before .before .before .before .extra-of
+            .ensures) (c .before .before .before .before .before .weigh-part .ensures) (c .before .before .before
+            .add-with .ensures .added)
+        (c .before .before .before .add-with .ensures .constant) (c .weigh-parts .ensures)
 
 -- weigh_procedure
 module _ (t : ℕ) where
@@ -276,7 +273,8 @@ module _ (t : ℕ) where
     weigh-procedure.Post
   weigh-procedure-word-of-requires c κs = search needs
 
-  weigh-procedure-add-word-of : weigh-procedure-lts.Need-add-word-of (weigh-procedure-calls t) (weigh-procedure-at t)
+  weigh-procedure-add-word-of : weigh-procedure-lts.Need-add-word-of (weigh-procedure-calls t) (weigh-procedure-at
+      t)
     weigh-procedure.Post
   weigh-procedure-add-word-of c = search needs
 
@@ -340,11 +338,13 @@ module _ (t : ℕ) where
     weigh-procedure.Post
   weigh-procedure-come-at-requires c κs = search needs
 
-  weigh-procedure-mul-set-mark : weigh-procedure-lts.Need-mul-set-mark (weigh-procedure-calls t) (weigh-procedure-at t)
+  weigh-procedure-mul-set-mark : weigh-procedure-lts.Need-mul-set-mark (weigh-procedure-calls t) (weigh-procedure-at
+      t)
     weigh-procedure.Post
   weigh-procedure-mul-set-mark c = search needs
 
-  weigh-procedure-add-set-mark : weigh-procedure-lts.Need-add-set-mark (weigh-procedure-calls t) (weigh-procedure-at t)
+  weigh-procedure-add-set-mark : weigh-procedure-lts.Need-add-set-mark (weigh-procedure-calls t) (weigh-procedure-at
+      t)
     weigh-procedure.Post
   weigh-procedure-add-set-mark c = search needs
 
@@ -362,7 +362,8 @@ module _ (t : ℕ) where
         .before .before .before .before .before .before .before .before .before .args .left) = omega arith in
       procedure-weighed _ _ _ _ _ _ _ _ _ _ _ _ _ _ _ _ _ _ _ _ (c .before .before .before .before .before .before
         .before .before .before .before .before .before .before .before .before .before .before .before .before
-        .before .before .before .pre .1 .0) (c .before .before .before .before .before .before .before .before .before
+        .before .before .before .pre .1 .0) (c .before .before .before .before .before .before .before .before
+            .before
         .before .before .before .before .before .before .before .before .before .before .before .before .before .pre
         .1 .2) e (c .before .before .before .before .before .before .before .before .before .before .before .before
         .before .before .before .before .before .before .before .before .before .least .ensures)
@@ -388,14 +389,15 @@ pub +weigh-part+weigh-parts+weigh-procedure-spec : {M : Type 1} → statement M
       (weigh-part-come-of-requires-2 t) (weigh-part-set-mark-requires-2 t) (weigh-part-returns-4 t))
     (λ t. weigh-parts-lts.spec (weigh-parts-calls t) (weigh-parts-at t) weigh-parts.Post (weigh-parts-returns t)
       (weigh-parts-add-word-of t) (weigh-parts-word-of-requires t) (weigh-parts-factor-of-requires t)
-      (weigh-parts-extra-of-requires t) (weigh-parts-weigh-part-requires t) (weigh-parts-add-add t)
-      (weigh-parts-add-requires t) (weigh-parts-add-add-constant t) (weigh-parts-add-constant-requires t)
-      (weigh-parts-add-weigh-parts t) (weigh-parts-weigh-parts-requires t) (weigh-parts-returns-2 t))
+      (weigh-parts-extra-of-requires t) (weigh-parts-weigh-part-requires t) (weigh-parts-add-add-with t)
+      (weigh-parts-add-with-requires t) (weigh-parts-add-weigh-parts t) (weigh-parts-weigh-parts-requires t)
+          (weigh-parts-returns-2 t))
     (λ t. weigh-procedure-lts.spec (weigh-procedure-calls t) (weigh-procedure-at t) weigh-procedure.Post
       (weigh-procedure-least-requires t) (weigh-procedure-word-of-requires t) (weigh-procedure-add-word-of t)
       (weigh-procedure-word-of-requires-2 t) (weigh-procedure-add-weigh-part t)
       (weigh-procedure-weigh-part-requires t) (weigh-procedure-add-set-lower t) (weigh-procedure-add-set-lower-2 t)
-      (weigh-procedure-add-set-lower-3 t) (weigh-procedure-set-lower-requires t) (weigh-procedure-used-of-requires t)
+      (weigh-procedure-add-set-lower-3 t) (weigh-procedure-set-lower-requires t) (weigh-procedure-used-of-requires
+          t)
       (weigh-procedure-weigh-part-requires-2 t) (weigh-procedure-add-set-lower-4 t)
       (weigh-procedure-set-lower-requires-2 t) (weigh-procedure-come-at-requires t) (weigh-procedure-mul-set-mark t)
       (weigh-procedure-add-set-mark t) (weigh-procedure-set-mark-requires t) (weigh-procedure-returns t))
