@@ -1,4 +1,4 @@
-/* Negyvosal: checks, follows and compares routines written as sheets. For C and C++; link libabi.a. */
+/* Negyvosal: checks, follows, compares and renumbers routines written as sheets. For C and C++; link libabi.a. */
 #ifndef NEGYVOSAL_H
 #define NEGYVOSAL_H
 
@@ -17,8 +17,9 @@ extern "C" {
  *   NEGYVOSAL_FOLLOWS (2)    complete   count low    count high   0             follow
  *   NEGYVOSAL_SAME (3)       0          0            0            0             compare
  *   NEGYVOSAL_APART (4)      sheet      moves low    moves high   0             compare
+ *   NEGYVOSAL_RENUMBERED (5) changes    0            0            0             renumber
  *
- * number:   the cause of the refusal, 1 to 16.
+ * number:   the cause of the refusal, 1 to 17.
  * sheet:    which sheet: NEGYVOSAL_OLD, NEGYVOSAL_NEW or NEGYVOSAL_BOTH. A service on one sheet names it old.
  * place:    the byte at which it is refused, counted from 0, or as the cause says.
  * type:     0 command, 1 truth expression, 2 number expression, 3 truth variable, 4 number variable.
@@ -26,6 +27,7 @@ extern "C" {
  * count:    how many moves at the start of the play begin some complete play of the sheet.
  * complete: 1 where the whole play is a complete play of the sheet, else 0.
  * moves:    how many moves the play has that one sheet has and the other has not.
+ * changes:  how many ids that a new, a procedure or a parameter binds are others in the sheet written, at most 254.
  *
  * A place, a count and a number of moves are 64-bit: the low and the high half, in that order. NEGYVOSAL_WHOLE puts them
  * together. A place in a sheet is at most 4,096 and a number of moves at most 8,191; in a play of 4 GiB and more a place and
@@ -42,14 +44,16 @@ extern "C" {
  * (unused ones 255 255); then the procedure's term, and the term in which it may be used.
  *
  * A new (kind 27), a procedure or a parameter may not have an id that an enclosing one holds: number 16, at the id
- * byte. A procedure encloses the term in which it may be used, a parameter the procedure's term. Side by side the same
- * id is fine. */
+ * byte. A procedure encloses the term in which it may be used, a parameter the procedure's term. Side by side the
+ * same id is fine. Renumber reads a sheet without that rule, so it never gives 16; it gives 17, at the id byte,
+ * where no id is left for one that hides another. */
 
 #define NEGYVOSAL_REFUSED 0
 #define NEGYVOSAL_ACCEPTED 1
 #define NEGYVOSAL_FOLLOWS 2
 #define NEGYVOSAL_SAME 3
 #define NEGYVOSAL_APART 4
+#define NEGYVOSAL_RENUMBERED 5
 
 #define NEGYVOSAL_OLD 0
 #define NEGYVOSAL_NEW 1
@@ -61,14 +65,19 @@ extern "C" {
 #define NEGYVOSAL_COMPARE_WORDS(s, t) (32 * ((size_t)(s) + (t) + 1))
 #define NEGYVOSAL_COMPARE_SPACE(s, t) (4 * ((size_t)(s) + (t) - 1))
 
+/* The bytes of the list that renumber needs, and how many of them a change has. */
+#define NEGYVOSAL_LIST 1020
+#define NEGYVOSAL_CHANGE 4
+
 /* Every service writes its answer into the first five words of `out` and returns 1. Words after the five stay as they
  * were. Where `out_length` is below five it changes nothing and returns 0.
  *
  * Any bytes and any lengths are fine. Sheets and plays are only read. No pointer may be null, even with a length of 0, and
- * what is written (`words`, `space`, `out`) may overlap nothing else that is lent. Calls keep nothing between them and may
- * run at the same time. A call takes less than 2 MiB of stack.
+ * what is written (`words`, `space`, `output`, `list`, `out`) may overlap nothing else that is lent. Calls keep nothing
+ * between them and may run at the same time. A call takes less than 2 MiB of stack.
  *
- * A refusal leaves `words` and `space` as they were. After any other answer every working word is 0. */
+ * A refusal leaves `words`, `space`, `output` and `list` as they were. After any other answer every working word is
+ * 0. */
 
 /* Checks a sheet. */
 uint32_t negyvosal_check(const uint8_t *sheet, size_t sheet_length, uint32_t *out, size_t out_length);
@@ -82,6 +91,17 @@ uint32_t negyvosal_follow(const uint8_t *sheet, size_t sheet_length, const uint8
 uint32_t negyvosal_compare(const uint8_t *old_sheet, size_t old_length, const uint8_t *new_sheet, size_t new_length,
                            uint32_t *words, size_t words_length, uint8_t *space, size_t space_length, uint32_t *out,
                            size_t out_length);
+
+/* Renumbers a sheet in which a new, a procedure or a parameter may hide an enclosing one: each that does gets the
+ * lowest id that is neither declared, retired nor bound anywhere in the sheet, as read or as changed so far, and its
+ * uses follow. The sheet written stands at the start of `output`, as long as the one read; it is accepted and has the
+ * same plays. `list` begins with the changes, from left to right, of NEGYVOSAL_CHANGE bytes each: the place of the id
+ * byte in two bytes, low byte first, the old id and the new id. The rest of `output` and of `list` is as it was.
+ *
+ * `output` must be at least as long as the sheet, and `list` must have at least NEGYVOSAL_LIST bytes: else number 14 at
+ * place 0, sheet NEGYVOSAL_BOTH. */
+uint32_t negyvosal_renumber(const uint8_t *sheet, size_t sheet_length, uint8_t *output, size_t output_length,
+                            uint8_t *list, size_t list_length, uint32_t *out, size_t out_length);
 
 #ifdef __cplusplus
 }

@@ -8,6 +8,7 @@ pub const ACCEPTED: u32 = 1;
 pub const FOLLOWS: u32 = 2;
 pub const SAME: u32 = 3;
 pub const APART: u32 = 4;
+pub const RENUMBERED: u32 = 5;
 
 extern "C" {
     pub fn negyvosal_check(sheet: *const u8, sheet_length: usize, out: *mut u32, out_length: usize) -> u32;
@@ -32,6 +33,17 @@ extern "C" {
         words_length: usize,
         space: *mut u8,
         space_length: usize,
+        out: *mut u32,
+        out_length: usize,
+    ) -> u32;
+
+    pub fn negyvosal_renumber(
+        sheet: *const u8,
+        sheet_length: usize,
+        output: *mut u8,
+        output_length: usize,
+        list: *mut u8,
+        list_length: usize,
         out: *mut u32,
         out_length: usize,
     ) -> u32;

@@ -1,4 +1,4 @@
-//! Random cases of the three services.
+//! Random cases of the services.
 
 mod counter;
 mod damage;
@@ -10,6 +10,7 @@ pub mod near;
 mod pairs;
 mod plays;
 pub mod procedures;
+pub mod renumber;
 
 use crate::generate::{self, Generator};
 use crate::machine::Machine;
@@ -39,6 +40,12 @@ pub enum Case {
         words: usize,
         space: usize,
         alike: bool,
+    },
+    /// `output` and `list` are the bytes lent for the sheet and for the list of changes.
+    Renumber {
+        sheet: Vec<u8>,
+        output: usize,
+        list: usize,
     },
 }
 

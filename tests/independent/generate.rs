@@ -70,6 +70,12 @@ impl<'a> Generator<'a> {
         Generator { random, heading, pool, hides: false, spare, helper: None, scope: Vec::new() }
     }
 
+    /// One whose binders may hide others.
+    pub fn hiding(mut self) -> Generator<'a> {
+        self.hides = true;
+        self
+    }
+
     /// One whose binders may hide others, now and then.
     pub fn hiding_at_times(mut self) -> Generator<'a> {
         self.hides = self.random.one_in(10);

@@ -1,9 +1,9 @@
 //! The proved library through its C boundary. Every call tests that the library changes nothing but what it may.
 
 pub use crate::boundary::WORDS;
-use crate::boundary::{negyvosal_check, negyvosal_compare, negyvosal_follow};
-use crate::boundary::{ACCEPTED, APART, FOLLOWS, REFUSED, SAME};
-use crate::services::{records, Answer};
+use crate::boundary::{negyvosal_check, negyvosal_compare, negyvosal_follow, negyvosal_renumber};
+use crate::boundary::{ACCEPTED, APART, FOLLOWS, REFUSED, RENUMBERED, SAME};
+use crate::services::{listed, records, Answer};
 
 pub type Words = [u32; WORDS];
 
@@ -64,6 +64,12 @@ fn lent_bytes(name: &'static str, bytes: &[u8]) -> Lent<u8> {
 fn lent_words(name: &'static str, length: usize) -> Lent<u32> {
     let values: Vec<u32> = (0..length).map(pattern).collect();
     Lent::new(name, &values, |i| !pattern(i))
+}
+
+/// Bytes for the library to write to.
+fn lent_space(name: &'static str, length: usize) -> Lent<u8> {
+    let filling: Vec<u8> = (0..length).map(|i| !pattern(i) as u8).collect();
+    lent_bytes(name, &filling)
 }
 
 /// The words of an answer, once it is sure that the call returned 1 and wrote no others.
@@ -138,8 +144,7 @@ pub fn compare(old: &[u8], new: &[u8], words: usize, space: usize, room: usize) 
     let old = lent_bytes("old", old);
     let new = lent_bytes("new", new);
     let mut words = lent_words("words", words);
-    let filling: Vec<u8> = (0..space).map(|i| !pattern(i) as u8).collect();
-    let mut space = lent_bytes("space", &filling);
+    let mut space = lent_space("space", space);
     let mut out = lent_words("out", room);
     // SAFETY: every pointer is to as many elements as its length says, and none overlap.
     let told = unsafe {
@@ -161,6 +166,51 @@ pub fn compare(old: &[u8], new: &[u8], words: usize, space: usize, room: usize) 
     let got = answer(told, &out)?;
     expect_words(&words, got[0] != REFUSED)?;
     Ok(Compared { words: got, space })
+}
+
+/// What renumber gives: the words of its answer, the output and the list.
+pub struct Renumbered {
+    pub words: Words,
+    output: Lent<u8>,
+    list: Lent<u8>,
+}
+
+impl Renumbered {
+    /// Both start with what the answer says, and all else is untouched.
+    pub fn expect(&self, answer: &Answer) -> Result<(), String> {
+        match answer {
+            Answer::Renumbered { sheet, changes } => {
+                self.output.expect(sheet)?;
+                self.list.expect(&listed(changes))
+            }
+            _ => {
+                self.output.expect(&[])?;
+                self.list.expect(&[])
+            }
+        }
+    }
+}
+
+pub fn renumber(sheet: &[u8], output: usize, list: usize, room: usize) -> Result<Renumbered, String> {
+    let sheet = lent_bytes("sheet", sheet);
+    let mut output = lent_space("output", output);
+    let mut list = lent_space("list", list);
+    let mut out = lent_words("out", room);
+    // SAFETY: every pointer is to as many elements as its length says, and none overlap.
+    let told = unsafe {
+        negyvosal_renumber(
+            sheet.start(),
+            sheet.length(),
+            output.start_mut(),
+            output.length(),
+            list.start_mut(),
+            list.length(),
+            out.start_mut(),
+            out.length(),
+        )
+    };
+    sheet.expect(&[])?;
+    Ok(Renumbered { words: answer(told, &out)?, output, list })
 }
 
 /// The low and the high half of a number.
@@ -185,6 +235,7 @@ pub fn words_of(answer: &Answer) -> Words {
             let [low, high] = halves(play.len());
             [APART, sheet.word(), low, high, 0]
         }
+        Answer::Renumbered { changes, .. } => [RENUMBERED, changes.len() as u32, 0, 0, 0],
         Answer::Unknown => [u32::MAX; WORDS],
     }
 }

@@ -7,7 +7,8 @@
 //! its answers as lines of a vector file. `independent stack FILE...` runs the library's services in a thread with
 //! 2 MiB of stack on the deepest and largest sheets and on those of the files.
 //!
-//! After the word `procedures`, `random` and `write` have cases with procedures, kind 28 of document 02.
+//! After the word `procedures`, `random` and `write` have cases with procedures, kind 28 of document 02; after the word
+//! `renumber`, sheets to renumber.
 
 #[path = "../../include/negyvosal.rs"]
 mod boundary;
@@ -22,6 +23,7 @@ mod moves;
 mod random;
 mod reader;
 mod related;
+mod renumber;
 mod scope;
 mod services;
 mod sheet;
@@ -34,7 +36,7 @@ use cases::Case;
 use random::Random;
 use std::process::ExitCode;
 
-const USAGE: &str = "usage: independent [procedures] \
+const USAGE: &str = "usage: independent [procedures | renumber] \
     vectors FILE... | random SEED COUNT | near SEED COUNT | write SEED COUNT | stack FILE... | \
     compare OLD NEW [WORDS SPACE]";
 
@@ -49,6 +51,7 @@ const STACK: usize = 64 << 20;
 fn run(arguments: &[String]) -> Result<bool, String> {
     match arguments.split_first() {
         Some((word, rest)) if word == "procedures" => run_mode(rest, cases::procedures::case),
+        Some((word, rest)) if word == "renumber" => run_mode(rest, cases::renumber::case),
         _ => run_mode(arguments, cases::case),
     }
 }

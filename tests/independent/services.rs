@@ -1,8 +1,11 @@
-//! The three services of document 01: their refusals in order, their answers, and how the program prints them.
+//! The three services of document 01 and the renumbering of document 02: their refusals in order, their answers, and how
+//! they are printed.
 
 use crate::compare::{first_difference, Difference};
 use crate::machine::{Machine, Move};
-use crate::reader::{read, Fault, Sheet};
+use crate::reader::{read, read_under, Fault, Rule, Sheet};
+use crate::renumber::{renumbered, Change, LIST};
+use crate::vectors::hex;
 
 #[derive(Clone, Copy, Debug, PartialEq)]
 pub enum Which {
@@ -44,6 +47,10 @@ pub enum Answer {
     Apart {
         sheet: Which,
         play: Vec<Move>,
+    },
+    Renumbered {
+        sheet: Vec<u8>,
+        changes: Vec<Change>,
     },
     /// No answer of document 01: the search over pairs was given up.
     Unknown,
@@ -152,6 +159,26 @@ pub fn compare_machines(old: &Machine, new: &Machine, most_pairs: usize) -> Answ
     }
 }
 
+/// `output` and `list` are the bytes lent for the sheet and for the list of changes.
+pub fn renumber(bytes: &[u8], output: usize, list: usize) -> Answer {
+    let sheet = match read_under(Rule::Earlier, bytes) {
+        Err(fault) => return refused(fault, Which::Old),
+        Ok(sheet) => sheet,
+    };
+    if output < bytes.len() || list < LIST {
+        return refused_both(14);
+    }
+    match renumbered(&sheet) {
+        Err(place) => Answer::Refused { number: 17, sheet: Which::Old, place },
+        Ok((sheet, changes)) => Answer::Renumbered { sheet, changes },
+    }
+}
+
+/// The bytes of a list of changes.
+pub fn listed(changes: &[Change]) -> Vec<u8> {
+    changes.iter().flat_map(Change::bytes).collect()
+}
+
 /// The records of a play.
 pub fn records(play: &[Move]) -> Vec<u8> {
     let mut bytes = Vec::new();
@@ -171,6 +198,9 @@ pub fn text(answer: &Answer) -> String {
         Answer::Apart { sheet, play } => {
             let head = format!("apart in {} {}\n", sheet.name(), play.len());
             play.iter().fold(head, |lines, m| lines + &move_text(m))
+        }
+        Answer::Renumbered { sheet, changes } => {
+            format!("renumbered {}\nsheet {}\nlist {}\n", changes.len(), hex(sheet), hex(&listed(changes)))
         }
         Answer::Unknown => "unknown\n".to_string(),
     }

@@ -250,6 +250,37 @@ impl Procedure {
     }
 }
 
+impl Kind {
+    /// The id of a use.
+    pub fn used_id(&mut self) -> Option<&mut u8> {
+        match self {
+            Kind::Name { id, .. } | Kind::Private { id, .. } => Some(id),
+            Kind::Parameter { id, .. } | Kind::Call { id, .. } => Some(id),
+            _ => None,
+        }
+    }
+
+    /// The bytes of the record, without its parts.
+    pub fn write(&self, out: &mut Vec<u8>) {
+        match self {
+            Kind::Skip => out.push(16),
+            Kind::Diverge(result) => out.extend([17, result.byte()]),
+            Kind::Constant(Data::Truth, value) => out.extend([18, *value as u8]),
+            Kind::Constant(Data::Number, value) => out.extend([19, *value as u8]),
+            Kind::Name { id, .. } | Kind::Private { id, .. } => out.extend([20, *id]),
+            Kind::Parameter { id, .. } | Kind::Call { id, .. } => out.extend([20, *id]),
+            Kind::Fetch => out.push(21),
+            Kind::Operate(operator) => out.extend([22, *operator as u8]),
+            Kind::Assign => out.push(23),
+            Kind::Sequence => out.push(24),
+            Kind::If => out.push(25),
+            Kind::While => out.push(26),
+            Kind::New { id, data } => out.extend([27, *id, data.byte()]),
+            Kind::Procedure(procedure) => procedure.write(out),
+        }
+    }
+}
+
 #[derive(Clone, Debug, PartialEq)]
 pub struct Term {
     pub kind: Kind,
@@ -274,22 +305,7 @@ impl Term {
     }
 
     pub fn write(&self, out: &mut Vec<u8>) {
-        match &self.kind {
-            Kind::Skip => out.push(16),
-            Kind::Diverge(result) => out.extend([17, result.byte()]),
-            Kind::Constant(Data::Truth, value) => out.extend([18, *value as u8]),
-            Kind::Constant(Data::Number, value) => out.extend([19, *value as u8]),
-            Kind::Name { id, .. } | Kind::Private { id, .. } => out.extend([20, *id]),
-            Kind::Parameter { id, .. } | Kind::Call { id, .. } => out.extend([20, *id]),
-            Kind::Fetch => out.push(21),
-            Kind::Operate(operator) => out.extend([22, *operator as u8]),
-            Kind::Assign => out.push(23),
-            Kind::Sequence => out.push(24),
-            Kind::If => out.push(25),
-            Kind::While => out.push(26),
-            Kind::New { id, data } => out.extend([27, *id, data.byte()]),
-            Kind::Procedure(procedure) => procedure.write(out),
-        }
+        self.kind.write(out);
         self.parts.iter().for_each(|p| p.write(out));
     }
 

@@ -5,6 +5,7 @@ use crate::cases::deep;
 use crate::library::{self, bytes_of, words_of, Words, WORDS};
 use crate::machine::{Machine, Move};
 use crate::reader::read;
+use crate::renumber::LIST;
 use crate::services::{self, space_to_compare, words_to_compare, words_to_follow, Answer};
 
 /// Bytes of the small stack: what a thread of Rust has where nothing is said.
@@ -38,8 +39,9 @@ fn shortest(machine: &Machine) -> Vec<Move> {
     play
 }
 
-/// Runs the three services on a sheet; compare with the sheet itself.
+/// Runs the services on a sheet; compare with the sheet itself.
 fn run_sheet(sheet: &[u8]) -> Result<(), String> {
+    run_renumber(sheet)?;
     expect("check", &services::check(sheet), answered(|| library::check(sheet, WORDS))?)?;
     let (size, play) = match read(sheet) {
         Ok(accepted) => (accepted.size, services::records(&shortest(&Machine::of(&accepted)))),
@@ -49,6 +51,13 @@ fn run_sheet(sheet: &[u8]) -> Result<(), String> {
     let answer = services::follow(sheet, &play, words);
     expect("follow", &answer, answered(|| library::follow(sheet, &play, words, WORDS))?)?;
     run_pair(sheet, sheet, words_to_compare(size, size) as usize, space_to_compare(size, size) as usize)
+}
+
+fn run_renumber(sheet: &[u8]) -> Result<(), String> {
+    let answer = services::renumber(sheet, sheet.len(), LIST);
+    let got = answered(|| library::renumber(sheet, sheet.len(), LIST, WORDS))?;
+    expect("renumber", &answer, got.words)?;
+    got.expect(&answer)
 }
 
 fn run_pair(old: &[u8], new: &[u8], words: usize, space: usize) -> Result<(), String> {

@@ -5,6 +5,7 @@ use crate::library::{self, bytes_of, words_of, Compared, Words, WORDS};
 use crate::machine::Machine;
 use crate::random::Random;
 use crate::reader::{read, read_under, Rule, Sheet};
+use crate::renumber::LIST;
 use crate::services::{self, Answer, Which};
 use crate::vectors::hex;
 
@@ -20,9 +21,12 @@ struct Counts {
     same: usize,
     apart: usize,
     capped: usize,
-    refused: [usize; 17],
+    refused: [usize; 18],
     /// Sheets that check refuses and that the rule before request [3] accepts.
     turned_away: usize,
+    renumbered: usize,
+    most_changes: usize,
+    unaltered: usize,
     /// Comparisons of two sheets without any play.
     empty: usize,
     longest_play: usize,
@@ -51,6 +55,11 @@ impl Counts {
                 self.apart += 1;
                 self.longest_play = self.longest_play.max(play.len());
             }
+            Answer::Renumbered { changes, .. } => {
+                self.renumbered += 1;
+                self.most_changes = self.most_changes.max(changes.len());
+                self.unaltered += changes.is_empty() as usize;
+            }
             Answer::Unknown => self.capped += 1,
         }
     }
@@ -64,6 +73,8 @@ impl Counts {
         println!("compare: {} with over {MOST_PAIRS} pairs, tried in part only", self.capped);
         println!("compare: up to {} states, {} times with a silent loop", self.most_states, self.rounds);
         println!("compare: {} with both sizes {} or more", self.near, near::SMALLEST);
+        println!("renumber: {} renumbered, {} of them unaltered", self.renumbered, self.unaltered);
+        println!("renumber: up to {} changes", self.most_changes);
         let refused = self.refused.iter().enumerate().filter(|(_, count)| **count > 0);
         let refused: Vec<String> = refused.map(|(number, count)| format!("{number}: {count}")).collect();
         println!("refused, by number: {}", refused.join(", "));
@@ -97,6 +108,7 @@ fn shown(case: &Case) -> String {
         Case::Compare { old, new, words, space, .. } => {
             format!("compare {} and {} words {words} space {space}", hex(old), hex(new))
         }
+        Case::Renumber { sheet, output, list } => format!("renumber {} output {output} list {list}", hex(sheet)),
     }
 }
 
@@ -124,6 +136,39 @@ fn run_case(case: &Case, room: usize, counts: &mut Counts) -> Result<(), String>
                 }
             }
         }
+        Case::Renumber { sheet, output, list } => {
+            let answer = services::renumber(sheet, *output, *list);
+            counts.note(&answer);
+            let got = library::renumber(sheet, *output, *list, room)?;
+            expect_words(&answer, got.words)?;
+            got.expect(&answer)?;
+            expect_renumbered(sheet, &answer)
+        }
+    }
+}
+
+/// What document 02 says of a sheet renumbered: it is accepted and has the plays that the earlier rule gave the old one,
+/// with the same type and size, and there is nothing left to change.
+fn expect_renumbered(bytes: &[u8], answer: &Answer) -> Result<(), String> {
+    let Answer::Renumbered { sheet, changes } = answer else {
+        return Ok(());
+    };
+    let (Ok(old), Ok(new)) = (read_under(Rule::Earlier, bytes), read(sheet)) else {
+        return Err("the sheet renumbered is refused".to_string());
+    };
+    if (old.term.gives, old.size, bytes.len()) != (new.term.gives, new.size, sheet.len()) {
+        return Err("the sheet renumbered has another type, size or length".to_string());
+    }
+    if changes.is_empty() != (sheet == bytes) || changes.is_empty() != read(bytes).is_ok() {
+        return Err("there are changes without need, or none where there should be some".to_string());
+    }
+    let again = Answer::Renumbered { sheet: sheet.clone(), changes: vec![] };
+    if services::renumber(sheet, sheet.len(), LIST) != again {
+        return Err("it is not renumbered once and for all".to_string());
+    }
+    match services::compare_machines(&Machine::of(&old), &Machine::of(&new), MOST_PAIRS) {
+        Answer::Apart { .. } => Err("it has other plays".to_string()),
+        _ => Ok(()),
     }
 }
 

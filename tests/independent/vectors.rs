@@ -134,6 +134,10 @@ fn outcome(case: &Case) -> Result<String, String> {
             let (words, space) = (number(case, "words")?, number(case, "space")?);
             Ok(services::compare_text(&part("old")?, &part("new")?, words, space))
         }
+        "renumber" => {
+            let (output, list) = (number(case, "out")?, number(case, "list")?);
+            Ok(services::text(&services::renumber(&part("sheet")?, output, list)))
+        }
         other => Err(format!("service {other} is not known")),
     }
 }
@@ -165,6 +169,10 @@ pub fn line(case: &cases::Case) -> String {
                 hex(new)
             ),
             services::compare_text(old, new, *words, *space),
+        ),
+        cases::Case::Renumber { sheet, output, list } => (
+            format!("\"renumber\", \"sheet\": \"{}\", \"out\": {output}, \"list\": {list}", hex(sheet)),
+            services::text(&services::renumber(sheet, *output, *list)),
         ),
     };
     format!("{{\"service\": {given}, \"expect\": \"{}\"}}", expect.replace('\n', "\\n"))

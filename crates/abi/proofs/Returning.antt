@@ -12,10 +12,13 @@ use Rattle.comparer.specs.declared.Following.{Following}
 use Rattle.comparer.specs.declared.Following.the-variants.{Follows, Refused as NotFollowed}
 use Rattle.comparer.specs.declared.Comparison.{Comparison}
 use Rattle.comparer.specs.declared.Comparison.the-variants.{Same, Apart, Refused as NotCompared}
-use Rattle.abi.specs.Words.{kind-refused, kind-accepted, kind-follows, kind-same, kind-apart, lowHalf, highHalf}
-use Rattle.abi.specs.Words.{refusal, refusalOf, refusalWords, checkWords, followWords, compareWords}
-use Rattle.abi.specs.Words.{answered, status}
-use Rattle.abi.specs.Returned.{FollowReturned, CompareReturned, answers}
+use Rattle.renumbering.specs.Outcome.{RenumberPromise}
+use Rattle.renumbering.specs.declared.renumber.Renumbered.{Renumbered}
+use Rattle.renumbering.specs.declared.renumber.Renumbered.the-variants.{Changed, Refused as NotRenumbered}
+use Rattle.abi.specs.Words.{kind-refused, kind-accepted, kind-follows, kind-same, kind-apart, kind-renumbered}
+use Rattle.abi.specs.Words.{lowHalf, highHalf, refusal, refusalOf, refusalWords, checkWords, followWords}
+use Rattle.abi.specs.Words.{compareWords, renumberWords, answered, status}
+use Rattle.abi.specs.Returned.{FollowReturned, CompareReturned, RenumberReturned, answers}
 use Rattle.abi.specs.declared.Refusal.{Refusal}
 
 -- an answer by other words for the same
@@ -69,6 +72,16 @@ pub words-not-compared : (r : Comparison) (number sheet place : ℕ) → r ≡ N
 unfolding compareWords
 words-not-compared r number sheet place e = rw e refl
 
+pub words-renumbered : (r : Renumbered) (changes : ℕ) → r ≡ Changed changes →
+  (kind-renumbered ∷ changes ∷ 0 ∷ 0 ∷ 0 ∷ []) ≡ renumberWords r
+unfolding renumberWords
+words-renumbered r changes e = rw e refl
+
+pub words-not-renumbered : (r : Renumbered) (number sheet place : ℕ) → r ≡ NotRenumbered number sheet place →
+  refusalWords (refusal number sheet place) ≡ renumberWords r
+unfolding renumberWords
+words-not-renumbered r number sheet place e = rw e refl
+
 -- the answer of check
 module _ (out out′ : List ℕ) (y : Checked) (r : Checked) (x : ℕ) where
   pub check-accepted : (ty size : ℕ) → r ≡ y → r ≡ Accepted ty size → x ≡ status out →
@@ -96,4 +109,11 @@ pub compare-returned : (old new ws space out ws′ space′ out′ : List ℕ) (
   CompareReturned old new ws space out x ws′ space′ out′
 unfolding status answered
 compare-returned old new ws space out ws′ space′ out′ x a h p t w =
+    answers a h (rw (le-ltb (length out) 5 h) at t) p (rw (le-ltb (length out) 5 h) at w)
+
+pub renumber-returned : (s output list out output′ list′ out′ : List ℕ) (x : ℕ) (a : Renumbered) → 5 ≤ length out →
+  RenumberPromise s a output output′ list list′ → x ≡ status out → out′ ≡ answered (renumberWords a) out →
+  RenumberReturned s output list out x output′ list′ out′
+unfolding status answered
+renumber-returned s output list out output′ list′ out′ x a h p t w =
     answers a h (rw (le-ltb (length out) 5 h) at t) p (rw (le-ltb (length out) 5 h) at w)

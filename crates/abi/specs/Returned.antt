@@ -1,5 +1,5 @@
--- What the boundary promises of follow and compare: where fewer than five words are lent for the answer, 0, and nothing
--- changes; else 1, the answer in the first five words of `out`, and what the service promises of all else.
+-- What the boundary promises of follow, compare and renumber: where fewer than five words are lent for the answer, 0,
+-- and nothing changes; else 1, the answer in the first five words of `out`, and what the service promises of all else.
 use mathlib.Core.Path.{_≡_}
 use mathlib.Core.List.{List, _++_}
 use Prim.Native.Nat.{ℕ, _≤_, _<_}
@@ -7,7 +7,9 @@ use lib.ListN.{length, drop}
 use Rattle.comparer.specs.Promise.{FollowPromise, ComparePromise}
 use Rattle.comparer.specs.declared.Following.{Following}
 use Rattle.comparer.specs.declared.Comparison.{Comparison}
-use Rattle.abi.specs.Words.{followWords, compareWords}
+use Rattle.renumbering.specs.Outcome.{RenumberPromise}
+use Rattle.renumbering.specs.declared.renumber.Renumbered.{Renumbered}
+use Rattle.abi.specs.Words.{followWords, compareWords, renumberWords}
 
 pub data FollowReturned (s play ws out : List ℕ) (r : ℕ) (ws′ out′ : List ℕ) : Type 0 where
   no-room : length out < 5 → r ≡ 0 → ws′ ≡ ws → out′ ≡ out → FollowReturned s play ws out r ws′ out′
@@ -19,3 +21,9 @@ pub data CompareReturned (old new ws space out : List ℕ) (r : ℕ) (ws′ spac
     CompareReturned old new ws space out r ws′ space′ out′
   answers : (a : Comparison) → 5 ≤ length out → r ≡ 1 → ComparePromise old new ws space a ws′ space′ →
     out′ ≡ compareWords a ++ drop 5 out → CompareReturned old new ws space out r ws′ space′ out′
+
+pub data RenumberReturned (s output list out : List ℕ) (r : ℕ) (output′ list′ out′ : List ℕ) : Type 0 where
+  no-room : length out < 5 → r ≡ 0 → output′ ≡ output → list′ ≡ list → out′ ≡ out →
+    RenumberReturned s output list out r output′ list′ out′
+  answers : (a : Renumbered) → 5 ≤ length out → r ≡ 1 → RenumberPromise s a output output′ list list′ →
+    out′ ≡ renumberWords a ++ drop 5 out → RenumberReturned s output list out r output′ list′ out′

@@ -1,7 +1,8 @@
 -- The words of an answer: its kind, then its values, and 0 for the rest of five words. Document 01, "Three services":
 -- "Check takes a sheet and gives its type and size"; follow gives "the greatest number of moves" and "whether the whole
 -- given play is complete"; compare gives ""same", or "apart" with the sheet that has the play, its number of moves"; "A
--- refusal carries its number, which sheet, and the place".
+-- refusal carries its number, which sheet, and the place". Document 02, [4]: of renumber "the number of changes is
+-- given".
 use Prim.Native.Nat.{ℕ, _+_, _*_, _/_, _%_}
 use mathlib.Core.Path.{_≡_}
 use mathlib.Core.List.{List, [], _∷_, _++_}
@@ -14,6 +15,8 @@ use Rattle.comparer.specs.declared.Following.{Following}
 use Rattle.comparer.specs.declared.Following.the-variants.{Follows, Refused as NotFollowed}
 use Rattle.comparer.specs.declared.Comparison.{Comparison}
 use Rattle.comparer.specs.declared.Comparison.the-variants.{Same, Apart, Refused as NotCompared}
+use Rattle.renumbering.specs.declared.renumber.Renumbered.{Renumbered}
+use Rattle.renumbering.specs.declared.renumber.Renumbered.the-variants.{Changed, Refused as NotRenumbered}
 use Rattle.abi.specs.declared.Refusal.{Refusal}
 
 -- the kinds of answers
@@ -31,6 +34,9 @@ kind-same = 3
 
 abbrev pub kind-apart : ℕ
 kind-apart = 4
+
+abbrev pub kind-renumbered : ℕ
+kind-renumbered = 5
 
 -- a number in two words: its low 32 bits, and the others
 abbrev pub lowHalf : ℕ → ℕ
@@ -70,6 +76,11 @@ unfoldable pub compareWords : Comparison → List ℕ
 compareWords Same = kind-same ∷ 0 ∷ 0 ∷ 0 ∷ 0 ∷ []
 compareWords (Apart sheet moves) = kind-apart ∷ sheet ∷ lowHalf moves ∷ highHalf moves ∷ 0 ∷ []
 compareWords (NotCompared number sheet place) = refusalWords (refusal number sheet place)
+
+-- renumbered: how many changes
+unfoldable pub renumberWords : Renumbered → List ℕ
+renumberWords (Changed changes) = kind-renumbered ∷ changes ∷ 0 ∷ 0 ∷ 0 ∷ []
+renumberWords (NotRenumbered number sheet place) = refusalWords (refusal number sheet place)
 
 -- the words lent, with an answer in the first five; all as they were where there are fewer
 unfoldable pub answered : List ℕ → List ℕ → List ℕ

@@ -4,6 +4,8 @@ use comparer::Comparison;
 use comparer::Following;
 use comparer::compare::compare;
 use comparer::follow::follow;
+use renumbering::renumber::Renumbered;
+use renumbering::renumber::renumber;
 use sheet::check::Checked;
 use sheet::check::check;
 ghost use mathlib.Core.Path.{_≡_};
@@ -11,8 +13,8 @@ ghost use mathlib.Core.List.{[], _∷_};
 ghost use Rattle.sheet.specs.Reader.{readSheet};
 ghost use Rattle.sheet.specs.Check.{checkedOf};
 ghost use Rattle.abi.specs.Words.{lowHalf, highHalf, refusalOf, refusalWords, checkWords, followWords};
-ghost use Rattle.abi.specs.Words.{compareWords, answered, status};
-ghost use Rattle.abi.specs.Returned.{FollowReturned, CompareReturned};
+ghost use Rattle.abi.specs.Words.{compareWords, renumberWords, answered, status};
+ghost use Rattle.abi.specs.Returned.{FollowReturned, CompareReturned, RenumberReturned};
 
 // How many words an answer has.
 const WORDS: usize = 5;
@@ -32,6 +34,8 @@ const FOLLOWS: u32 = 2;
 const SAME: u32 = 3;
 
 const APART: u32 = 4;
+
+const RENUMBERED: u32 = 5;
 
 // How many numbers a word holds.
 const WORD: usize = 4294967296;
@@ -168,6 +172,28 @@ fn answer_compare(out: &mut [u32], r: Comparison) -> u32
     }
 }
 
+// Writes the answer of renumber.
+fn answer_renumber(out: &mut [u32], r: Renumbered) -> u32
+    ensures returned { λ x. ⌜ x ≡ status (now (out .entry)) ⌝ }
+    ensures written { λ x. ⌜ now (out .exit) ≡ answered (renumberWords r) (now (out .entry)) ⌝ }
+{
+    match r {
+        Renumbered::Changed { changes } => answer(out, RENUMBERED, changes, 0, 0, 0),
+        Renumbered::Refused {
+            number,
+            sheet,
+            place,
+        } => refuse(
+            out,
+            Refusal {
+                number,
+                sheet,
+                place,
+            },
+        ),
+    }
+}
+
 // The service check: the answer in the first five words of out, and 1; or 0, with out as it was, where it has fewer.
 #[no_mangle]
 pub extern "C" fn negyvosal_check(sheet: &[u8], out: &mut [u32]) -> u32
@@ -218,4 +244,22 @@ pub extern "C" fn negyvosal_compare(
     }
     let r = compare(old, new, words, space);
     answer_compare(out, r)
+}
+
+// The service renumber: likewise.
+#[no_mangle]
+pub extern "C" fn negyvosal_renumber(
+    sheet: &[u8],
+    output: &mut [u8],
+    list: &mut [u8],
+    out: &mut [u32],
+) -> u32
+    ensures { λ r. ⌜ RenumberReturned (now (sheet .entry)) (now (output .entry)) (now (list .entry)) (now (out .entry))
+        r (now (output .exit)) (now (list .exit)) (now (out .exit)) ⌝ }
+{
+    if out.len() < WORDS {
+        return NO_ROOM;
+    }
+    let r = renumber(sheet, output, list);
+    answer_renumber(out, r)
 }

@@ -3,12 +3,13 @@ use Prim.Native.Nat.{ℕ, zero, suc, _+_, _-_, _*_, _/_, _%_, _≤_, _<_}
 use native.Mathlib.Omega.{arith}
 use mathlib.Core.List.{List, [], _∷_, _++_}
 use lib.Dec.{ltb}
-use lib.ListN.{length, length-append}
+use lib.ListN.{length, getD, length-append}
 use borrow.Author.Tests.{lt-ltb, le-ltb, ltb-true, ltb-false}
 use Rattle.language.specs.Number.{fromByte}
 use Rattle.language.proofs.NumberLaws.{by-test}
 use Rattle.report.specs.Text.{ascii, digits, signedDigits, sheetName, refusedText, sizesText, apartText}
 use Rattle.report.specs.Text.{valueText, moveText}
+use Rattle.report.specs.Changes.{changeText, changeAt, changesText, changedText}
 use Rattle.report.proofs.Decimals.{digits-one, digits-more, signed-low, signed-high}
 
 pub record AtMost (n : ℕ) (xs : List ℕ) : Type 0 where
@@ -46,6 +47,16 @@ three-digits v h = digit-more 2 100 (omega arith) two-digits v h
 four-digits : (v : ℕ) → v < 10000 → AtMost 4 (digits v)
 four-digits v h = digit-more 3 1000 (omega arith) three-digits v h
 
+-- a 1 and so many noughts, and the numbers below it
+abbrev tens : ℕ → ℕ
+tens zero = 1
+tens (suc k) = 10 * tens k
+
+few-digits : (k v : ℕ) → v < tens (suc k) → AtMost (suc k) (digits v)
+few-digits zero v h = one-digit v h
+few-digits (suc k) v h =
+    looser (suc (suc k)) (omega arith) (digit-more (suc k) (tens (suc k)) (omega arith) (few-digits k) v h)
+
 -- the number of a byte
 signed-short : (b : ℕ) → b < 256 → AtMost 4 (signedDigits (fromByte b))
 signed-short b h =
@@ -68,6 +79,16 @@ unfolding refusedText
 refused-short number sheet place h l =
     let p = both (both (both (both (both (both (all (ascii "refused ")) (two-digits number h)) (all (ascii " ")))
           (name-short sheet)) (all (ascii " "))) (four-digits place l)) (all (ascii "\n")) in
+    p
+
+-- the same for a number of 8 bits and a place of 64
+pub refused-any : (number sheet place : ℕ) → number < 256 → place < 18446744073709551616 →
+    AtMost 38 (refusedText number sheet place)
+unfolding refusedText
+refused-any number sheet place h l =
+    let p = both (both (both (both (both (both (all (ascii "refused ")) (three-digits number (omega arith)))
+          (all (ascii " "))) (name-short sheet)) (all (ascii " "))) (few-digits 19 place (omega arith)))
+          (all (ascii "\n")) in
     p
 
 pub sizes-short : (old new : ℕ) → old < 10000 → new < 10000 → AtMost 18 (sizesText old new)
@@ -102,3 +123,32 @@ unfolding valueText
 valued-line k i j b gk hk hi hj hb =
     let p = both (all (ascii " ")) (signed-short b hb) in
     line-short k i j b (omega arith) hi hj (rw (le-ltb k 5 gk) p)
+
+-- a change: its place has two bytes, its ids have one each
+change-short : (place old given : ℕ) → place < 65536 → old < 256 → given < 256 → AtMost 14 (changeText place old given)
+unfolding changeText
+change-short place old given h l m =
+    let p = both (both (both (both (both (few-digits 4 place (omega arith)) (all (ascii " ")))
+          (three-digits old (omega arith))) (all (ascii " "))) (three-digits given (omega arith))) (all (ascii "\n")) in
+    p
+
+change-at-short : (i : ℕ) (list : List ℕ) → ((j : ℕ) → getD list j 0 < 256) → AtMost 14 (changeAt i list)
+unfolding changeAt
+change-at-short i list b =
+    change-short (getD list (4 * i) 0 + 256 * getD list (4 * i + 1) 0) (getD list (4 * i + 2) 0)
+    (getD list (4 * i + 3) 0) (omega (arith, b (4 * i), b (4 * i + 1))) (b (4 * i + 2)) (b (4 * i + 3))
+
+changes-short : (n i : ℕ) (list : List ℕ) → ((j : ℕ) → getD list j 0 < 256) → AtMost (14 * n) (changesText n i list)
+unfolding changesText
+changes-short zero i list b = all []
+changes-short (suc n) i list b =
+    let p = both (change-at-short i list b) (changes-short n (i + 1) list b) in
+    looser (14 * suc n) (omega arith) p
+
+pub changed-short : (n : ℕ) (list : List ℕ) → n < 1000 → ((j : ℕ) → getD list j 0 < 256) →
+    AtMost (12 + 14 * n) (changedText n list)
+unfolding changedText
+changed-short n list h b =
+    let p = both (both (both (all (ascii "changes ")) (three-digits n h)) (all (ascii "\n")))
+          (changes-short n 0 list b) in
+    p

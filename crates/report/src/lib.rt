@@ -10,6 +10,8 @@ ghost use Rattle.report.specs.Reported.{Reported};
 pub mod write;
 // The lines.
 pub mod lines;
+// The text of the program renumber.
+pub mod changes;
 
 // Writes the text of an answer from the start of out: how many bytes it has.
 fn answer(old: &[u8], new: &[u8], r: Comparison, space: &[u8], out: &mut [u8]) -> usize

@@ -102,13 +102,8 @@ fn rebind(term: &mut Term, parameter: Option<usize>, id: u8, uses_follow: bool) 
 
 /// Gives the uses of an id that are not bound inside the term another one.
 fn rename_uses(term: &mut Term, from: u8, to: u8) {
-    match &mut term.kind {
-        Kind::Name { id, .. } | Kind::Private { id, .. } | Kind::Parameter { id, .. } | Kind::Call { id, .. } => {
-            if *id == from {
-                *id = to;
-            }
-        }
-        _ => {}
+    if let Some(id) = term.kind.used_id().filter(|id| **id == from) {
+        *id = to;
     }
     for i in 0..term.parts.len() {
         if !term.bound_in(i).contains(&from) {

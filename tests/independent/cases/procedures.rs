@@ -36,7 +36,7 @@ pub fn case(random: &mut Random) -> Case {
 }
 
 /// The size that a sheet is to have, more or less, if its procedures did not count.
-fn size(random: &mut Random) -> u64 {
+pub fn size(random: &mut Random) -> u64 {
     let size = match random.below(40) {
         0 => random.between(300, 1500),
         1..=8 => random.between(80, 300),
@@ -46,7 +46,7 @@ fn size(random: &mut Random) -> u64 {
     size as u64
 }
 
-fn heading(random: &mut Random) -> Heading {
+pub fn heading(random: &mut Random) -> Heading {
     let most = few_or_many(random).min(6);
     generate::heading(random, most)
 }
@@ -66,7 +66,7 @@ fn heading_and_term(random: &mut Random) -> (Heading, Term) {
     }
 }
 
-fn sheet(random: &mut Random) -> Vec<u8> {
+pub fn sheet(random: &mut Random) -> Vec<u8> {
     let (heading, term) = heading_and_term(random);
     written(&heading, &term)
 }

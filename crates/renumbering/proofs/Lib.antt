@@ -1,0 +1,14 @@
+pub mod Leaves
+pub mod Lists
+pub mod Widths
+pub mod Entries
+pub mod Finding
+pub mod Choosing
+pub mod Steps
+pub mod Routines
+pub mod Plain
+pub mod Names
+pub mod Reading
+pub mod Bound
+pub mod Finishing
+pub mod Serving

@@ -1,0 +1,28 @@
+-- What reading a sheet under the earlier rule says.
+use Prim.Native.Nat.{ℕ}
+use mathlib.Core.Path.{_≡_}
+use mathlib.Core.List.{List}
+use Rattle.records.specs.declared.edition.Edition.the-variants.{Earlier}
+use Rattle.records.specs.declared.refusal.Refusal.{Refusal}
+use Rattle.sheet.specs.table.Judged.{Judged, JudgedBy}
+use Rattle.sheet.specs.declared.judge.Judgement.{Judgement}
+use Rattle.sheet.specs.declared.judge.Judgement.the-variants as judged
+use Rattle.renumbering.specs.Found.{EarlierRead}
+use Rattle.renumbering.specs.declared.renumber.Earlier.the-variants.{Sheet, Refused}
+
+pub earlier-refused : (s u M : List ℕ) {x : Judgement} {y : Refusal} → JudgedBy Earlier s x u M → x ≡ judged.Refused y →
+    EarlierRead s (Refused y)
+unfolding JudgedBy EarlierRead
+earlier-refused s u M J e = rw e at J
+
+judged-of : (s u M : List ℕ) {x : Judgement} {root ty size : ℕ} → JudgedBy Earlier s x u M → x ≡ judged.Sheet root ty size →
+    Judged Earlier s root ty size u M
+unfolding JudgedBy
+judged-of s u M J e = rw e at J
+
+pub earlier-accepted : (s u M : List ℕ) {x : Judgement} {root ty size : ℕ} → JudgedBy Earlier s x u M →
+    x ≡ judged.Sheet root ty size → EarlierRead s (Sheet root)
+unfolding EarlierRead
+earlier-accepted s u M {root = root} {ty = ty} {size = size} J e =
+    let R = judged-of s u M J e in
+    record { sheet = R .sheet; type = ty; size = size; reads = R .accepts; rooted = R .rooted }

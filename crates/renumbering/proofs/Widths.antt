@@ -1,0 +1,63 @@
+-- The widths of records are the lengths of their bytes.
+use Prim.Native.Nat.{ℕ, zero, suc, _+_, _*_}
+use native.Mathlib.Omega.{arith}
+use mathlib.Core.Path.{_≡_, refl, ap}
+use mathlib.Core.List.{List, [], _∷_, _++_}
+use lib.ListN.{length, length-append}
+use Rattle.procedures.specs.Written.{Written, skip, diverge, truth, number, call, fetch, operate, assign, sequence}
+use Rattle.procedures.specs.Written.{while, choose, new, procedure, Parameter, Writtens, none, more, Name, declare}
+use Rattle.procedures.specs.Written.{retire, Sheet}
+use Rattle.procedures.specs.Width.{width, widths, nameWidth, namesWidth, headingWidth}
+use Rattle.sheet.specs.Encoding.{pairs, encode, encodes, padded, encodeName, encodeNames, headingLength}
+
+pub pairs-length : (n : ℕ) (ps : List Parameter) → length (pairs n ps) ≡ 2 * n
+unfolding pairs
+pairs-length zero ps = omega arith
+pairs-length (suc n) [] = omega (arith, pairs-length n [])
+pairs-length (suc n) (p ∷ ps) = omega (arith, pairs-length n ps)
+
+mutual
+  unfolding encode encodes width widths
+  pub wide : (W : Written) → length (encode W) ≡ width W
+  wide skip = refl
+  wide (diverge ty) = refl
+  wide (truth b) = refl
+  wide (number b) = refl
+  wide (call id ws) = omega (arith, wides ws)
+  wide (fetch v) = omega (arith, wide v)
+  wide (operate op x y) = omega (arith, length-append (encode x) (encode y), wide x, wide y)
+  wide (assign x y) = omega (arith, length-append (encode x) (encode y), wide x, wide y)
+  wide (sequence x y) = omega (arith, length-append (encode x) (encode y), wide x, wide y)
+  wide (choose b x y) =
+      omega (arith, length-append (encode b) (encode x ++ encode y), length-append (encode x) (encode y), wide b,
+          wide x,
+        wide y)
+  wide (while x y) = omega (arith, length-append (encode x) (encode y), wide x, wide y)
+  wide (new id d c) = omega (arith, wide c)
+  wide (procedure id ty ps x y) =
+      omega (arith, length-append (pairs 4 ps) (encode x ++ encode y), pairs-length 4 ps,
+        length-append (encode x) (encode y), wide x, wide y)
+
+  pub wides : (ws : Writtens) → length (encodes ws) ≡ widths ws
+  wides none = refl
+  wides (more w ws) = omega (arith, length-append (encode w) (encodes ws), wide w, wides ws)
+
+padded-length : (n : ℕ) (tys : List ℕ) → length (padded n tys) ≡ n
+unfolding padded
+padded-length zero tys = refl
+padded-length (suc n) [] = ap suc (padded-length n [])
+padded-length (suc n) (ty ∷ tys) = ap suc (padded-length n tys)
+
+pub wide-name : (n : Name) → length (encodeName n) ≡ nameWidth n
+unfolding encodeName nameWidth
+wide-name (declare id ty tys) = omega (arith, padded-length 4 tys)
+wide-name (retire id) = refl
+
+wide-names : (ns : List Name) → length (encodeNames ns) ≡ namesWidth ns
+unfolding encodeNames namesWidth
+wide-names [] = refl
+wide-names (n ∷ ns) = omega (arith, length-append (encodeName n) (encodeNames ns), wide-name n, wide-names ns)
+
+pub wide-heading : (S : Sheet) → headingLength S ≡ headingWidth S
+unfolding headingLength headingWidth
+wide-heading S = omega (arith, wide-names (S .names))

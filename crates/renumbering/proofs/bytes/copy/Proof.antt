@@ -1,0 +1,66 @@
+-- The first bytes are copied, one after the other.
+use native.Mathlib.Omega.{arith}
+use Prim.Native.Nat.{_≤_, _-_}
+use mathlib.Core.Path.{_≡_, refl}
+use mathlib.Core.List.{_++_}
+use lib.ListN.{take, drop}
+use Rattle.renumbering.proofs.Leaves.{copied-inside, copied-again, copied-same, copied-last}
+use Rattle.renumbering.proofs.bytes.copy.Statement.{statement}
+use Rattle.renumbering.proofs.bytes.copy.Tie as tie
+
+abbrev Inv-loop : tie.InvT-loop
+Inv-loop from to₀ n i₀ to i = (i ≤ n) × (to ≡ take i from ++ drop i to₀)
+
+abbrev μ-loop : tie.MeasureT-loop
+μ-loop from to₀ n i₀ to i = n - i
+
+loop-holds : tie.Need-loop-holds Inv-loop μ-loop
+loop-holds c = (omega arith, refl)
+
+shared-slice-read-to : tie.Need-shared-slice-read-to Inv-loop μ-loop
+shared-slice-read-to c = omega arith
+
+slice-write-to : tie.Need-slice-write-to Inv-loop μ-loop
+slice-write-to c =
+    copied-inside (c .before .before .before .args .from .now) (c .before .before .before .args .to .now) (c .before
+    .before .loop .to) (c .before .before .loop .i) (c .before .before .before .args .n) (c .before .before .before
+    .pre) (c .before .loop-test .taken) (c .before .before .loop .inv .1)
+
+add-i : tie.Need-add-i Inv-loop μ-loop
+add-i c = omega arith
+
+loop-less : tie.Need-loop-less Inv-loop μ-loop
+loop-less c = omega arith
+
+loop-again : tie.Need-loop-again Inv-loop μ-loop
+loop-again c =
+    (omega arith, copied-again (c .before .before .before .args .from .now) (c .before .before .before .args .to
+    .now) (c .before .before .loop .to) (c .before .before .loop .i) (c .before .before .before .args .n) (c .before
+    .before .before .pre) (c .before .loop-test .taken) (c .before .before .loop .inv .1))
+
+same-length : tie.Need-same-length Inv-loop μ-loop
+same-length c =
+    copied-same (c .before .before .args .from .now) (c .before .before .args .to .now) (c .before .loop .to) (c
+    .before .loop .i) (c .before .before .args .n) (c .before .before .pre) (c .before .loop .inv .0) (c .before
+    .loop .inv .1)
+
+returns : tie.Need-returns Inv-loop μ-loop
+returns c =
+    copied-last (c .before .before .args .from .now) (c .before .before .args .to .now) (c .before .loop .to) (c
+    .before .loop .i) (c .before .before .args .n) (c .before .loop .inv .0) (c .loop-test .left) (c .before .loop
+    .inv .1)
+
+pub copy-spec : {M : Type 1} → statement M
+copy-spec =
+    tie.close
+    (tie.spec
+    Inv-loop
+    μ-loop
+    loop-holds
+    shared-slice-read-to
+    slice-write-to
+    add-i
+    loop-less
+    loop-again
+    same-length
+    returns)

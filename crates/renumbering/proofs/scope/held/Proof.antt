@@ -1,0 +1,12 @@
+-- A test of the entry.
+use mathlib.Core.Path.{refl}
+use Rattle.renumbering.specs.Work.{heldIn}
+use Rattle.renumbering.proofs.scope.held.Statement.{statement}
+use Rattle.renumbering.proofs.scope.held.Tie as tie
+
+returns : tie.Need-returns
+unfolding heldIn
+returns c = refl
+
+pub held-spec : {M : Type 1} → statement M
+held-spec = tie.close (tie.spec returns)

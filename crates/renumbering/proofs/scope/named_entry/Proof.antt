@@ -1,0 +1,17 @@
+-- An entry is a product.
+use native.Mathlib.Omega.{arith}
+use mathlib.Core.Path.{refl}
+use Rattle.renumbering.specs.Work.{namedEntry}
+use borrow.Author.Needs.{needs}
+use Rattle.renumbering.proofs.scope.named_entry.Statement.{statement}
+use Rattle.renumbering.proofs.scope.named_entry.Tie as tie
+
+mul-result : tie.Need-mul-result
+mul-result c = search needs
+
+returns : tie.Need-returns
+unfolding namedEntry
+returns c = (refl, omega arith)
+
+pub named-entry-spec : {M : Type 1} → statement M
+named-entry-spec = tie.close (tie.spec mul-result returns)

@@ -1,0 +1,68 @@
+-- The body of each shape.
+use native.Mathlib.Omega.{arith}
+use Rattle.renumbering.proofs.Leaves.{body-part, body-declare, body-retire, body-unknown}
+use borrow.Author.Needs.{needs}
+use mathlib.Core.Path.{sym, refl, _∙_}
+use Rattle.renumbering.proofs.step.body_of.Statement.{statement}
+use Rattle.renumbering.proofs.step.body_of.Tie as tie
+
+shape-of-requires : tie.Need-shape-of-requires
+shape-of-requires c κs = search needs
+
+enum-known-shape : tie.Need-enum-known-shape
+enum-known-shape c = search needs
+
+cast-result : tie.Need-cast-result
+cast-result c = search needs
+
+enum-known-shape-2 : tie.Need-enum-known-shape-2
+enum-known-shape-2 c = search needs
+
+cast-result-2 : tie.Need-cast-result-2
+cast-result-2 c = search needs
+
+enum-known-shape-3 : tie.Need-enum-known-shape-3
+enum-known-shape-3 c = search needs
+
+cast-result-3 : tie.Need-cast-result-3
+cast-result-3 c = search needs
+
+enum-told : tie.Need-enum-told
+enum-told c = search needs
+
+returns : tie.Need-returns
+returns c =
+    (body-part (c .before .before .before .before .args .kind) _ _ _ _ (sym (c .before .before .before .shape-of
+    .ensures) ∙ c .before .shape .given .1) refl, omega arith)
+
+returns-2 : tie.Need-returns-2
+returns-2 c =
+    (body-declare (c .before .before .before .before .args .kind) _ _ (sym (c .before .before .before .shape-of
+    .ensures) ∙ c .before .shape2 .given .1) refl, omega arith)
+
+returns-3 : tie.Need-returns-3
+returns-3 c =
+    (body-retire (c .before .before .before .before .args .kind) _ _ (sym (c .before .before .before .shape-of
+    .ensures) ∙ c .before .shape3 .given .1) refl, omega arith)
+
+returns-4 : tie.Need-returns-4
+returns-4 c =
+    (body-unknown (c .before .before .before .args .kind) (sym (c .before .before .shape-of .ensures) ∙ c .enum-told
+    .given .1), omega arith)
+
+pub body-of-spec : {M : Type 1} → statement M
+body-of-spec =
+    tie.close
+    (tie.spec
+    shape-of-requires
+    enum-known-shape
+    cast-result
+    enum-known-shape-2
+    cast-result-2
+    enum-known-shape-3
+    cast-result-3
+    enum-told
+    returns
+    returns-2
+    returns-3
+    returns-4)

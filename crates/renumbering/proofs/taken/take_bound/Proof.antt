@@ -1,0 +1,65 @@
+-- Record by record.
+use Prim.Native.Nat.{_≤_, _-_, max}
+use native.Mathlib.Omega.{arith}
+use mathlib.Core.Path.{refl}
+use lib.ListN.{length}
+use borrow.Author.Needs.{needs}
+use Rattle.renumbering.proofs.Bound.{Bounds, bounds-first, bounds-again, bounds-last}
+use Rattle.renumbering.proofs.taken.take_bound.Statement.{statement}
+use Rattle.renumbering.proofs.taken.take_bound.Tie as tie
+
+abbrev Inv-loop : tie.InvT-loop
+Inv-loop s root taken₀ at₀ taken at = (at ≤ max root 8192) × Bounds s root taken₀ taken at
+
+abbrev μ-loop : tie.MeasureT-loop
+μ-loop s root taken₀ at₀ taken at = length s - at
+
+loop-holds : tie.Need-loop-holds Inv-loop μ-loop
+loop-holds c = (omega arith, bounds-first (c .before .args .s .now) _ _)
+
+byte-at-requires : tie.Need-byte-at-requires Inv-loop μ-loop
+byte-at-requires c κs = search needs
+
+take-ids-requires : tie.Need-take-ids-requires Inv-loop μ-loop
+take-ids-requires c κs = search needs
+
+body-of-requires : tie.Need-body-of-requires Inv-loop μ-loop
+body-of-requires c κs = search needs
+
+add-at : tie.Need-add-at Inv-loop μ-loop
+add-at c = search needs
+
+add-at-2 : tie.Need-add-at-2 Inv-loop μ-loop
+add-at-2 c = search needs
+
+loop-less : tie.Need-loop-less Inv-loop μ-loop
+loop-less c = search needs
+
+loop-again : tie.Need-loop-again Inv-loop μ-loop
+loop-again c =
+    (omega (arith, c .body-of .ensures .1), bounds-again (c .before .before .before .before .before .before .before
+    .args .s .now) (c .before .before .before .before .before .before .before .args .root) _ _ _ (c .before .before
+    .before .before .before .loop .at) _ _ _ (c .before .before .before .before .before .loop .inv .1) (c .before
+    .before .before .before .loop-test .taken) (c .before .before .before .byte-at .ensures) (c .before .take-ids
+    .ensures) (c .body-of .ensures .0) refl)
+
+returns : tie.Need-returns Inv-loop μ-loop
+returns c =
+    bounds-last (c .before .before .before .args .s .now) (c .before .before .before .args .root) _ _ (c .before
+    .loop .at) (c .before .loop .inv .1) (c .loop-test .left)
+
+pub take-bound-spec : {M : Type 1} → statement M
+take-bound-spec =
+    tie.close
+    (tie.spec
+    Inv-loop
+    μ-loop
+    loop-holds
+    byte-at-requires
+    take-ids-requires
+    body-of-requires
+    add-at
+    add-at-2
+    loop-less
+    loop-again
+    returns)

@@ -1,0 +1,4 @@
+pub mod Outcome
+pub mod Work
+pub mod Found
+pub mod Service

@@ -1,0 +1,70 @@
+-- What document 02 [4] says of renumber, as statements.
+use Prim.Native.Nat.{ℕ, _≤_, _<_}
+use mathlib.Core.Path.{_≡_}
+use mathlib.Core.Logic.{_⊎_}
+use mathlib.Core.List.{List, []}
+use lib.ListN.{length}
+use Rattle.procedures.specs.Written.{Sheet}
+use Rattle.procedures.specs.Meaning.{termOf}
+use Rattle.procedures.specs.Rules.{SameSheets}
+use Rattle.procedures.specs.Hiding.{Apart}
+use Rattle.procedures.specs.Renumber.{Change}
+use Rattle.sheet.specs.Reader.{accepted, readSheet}
+use Rattle.renumbering.specs.Outcome.{readEarlier, listSpace, too-short, no-id-left, listed, done, refused}
+use Rattle.renumbering.specs.Outcome.{outcome, RenumberPromise}
+use Rattle.renumbering.specs.declared.renumber.Renumbered.{Renumbered}
+
+-- the bytes b written for those of the sheet S, of a type and a size, with the changes cs
+pub record WellWritten (s : List ℕ) (S : Sheet) (ty size : ℕ) (b : List ℕ) (cs : List Change) : Type 0 where
+  pub sheet : Sheet
+  -- "The sheet written is accepted": by the present rule, with the same type and size, since no binder hides another
+  pub reads : readSheet b ≡ accepted sheet ty size
+  pub apart : Apart [] (sheet .term)
+  -- "and has the plays the earlier rule gave the old one"
+  pub same-term : termOf S ≡ termOf sheet
+  pub same-sheets : SameSheets S sheet
+  -- "It writes the sheet at the same length"
+  pub same-length : length b ≡ length s
+  -- "That space must have 1,020 bytes": so they suffice
+  pub few : length cs ≤ 254
+  pub fits : length (listed cs) ≤ listSpace
+  -- renumbering the sheet written changes nothing, where enough is lent
+  pub again : (room space : ℕ) → length b ≤ room → listSpace ≤ space → outcome b room space ≡ done b []
+
+unfoldable pub WrittenRule : Type 0
+WrittenRule =
+    (s : List ℕ) (room space : ℕ) (b : List ℕ) (cs : List Change) (S : Sheet) (ty size : ℕ) →
+      outcome s room space ≡ done b cs → readEarlier s ≡ accepted S ty size → WellWritten s S ty size b cs
+
+-- only an accepted sheet is renumbered
+pub record Accepted (s : List ℕ) : Type 0 where
+  pub sheet : Sheet
+  pub type : ℕ
+  pub size : ℕ
+  pub reads : readEarlier s ≡ accepted sheet type size
+
+unfoldable pub AcceptedRule : Type 0
+AcceptedRule =
+    (s : List ℕ) (room space : ℕ) (b : List ℕ) (cs : List Change) → outcome s room space ≡ done b cs → Accepted s
+
+-- "a sheet with nothing to change comes back unaltered"
+unfoldable pub UnalteredService : Type 0
+UnalteredService =
+    (s : List ℕ) (room space : ℕ) (S : Sheet) (ty size : ℕ) → readEarlier s ≡ accepted S ty size → Apart [] (S .term) →
+      length s ≤ room → listSpace ≤ space → outcome s room space ≡ done s []
+
+-- the numbers of renumber's refusals: those of check under the earlier rule, 14 and 17
+unfoldable pub RenumberNumber : ℕ → Type 0
+RenumberNumber n = ((0 < n) × (n ≤ 11)) ⊎ ((n ≡ too-short) ⊎ (n ≡ no-id-left))
+
+unfoldable pub RenumberNumbers : Type 0
+RenumberNumbers =
+    (s : List ℕ) (room space number sheet place : ℕ) → outcome s room space ≡ refused number sheet place →
+      RenumberNumber number
+
+-- the promise allows one answer, and one state of all that is lent
+unfoldable pub RenumberUnique : Type 0
+RenumberUnique =
+    (s out list : List ℕ) (r q : Renumbered) (out′ out″ list′ list″ : List ℕ) →
+      RenumberPromise s r out out′ list list′ → RenumberPromise s q out out″ list list″ →
+      (r ≡ q) × (out′ ≡ out″) × (list′ ≡ list″)

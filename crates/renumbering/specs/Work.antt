@@ -1,0 +1,103 @@
+-- What the code works with: the ids taken, the scope, the bytes and the list of changes. Only inner contracts cite it.
+use Prim.Native.Nat.{ℕ, zero, suc, _+_, _*_, _%_, _/_, _<_}
+use mathlib.Core.Path.{_≡_}
+use mathlib.Core.Bool.{Bool}
+use mathlib.Core.List.{List, [], _∷_, _++_}
+use lib.ListN.{length, getD, set, drop}
+use lib.Dec.{eqb, leb}
+use Rattle.language.specs.Choice.{pick}
+use Rattle.procedures.specs.Written.{Name}
+use Rattle.procedures.specs.Meaning.{Binder, Meaning, private, argument, routine, named, retired, free, meaning}
+use Rattle.procedures.specs.Hiding.{isHeld}
+use Rattle.procedures.specs.Renumber.{Change}
+use Rattle.records.specs.declared.kind.Shape.{Shape}
+use Rattle.records.specs.declared.kind.Shape.the-variants.{Part, Declare, Retire, Unknown}
+
+-- the length of a record's body and how many parts it has, a use's left out
+unfoldable pub bodyIn : Shape → ℕ
+bodyIn (Part body parts rule) = body
+bodyIn (Declare body) = body
+bodyIn (Retire body) = body
+bodyIn Unknown = 0
+
+unfoldable pub partsIn : Shape → ℕ
+partsIn (Part body parts rule) = parts
+partsIn (Declare body) = 0
+partsIn (Retire body) = 0
+partsIn Unknown = 0
+
+-- the ids taken, in 255 bytes: 1 for each that is
+abbrev pub marked : List ℕ → ℕ → Bool
+marked k id = eqb (getD k id 0) 1
+
+pub record Takes (k : List ℕ) (taken : ℕ → Bool) : Type 0 where
+  pub sized : length k ≡ 255
+  pub marks : (id : ℕ) → id < 255 → marked k id ≡ taken id
+
+-- the ids of n parameters whose pairs begin at a place taken
+unfoldable pub tookParameters : List ℕ → ℕ → ℕ → List ℕ → List ℕ
+tookParameters s at zero k = k
+tookParameters s at (suc n) k = tookParameters s (at + 2) n (set k (getD s at 0) 1)
+
+-- the ids that the record of a kind at a place binds taken
+unfoldable pub tookIds : List ℕ → ℕ → ℕ → ℕ → List ℕ → List ℕ
+tookIds s at kind count k =
+    pick (eqb kind 27) (set k (getD s (at + 1) 0) 1)
+    (pick (eqb kind 28) (tookParameters s (at + 4) count (set k (getD s (at + 1) 0) 1)) k)
+
+-- An id's entry in the scope: 256 times the number of arguments of a use; where an enclosing binder has the id 2,048
+-- more,
+-- and the id which the innermost of these now has.
+unfoldable pub namedEntry : ℕ → ℕ
+namedEntry count = 256 * count
+
+-- that of a name record of a kind
+unfoldable pub nameEntry : ℕ → ℕ → ℕ
+nameEntry kind count = pick (eqb kind 1) (namedEntry count) 0
+
+unfoldable pub boundEntry : ℕ → ℕ → ℕ
+boundEntry given count = 2048 + 256 * count + given
+
+unfoldable pub heldIn : ℕ → Bool
+heldIn e = leb 2048 e
+
+unfoldable pub argumentsIn : ℕ → ℕ
+argumentsIn e = e / 256 % 8
+
+unfoldable pub becomesIn : ℕ → ℕ → ℕ
+becomesIn e id = pick (leb 2048 e) (e % 256) id
+
+-- how many arguments a use has, by what its id means
+unfoldable pub arity : Meaning → ℕ
+arity (private k d) = 0
+arity (argument k ty) = 0
+arity (routine k ty tys) = length tys
+arity (named ty tys) = length tys
+arity retired = 0
+arity free = 0
+
+-- the scope is that of the binders bs, f says what the ids become
+pub record Scoped (ns : List Name) (bs : List Binder) (f : ℕ → ℕ) (scope : List ℕ) : Type 0 where
+  pub sized : length scope ≡ 255
+  pub helds : (id : ℕ) → id < 255 → heldIn (getD scope id 0) ≡ isHeld bs id
+  pub becomes : (id : ℕ) → id < 255 → becomesIn (getD scope id 0) id ≡ f id
+  pub counts : (id : ℕ) → id < 255 → argumentsIn (getD scope id 0) ≡ arity (meaning ns bs id)
+
+-- the bytes xs lie in s from a place on
+pub record Lies (s : List ℕ) (at : ℕ) (xs : List ℕ) : Type 0 where
+  pub rest : List ℕ
+  pub here : drop at s ≡ xs ++ rest
+
+-- the bytes from a place on, which were xs, are ys
+unfoldable pub Rewrites : ℕ → List ℕ → List ℕ → List ℕ → List ℕ → Type 0
+Rewrites at xs ys b b′ = (X R : List ℕ) → length X ≡ at → b ≡ X ++ (xs ++ R) → b′ ≡ X ++ (ys ++ R)
+
+-- change n of the list written, and changes n, n + 1, ..
+unfoldable pub note : ℕ → Change → List ℕ → List ℕ
+note n c l =
+    set (set (set (set l (4 * n) (c .place % 256)) (4 * n + 1) (c .place / 256)) (4 * n + 2) (c .old)) (4 * n + 3)
+    (c .given)
+
+unfoldable pub notes : ℕ → List Change → List ℕ → List ℕ
+notes n [] l = l
+notes n (c ∷ cs) l = notes (suc n) cs (note n c l)

@@ -1,0 +1,118 @@
+// The service renumber.
+use crate::bytes::copy;
+use crate::part::CHANGE;
+use crate::part::LIST;
+use crate::part::SHEET;
+use crate::step::Step;
+use crate::work::renumber_copy;
+use records::edition::Edition;
+use records::refusal::Refusal;
+use sheet::judge::Judgement;
+use sheet::judge::judge_sheet;
+ghost use mathlib.Core.Path.{_≡_};
+ghost use Prim.Native.Nat.{_≤_};
+ghost use lib.ListN.{length};
+ghost use Rattle.renumbering.specs.Outcome.{RenumberPromise};
+ghost use Rattle.renumbering.specs.Found.{AcceptedAt, EarlierRead, Renumbers};
+
+// The numbers of the refusals that reading does not give.
+const TOO_SHORT: u8 = 14;
+
+const NO_ID_LEFT: u8 = 17;
+
+// The sheets that a refusal names.
+const OLD: u8 = 0;
+
+const BOTH: u8 = 2;
+
+// The answer of renumber: the number of changes, or the refusal's number, sheet (0 old, 2 both) and place.
+pub enum Renumbered {
+    Changed { changes: u32 },
+    Refused { number: u8, sheet: u8, place: usize },
+}
+
+// What reading under the earlier rule gives: the place of the term, or the refusal.
+enum Earlier {
+    Sheet { root: usize },
+    Refused(Refusal),
+}
+
+// Reads a sheet under the earlier rule.
+fn read_earlier(s: &[u8]) -> Earlier
+    ensures { λ x. ⌜ EarlierRead (now (s .entry)) x ⌝ }
+{
+    let mut t = [0u16; 36864];
+    let mut marks = [0u16; SHEET];
+    let x = judge_sheet(Edition::Earlier, s, &mut t, &mut marks);
+    match x {
+        Judgement::Refused(refusal) => Earlier::Refused(refusal),
+        Judgement::Sheet {
+            root,
+            ty: _,
+            size: _,
+        } => Earlier::Sheet { root },
+    }
+}
+
+// The refusal of an output or a list space that is too short.
+fn too_short() -> Renumbered
+    ensures { λ r. ⌜ r ≡ Renumbered.Refused 14 2 0 ⌝ }
+{
+    Renumbered::Refused {
+        number: TOO_SHORT,
+        sheet: BOTH,
+        place: 0,
+    }
+}
+
+// Renumbers an accepted sheet whose term begins at the root. Nothing lent is written before it is known that no id is
+// wanting.
+fn renumber_accepted(s: &[u8], root: usize, out: &mut [u8], list: &mut [u8]) -> Renumbered
+    requires { ⌜ AcceptedAt (now s) root × (length (now s) ≤ length (now out)) × (1020 ≤ length (now list)) ⌝ }
+    ensures { λ r. ⌜ Renumbers (now (s .entry)) root r (now (out .entry)) (now (out .exit)) (now (list .entry))
+        (now (list .exit)) ⌝ }
+{
+    let mut bytes = [0u8; SHEET];
+    let mut changes = [0u8; LIST];
+    let x = renumber_copy(s, root, &mut bytes, &mut changes);
+    match x {
+        Step::Full { place } => Renumbered::Refused {
+            number: NO_ID_LEFT,
+            sheet: OLD,
+            place,
+        },
+        Step::Done {
+            value: _,
+            changes: n,
+        } => {
+            copy(&bytes, out, s.len());
+            copy(&changes, list, CHANGE * n);
+            Renumbered::Changed { changes: n as u32 }
+        }
+    }
+}
+
+// The service renumber: the sheet in which each inner name that hides an outer one has another id, and the changes; or
+// why it is refused.
+pub fn renumber(s: &[u8], out: &mut [u8], list: &mut [u8]) -> Renumbered
+    ensures { λ r. ⌜ RenumberPromise (now (s .entry)) r (now (out .entry)) (now (out .exit)) (now (list .entry))
+        (now (list .exit)) ⌝ }
+{
+    let x = read_earlier(s);
+    match x {
+        Earlier::Refused(refusal) => Renumbered::Refused {
+            number: refusal.number,
+            sheet: OLD,
+            place: refusal.place,
+        },
+        Earlier::Sheet { root } => {
+            if out.len() < s.len() {
+                return too_short();
+            }
+            if list.len() < LIST {
+                return too_short();
+            }
+            renumber_accepted(s, root, out, list)
+        }
+    }
+}
