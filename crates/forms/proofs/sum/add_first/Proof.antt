@@ -25,10 +25,15 @@ sat-add-requires : tie.Need-sat-add-requires
 sat-add-requires c κs = search needs
 
 put-requires : tie.Need-put-requires
-put-requires c κs = (omega (arith, c .before .before .before .before .before .before .before .before .before .pre), omega arith)
+put-requires c κs =
+    (omega (arith, c .before .before .before .before .before .before .before .before .before .pre), omega arith)
 
 returns : tie.Need-returns
-returns c = added-with _ _ _ _ _ _ _ _ _ _ (omega (arith, c .before .before .before .before .before .before .before .before .before .before .pre)) (c .before .before .before .before .before .before .before .at .ensures .0) (c .before .before .before .before .at2 .ensures .0)
+returns c =
+    added-with _ _ _ _ _ _ _ _ _ _
+    (omega (arith, c .before .before .before .before .before .before .before .before .before .before .pre))
+    (c .before .before .before .before .before .before .before .at .ensures .0)
+    (c .before .before .before .before .at2 .ensures .0)
     (c .before .before .before .sum-of .ensures) (held-is _ _ (c .before .before .sat-add .ensures)) (c .put .ensures)
 
 pub add-first-spec : {M : Type 1} → statement M
