@@ -5,6 +5,7 @@ use mathlib.Core.Bool.{Bool, true, false}
 use mathlib.Core.List.{List, [], _∷_}
 use lib.ListN.{length}
 use borrow.Author.Tests.{le-ltb}
+use Rattle.records.specs.declared.refusal.Cause.{Cause}
 use Rattle.sheet.specs.declared.check.Checked.{Checked}
 use Rattle.sheet.specs.declared.check.Checked.the-variants.{Accepted, Refused}
 use Rattle.comparer.specs.Promise.{FollowPromise, ComparePromise}
@@ -16,10 +17,9 @@ use Rattle.renumbering.specs.Outcome.{RenumberPromise}
 use Rattle.renumbering.specs.declared.renumber.Renumbered.{Renumbered}
 use Rattle.renumbering.specs.declared.renumber.Renumbered.the-variants.{Changed, Refused as NotRenumbered}
 use Rattle.abi.specs.Words.{kind-refused, kind-accepted, kind-follows, kind-same, kind-apart, kind-renumbered}
-use Rattle.abi.specs.Words.{lowHalf, highHalf, refusal, refusalOf, refusalWords, checkWords, followWords}
-use Rattle.abi.specs.Words.{compareWords, renumberWords, answered, status}
+use Rattle.abi.specs.Words.{lowHalf, highHalf, refusalWords, checkWords, followWords, compareWords}
+use Rattle.abi.specs.Words.{renumberWords, answered, status}
 use Rattle.abi.specs.Returned.{FollowReturned, CompareReturned, RenumberReturned, answers}
-use Rattle.abi.specs.declared.Refusal.{Refusal}
 
 -- an answer by other words for the same
 pub returned-as : (out out′ ws ws₂ : List ℕ) (x : ℕ) → ws ≡ ws₂ → x ≡ status out → out′ ≡ answered ws out →
@@ -27,19 +27,10 @@ pub returned-as : (out out′ ws ws₂ : List ℕ) (x : ℕ) → ws ≡ ws₂ �
 returned-as out out′ ws ws₂ x e t w = rw (← e) (t, w)
 
 -- the words of each answer
-pub words-refused : (x : Refusal) (low high : ℕ) → low ≡ lowHalf (x .place) → high ≡ highHalf (x .place) →
+pub words-refused : (x : Cause) (low high : ℕ) → low ≡ lowHalf (x .place) → high ≡ highHalf (x .place) →
   (kind-refused ∷ x .number ∷ x .sheet ∷ low ∷ high ∷ []) ≡ refusalWords x
 unfolding refusalWords
 words-refused x low high p q = rw (p, q)
-
-pub refusal-found : (r : Checked) (number sheet place : ℕ) → r ≡ Refused number sheet place →
-  refusal number sheet place ≡ refusalOf r
-unfolding refusalOf
-refusal-found r number sheet place e = rw e
-
-pub no-refusal : (r : Checked) (ty size : ℕ) → r ≡ Accepted ty size → refusal 0 0 0 ≡ refusalOf r
-unfolding refusalOf
-no-refusal r ty size e = rw e
 
 pub words-complete : (r : Following) (count low high : ℕ) (complete : Bool) → r ≡ Follows count complete →
   complete ≡ true → low ≡ lowHalf count → high ≡ highHalf count →
@@ -53,10 +44,9 @@ pub words-begun : (r : Following) (count low high : ℕ) (complete : Bool) → r
 unfolding followWords
 words-begun r count low high complete e c p q = rw (e, c, p, q) refl
 
-pub words-not-followed : (r : Following) (number sheet place : ℕ) → r ≡ NotFollowed number sheet place →
-  refusalWords (refusal number sheet place) ≡ followWords r
+pub words-not-followed : (r : Following) (x : Cause) → r ≡ NotFollowed x → refusalWords x ≡ followWords r
 unfolding followWords
-words-not-followed r number sheet place e = rw e refl
+words-not-followed r x e = rw e refl
 
 pub words-same : (r : Comparison) → r ≡ Same → (kind-same ∷ 0 ∷ 0 ∷ 0 ∷ 0 ∷ []) ≡ compareWords r
 unfolding compareWords
@@ -67,20 +57,18 @@ pub words-apart : (r : Comparison) (sheet moves low high : ℕ) → r ≡ Apart 
 unfolding compareWords
 words-apart r sheet moves low high e p q = rw (e, p, q) refl
 
-pub words-not-compared : (r : Comparison) (number sheet place : ℕ) → r ≡ NotCompared number sheet place →
-  refusalWords (refusal number sheet place) ≡ compareWords r
+pub words-not-compared : (r : Comparison) (x : Cause) → r ≡ NotCompared x → refusalWords x ≡ compareWords r
 unfolding compareWords
-words-not-compared r number sheet place e = rw e refl
+words-not-compared r x e = rw e refl
 
 pub words-renumbered : (r : Renumbered) (changes : ℕ) → r ≡ Changed changes →
   (kind-renumbered ∷ changes ∷ 0 ∷ 0 ∷ 0 ∷ []) ≡ renumberWords r
 unfolding renumberWords
 words-renumbered r changes e = rw e refl
 
-pub words-not-renumbered : (r : Renumbered) (number sheet place : ℕ) → r ≡ NotRenumbered number sheet place →
-  refusalWords (refusal number sheet place) ≡ renumberWords r
+pub words-not-renumbered : (r : Renumbered) (x : Cause) → r ≡ NotRenumbered x → refusalWords x ≡ renumberWords r
 unfolding renumberWords
-words-not-renumbered r number sheet place e = rw e refl
+words-not-renumbered r x e = rw e refl
 
 -- the answer of check
 module _ (out out′ : List ℕ) (y : Checked) (r : Checked) (x : ℕ) where
@@ -90,11 +78,10 @@ module _ (out out′ : List ℕ) (y : Checked) (r : Checked) (x : ℕ) where
   unfolding checkWords
   check-accepted ty size d e t w = rw (← d, e) (t, w)
 
-  pub check-refused : (z : Refusal) (number sheet place : ℕ) → r ≡ y → r ≡ Refused number sheet place →
-    z ≡ refusalOf r → x ≡ status out → out′ ≡ answered (refusalWords z) out →
+  pub check-refused : (z : Cause) → r ≡ y → r ≡ Refused z → x ≡ status out → out′ ≡ answered (refusalWords z) out →
     (x ≡ status out) × (out′ ≡ answered (checkWords y) out)
-  unfolding checkWords refusalOf
-  check-refused z number sheet place d e f t w = rw (← d, e) (t, rw (f, e) at w)
+  unfolding checkWords
+  check-refused z d e t w = rw (← d, e) (t, w)
 
 -- with room for the answer
 pub follow-returned : (s play ws out ws′ out′ : List ℕ) (x : ℕ) (a : Following) → 5 ≤ length out →

@@ -9,6 +9,7 @@ use mathlib.Core.List.{List, [], _∷_, _++_}
 use lib.ListN.{length, drop}
 use lib.Dec.{ltb}
 use Rattle.language.specs.Choice.{pick}
+use Rattle.records.specs.declared.refusal.Cause.{Cause}
 use Rattle.sheet.specs.declared.check.Checked.{Checked}
 use Rattle.sheet.specs.declared.check.Checked.the-variants.{Accepted, Refused}
 use Rattle.comparer.specs.declared.Following.{Following}
@@ -17,7 +18,6 @@ use Rattle.comparer.specs.declared.Comparison.{Comparison}
 use Rattle.comparer.specs.declared.Comparison.the-variants.{Same, Apart, Refused as NotCompared}
 use Rattle.renumbering.specs.declared.renumber.Renumbered.{Renumbered}
 use Rattle.renumbering.specs.declared.renumber.Renumbered.the-variants.{Changed, Refused as NotRenumbered}
-use Rattle.abi.specs.declared.Refusal.{Refusal}
 
 -- the kinds of answers
 abbrev pub kind-refused : ℕ
@@ -50,37 +50,29 @@ abbrev pub GivenWhole : Type 0
 GivenWhole = (v : ℕ) → lowHalf v + 4294967296 * highHalf v ≡ v
 
 -- a refusal: number, sheet (0 old, 1 new, 2 both) and place
-unfoldable pub refusalWords : Refusal → List ℕ
+unfoldable pub refusalWords : Cause → List ℕ
 refusalWords x = kind-refused ∷ x .number ∷ x .sheet ∷ lowHalf (x .place) ∷ highHalf (x .place) ∷ []
-
-abbrev pub refusal : ℕ → ℕ → ℕ → Refusal
-refusal number sheet place = record { number = number; sheet = sheet; place = place }
-
--- the refusal by check, if it is one
-unfoldable pub refusalOf : Checked → Refusal
-refusalOf (Accepted ty size) = refusal 0 0 0
-refusalOf (Refused number sheet place) = refusal number sheet place
 
 -- accepted: type and size
 unfoldable pub checkWords : Checked → List ℕ
 checkWords (Accepted ty size) = kind-accepted ∷ ty ∷ size ∷ 0 ∷ 0 ∷ []
-checkWords (Refused number sheet place) = refusalWords (refusal number sheet place)
+checkWords (Refused x) = refusalWords x
 
 -- followed: 1 where the play is complete, else 0, and how many moves
 unfoldable pub followWords : Following → List ℕ
 followWords (Follows count complete) = kind-follows ∷ pick complete 1 0 ∷ lowHalf count ∷ highHalf count ∷ 0 ∷ []
-followWords (NotFollowed number sheet place) = refusalWords (refusal number sheet place)
+followWords (NotFollowed x) = refusalWords x
 
 -- same; or apart: the sheet, 0 old or 1 new, and how many moves
 unfoldable pub compareWords : Comparison → List ℕ
 compareWords Same = kind-same ∷ 0 ∷ 0 ∷ 0 ∷ 0 ∷ []
 compareWords (Apart sheet moves) = kind-apart ∷ sheet ∷ lowHalf moves ∷ highHalf moves ∷ 0 ∷ []
-compareWords (NotCompared number sheet place) = refusalWords (refusal number sheet place)
+compareWords (NotCompared x) = refusalWords x
 
 -- renumbered: how many changes
 unfoldable pub renumberWords : Renumbered → List ℕ
 renumberWords (Changed changes) = kind-renumbered ∷ changes ∷ 0 ∷ 0 ∷ 0 ∷ []
-renumberWords (NotRenumbered number sheet place) = refusalWords (refusal number sheet place)
+renumberWords (NotRenumbered x) = refusalWords x
 
 -- the words lent, with an answer in the first five; all as they were where there are fewer
 unfoldable pub answered : List ℕ → List ℕ → List ℕ

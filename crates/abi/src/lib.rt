@@ -4,6 +4,7 @@ use comparer::Comparison;
 use comparer::Following;
 use comparer::compare::compare;
 use comparer::follow::follow;
+use records::refusal::Cause;
 use renumbering::renumber::Renumbered;
 use renumbering::renumber::renumber;
 use sheet::check::Checked;
@@ -12,8 +13,8 @@ ghost use mathlib.Core.Path.{_≡_};
 ghost use mathlib.Core.List.{[], _∷_};
 ghost use Rattle.sheet.specs.Reader.{readSheet};
 ghost use Rattle.sheet.specs.Check.{checkedOf};
-ghost use Rattle.abi.specs.Words.{lowHalf, highHalf, refusalOf, refusalWords, checkWords, followWords};
-ghost use Rattle.abi.specs.Words.{compareWords, renumberWords, answered, status};
+ghost use Rattle.abi.specs.Words.{lowHalf, highHalf, refusalWords, checkWords, followWords, compareWords};
+ghost use Rattle.abi.specs.Words.{renumberWords, answered, status};
 ghost use Rattle.abi.specs.Returned.{FollowReturned, CompareReturned, RenumberReturned};
 
 // How many words an answer has.
@@ -39,13 +40,6 @@ const RENUMBERED: u32 = 5;
 
 // How many numbers a word holds.
 const WORD: usize = 4294967296;
-
-// A refusal: its number, the sheet (0 old, 1 new, 2 both) and the place.
-pub struct Refusal {
-    pub number: u8,
-    pub sheet: u8,
-    pub place: usize,
-}
 
 // The low 32 bits of a number.
 fn low_half(v: usize) -> u32
@@ -78,7 +72,7 @@ fn answer(out: &mut [u32], kind: u32, a: u32, b: u32, c: u32, d: u32) -> u32
 }
 
 // Writes a refusal.
-fn refuse(out: &mut [u32], x: Refusal) -> u32
+fn refuse(out: &mut [u32], x: Cause) -> u32
     ensures returned { λ r. ⌜ r ≡ status (now (out .entry)) ⌝ }
     ensures written { λ r. ⌜ now (out .exit) ≡ answered (refusalWords x) (now (out .entry)) ⌝ }
 {
@@ -90,29 +84,6 @@ fn refuse(out: &mut [u32], x: Refusal) -> u32
         low_half(x.place),
         high_half(x.place),
     )
-}
-
-// The refusal that check answers; all 0 where it accepts.
-fn refusal_of(checked: Checked) -> Refusal
-    ensures { λ r. ⌜ r ≡ refusalOf checked ⌝ }
-{
-    let Checked::Refused {
-        number,
-        sheet,
-        place,
-    } = checked
-    else {
-        return Refusal {
-            number: 0,
-            sheet: 0,
-            place: 0,
-        };
-    };
-    Refusal {
-        number,
-        sheet,
-        place,
-    }
 }
 
 // Writes the answer of follow.
@@ -127,18 +98,7 @@ fn answer_follow(out: &mut [u32], r: Following) -> u32
             }
             answer(out, FOLLOWS, 0, low_half(count), high_half(count), 0)
         }
-        Following::Refused {
-            number,
-            sheet,
-            place,
-        } => refuse(
-            out,
-            Refusal {
-                number,
-                sheet,
-                place,
-            },
-        ),
+        Following::Refused(x) => refuse(out, x),
     }
 }
 
@@ -157,18 +117,7 @@ fn answer_compare(out: &mut [u32], r: Comparison) -> u32
             high_half(moves),
             0,
         ),
-        Comparison::Refused {
-            number,
-            sheet,
-            place,
-        } => refuse(
-            out,
-            Refusal {
-                number,
-                sheet,
-                place,
-            },
-        ),
+        Comparison::Refused(x) => refuse(out, x),
     }
 }
 
@@ -179,18 +128,7 @@ fn answer_renumber(out: &mut [u32], r: Renumbered) -> u32
 {
     match r {
         Renumbered::Changed { changes } => answer(out, RENUMBERED, changes, 0, 0, 0),
-        Renumbered::Refused {
-            number,
-            sheet,
-            place,
-        } => refuse(
-            out,
-            Refusal {
-                number,
-                sheet,
-                place,
-            },
-        ),
+        Renumbered::Refused(x) => refuse(out, x),
     }
 }
 
@@ -202,10 +140,10 @@ pub extern "C" fn negyvosal_check(sheet: &[u8], out: &mut [u32]) -> u32
         ≡ answered (checkWords (checkedOf (readSheet (now (sheet .entry))))) (now (out .entry)) ⌝ }
 {
     let checked = check(sheet);
-    let Checked::Accepted { ty, size } = checked else {
-        return refuse(out, refusal_of(checked));
-    };
-    answer(out, ACCEPTED, ty as u32, size, 0, 0)
+    match checked {
+        Checked::Accepted { ty, size } => answer(out, ACCEPTED, ty as u32, size, 0, 0),
+        Checked::Refused(x) => refuse(out, x),
+    }
 }
 
 // The service follow: the answer in the first five words of out, and 1; or 0, and nothing is changed, where out has

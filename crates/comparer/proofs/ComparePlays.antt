@@ -3,7 +3,7 @@ use mathlib.Core.Path.{_≡_, refl, sym, ap, ap₂, _∙_}
 use mathlib.Core.Logic.{_↔_}
 use mathlib.Core.Bool.{Bool, true, false}
 use mathlib.Core.List.{List}
-use mathlib.Core.Option.{Option, none}
+use mathlib.Core.Option.{Option, none, some}
 use Prim.Native.Nat.{ℕ, zero, suc, _+_, _*_, _-_, _≤_, _<_, min}
 use native.Mathlib.Omega.{arith}
 use lib.ListN.{length, getD, replicate}
@@ -16,7 +16,9 @@ use Rattle.language.specs.Move.{Word}
 use Rattle.language.specs.Play.{Complete}
 use Rattle.automaton.specs.walk.Shows.{Words}
 use Rattle.explicit.specs.inner.Ready.{Ready}
+use Rattle.records.specs.Refusal.{cause, both-sheets}
 use Rattle.records.specs.declared.refusal.Refusal.{Refusal as Wrong}
+use Rattle.records.specs.declared.refusal.Cause.{Cause}
 use Rattle.procedures.specs.Written.{Sheet}
 use Rattle.procedures.specs.Meaning.{tyOf, termOf, typeOf}
 use Rattle.sheet.specs.Reader.{numbersAt, readSheet, rejected}
@@ -25,45 +27,41 @@ use Rattle.load.specs.Loaded.{LoadedBy}
 use Rattle.load.specs.declared.load.Loaded.{Loaded}
 use Rattle.load.specs.declared.load.Loaded.the-variants as loaded
 use Rattle.comparer.specs.Plays.{Alike, Only}
-use Rattle.comparer.specs.Refusals.{Refusal, refusing, sameFirst, matching, onRead, pairRefusal}
+use Rattle.comparer.specs.Refusals.{refusing, sameFirst, matching, onRead, pairRefusal}
 use Rattle.comparer.specs.Refusals.{compareRefusal}
 use Rattle.comparer.specs.Promise.{Decided, same, apart, ComparedBy, ComparePromise}
 use Rattle.comparer.specs.inner.Built.{TwoReady, TwoBuilt}
 use Rattle.comparer.specs.inner.Deciding.{Deciding, OnlyTerm, Verdicts, alike, differ}
-use Rattle.comparer.specs.inner.Causes.{causeOf, bothCause, numberOf}
-use Rattle.comparer.specs.declared.Cause.{Cause}
+use Rattle.comparer.specs.inner.Causes.{causeOf, numberOf}
 use Rattle.comparer.specs.declared.Comparison.{Comparison}
 use Rattle.comparer.specs.declared.Comparison.the-variants.{Refused}
 use Rattle.comparer.proofs.ReadSheets.{heading-after, Fit, fit-as, fit-held, fit-type, fit-ready}
 
 -- a refusal leaves everything as it was
-refuses : (old new ws space : List ℕ) {r : Comparison} (number sheet place : ℕ) →
-    compareRefusal old new (length ws) (length space) ≡ refusing number sheet place → r ≡ Refused number sheet place →
-    ComparePromise old new ws space r ws space
+refuses : (old new ws space : List ℕ) {x q : Cause} → compareRefusal old new (length ws) (length space) ≡ some x →
+    q ≡ x → ComparePromise old new ws space (Refused q) ws space
 unfolding ComparedBy
-refuses old new ws space number sheet place e f = rw e (f, (refl, refl))
+refuses old new ws space e f = rw e (ap Refused f, (refl, refl))
 
 -- the refusal of a sheet, handed on
-handed-on : {x : Loaded} {z : Wrong} {sheet : ℕ} {q : Cause} {r : Comparison} → x ≡ loaded.Refused z →
-    q ≡ causeOf x sheet → r ≡ Refused (q .number) (q .sheet) (q .place) →
-    r ≡ Refused (z .number) sheet (z .place)
+handed-on : {x : Loaded} {z : Wrong} {sheet : ℕ} {q : Cause} → x ≡ loaded.Refused z → q ≡ causeOf x sheet →
+    q ≡ cause (z .number) sheet (z .place)
 unfolding causeOf
-handed-on e f g = g ∙ rw (f, e)
+handed-on e f = f ∙ rw e
 
 -- the old sheet is refused
-pub refused-old : (old new ws space : List ℕ) {x : Loaded} {z : Wrong} {q : Cause} {r : Comparison} →
+pub refused-old : (old new ws space : List ℕ) {x : Loaded} {z : Wrong} {q : Cause} →
     readSheet old ≡ rejected (z .number) (z .place) → x ≡ loaded.Refused z → q ≡ causeOf x 0 →
-    r ≡ Refused (q .number) (q .sheet) (q .place) → ComparePromise old new ws space r ws space
+    ComparePromise old new ws space (Refused q) ws space
 unfolding compareRefusal onRead
-refused-old old new ws space h e f g = refuses old new ws space _ 0 _ (rw h) (handed-on e f g)
+refused-old old new ws space h e f = refuses old new ws space (rw h) (handed-on e f)
 
 -- the old sheet is read, and the new one refused
 pub refused-new : (old new ws space : List ℕ) {root row ty size : ℕ} {t : List ℕ} {y : Loaded} {z : Wrong} {q : Cause}
-    {r : Comparison} → load.Ready old root row ty size t → readSheet new ≡ rejected (z .number) (z .place) →
-    y ≡ loaded.Refused z → q ≡ causeOf y 1 → r ≡ Refused (q .number) (q .sheet) (q .place) →
-    ComparePromise old new ws space r ws space
+    → load.Ready old root row ty size t → readSheet new ≡ rejected (z .number) (z .place) →
+    y ≡ loaded.Refused z → q ≡ causeOf y 1 → ComparePromise old new ws space (Refused q) ws space
 unfolding compareRefusal onRead
-refused-new old new ws space A h e f g = refuses old new ws space _ 1 _ (rw (A .accepts, h)) (handed-on e f g)
+refused-new old new ws space A h e f = refuses old new ws space (rw (A .accepts, h)) (handed-on e f)
 
 -- equal first bytes
 same-byte : (n : ℕ) (s u : List ℕ) → sameFirst n s u ≡ true → (i : ℕ) → i < n → getD s i 0 ≡ getD u i 0
@@ -191,7 +189,7 @@ module _ {N : Numbers} {old new : List ℕ} {row other all more : ℕ} {t u : Li
     ; cleared = k ∙ ap (λ i. replicate i 0) (j ∙ e) })
 
 -- by the three tests
-abbrev judgement : Bool → Bool → Bool → Option Refusal
+abbrev judgement : Bool → Bool → Bool → Option Cause
 judgement p q s = pick p (pick q (refusing 13 2 0) (pick s (refusing 14 2 0) none)) (refusing 12 2 0)
 
 stopped-by : (p q s : Bool) {number : ℕ} → number ≡ numberOf (judgement p q s) → (number ≡ 0 → ⊥) →
@@ -232,13 +230,13 @@ module _ (old new ws space : List ℕ) {root row ty all other other-row b more :
     judged-as = judged ∙ rw (← e) refl
 
     -- they are refused together
-    pub refused-pair : {q : Cause} {r : Comparison} → (number ≡ 0 → ⊥) → q ≡ bothCause number →
-        r ≡ Refused (q .number) (q .sheet) (q .place) → ComparePromise old new ws space r ws space
-    refused-pair h f g =
-        refuses old new ws space number 2 0
+    pub refused-pair : {q : Cause} → (number ≡ 0 → ⊥) → q ≡ cause number both-sheets 0 →
+        ComparePromise old new ws space (Refused q) ws space
+    refused-pair h f =
+        refuses old new ws space
           (judged-as ∙
             stopped-by fit (ltb (length ws) (32 * (all + more + 1))) (ltb (length space) (4 * (all + more - 1))) n h)
-          (g ∙ ap (λ q. Refused (q .number) (q .sheet) (q .place)) f)
+          f
 
     -- the tests passed
     tests : number ≡ 0 → (fit ≡ true) × (ltb (length ws) (32 * (all + more + 1)) ≡ false) ×

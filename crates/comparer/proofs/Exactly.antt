@@ -10,7 +10,7 @@ use lib.ListN.{length, take}
 use Rattle.language.specs.Move.{Word, records}
 use Rattle.procedures.specs.Written.{Sheet}
 use Rattle.comparer.specs.Plays.{Alike, Only, FirstPlay}
-use Rattle.comparer.specs.Refusals.{Refusal, compareRefusal}
+use Rattle.comparer.specs.Refusals.{compareRefusal}
 use Rattle.comparer.specs.Promise.{SamePlays, ApartPlays, Decided, same, apart, Compared, ComparedBy}
 use Rattle.comparer.specs.Promise.{ComparePromise}
 use Rattle.comparer.specs.Demands.{Shown, Exact, ExactAnswer}
@@ -28,7 +28,7 @@ not-alike (suc (suc k)) S T u o a = o
 kind : Comparison → ℕ
 kind Same = 0
 kind (Apart which moves) = 1
-kind (Refused number sheet place) = 2
+kind (Refused x) = 2
 
 -- what is written before the rest of play space stands first in it
 stands-first : (xs ys : List ℕ) → take (length xs) (xs ++ ys) ≡ xs

@@ -1,6 +1,6 @@
 -- The answers of follow, case by case: what the calls on the way leave is what it promises.
 use mathlib.Core.Path.{_≡_, refl, sym, ap, ap₂, subst, _∙_}
-use mathlib.Core.Option.{Option, none}
+use mathlib.Core.Option.{Option, none, some}
 use mathlib.Core.List.{List}
 use Prim.Native.Nat.{ℕ, _+_, _*_, _-_, _≤_, _<_, min}
 use native.Mathlib.Omega.{arith}
@@ -16,7 +16,9 @@ use Rattle.dfa.specs.Graph.{rest, Graph, SameEdges}
 use Rattle.dfa.specs.Live.{Single}
 use Rattle.live.specs.Marks.{Markable, Marks}
 use Rattle.dfa.proofs.laws.SameEdges.{same-graph}
+use Rattle.records.specs.Refusal.{cause, both-sheets}
 use Rattle.records.specs.declared.refusal.Refusal.{Refusal as Wrong}
+use Rattle.records.specs.declared.refusal.Cause.{Cause}
 use Rattle.procedures.specs.Meaning.{tyOf, termOf, typeOf}
 use Rattle.sheet.specs.Reader.{readSheet, rejected}
 use Rattle.load.specs.declared.load.Loaded.{Loaded}
@@ -24,7 +26,6 @@ use Rattle.load.specs.declared.load.Loaded.the-variants as loaded
 use Rattle.comparer.specs.Records.{Given, moves, bad, parse}
 use Rattle.comparer.specs.Refusals.{refusing, onRead, onGiven, followRefusal}
 use Rattle.comparer.specs.Promise.{FollowedBy, FollowPromise}
-use Rattle.comparer.specs.declared.Cause.{Cause}
 use Rattle.comparer.specs.declared.Following.{Following}
 use Rattle.comparer.specs.declared.Following.the-variants.{Follows, Refused}
 use Rattle.comparer.specs.declared.follow.Reach.{Reach}
@@ -32,25 +33,25 @@ use Rattle.comparer.specs.declared.play.Parsed.{Parsed}
 use Rattle.comparer.specs.declared.play.Parsed.the-variants.{Moves, Bad}
 use Rattle.comparer.specs.inner.Built.{OneReady, OneBuilt}
 use Rattle.comparer.specs.inner.Bytes.{counted}
-use Rattle.comparer.specs.inner.Causes.{causeOf, bothCause, playCause}
+use Rattle.comparer.specs.inner.Causes.{causeOf, playCause}
 use Rattle.comparer.specs.inner.Walk.{AtLeast, Marked, Reached}
 use Rattle.comparer.proofs.ReadSheets.{Fit, fit-held, fit-fine, fit-type, fit-ready}
 use Rattle.comparer.proofs.FollowPlays.{built-single, counts}
 use Rattle.comparer.proofs.WritingPlays.{good-moves}
 
 -- a refusal that is promised
-refuses : (s play ws ws′ : List ℕ) (a b p : ℕ) (r : Following) → followRefusal s play (length ws) ≡ refusing a b p →
-    r ≡ Refused a b p → ws′ ≡ ws → FollowPromise s play ws r ws′
+refuses : (s play ws ws′ : List ℕ) {x q : Cause} → followRefusal s play (length ws) ≡ some x → q ≡ x → ws′ ≡ ws →
+    FollowPromise s play ws (Refused q) ws′
 unfolding FollowedBy
-refuses s play ws ws′ a b p r e f k = rw e (f, k)
+refuses s play ws ws′ e f k = rw e (ap Refused f, k)
 
 -- a sheet that is refused
-pub refuses-sheet : (s play ws ws′ : List ℕ) {x : Loaded} {z : Wrong} {q : Cause} {r : Following} →
-    readSheet s ≡ rejected (z .number) (z .place) → x ≡ loaded.Refused z → q ≡ causeOf x 0 →
-    r ≡ Refused (q .number) (q .sheet) (q .place) → ws′ ≡ ws → FollowPromise s play ws r ws′
+pub refuses-sheet : (s play ws ws′ : List ℕ) {x : Loaded} {z : Wrong} {q : Cause} →
+    readSheet s ≡ rejected (z .number) (z .place) → x ≡ loaded.Refused z → q ≡ causeOf x 0 → ws′ ≡ ws →
+    FollowPromise s play ws (Refused q) ws′
 unfolding followRefusal onRead causeOf
-refuses-sheet s play ws ws′ {z = z} h e c f k =
-    refuses s play ws ws′ (z .number) 0 (z .place) _ (rw h) (f ∙ rw (c, e)) k
+refuses-sheet s play ws ws′ {z = z} h e c k =
+    refuses s play ws ws′ {x = cause (z .number) 0 (z .place)} (rw h) (c ∙ rw e) k
 
 -- a play in whose count a bad record is met
 on-bad : (g : Given) {p : ℕ} → Bad p ≡ counted 0 g → onGiven g ≡ refusing 15 0 p
@@ -80,23 +81,20 @@ module _ {N : Numbers} {ty : ℕ} {s : List ℕ} {row all : ℕ} {t : List ℕ} 
   goes-on play words = rw (F .reads)
 
   -- too few words
-  pub refuses-words : (play ws ws′ : List ℕ) {q : Cause} {r : Following} → length ws < 32 * (all + 1) →
-      q ≡ bothCause 13 → r ≡ Refused (q .number) (q .sheet) (q .place) → ws′ ≡ ws → FollowPromise s play ws r ws′
-  refuses-words play ws ws′ h c f k =
-      refuses s play ws ws′ 13 2 0 _
-        (goes-on play (length ws) ∙ rw (lt-ltb (length ws) (32 * (all + 1)) h) refl)
-        (f ∙ ap (λ q. Refused (q .number) (q .sheet) (q .place)) c) k
+  pub refuses-words : (play ws ws′ : List ℕ) {q : Cause} → length ws < 32 * (all + 1) → q ≡ cause 13 both-sheets 0 →
+      ws′ ≡ ws → FollowPromise s play ws (Refused q) ws′
+  refuses-words play ws ws′ h c k =
+      refuses s play ws ws′ (goes-on play (length ws) ∙ rw (lt-ltb (length ws) (32 * (all + 1)) h) refl) c k
 
   -- a bad play
-  pub refuses-play : (play ws ws′ : List ℕ) {x : Parsed} {p : ℕ} {q : Cause} {r : Following} →
-      32 * (all + 1) ≤ length ws → x ≡ counted 0 (parse 0 play) → x ≡ Bad p → q ≡ playCause x →
-      r ≡ Refused (q .number) (q .sheet) (q .place) → ws′ ≡ ws → FollowPromise s play ws r ws′
+  pub refuses-play : (play ws ws′ : List ℕ) {x : Parsed} {p : ℕ} {q : Cause} →
+      32 * (all + 1) ≤ length ws → x ≡ counted 0 (parse 0 play) → x ≡ Bad p → q ≡ playCause x → ws′ ≡ ws →
+      FollowPromise s play ws (Refused q) ws′
   unfolding playCause
-  refuses-play play ws ws′ {p = p} h e b c f k =
-      let d = rw b at c in
-      refuses s play ws ws′ 15 0 p _
+  refuses-play play ws ws′ h e b c k =
+      refuses s play ws ws′
         (goes-on play (length ws) ∙ rw (le-ltb (length ws) (32 * (all + 1)) h) (on-bad (parse 0 play) (sym b ∙ e)))
-        (rw d at f) k
+        (rw b at c) k
 
   -- the words suffice, and the play has the records rs
   goes-through : (play ws : List ℕ) (rs : List (List ℕ)) → 32 * (all + 1) ≤ length ws → parse 0 play ≡ moves rs →

@@ -9,16 +9,17 @@ use mathlib.Core.Option.{Option, none, some}
 use lib.Dec.{ltb}
 use Rattle.language.specs.Choice.{pick}
 use Rattle.records.specs.declared.edition.Edition.the-variants.{Present}
+use Rattle.records.specs.declared.refusal.Cause.{Cause}
 use Rattle.sheet.specs.Encoding.{headingLength}
 use Rattle.sheet.specs.Reader.{Checks, accepted, rejected, readSheet}
 use Rattle.sheet.proofs.Places.{check-refused}
 use Rattle.comparer.specs.Records.{Given, moves, bad, parse}
-use Rattle.comparer.specs.Refusals.{Refusal, refusing, matching, onRead, onGiven, followRefusal}
+use Rattle.comparer.specs.Refusals.{refusing, matching, onRead, onGiven, followRefusal}
 use Rattle.comparer.specs.Refusals.{compareRefusal}
 use Rattle.comparer.specs.Demands.{CheckNumber, FollowNumber, CompareNumber, NumbersOnly}
 
 -- no refusal, or one whose number is among P
-unfoldable Among : (ℕ → Type 0) → Option Refusal → Type 0
+unfoldable Among : (ℕ → Type 0) → Option Cause → Type 0
 Among P none = Unit
 Among P (some x) = P (x .number)
 
@@ -26,7 +27,7 @@ from-check : (s : List ℕ) (number place : ℕ) → readSheet s ≡ rejected nu
 from-check s number place e = check-refused Present s e .known
 
 on-read : (P : ℕ → Type 0) → ((k : ℕ) → CheckNumber k → P k) → (s : List ℕ) (sheet : ℕ)
-    (k : ℕ → ℕ → ℕ → Option Refusal) → ((root ty size : ℕ) → Among P (k root ty size)) →
+    (k : ℕ → ℕ → ℕ → Option Cause) → ((root ty size : ℕ) → Among P (k root ty size)) →
     Among P (onRead (readSheet s) sheet k)
 unfolding onRead Among
 on-read P f s sheet k g = go (readSheet s) refl
@@ -35,7 +36,7 @@ on-read P f s sheet k g = go (readSheet s) refl
     go (accepted S ty size) e = g (headingLength S) ty size
     go (rejected number place) e = f number (from-check s number place e)
 
-choice : (P : ℕ → Type 0) (t : Bool) (a b : Option Refusal) → Among P a → Among P b → Among P (pick t a b)
+choice : (P : ℕ → Type 0) (t : Bool) (a b : Option Cause) → Among P a → Among P b → Among P (pick t a b)
 choice P true a b p q = p
 choice P false a b p q = q
 

@@ -21,9 +21,10 @@ use Rattle.records.specs.declared.edition.Edition.the-variants.{Present}
 use Rattle.sheet.specs.Reader.{Checks, accepted, rejected, readSheet, readUnder}
 use Rattle.records.specs.Refusal.{too-large}
 use Rattle.sheet.proofs.Right.{gives}
+use Rattle.records.specs.declared.refusal.Cause.{Cause}
 use Rattle.comparer.specs.Plays.{Alike, Only, FirstPlay}
 use Rattle.comparer.specs.Records.{moves}
-use Rattle.comparer.specs.Refusals.{Refusal, matching, onRead, followRefusal, pairRefusal, compareRefusal}
+use Rattle.comparer.specs.Refusals.{matching, onRead, followRefusal, pairRefusal, compareRefusal}
 use Rattle.comparer.specs.Promise.{Holds, Begins, Greatest, NoPlay, Counted, FollowedBy}
 use Rattle.comparer.specs.Promise.{Decided, same, apart, ComparedBy}
 use Rattle.comparer.specs.Demands.{FollowUnique, CompareUnique}
@@ -63,7 +64,7 @@ same-numbers : (old new : List ℕ) (words space : ℕ) → compareRefusal old n
 unfolding compareRefusal onRead
 same-numbers old new words space h = go (readSheet old) (readSheet new) h
   where
-    judged : ℕ → ℕ → ℕ → ℕ → ℕ → ℕ → Option Refusal
+    judged : ℕ → ℕ → ℕ → ℕ → ℕ → ℕ → Option Cause
     judged root ty n other b m = pairRefusal (matching old new root other ty b) words space (n + m)
     go : (A B : Checks) → onRead A 0 (λ root ty n. onRead B 1 (λ other b m. judged root ty n other b m)) ≡ none →
         numbersAt old ≡ numbersAt new
@@ -134,7 +135,7 @@ unfolding ComparedBy
 compare-unique old new ws space r r₂ ws₁ ws₂ space₁ space₂ p q =
     go (compareRefusal old new (length ws) (length space)) refl p q
   where
-    go : (x : Option Refusal) → compareRefusal old new (length ws) (length space) ≡ x →
+    go : (x : Option Cause) → compareRefusal old new (length ws) (length space) ≡ x →
         ComparedBy x old new ws space r ws₁ space₁ → ComparedBy x old new ws space r₂ ws₂ space₂ →
         (r ≡ r₂) × ((ws₁ ≡ ws₂) × (space₁ ≡ space₂))
     go (some x) e h k = (h .0 ∙ sym (k .0), (h .1 .0 ∙ sym (k .1 .0), h .1 .1 ∙ sym (k .1 .1)))
@@ -183,7 +184,7 @@ pub follow-unique : FollowUnique
 unfolding FollowedBy
 follow-unique s play ws r r₂ ws₁ ws₂ p q = go (followRefusal s play (length ws)) p q
   where
-    go : (x : Option Refusal) → FollowedBy x s play ws r ws₁ → FollowedBy x s play ws r₂ ws₂ → (r ≡ r₂) × (ws₁ ≡ ws₂)
+    go : (x : Option Cause) → FollowedBy x s play ws r ws₁ → FollowedBy x s play ws r₂ ws₂ → (r ≡ r₂) × (ws₁ ≡ ws₂)
     go (some x) h k = (h .0 ∙ sym (k .0), h .1 ∙ sym (k .1))
     go none h k =
         let e : k .sheet ≡ h .sheet = one-sheet (k .held) (h .held) in

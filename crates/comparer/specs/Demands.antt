@@ -8,13 +8,14 @@ use Prim.Native.Nat.{ℕ, _+_, _-_, _≤_}
 use lib.ListN.{length, take}
 use Rattle.language.specs.Move.{Word, records}
 use Rattle.records.specs.declared.edition.Edition.the-variants.{Present}
+use Rattle.records.specs.declared.refusal.Cause.{Cause}
 use Rattle.procedures.specs.Written.{Sheet}
 use Rattle.procedures.specs.Meaning.{typeOf}
 use Rattle.sheet.specs.Fine.{Accepted}
 use Rattle.sheet.specs.Reader.{readSheet, rejected}
 use Rattle.sheet.specs.Check.{NumberOf}
 use Rattle.comparer.specs.Plays.{CompletePlay, reckoned, Alike, Only, FirstPlay}
-use Rattle.comparer.specs.Refusals.{Refusal, followRefusal, compareRefusal}
+use Rattle.comparer.specs.Refusals.{followRefusal, compareRefusal}
 use Rattle.comparer.specs.Promise.{Holds, FollowPromise, ComparePromise}
 use Rattle.comparer.specs.declared.Following.{Following}
 use Rattle.comparer.specs.declared.Comparison.{Comparison}
@@ -32,9 +33,9 @@ CompareNumber k = CheckNumber k ⊎ ((k ≡ 12) ⊎ ((k ≡ 13) ⊎ (k ≡ 14)))
 
 pub record NumbersOnly : Type 0 where
   pub of-check : (s : List ℕ) (number place : ℕ) → readSheet s ≡ rejected number place → CheckNumber number
-  pub of-follow : (s play : List ℕ) (words : ℕ) (x : Refusal) → followRefusal s play words ≡ some x →
+  pub of-follow : (s play : List ℕ) (words : ℕ) (x : Cause) → followRefusal s play words ≡ some x →
     FollowNumber (x .number)
-  pub of-compare : (old new : List ℕ) (words space : ℕ) (x : Refusal) → compareRefusal old new words space ≡ some x →
+  pub of-compare : (old new : List ℕ) (words space : ℕ) (x : Cause) → compareRefusal old new words space ≡ some x →
     CompareNumber (x .number)
 
 -- Demand 1, of what is lent: a promise allows one answer and one state of everything lent

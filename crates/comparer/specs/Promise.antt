@@ -7,11 +7,12 @@ use mathlib.Core.Option.{Option, none, some}
 use Prim.Native.Nat.{ℕ, _+_, _-_, _≤_, _<_}
 use lib.ListN.{length, take, drop, replicate}
 use Rattle.language.specs.Move.{Word, Before, record-of, records}
+use Rattle.records.specs.declared.refusal.Cause.{Cause}
 use Rattle.procedures.specs.Written.{Sheet}
 use Rattle.sheet.specs.Reader.{readSheet, accepted}
 use Rattle.comparer.specs.Plays.{CompletePlay, reckoned, Alike, FirstPlay}
 use Rattle.comparer.specs.Records.{moves, parse}
-use Rattle.comparer.specs.Refusals.{Refusal, followRefusal, compareRefusal}
+use Rattle.comparer.specs.Refusals.{followRefusal, compareRefusal}
 use Rattle.comparer.specs.declared.Following.{Following}
 use Rattle.comparer.specs.declared.Following.the-variants.{Follows, Refused as NotFollowed}
 use Rattle.comparer.specs.declared.Comparison.{Comparison}
@@ -62,9 +63,9 @@ pub record Followed (s play ws : List ℕ) (r : Following) (ws′ : List ℕ) : 
   pub cleared : Cleared ws ws′
 
 -- the promise of follow: by refusal, all lent unchanged, or an accepted call
-unfoldable pub FollowedBy : Option Refusal → List ℕ → List ℕ → List ℕ → Following → List ℕ → Type 0
+unfoldable pub FollowedBy : Option Cause → List ℕ → List ℕ → List ℕ → Following → List ℕ → Type 0
 FollowedBy none s play ws r ws′ = Followed s play ws r ws′
-FollowedBy (some x) s play ws r ws′ = (r ≡ NotFollowed (x .number) (x .sheet) (x .place)) × (ws′ ≡ ws)
+FollowedBy (some x) s play ws r ws′ = (r ≡ NotFollowed x) × (ws′ ≡ ws)
 
 abbrev pub FollowPromise : List ℕ → List ℕ → List ℕ → Following → List ℕ → Type 0
 FollowPromise s play ws r ws′ = FollowedBy (followRefusal s play (length ws)) s play ws r ws′
@@ -99,10 +100,9 @@ pub record Compared (old new ws space : List ℕ) (r : Comparison) (ws′ space�
   pub cleared : Cleared ws ws′
 
 -- the promise of compare
-unfoldable pub ComparedBy : Option Refusal → List ℕ → List ℕ → List ℕ → List ℕ → Comparison → List ℕ → List ℕ → Type 0
+unfoldable pub ComparedBy : Option Cause → List ℕ → List ℕ → List ℕ → List ℕ → Comparison → List ℕ → List ℕ → Type 0
 ComparedBy none old new ws space r ws′ space′ = Compared old new ws space r ws′ space′
-ComparedBy (some x) old new ws space r ws′ space′ =
-    (r ≡ NotCompared (x .number) (x .sheet) (x .place)) × ((ws′ ≡ ws) × (space′ ≡ space))
+ComparedBy (some x) old new ws space r ws′ space′ = (r ≡ NotCompared x) × ((ws′ ≡ ws) × (space′ ≡ space))
 
 abbrev pub ComparePromise : List ℕ → List ℕ → List ℕ → List ℕ → Comparison → List ℕ → List ℕ → Type 0
 ComparePromise old new ws space r ws′ space′ =

@@ -8,18 +8,15 @@ use mathlib.Core.Option.{Option, none, some}
 use lib.ListN.{length, getD}
 use lib.Dec.{eqb, ltb}
 use Rattle.language.specs.Choice.{pick}
+use Rattle.records.specs.Refusal.{cause, old-sheet, new-sheet, both-sheets}
+use Rattle.records.specs.declared.refusal.Cause.{Cause}
 use Rattle.sheet.specs.Encoding.{headingLength}
 use Rattle.sheet.specs.Reader.{Checks, accepted, rejected, readSheet}
 use Rattle.comparer.specs.Records.{Given, moves, bad, parse}
 
--- the number of a refusal, the sheet and the place
-pub record Refusal : Type 0 where
-  pub number : ℕ
-  pub sheet : ℕ
-  pub place : ℕ
-
-abbrev pub refusing : ℕ → ℕ → ℕ → Option Refusal
-refusing number sheet place = some (record { number = number; sheet = sheet; place = place })
+-- the refusal with a number, a sheet and a place
+abbrev pub refusing : ℕ → ℕ → ℕ → Option Cause
+refusing number sheet place = some (cause number sheet place)
 
 -- the numbers beside those of a sheet
 abbrev pub headings-differ : ℕ
@@ -34,16 +31,6 @@ space-too-short = 14
 abbrev pub bad-play : ℕ
 bad-play = 15
 
--- the sheets that an answer names
-abbrev pub old-sheet : ℕ
-old-sheet = 0
-
-abbrev pub new-sheet : ℕ
-new-sheet = 1
-
-abbrev pub both-sheets : ℕ
-both-sheets = 2
-
 -- whether the first n bytes are the same
 unfoldable pub sameFirst : ℕ → List ℕ → List ℕ → Bool
 sameFirst zero s u = true
@@ -55,11 +42,11 @@ matching old new root other ty type-of-other =
     pick (eqb root other) (pick (sameFirst root old new) (eqb ty type-of-other) false) false
 
 -- what an accepted sheet goes on to, by the length of its heading, its type and its size; or its refusal
-unfoldable pub onRead : Checks → ℕ → (ℕ → ℕ → ℕ → Option Refusal) → Option Refusal
+unfoldable pub onRead : Checks → ℕ → (ℕ → ℕ → ℕ → Option Cause) → Option Cause
 onRead (accepted S ty size) sheet k = k (headingLength S) ty size
 onRead (rejected number place) sheet k = refusing number sheet place
 
-unfoldable pub onGiven : Given → Option Refusal
+unfoldable pub onGiven : Given → Option Cause
 onGiven (moves rs) = none
 onGiven (bad place) = refusing bad-play old-sheet place
 
@@ -71,14 +58,14 @@ abbrev pub bytes-asked : ℕ → ℕ
 bytes-asked n = 4 * (n - 1)
 
 -- follow on a sheet, a play and so many words
-unfoldable pub followRefusal : List ℕ → List ℕ → ℕ → Option Refusal
+unfoldable pub followRefusal : List ℕ → List ℕ → ℕ → Option Cause
 followRefusal s play words =
     onRead (readSheet s) old-sheet (λ root ty size.
       pick (ltb words (words-asked size)) (refusing too-few-words both-sheets 0) (onGiven (parse 0 play)))
 
 -- "then 12, 13, 14": of two sheets that are read, whether their headings and result types are the same, so many words
 -- and bytes of play space, and the sum of the sizes
-abbrev pub pairRefusal : Bool → ℕ → ℕ → ℕ → Option Refusal
+abbrev pub pairRefusal : Bool → ℕ → ℕ → ℕ → Option Cause
 pairRefusal same words space n =
     pick same
     (pick (ltb words (words-asked n)) (refusing too-few-words both-sheets 0)
@@ -86,7 +73,7 @@ pairRefusal same words space n =
     (refusing headings-differ both-sheets 0)
 
 -- compare on two sheets, so many words and bytes of play space
-unfoldable pub compareRefusal : List ℕ → List ℕ → ℕ → ℕ → Option Refusal
+unfoldable pub compareRefusal : List ℕ → List ℕ → ℕ → ℕ → Option Cause
 compareRefusal old new words space =
     onRead (readSheet old) old-sheet (λ root ty size.
       onRead (readSheet new) new-sheet (λ other type-of-other size-of-other.

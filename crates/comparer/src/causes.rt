@@ -1,41 +1,32 @@
 // The refusals of a sheet and of a play, taken out of the answers that hold them.
 use crate::BAD_PLAY;
-use crate::BOTH;
-use crate::Cause;
-use crate::NOT_REFUSED;
-use crate::OLD;
 use crate::play::Parsed;
 use load::load::Loaded;
+use records::refusal::BOTH;
+use records::refusal::Cause;
+use records::refusal::NOT_REFUSED;
+use records::refusal::OLD;
+use records::refusal::of_sheet;
+use records::refusal::refuse;
 ghost use mathlib.Core.Path.{_≡_};
-ghost use Rattle.comparer.specs.inner.Causes.{causeOf, bothCause, playCause};
+ghost use Rattle.records.specs.Refusal.{cause, both-sheets};
+ghost use Rattle.comparer.specs.inner.Causes.{causeOf, playCause};
 
 // The refusal of a sheet, its number 0 where the sheet is not refused.
 pub(crate) fn cause_of(x: Loaded, sheet: u8) -> Cause
     ensures { λ r. ⌜ r ≡ causeOf x sheet ⌝ }
 {
     let Loaded::Refused(refusal) = x else {
-        return Cause {
-            number: NOT_REFUSED,
-            sheet,
-            place: 0,
-        };
+        return of_sheet(refuse(NOT_REFUSED, 0), sheet);
     };
-    Cause {
-        number: refusal.number,
-        sheet,
-        place: refusal.place,
-    }
+    of_sheet(refusal, sheet)
 }
 
 // The refusal of both sheets together.
 pub(crate) fn both_cause(number: u8) -> Cause
-    ensures { λ r. ⌜ r ≡ bothCause number ⌝ }
+    ensures { λ r. ⌜ r ≡ cause number both-sheets 0 ⌝ }
 {
-    Cause {
-        number,
-        sheet: BOTH,
-        place: 0,
-    }
+    of_sheet(refuse(number, 0), BOTH)
 }
 
 // The refusal of a play, its number 0 where the play is not refused.
@@ -43,15 +34,7 @@ pub(crate) fn play_cause(x: Parsed) -> Cause
     ensures { λ r. ⌜ r ≡ playCause x ⌝ }
 {
     let Parsed::Bad(place) = x else {
-        return Cause {
-            number: NOT_REFUSED,
-            sheet: OLD,
-            place: 0,
-        };
+        return of_sheet(refuse(NOT_REFUSED, 0), OLD);
     };
-    Cause {
-        number: BAD_PLAY,
-        sheet: OLD,
-        place,
-    }
+    of_sheet(refuse(BAD_PLAY, place), OLD)
 }

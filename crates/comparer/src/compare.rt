@@ -1,11 +1,7 @@
 // The service compare.
 use crate::BYTES_A_MOVE;
-use crate::Cause;
 use crate::Comparison;
 use crate::HEADINGS_DIFFER;
-use crate::NEW;
-use crate::NOT_REFUSED;
-use crate::OLD;
 use crate::SPACE_TOO_SHORT;
 use crate::TOO_FEW_WORDS;
 use crate::WORDS_A_STATE;
@@ -22,12 +18,14 @@ use difference::word::spell;
 use load::load::Loaded;
 use load::load::ROWS;
 use load::load::load;
+use records::refusal::NEW;
+use records::refusal::NOT_REFUSED;
+use records::refusal::OLD;
 use sheet::reading::numbers_of;
 ghost use mathlib.Core.Path.{_≡_};
 ghost use Prim.Native.Nat.{_+_, _*_, _<_, _≤_};
 ghost use lib.ListN.{length, getD, take, drop};
 ghost use Rattle.difference.specs.Spelled.{Trail, Spelling};
-ghost use Rattle.comparer.specs.declared.Comparison.the-variants.{Refused};
 ghost use Rattle.comparer.specs.Refusals.{pairRefusal};
 ghost use Rattle.comparer.specs.Promise.{ComparePromise};
 ghost use Rattle.comparer.specs.inner.Causes.{numberOf};
@@ -86,17 +84,6 @@ fn pair_number(matching: bool, words: usize, space: usize, size: usize) -> u8
     NOT_REFUSED
 }
 
-// A refusal.
-fn refuse(c: Cause) -> Comparison
-    ensures { λ r. ⌜ r ≡ Refused (c .number) (c .sheet) (c .place) ⌝ }
-{
-    Comparison::Refused {
-        number: c.number,
-        sheet: c.sheet,
-        place: c.place,
-    }
-}
-
 // Whether two sheets have the same complete plays; or the first play that only one of them has, and which.
 pub fn compare(old: &[u8], new: &[u8], words: &mut [u32], space: &mut [u8]) -> Comparison
     ensures { λ r. ⌜ ComparePromise (now (old .entry)) (now (new .entry)) (now (words .entry)) (now (space .entry)) r
@@ -111,7 +98,7 @@ pub fn compare(old: &[u8], new: &[u8], words: &mut [u32], space: &mut [u8]) -> C
         size,
     } = x
     else {
-        return refuse(cause_of(x, OLD));
+        return Comparison::Refused(cause_of(x, OLD));
     };
     let mut u = [0u16; ROWS];
     let y = load(new, &mut u);
@@ -122,14 +109,14 @@ pub fn compare(old: &[u8], new: &[u8], words: &mut [u32], space: &mut [u8]) -> C
         size: other_size,
     } = y
     else {
-        return refuse(cause_of(y, NEW));
+        return Comparison::Refused(cause_of(y, NEW));
     };
     let all = size as usize;
     let more = other_size as usize;
     let matching = alike(old, new, root, other, ty, b);
     let number = pair_number(matching, words.len(), space.len(), all + more);
     if number != NOT_REFUSED {
-        return refuse(both_cause(number));
+        return Comparison::Refused(both_cause(number));
     }
     two_from_rows(&t, &u, numbers_of(old), row, other_row, all, more, words);
     let r = decide(words, space, all, more);

@@ -1,7 +1,5 @@
 // The service follow.
-use crate::Cause;
 use crate::Following;
-use crate::OLD;
 use crate::TOO_FEW_WORDS;
 use crate::WORDS_A_STATE;
 use crate::build::one_from_rows;
@@ -20,6 +18,7 @@ use load::load::Loaded;
 use load::load::ROWS;
 use load::load::load;
 use records::read::byte_at;
+use records::refusal::OLD;
 use sheet::reading::numbers_of;
 ghost use mathlib.Core.Path.{_≡_};
 ghost use mathlib.Core.List.{List};
@@ -28,7 +27,6 @@ ghost use lib.ListN.{length};
 ghost use Rattle.dfa.specs.Graph.{Graph, rest};
 ghost use Rattle.comparer.specs.Records.{moves, parse};
 ghost use Rattle.comparer.specs.Promise.{FollowPromise};
-ghost use Rattle.comparer.specs.declared.Following.the-variants.{Refused};
 ghost use Rattle.comparer.specs.inner.Walk.{AtLeast, Marked, Reached};
 
 // How many moves begin a complete play, and the state after the last move.
@@ -59,17 +57,6 @@ fn longest(words: &[u32], n: usize, play: &[u8], total: usize) -> Reach
     Reach { count, last: p }
 }
 
-// A refusal.
-fn refuse(c: Cause) -> Following
-    ensures { λ r. ⌜ r ≡ Refused (c .number) (c .sheet) (c .place) ⌝ }
-{
-    Following::Refused {
-        number: c.number,
-        sheet: c.sheet,
-        place: c.place,
-    }
-}
-
 // How many moves at the start of the play begin some complete play of the sheet, and whether the whole play is
 // complete.
 pub fn follow(sheet: &[u8], play: &[u8], words: &mut [u32]) -> Following
@@ -85,15 +72,15 @@ pub fn follow(sheet: &[u8], play: &[u8], words: &mut [u32]) -> Following
         size,
     } = x
     else {
-        return refuse(cause_of(x, OLD));
+        return Following::Refused(cause_of(x, OLD));
     };
     let all = size as usize;
     if words.len() < WORDS_A_STATE * (all + 1) {
-        return refuse(both_cause(TOO_FEW_WORDS));
+        return Following::Refused(both_cause(TOO_FEW_WORDS));
     }
     let parsed = count_moves(play);
     let Parsed::Moves(total) = parsed else {
-        return refuse(play_cause(parsed));
+        return Following::Refused(play_cause(parsed));
     };
     one_from_rows(&t, numbers_of(sheet), row, all, words);
     mark_live(words, all + 1, all - 1);

@@ -1,4 +1,5 @@
 // The services: check (crate sheet), follow and compare.
+use records::refusal::Cause;
 
 // The records of a play.
 pub mod play;
@@ -13,9 +14,6 @@ pub mod follow;
 // The service compare.
 pub mod compare;
 
-// The number where nothing is refused. A sheet is refused by 1 to 11 (crate sheet).
-pub(crate) const NOT_REFUSED: u8 = 0;
-
 // The headings or the result types differ.
 pub(crate) const HEADINGS_DIFFER: u8 = 12;
 
@@ -28,33 +26,17 @@ pub(crate) const SPACE_TOO_SHORT: u8 = 14;
 // A play has a record of an unknown kind or one that is cut short.
 pub(crate) const BAD_PLAY: u8 = 15;
 
-// The sheet of a refusal or of a play: the old one.
-pub(crate) const OLD: u8 = 0;
-
-// The new one.
-pub(crate) const NEW: u8 = 1;
-
-// The sheet of a refusal: both.
-pub(crate) const BOTH: u8 = 2;
-
 // Working words for each state.
 pub(crate) const WORDS_A_STATE: usize = 32;
 
 // Bytes of play space for each move.
 pub(crate) const BYTES_A_MOVE: usize = 4;
 
-// A refusal: its number, the sheet and the place.
-pub struct Cause {
-    pub number: u8,
-    pub sheet: u8,
-    pub place: usize,
-}
-
 // The answer of follow: how many moves at the start of the play begin some complete play, and whether the whole play is
 // complete; or the refusal.
 pub enum Following {
     Follows { count: usize, complete: bool },
-    Refused { number: u8, sheet: u8, place: usize },
+    Refused(Cause),
 }
 
 // The answer of compare: the same complete plays; or the sheet that has the first play that only one of them has, and
@@ -62,5 +44,5 @@ pub enum Following {
 pub enum Comparison {
     Same,
     Apart { sheet: u8, moves: usize },
-    Refused { number: u8, sheet: u8, place: usize },
+    Refused(Cause),
 }

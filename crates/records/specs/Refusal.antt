@@ -1,9 +1,29 @@
 -- A refusal. Document 01, "Three services": "A refusal carries its number, which sheet, and the place".
 use Prim.Native.Nat.{ℕ}
 use Rattle.records.specs.declared.refusal.Refusal.{Refusal}
+use Rattle.records.specs.declared.refusal.Cause.{Cause}
 
+-- within a sheet: number and place
 abbrev pub refusal : ℕ → ℕ → Refusal
 refusal number place = record { number = number; place = place }
+
+-- as a service gives it: number, sheet and place
+abbrev pub cause : ℕ → ℕ → ℕ → Cause
+cause number sheet place = record { number = number; sheet = sheet; place = place }
+
+-- the sheets that it names
+abbrev pub old-sheet : ℕ
+old-sheet = 0
+
+abbrev pub new-sheet : ℕ
+new-sheet = 1
+
+abbrev pub both-sheets : ℕ
+both-sheets = 2
+
+-- the number where nothing is refused
+abbrev pub not-refused : ℕ
+not-refused = 0
 
 -- the numbers of check's causes, as the table has them; document 02 [3] for 16
 abbrev pub too-long : ℕ

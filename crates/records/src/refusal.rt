@@ -1,12 +1,30 @@
 // A refusal, and what the numbers of check's refusals stand for. Document 01, "Three services"; document
 // 02 [3] for 16.
 ghost use mathlib.Core.Path.{_≡_};
-ghost use Rattle.records.specs.Refusal.{refusal};
+ghost use Rattle.records.specs.Refusal.{refusal, cause};
 
+// A refusal within a sheet: its number and the place.
 pub struct Refusal {
     pub number: u8,
     pub place: usize,
 }
+
+// A refusal as a service gives it: its number, the sheet and the place.
+pub struct Cause {
+    pub number: u8,
+    pub sheet: u8,
+    pub place: usize,
+}
+
+// The sheets that a refusal names.
+pub const OLD: u8 = 0;
+
+pub const NEW: u8 = 1;
+
+pub const BOTH: u8 = 2;
+
+// The number where nothing is refused.
+pub const NOT_REFUSED: u8 = 0;
 
 pub const TOO_LONG: u8 = 1;
 
@@ -37,4 +55,15 @@ pub fn refuse(number: u8, place: usize) -> Refusal
     ensures { λ r. ⌜ r ≡ refusal number place ⌝ }
 {
     Refusal { number, place }
+}
+
+// The refusal within a sheet, with the sheet.
+pub fn of_sheet(refusal: Refusal, sheet: u8) -> Cause
+    ensures { λ r. ⌜ r ≡ cause (refusal .number) sheet (refusal .place) ⌝ }
+{
+    Cause {
+        number: refusal.number,
+        sheet,
+        place: refusal.place,
+    }
 }

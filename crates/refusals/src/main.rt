@@ -1,15 +1,12 @@
 // Document 01's examples of what check refuses, sheets at the ends of Z, sheets with procedures, and ids that enclosing
 // binders hold, through the service check.
 use libc::STDOUT_FILENO;
+use records::refusal::NEW;
+use records::refusal::OLD;
 use sheet::check::Checked;
 use sheet::check::check;
 
-// Which sheet an answer names; any other number stands for both.
-const OLD: u8 = 0;
-
-const NEW: u8 = 1;
-
-// Writes the name of the sheet that an answer names.
+// Writes the name of the sheet that a refusal names; any other number stands for both.
 fn name(sheet: u8) {
     match sheet {
         OLD => {
@@ -34,15 +31,11 @@ fn show(s: &[u8]) {
             io::write_all(STDOUT_FILENO, b" size ");
             io::print_decimal(STDOUT_FILENO, size as u64);
         }
-        Checked::Refused {
-            number,
-            sheet,
-            place,
-        } => {
+        Checked::Refused(x) => {
             io::write_all(STDOUT_FILENO, b"refused ");
-            io::print_decimal(STDOUT_FILENO, number as u64);
-            name(sheet);
-            io::print_decimal(STDOUT_FILENO, place as u64);
+            io::print_decimal(STDOUT_FILENO, x.number as u64);
+            name(x.sheet);
+            io::print_decimal(STDOUT_FILENO, x.place as u64);
         }
     }
     io::write_all(STDOUT_FILENO, b"\n");

@@ -8,7 +8,9 @@ use lib.ListN.{length, getD, take, drop, replicate, length-append, length-drop, 
 use lib.Seq.{drop-append-seam, take-length, take-at}
 use lib.Dec.{eqb, ltb}
 use borrow.Author.Tests.{lt-ltb, le-ltb}
+use Rattle.records.specs.Refusal.{refusal, cause}
 use Rattle.records.specs.declared.refusal.Refusal.{Refusal}
+use Rattle.records.specs.declared.refusal.Cause.{Cause}
 use Rattle.procedures.specs.Written.{Written, Sheet}
 use Rattle.procedures.specs.Meaning.{declared, meaning}
 use Rattle.procedures.specs.Rules.{withTerm}
@@ -192,15 +194,16 @@ same-place p q e = cc
 
 -- the answers
 pub renumbers-full : (s b l b′ l′ out list : List ℕ) (root p : ℕ) (x : Step) → Worked s root b l x b′ l′ → x ≡ Full p →
-    AcceptedAt s root → length b ≡ 4096 → Renumbers s root (Refused 17 0 p) out out list list
+    AcceptedAt s root → length b ≡ 4096 → {y : Refusal} {z : Cause} → y ≡ refusal 17 p →
+    z ≡ cause (y .number) 0 (y .place) → Renumbers s root (Refused z) out out list list
 unfolding Found written RenumberedBy
-renumbers-full s b l b′ l′ out list root p x W d A h = record {
+renumbers-full s b l b′ l′ out list root p x W d A h {z = z} f g = record {
     does = λ S ty n e r. go S (renumberSheet S) (W .does S ty n e r (omega (arith, h, accepted-short A))) }
   where
     go : (S : Sheet) (a : Renumbering Written) → Found (WroteSheet S b) a 0 l x b′ l′ (W .taken) →
-        RenumberedBy (written S a) (Refused 17 0 p) out out list list
+        RenumberedBy (written S a) (Refused z) out out list list
     go S (renumbered T cs then) F = not-full x (F .value) (0 + length cs) p (F .answer) d
-    go S (none-left q) F = (ap (Refused 17 0) (same-place p q (sym d ∙ F)), refl, refl)
+    go S (none-left q) F = (rw (g, f, same-place p q (sym d ∙ F)) refl, refl, refl)
 
 pub renumbers-done : (s b l b′ l′ out out′ list list′ : List ℕ) (root v n m : ℕ) (x : Step) → Worked s root b l x b′
     l′ →
@@ -233,18 +236,18 @@ turned : (s : List ℕ) (y : Earlier) (x : Refusal) → EarlierRead s y → y �
 unfolding EarlierRead
 turned s y x E e = rw e at E
 
-pub service-refused : (s out list : List ℕ) (y : Earlier) (x : Refusal) → EarlierRead s y → y ≡ earlier.Refused x →
-    RenumberPromise s (Refused (x .number) 0 (x .place)) out out list list
+pub service-refused : (s out list : List ℕ) (y : Earlier) (x : Refusal) {z : Cause} → EarlierRead s y →
+    y ≡ earlier.Refused x → z ≡ cause (x .number) 0 (x .place) → RenumberPromise s (Refused z) out out list list
 unfolding outcome checked RenumberedBy
-service-refused s out list y x E e = rw (turned s y x E e) (refl, refl, refl)
+service-refused s out list y x E e f = rw (turned s y x E e) (ap Refused f, refl, refl)
 
 pub service-short : (s out list : List ℕ) (root : ℕ) (r : Renumbered) → AcceptedAt s root → length out < length s →
-    r ≡ Refused 14 2 0 → RenumberPromise s r out out list list
+    r ≡ Refused (cause 14 2 0) → RenumberPromise s r out out list list
 unfolding outcome checked RenumberedBy
 service-short s out list root r A h e = rw (A .reads, lt-ltb (length out) (length s) h) (e, refl, refl)
 
 pub service-narrow : (s out list : List ℕ) (root : ℕ) (r : Renumbered) → AcceptedAt s root → length s ≤ length out →
-    length list < 1020 → r ≡ Refused 14 2 0 → RenumberPromise s r out out list list
+    length list < 1020 → r ≡ Refused (cause 14 2 0) → RenumberPromise s r out out list list
 unfolding outcome checked RenumberedBy
 service-narrow s out list root r A h g e =
     rw (A .reads, le-ltb (length out) (length s) h, lt-ltb (length list) 1020 g) (e, refl, refl)

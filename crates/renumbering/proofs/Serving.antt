@@ -10,6 +10,8 @@ use lib.Dec.{ltb}
 use borrow.Author.Tests.{le-ltb}
 use Rattle.language.specs.Choice.{pick}
 use Rattle.language.specs.Weight.{size}
+use Rattle.records.specs.Refusal.{cause}
+use Rattle.records.specs.declared.refusal.Cause.{Cause}
 use Rattle.records.specs.declared.edition.Edition.{Edition}
 use Rattle.records.specs.declared.edition.Edition.the-variants.{Earlier, Present}
 use Rattle.procedures.specs.Written.{Written, Sheet}
@@ -39,8 +41,8 @@ record Made (S : Sheet) (a : Renumbering Written) (b : List ℕ) (cs : List Chan
   renumbers : a ≡ renumbered term cs ids
   bytes : encodeSheet (withTerm S term) ≡ b
 
-clash : {P : Type 0} (n w p : ℕ) (b : List ℕ) (cs : List Change) → refused n w p ≡ done b cs → P
-clash n w p b cs e = let z : _≡_ {A = ℕ} 0 1 = cc in absurd (omega arith)
+clash : {P : Type 0} (x : Cause) (b : List ℕ) (cs : List Change) → refused x ≡ done b cs → P
+clash x b cs e = let z : _≡_ {A = ℕ} 0 1 = cc in absurd (omega arith)
 
 done-bytes : (b c : List ℕ) (cs ds : List Change) → done b cs ≡ done c ds → b ≡ c
 done-bytes b c cs ds e = cc
@@ -56,11 +58,11 @@ from-written S (renumbered W ds then) b cs e =
     record {
       term = W; ids = then; renumbers = ap (λ (x : List Change). renumbered W x then) (done-list B b ds cs e);
       bytes = done-bytes B b ds cs e }
-from-written S (none-left p) b cs e = clash 17 0 p b cs e
+from-written S (none-left p) b cs e = clash (cause 17 0 p) b cs e
 
 from-lengths : (S : Sheet) (t : Bool) (a : Renumbering Written) (b : List ℕ) (cs : List Change) →
-    pick t (refused 14 2 0) (written S a) ≡ done b cs → Made S a b cs
-from-lengths S true a b cs e = clash 14 2 0 b cs e
+    pick t (refused (cause 14 2 0)) (written S a) ≡ done b cs → Made S a b cs
+from-lengths S true a b cs e = clash (cause 14 2 0) b cs e
 from-lengths S false a b cs e = from-written S a b cs e
 
 made : (s : List ℕ) (room space : ℕ) (b : List ℕ) (cs : List Change) (S : Sheet) (ty n : ℕ) →
@@ -116,7 +118,7 @@ accepted-rule s room space b cs o = go (readEarlier s) refl
   where
     go : (c : Checks) → readEarlier s ≡ c → Accepted s
     go (accepted S ty n) e = record { sheet = S; type = ty; size = n; reads = e }
-    go (rejected n p) e = clash n 0 p b cs (sym (ap (checked (length s) room space) e) ∙ o)
+    go (rejected n p) e = clash (cause n 0 p) b cs (sym (ap (checked (length s) room space) e) ∙ o)
 
 -- THEOREM: a sheet with nothing to change
 pub unaltered-service : UnalteredService
@@ -126,25 +128,24 @@ unaltered-service s room space S ty n e h l g =
     ∙ ap (λ (x : List ℕ). done x []) (sym (gives Earlier s S ty n e .0))
 
 -- THEOREM: the numbers of refusals
-refused-number : (n w p m v q : ℕ) → refused n w p ≡ refused m v q → n ≡ m
-refused-number n w p m v q e = cc
+refused-number : (x y : Cause) → refused x ≡ refused y → x .number ≡ y .number
+refused-number x y e = let f : x ≡ y = cc in ap (λ (z : Cause). z .number) f
 
 pub renumber-numbers : RenumberNumbers
 unfolding RenumberNumbers RenumberNumber NumberOf outcome checked written
-renumber-numbers s room space number sheet place o = go (readEarlier s) refl
+renumber-numbers s room space x o = go (readEarlier s) refl
   where
-    of : (S : Sheet) (t : Bool) (a : Renumbering Written) → pick t (refused 14 2 0) (written S a) ≡ refused number
-        sheet place →
-        RenumberNumber number
-    of S true a e = inr (inl (sym (refused-number 14 2 0 number sheet place e)))
-    of S false (none-left p) e = inr (inr (sym (refused-number 17 0 p number sheet place e)))
-    of S false (renumbered W cs then) e = clash number sheet place (encodeSheet (withTerm S W)) cs (sym e)
+    of : (S : Sheet) (t : Bool) (a : Renumbering Written) → pick t (refused (cause 14 2 0)) (written S a) ≡ refused x →
+        RenumberNumber (x .number)
+    of S true a e = inr (inl (sym (refused-number (cause 14 2 0) x e)))
+    of S false (none-left p) e = inr (inr (sym (refused-number (cause 17 0 p) x e)))
+    of S false (renumbered W cs then) e = clash x (encodeSheet (withTerm S W)) cs (sym e)
 
-    go : (c : Checks) → readEarlier s ≡ c → RenumberNumber number
+    go : (c : Checks) → readEarlier s ≡ c → RenumberNumber (x .number)
     go (accepted S ty n) e =
         of S (ltb room (length s) || ltb space 1020) (renumberSheet S) (sym (ap (checked (length s) room space) e) ∙ o)
     go (rejected n p) e =
-        let z : n ≡ number = refused-number n 0 p number sheet place (sym (ap (checked (length s) room space) e) ∙ o) in
+        let z : n ≡ x .number = refused-number (cause n 0 p) x (sym (ap (checked (length s) room space) e) ∙ o) in
         let r = check-refused Earlier s e .known in
         inl (omega (arith, r .0, z), omega (arith, r .1, z))
 
@@ -157,4 +158,4 @@ renumber-unique s out list r q out′ out″ list′ list″ P Q =
     one : (o : Outcome) → RenumberedBy o r out out′ list list′ → RenumberedBy o q out out″ list list″ →
         (r ≡ q) × (out′ ≡ out″) × (list′ ≡ list″)
     one (done b cs) P Q = (P .0 ∙ sym (Q .0), P .1 ∙ sym (Q .1), P .2 ∙ sym (Q .2))
-    one (refused n w p) P Q = (P .0 ∙ sym (Q .0), P .1 ∙ sym (Q .1), P .2 ∙ sym (Q .2))
+    one (refused x) P Q = (P .0 ∙ sym (Q .0), P .1 ∙ sym (Q .1), P .2 ∙ sym (Q .2))

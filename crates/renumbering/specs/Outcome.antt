@@ -6,7 +6,9 @@ use mathlib.Core.List.{List, [], _∷_, _++_}
 use lib.ListN.{length, drop}
 use lib.Dec.{ltb}
 use Rattle.language.specs.Choice.{pick}
+use Rattle.records.specs.Refusal.{cause, old-sheet, both-sheets}
 use Rattle.records.specs.declared.edition.Edition.the-variants.{Earlier}
+use Rattle.records.specs.declared.refusal.Cause.{Cause}
 use Rattle.procedures.specs.Written.{Sheet, Written}
 use Rattle.procedures.specs.Rules.{withTerm}
 use Rattle.procedures.specs.Renumber.{Change, Renumbering, renumbered, none-left, renumberSheet}
@@ -26,13 +28,6 @@ too-short = 14
 abbrev pub no-id-left : ℕ
 no-id-left = 17
 
--- "which sheet": 0 old, 2 both
-abbrev pub old : ℕ
-old = 0
-
-abbrev pub both : ℕ
-both = 2
-
 -- "That space must have 1,020 bytes"
 abbrev pub listSpace : ℕ
 listSpace = 1020
@@ -44,23 +39,23 @@ unfoldable pub listed : List Change → List ℕ
 listed [] = []
 listed (c ∷ cs) = c .place % 256 ∷ c .place / 256 ∷ c .old ∷ c .given ∷ listed cs
 
--- the sheet written and the changes; or the refusal's number, sheet and place
+-- the sheet written and the changes; or the refusal
 pub data Outcome : Type 0 where
   done : List ℕ → List Change → Outcome
-  refused : ℕ → ℕ → ℕ → Outcome
+  refused : Cause → Outcome
 
 -- "gives each inner name that hides an outer one the lowest id .."; "then 17 at the id byte for which no id is left"
 unfoldable pub written : Sheet → Renumbering Written → Outcome
 written S (renumbered W cs taken) = done (encodeSheet (withTerm S W)) cs
-written S (none-left p) = refused no-id-left old p
+written S (none-left p) = refused (cause no-id-left old-sheet p)
 
 -- "Refused: first as check does under the earlier rule; then 14 at place 0 where the output is shorter than the
 -- sheet or the
 -- list space than 1,020 bytes"
 unfoldable pub checked : ℕ → ℕ → ℕ → Checks → Outcome
-checked long room space (rejected n p) = refused n old p
+checked long room space (rejected n p) = refused (cause n old-sheet p)
 checked long room space (accepted S ty n) =
-    pick (ltb room long || ltb space listSpace) (refused too-short both 0) (written S (renumberSheet S))
+    pick (ltb room long || ltb space listSpace) (refused (cause too-short both-sheets 0)) (written S (renumberSheet S))
 
 -- the outcome for a sheet, an output of `room` bytes and a list space of `space` bytes
 unfoldable pub outcome : List ℕ → ℕ → ℕ → Outcome
@@ -73,8 +68,7 @@ unfoldable pub RenumberedBy : Outcome → Renumbered → List ℕ → List ℕ �
 RenumberedBy (done b cs) r out out′ list list′ =
     (r ≡ Changed (length cs)) × (out′ ≡ b ++ drop (length b) out)
     × (list′ ≡ listed cs ++ drop (length (listed cs)) list)
-RenumberedBy (refused n which p) r out out′ list list′ =
-    (r ≡ Refused n which p) × (out′ ≡ out) × (list′ ≡ list)
+RenumberedBy (refused x) r out out′ list list′ = (r ≡ Refused x) × (out′ ≡ out) × (list′ ≡ list)
 
 abbrev pub RenumberPromise : List ℕ → Renumbered → List ℕ → List ℕ → List ℕ → List ℕ → Type 0
 RenumberPromise s r out out′ list list′ = RenumberedBy (outcome s (length out) (length list)) r out out′ list list′

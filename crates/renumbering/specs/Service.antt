@@ -4,6 +4,7 @@ use mathlib.Core.Path.{_≡_}
 use mathlib.Core.Logic.{_⊎_}
 use mathlib.Core.List.{List, []}
 use lib.ListN.{length}
+use Rattle.records.specs.declared.refusal.Cause.{Cause}
 use Rattle.procedures.specs.Written.{Sheet}
 use Rattle.procedures.specs.Meaning.{termOf}
 use Rattle.procedures.specs.Rules.{SameSheets}
@@ -59,8 +60,7 @@ RenumberNumber n = ((0 < n) × (n ≤ 11)) ⊎ ((n ≡ too-short) ⊎ (n ≡ no-
 
 unfoldable pub RenumberNumbers : Type 0
 RenumberNumbers =
-    (s : List ℕ) (room space number sheet place : ℕ) → outcome s room space ≡ refused number sheet place →
-      RenumberNumber number
+    (s : List ℕ) (room space : ℕ) (x : Cause) → outcome s room space ≡ refused x → RenumberNumber (x .number)
 
 -- the promise allows one answer, and one state of all that is lent
 unfoldable pub RenumberUnique : Type 0

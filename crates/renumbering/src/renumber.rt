@@ -6,13 +6,19 @@ use crate::part::SHEET;
 use crate::step::Step;
 use crate::work::renumber_copy;
 use records::edition::Edition;
+use records::refusal::BOTH;
+use records::refusal::Cause;
+use records::refusal::OLD;
 use records::refusal::Refusal;
+use records::refusal::of_sheet;
+use records::refusal::refuse;
 use sheet::judge::Judgement;
 use sheet::judge::judge_sheet;
 ghost use mathlib.Core.Path.{_≡_};
 ghost use Prim.Native.Nat.{_≤_};
 ghost use lib.ListN.{length};
-ghost use Rattle.renumbering.specs.Outcome.{RenumberPromise};
+ghost use Rattle.records.specs.Refusal.{cause, both-sheets};
+ghost use Rattle.renumbering.specs.Outcome.{too-short, RenumberPromise};
 ghost use Rattle.renumbering.specs.Found.{AcceptedAt, EarlierRead, Renumbers};
 
 // The numbers of the refusals that reading does not give.
@@ -20,15 +26,10 @@ const TOO_SHORT: u8 = 14;
 
 const NO_ID_LEFT: u8 = 17;
 
-// The sheets that a refusal names.
-const OLD: u8 = 0;
-
-const BOTH: u8 = 2;
-
-// The answer of renumber: the number of changes, or the refusal's number, sheet (0 old, 2 both) and place.
+// The answer of renumber: the number of changes, or the refusal.
 pub enum Renumbered {
     Changed { changes: u32 },
-    Refused { number: u8, sheet: u8, place: usize },
+    Refused(Cause),
 }
 
 // What reading under the earlier rule gives: the place of the term, or the refusal.
@@ -56,13 +57,9 @@ fn read_earlier(s: &[u8]) -> Earlier
 
 // The refusal of an output or a list space that is too short.
 fn too_short() -> Renumbered
-    ensures { λ r. ⌜ r ≡ Renumbered.Refused 14 2 0 ⌝ }
+    ensures { λ r. ⌜ r ≡ Renumbered.Refused (cause too-short both-sheets 0) ⌝ }
 {
-    Renumbered::Refused {
-        number: TOO_SHORT,
-        sheet: BOTH,
-        place: 0,
-    }
+    Renumbered::Refused(of_sheet(refuse(TOO_SHORT, 0), BOTH))
 }
 
 // Renumbers an accepted sheet whose term begins at the root. Nothing lent is written before it is known that no id is
@@ -76,11 +73,7 @@ fn renumber_accepted(s: &[u8], root: usize, out: &mut [u8], list: &mut [u8]) -> 
     let mut changes = [0u8; LIST];
     let x = renumber_copy(s, root, &mut bytes, &mut changes);
     match x {
-        Step::Full { place } => Renumbered::Refused {
-            number: NO_ID_LEFT,
-            sheet: OLD,
-            place,
-        },
+        Step::Full { place } => Renumbered::Refused(of_sheet(refuse(NO_ID_LEFT, place), OLD)),
         Step::Done {
             value: _,
             changes: n,
@@ -100,11 +93,7 @@ pub fn renumber(s: &[u8], out: &mut [u8], list: &mut [u8]) -> Renumbered
 {
     let x = read_earlier(s);
     match x {
-        Earlier::Refused(refusal) => Renumbered::Refused {
-            number: refusal.number,
-            sheet: OLD,
-            place: refusal.place,
-        },
+        Earlier::Refused(refusal) => Renumbered::Refused(of_sheet(refusal, OLD)),
         Earlier::Sheet { root } => {
             if out.len() < s.len() {
                 return too_short();

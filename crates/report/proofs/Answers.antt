@@ -4,6 +4,7 @@ use native.Mathlib.Omega.{arith}
 use mathlib.Core.Path.{_≡_, refl, sym, _∙_}
 use mathlib.Core.List.{List}
 use lib.ListN.{getD}
+use Rattle.records.specs.declared.refusal.Cause.{Cause}
 use Rattle.sheet.specs.Reader.{Checks, accepted, rejected, readSheet}
 use Rattle.sheet.specs.Check.{checkedOf}
 use Rattle.sheet.specs.declared.check.Checked.{Checked}
@@ -21,7 +22,7 @@ unfolding checkedOf sizeIn
 size-as (accepted S ty size) e = cc
 size-as (rejected number place) e = let z : _≡_ {A = ℕ} 0 1 = cc in absurd (omega arith)
 
-none-as : (x : Checks) {number sheet place : ℕ} → checkedOf x ≡ Rejected number sheet place → 0 ≡ sizeIn x
+none-as : (x : Checks) {y : Cause} → checkedOf x ≡ Rejected y → 0 ≡ sizeIn x
 unfolding checkedOf sizeIn
 none-as (accepted S ty size) e = let z : _≡_ {A = ℕ} 0 1 = cc in absurd (omega arith)
 none-as (rejected number place) e = refl
@@ -30,8 +31,8 @@ pub size-found : (s : List ℕ) {x : Checked} {ty size : ℕ} → x ≡ checkedO
     size ≡ sizeIn (readSheet s)
 size-found s d e = size-as (readSheet s) (sym d ∙ e)
 
-pub no-size : (s : List ℕ) {x : Checked} {number sheet place : ℕ} → x ≡ checkedOf (readSheet s) →
-    x ≡ Rejected number sheet place → 0 ≡ sizeIn (readSheet s)
+pub no-size : (s : List ℕ) {x : Checked} {y : Cause} → x ≡ checkedOf (readSheet s) → x ≡ Rejected y →
+    0 ≡ sizeIn (readSheet s)
 no-size s d e = none-as (readSheet s) (sym d ∙ e)
 
 -- the line of the sizes, and that of a move
@@ -46,8 +47,8 @@ move-line p s k i j v a b c d h = rw (← a, ← b, ← c, ← d) h
 
 -- the whole text
 module _ (p : Page) (old new space : List ℕ) {r : Comparison} where
-  pub text-refused : {q : Page} {number sheet place : ℕ} → r ≡ Refused number sheet place →
-      q ≡ pushes (refusedText number sheet place) p → q ≡ pushes (textOf old new r space) p
+  pub text-refused : {q : Page} {x : Cause} → r ≡ Refused x → q ≡ pushes (refusedText x) p →
+      q ≡ pushes (textOf old new r space) p
   unfolding textOf
   text-refused e h = rw e h
 

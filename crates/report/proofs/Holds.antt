@@ -18,12 +18,13 @@ use Rattle.procedures.specs.Written.{Sheet}
 use Rattle.sheet.specs.Fine.{Accepted}
 use Rattle.procedures.specs.Meaning.{tyOf, termOf}
 use Rattle.records.specs.declared.edition.Edition.the-variants.{Present}
+use Rattle.records.specs.declared.refusal.Cause.{Cause}
 use Rattle.sheet.specs.Reader.{readSheet, accepted}
 use Rattle.sheet.proofs.Right.{gives}
 use Rattle.explicit.specs.Letter.{AllSmall}
 use Rattle.explicit.proofs.Ranges.{sheet-small}
 use Rattle.comparer.specs.Plays.{reckoned, Only}
-use Rattle.comparer.specs.Refusals.{Refusal, compareRefusal}
+use Rattle.comparer.specs.Refusals.{compareRefusal}
 use Rattle.comparer.specs.Promise.{Holds, Decided, same, apart, ComparedBy}
 use Rattle.comparer.specs.declared.Comparison.{Comparison}
 use Rattle.comparer.proofs.Unique.{held-accepted}
@@ -102,11 +103,11 @@ unfolding ComparedBy Bounded textOf
 buffer-holds old new ws space r ws′ space′ a b p =
     go (compareRefusal old new (length ws) (length space)) (rw (a, b) (bounded old new)) p
   where
-    go : (x : Option Refusal) → Bounded (sizeIn (readSheet old) + sizeIn (readSheet new)) x →
+    go : (x : Option Cause) → Bounded (sizeIn (readSheet old) + sizeIn (readSheet new)) x →
         ComparedBy x old new ws space r ws′ space′ → length (textOf old new r space′) ≤ 8192
     go none n c = accepted-text (c .first-held) (c .second-held) n (c .decided) .holds
     go (some x) n c =
-        let p = refused-short (x .number) (x .sheet) (x .place) (omega (arith, n .0)) (omega (arith, n .2)) in
+        let p = refused-short x (omega (arith, n .0)) (omega (arith, n .2)) in
         rw (c .0) (looser 8192 (omega arith) p .holds)
 
 -- THEOREM: what is printed is the whole text

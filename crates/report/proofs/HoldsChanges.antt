@@ -38,9 +38,9 @@ renumber-buffer-holds s output list r output′ list′ a k p b =
         let bytes = rw (h .0) at b in
         let q = changed-short (length cs) list′ (omega (arith, few)) bytes in
         rw (h .0) (looser 4096 (omega (arith, few)) q .holds)
-    go (refused number sheet place) h =
+    go (refused x) h =
         let small = rw (h .0) at b in
-        let q = refused-any number sheet place (small .0) (small .1) in
+        let q = refused-any x (small .0) (small .1) in
         rw (h .0) (looser 4096 (omega arith) q .holds)
 
 -- THEOREM: what is printed is the whole text

@@ -12,15 +12,16 @@ use borrow.Author.Tests.{ltb-true, ltb-false}
 use Rattle.language.specs.Choice.{pick}
 use Rattle.sheet.specs.Encoding.{headingLength}
 use Rattle.records.specs.declared.edition.Edition.the-variants.{Present}
+use Rattle.records.specs.declared.refusal.Cause.{Cause}
 use Rattle.sheet.specs.Reader.{Checks, accepted, rejected, readSheet}
 use Rattle.sheet.specs.Check.{NumberOf}
 use Rattle.sheet.proofs.Places.{check-refused}
-use Rattle.comparer.specs.Refusals.{Refusal, refusing, matching, onRead, pairRefusal, compareRefusal}
+use Rattle.comparer.specs.Refusals.{refusing, matching, onRead, pairRefusal, compareRefusal}
 use Rattle.report.specs.Program.{Never14}
 use Rattle.report.specs.Text.{sizeIn}
 
 -- sizes that add up to 511 at most; or a refusal by a number up to 16 but not 14, at a place up to 4,096
-unfoldable pub Bounded : ℕ → Option Refusal → Type 0
+unfoldable pub Bounded : ℕ → Option Cause → Type 0
 Bounded n none = n ≤ 511
 Bounded n (some x) = (x .number ≤ 16) × (x .number ≡ 14 → ⊥) × (x .place ≤ 4096)
 
@@ -46,7 +47,7 @@ pub bounded : (old new : List ℕ) →
 unfolding compareRefusal onRead sizeIn Bounded
 bounded old new = go (readSheet old) (readSheet new) refl refl
   where
-    judged : ℕ → ℕ → ℕ → ℕ → ℕ → ℕ → Option Refusal
+    judged : ℕ → ℕ → ℕ → ℕ → ℕ → ℕ → Option Cause
     judged root ty n other b m = pairRefusal (matching old new root other ty b) 16384 2040 (n + m)
     go : (A B : Checks) → readSheet old ≡ A → readSheet new ≡ B →
         Bounded (sizeIn A + sizeIn B) (onRead A 0 (λ root ty n. onRead B 1 (λ other b m. judged root ty n other b m)))

@@ -5,6 +5,7 @@ use mathlib.Core.Path.{_≡_, refl, ap}
 use mathlib.Core.Bool.{true, false}
 use mathlib.Core.List.{List}
 use lib.ListN.{getD}
+use Rattle.records.specs.declared.refusal.Cause.{Cause}
 use Rattle.renumbering.specs.declared.renumber.Renumbered.{Renumbered}
 use Rattle.renumbering.specs.declared.renumber.Renumbered.the-variants.{Changed, Refused}
 use Rattle.report.specs.Page.{Page, pushes}
@@ -47,8 +48,8 @@ module _ (p : Page) (list : List ℕ) {r : Renumbered} where
   unfolding renumberText isRenumbered Representable
   told-changed e h b = rw e (h, (refl, b))
 
-  pub told-refused : {q : Page} {number sheet place : ℕ} → r ≡ Refused number sheet place →
-      q ≡ pushes (refusedText number sheet place) p → number < 256 → place < 18446744073709551616 →
+  pub told-refused : {q : Page} {x : Cause} → r ≡ Refused x → q ≡ pushes (refusedText x) p → x .number < 256 →
+      x .place < 18446744073709551616 →
       (q ≡ pushes (renumberText r list) p) × ((false ≡ isRenumbered r) × Representable r list)
   unfolding renumberText isRenumbered Representable
   told-refused e h b l = rw e (h, (refl, (b, l)))

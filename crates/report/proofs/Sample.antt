@@ -2,10 +2,11 @@
 use mathlib.Core.Path.{_≡_, refl}
 use mathlib.Core.List.{[], _∷_}
 use Rattle.language.specs.Number.{fromByte}
+use Rattle.records.specs.Refusal.{cause}
 use Rattle.report.specs.Text.{ascii, digitsIn, digits, signedDigits, sheetName, refusedText, sizesText}
 use Rattle.report.specs.Text.{apartText, valueText, moveText, firstMove, width, movesText}
 
-refusal : refusedText 7 0 3 ≡ ascii "refused 7 old 3\n"
+refusal : refusedText (cause 7 0 3) ≡ ascii "refused 7 old 3\n"
 unfolding refusedText digits digitsIn sheetName
 refusal = refl
 

@@ -7,6 +7,7 @@ use lib.ListN.{length, getD, length-append}
 use borrow.Author.Tests.{lt-ltb, le-ltb, ltb-true, ltb-false}
 use Rattle.language.specs.Number.{fromByte}
 use Rattle.language.proofs.NumberLaws.{by-test}
+use Rattle.records.specs.declared.refusal.Cause.{Cause}
 use Rattle.report.specs.Text.{ascii, digits, signedDigits, sheetName, refusedText, sizesText, apartText}
 use Rattle.report.specs.Text.{valueText, moveText}
 use Rattle.report.specs.Changes.{changeText, changeAt, changesText, changedText}
@@ -73,21 +74,19 @@ name-short (suc zero) = looser 4 (omega arith) (all (ascii "new"))
 name-short (suc (suc n)) = all (ascii "both")
 
 -- the lines
-pub refused-short : (number sheet place : ℕ) → number < 100 → place < 10000 →
-    AtMost 21 (refusedText number sheet place)
+pub refused-short : (x : Cause) → x .number < 100 → x .place < 10000 → AtMost 21 (refusedText x)
 unfolding refusedText
-refused-short number sheet place h l =
-    let p = both (both (both (both (both (both (all (ascii "refused ")) (two-digits number h)) (all (ascii " ")))
-          (name-short sheet)) (all (ascii " "))) (four-digits place l)) (all (ascii "\n")) in
+refused-short x h l =
+    let p = both (both (both (both (both (both (all (ascii "refused ")) (two-digits (x .number) h)) (all (ascii " ")))
+          (name-short (x .sheet))) (all (ascii " "))) (four-digits (x .place) l)) (all (ascii "\n")) in
     p
 
 -- the same for a number of 8 bits and a place of 64
-pub refused-any : (number sheet place : ℕ) → number < 256 → place < 18446744073709551616 →
-    AtMost 38 (refusedText number sheet place)
+pub refused-any : (x : Cause) → x .number < 256 → x .place < 18446744073709551616 → AtMost 38 (refusedText x)
 unfolding refusedText
-refused-any number sheet place h l =
-    let p = both (both (both (both (both (both (all (ascii "refused ")) (three-digits number (omega arith)))
-          (all (ascii " "))) (name-short sheet)) (all (ascii " "))) (few-digits 19 place (omega arith)))
+refused-any x h l =
+    let p = both (both (both (both (both (both (all (ascii "refused ")) (three-digits (x .number) (omega arith)))
+          (all (ascii " "))) (name-short (x .sheet))) (all (ascii " "))) (few-digits 19 (x .place) (omega arith)))
           (all (ascii "\n")) in
     p
 

@@ -34,17 +34,17 @@ changedText n list = ascii "changes " ++ digits n ++ ascii "\n" ++ changesText n
 -- the whole text for the answer of renumber and the list after it
 unfoldable pub renumberText : Renumbered → List ℕ → List ℕ
 renumberText (Changed n) list = changedText n list
-renumberText (Refused number sheet place) list = refusedText number sheet place
+renumberText (Refused x) list = refusedText x
 
 -- whether there is a sheet to be written
 unfoldable pub isRenumbered : Renumbered → Bool
 isRenumbered (Changed n) = true
-isRenumbered (Refused number sheet place) = false
+isRenumbered (Refused x) = false
 
 -- the list has bytes, and a refusal's number is a byte and its place a number of 64 bits
 unfoldable pub Representable : Renumbered → List ℕ → Type 0
 Representable (Changed n) list = (i : ℕ) → getD list i 0 < 256
-Representable (Refused number sheet place) list = (number < 256) × (place < 18446744073709551616)
+Representable (Refused x) list = (x .number < 256) × (x .place < 18446744073709551616)
 
 -- an answer of renumber, its text at the start of out, as much as there is room for, and whether a sheet is to be
 -- written

@@ -6,8 +6,9 @@ use mathlib.Core.List.{List}
 use mathlib.Core.Option.{some}
 use Prim.Native.Nat.{ℕ, _≤_}
 use lib.ListN.{length, take}
+use Rattle.records.specs.declared.refusal.Cause.{Cause}
 use Rattle.comparer.specs.Promise.{ComparePromise}
-use Rattle.comparer.specs.Refusals.{Refusal, compareRefusal}
+use Rattle.comparer.specs.Refusals.{compareRefusal}
 use Rattle.comparer.specs.declared.Comparison.{Comparison}
 use Rattle.report.specs.Text.{textOf}
 use Rattle.report.specs.Reported.{Reported}
@@ -18,7 +19,7 @@ use Rattle.report.specs.Changes.{renumberText, Representable, RenumberRe
 
 -- no refusal that it prints has the number 14
 abbrev pub Never14 : Type 0
-Never14 = (old new : List ℕ) (x : Refusal) → compareRefusal old new 16384 2040 ≡ some x → x .number ≡ 14 → ⊥
+Never14 = (old new : List ℕ) (x : Cause) → compareRefusal old new 16384 2040 ≡ some x → x .number ≡ 14 → ⊥
 
 -- every text that it can print, of whatever two sheets, has room in 8,192 bytes
 abbrev pub BufferHolds : Type 0

@@ -10,6 +10,7 @@ use lib.Dec.{ltb}
 use lib.IntN.{ℤ, pos, negsuc}
 use Rattle.language.specs.Choice.{pick}
 use Rattle.language.specs.Number.{fromByte}
+use Rattle.records.specs.declared.refusal.Cause.{Cause}
 use Rattle.sheet.specs.Reader.{Checks, accepted, rejected, readSheet}
 use Rattle.comparer.specs.declared.Comparison.{Comparison}
 use Rattle.comparer.specs.declared.Comparison.the-variants.{Same, Apart, Refused}
@@ -40,9 +41,10 @@ sheetName (suc zero) = ascii "new"
 sheetName (suc (suc n)) = ascii "both"
 
 -- "refused 7 old 3"
-unfoldable pub refusedText : ℕ → ℕ → ℕ → List ℕ
-refusedText number sheet place =
-    ascii "refused " ++ digits number ++ ascii " " ++ sheetName sheet ++ ascii " " ++ digits place ++ ascii "\n"
+unfoldable pub refusedText : Cause → List ℕ
+refusedText x =
+    ascii "refused " ++ digits (x .number) ++ ascii " " ++ sheetName (x .sheet) ++ ascii " " ++ digits (x .place)
+    ++ ascii "\n"
 
 -- "old 4 new 4"
 unfoldable pub sizesText : ℕ → ℕ → List ℕ
@@ -84,4 +86,4 @@ unfoldable pub textOf : List ℕ → List ℕ → Comparison → List ℕ → Li
 textOf old new Same space = sizesText (sizeIn (readSheet old)) (sizeIn (readSheet new)) ++ ascii "same\n"
 textOf old new (Apart sheet moves) space =
     sizesText (sizeIn (readSheet old)) (sizeIn (readSheet new)) ++ apartText sheet moves ++ movesText moves space
-textOf old new (Refused number sheet place) space = refusedText number sheet place
+textOf old new (Refused x) space = refusedText x

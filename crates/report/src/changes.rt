@@ -88,12 +88,8 @@ fn answer(r: Renumbered, list: &[u8], out: &mut [u8]) -> Told
                 renumbered: true,
             }
         }
-        Renumbered::Refused {
-            number,
-            sheet,
-            place,
-        } => {
-            let count = refused(out, 0, number, sheet, place);
+        Renumbered::Refused(x) => {
+            let count = refused(out, 0, x);
             Told {
                 count,
                 renumbered: false,

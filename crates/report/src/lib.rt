@@ -19,11 +19,7 @@ fn answer(old: &[u8], new: &[u8], r: Comparison, space: &[u8], out: &mut [u8]) -
         ≡ pushes (textOf (now (old .entry)) (now (new .entry)) r (now (space .entry))) (page (now (out .entry)) 0) ⌝ }
 {
     match r {
-        Comparison::Refused {
-            number,
-            sheet,
-            place,
-        } => lines::refused(out, 0, number, sheet, place),
+        Comparison::Refused(x) => lines::refused(out, 0, x),
         Comparison::Same => {
             let at = lines::sizes(out, 0, old, new);
             write::text(out, at, b"same\n")

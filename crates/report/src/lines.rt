@@ -2,6 +2,9 @@
 use crate::write::decimal;
 use crate::write::text;
 use records::read::byte_at;
+use records::refusal::Cause;
+use records::refusal::NEW;
+use records::refusal::OLD;
 use sheet::check::Checked;
 use sheet::check::check;
 ghost use mathlib.Core.Path.{_≡_};
@@ -12,11 +15,6 @@ ghost use Rattle.sheet.specs.Reader.{readSheet};
 ghost use Rattle.report.specs.Page.{page, pushes};
 ghost use Rattle.report.specs.Text.{sheetName, refusedText, sizeIn, sizesText, apartText, signedDigits};
 ghost use Rattle.report.specs.Text.{valueText, moveText, firstMove, width, movesText};
-
-// The sheets that an answer names; any other number is both of them.
-const OLD: u8 = 0;
-
-const NEW: u8 = 1;
 
 // The first kind of move that has a value.
 const VALUE: u8 = 5;
@@ -31,7 +29,7 @@ const PLAIN: usize = 3;
 
 const VALUED: usize = 4;
 
-// The name of a sheet.
+// The name of a sheet; any number but those of the old and the new one stands for both of them.
 fn sheet_name(out: &mut [u8], at: usize, sheet: u8) -> usize
     ensures { λ r. ⌜ page (now (out .exit)) r ≡ pushes (sheetName sheet) (page (now (out .entry)) at) ⌝ }
 {
@@ -45,16 +43,15 @@ fn sheet_name(out: &mut [u8], at: usize, sheet: u8) -> usize
 }
 
 // A refusal: number, sheet and place.
-pub fn refused(out: &mut [u8], at: usize, number: u8, sheet: u8, place: usize) -> usize
-    ensures { λ r. ⌜ page (now (out .exit)) r
-        ≡ pushes (refusedText number sheet place) (page (now (out .entry)) at) ⌝ }
+pub fn refused(out: &mut [u8], at: usize, x: Cause) -> usize
+    ensures { λ r. ⌜ page (now (out .exit)) r ≡ pushes (refusedText x) (page (now (out .entry)) at) ⌝ }
 {
     let a = text(out, at, b"refused ");
-    let b = decimal(out, a, number as usize);
+    let b = decimal(out, a, x.number as usize);
     let c = text(out, b, b" ");
-    let d = sheet_name(out, c, sheet);
+    let d = sheet_name(out, c, x.sheet);
     let e = text(out, d, b" ");
-    let f = decimal(out, e, place);
+    let f = decimal(out, e, x.place);
     text(out, f, b"\n")
 }
 

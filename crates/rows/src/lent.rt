@@ -5,6 +5,7 @@ use crate::show::say;
 use crate::show::title;
 use comparer::Following;
 use comparer::follow::follow;
+use records::refusal::Cause;
 use report::lines;
 ghost use Rattle.report.specs.Page.{Counts};
 
@@ -26,10 +27,10 @@ pub fn compared() {
 }
 
 // Writes a refusal from the start of out: its length.
-fn refusal(out: &mut [u8], number: u8, sheet: u8, place: usize) -> usize
+fn refusal(out: &mut [u8], x: Cause) -> usize
     ensures { λ r. ⌜ Counts r (now (out .exit)) ⌝ }
 {
-    lines::refused(out, 0, number, sheet, place)
+    lines::refused(out, 0, x)
 }
 
 // Prints how many moves follow finds, and whether the play is complete; or the refusal.
@@ -43,13 +44,9 @@ fn print(r: Following) {
                 say(b" no\n")
             }
         }
-        Following::Refused {
-            number,
-            sheet,
-            place,
-        } => {
+        Following::Refused(x) => {
             let mut out = [0u8; 64];
-            let n = refusal(&mut out, number, sheet, place);
+            let n = refusal(&mut out, x);
             say(&out[..n]);
         }
     }

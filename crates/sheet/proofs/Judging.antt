@@ -8,11 +8,12 @@ use mathlib.Core.List.{List, []}
 use borrow.Author.Tests.{lt-ltb, le-ltb}
 use Rattle.language.specs.Weight.{size, weight}
 use Rattle.language.specs.declared.Numbers.{Numbers}
-use Rattle.records.specs.Refusal.{refusal, too-large}
+use Rattle.records.specs.Refusal.{refusal, cause, old-sheet, too-large}
 use Rattle.records.specs.Rule.{questions}
 use Rattle.records.specs.declared.edition.Edition.{Edition}
 use Rattle.records.specs.declared.edition.Edition.the-variants.{Present}
 use Rattle.records.specs.declared.refusal.Refusal.{Refusal}
+use Rattle.records.specs.declared.refusal.Cause.{Cause}
 use Rattle.procedures.specs.Written as written
 use Rattle.procedures.specs.Meaning.{tyOf, termOf}
 use Rattle.procedures.specs.Form.{formOf, no-forms, formSheet}
@@ -26,7 +27,7 @@ use Rattle.sheet.specs.Size.{sizeOf}
 use Rattle.sheet.specs.Check.{checkedOf}
 use Rattle.sheet.specs.table.Fill.{eraseSheet}
 use Rattle.sheet.specs.table.Tabled.{Tabled, TabledBy, places}
-use Rattle.sheet.specs.table.Judged.{JudgedBy}
+use Rattle.sheet.specs.table.Judged.{JudgedBy, refusalIn}
 use Rattle.sheet.specs.declared.names.Reading.{Reading}
 use Rattle.sheet.specs.declared.names.Reading.the-variants.{Sheet as Read, Refused as Unread}
 use Rattle.sheet.specs.declared.judge.Judgement.{Judgement}
@@ -118,10 +119,11 @@ unfolding TabledBy
 tabled-read ed s u T e = rw e at T
 
 -- the answer of check
-pub checked-refused : (s u M : List ℕ) {y : Judgement} {x : Refusal} → JudgedBy Present s y u M → y ≡ Refused x →
-    Turned (x .number) 0 (x .place) ≡ checkedOf (readSheet s)
-unfolding JudgedBy checkedOf
-checked-refused s u M J e = let j = rw e at J in rw j refl
+pub checked-refused : (s u M : List ℕ) {y : Judgement} {x z : Refusal} {q : Cause} → JudgedBy Present s y u M →
+    y ≡ Refused x → z ≡ refusalIn y → q ≡ cause (z .number) old-sheet (z .place) →
+    Turned q ≡ checkedOf (readSheet s)
+unfolding JudgedBy checkedOf refusalIn
+checked-refused s u M J e f g = let j = rw e at J in rw (g, f, e, j) refl
 
 pub checked-accepted : (s u M : List ℕ) {y : Judgement} {root ty size : ℕ} → JudgedBy Present s y u M →
     y ≡ Sheet root ty size → Accepted ty size ≡ checkedOf (readSheet s)

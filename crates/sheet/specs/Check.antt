@@ -3,6 +3,7 @@
 use Prim.Native.Nat.{ℕ, _≤_}
 use mathlib.Core.Path.{_≡_}
 use mathlib.Core.Logic.{_⊎_}
+use Rattle.records.specs.Refusal.{cause, old-sheet}
 use Rattle.records.specs.declared.edition.Edition.{Edition}
 use Rattle.records.specs.declared.edition.Edition.the-variants.{Earlier, Present}
 use Rattle.sheet.specs.Reader.{Checks, accepted, rejected}
@@ -11,7 +12,7 @@ use Rattle.sheet.specs.declared.check.Checked.the-variants.{Accepted, Re
 
 unfoldable pub checkedOf : Checks → Checked
 checkedOf (accepted S ty size) = Accepted ty size
-checkedOf (rejected n p) = Refused n 0 p
+checkedOf (rejected n p) = Refused (cause n old-sheet p)
 
 -- document 01's 1 to 11, and from document 02 [3] on also 16
 unfoldable pub NumberOf : Edition → ℕ → Type 0

@@ -2,14 +2,31 @@
 use crate::judge::Judgement;
 use crate::judge::judge_sheet;
 use records::edition::Edition;
+use records::refusal::Cause;
+use records::refusal::NOT_REFUSED;
+use records::refusal::OLD;
+use records::refusal::Refusal;
+use records::refusal::of_sheet;
+use records::refusal::refuse;
 ghost use mathlib.Core.Path.{_≡_};
 ghost use Rattle.sheet.specs.Reader.{readSheet};
 ghost use Rattle.sheet.specs.Check.{checkedOf};
+ghost use Rattle.sheet.specs.table.Judged.{refusalIn};
 
-// The answer of check: the type and the size of the sheet, or the refusal's number, sheet (0 old) and place.
+// The answer of check: the type and the size of the sheet, or the refusal.
 pub enum Checked {
     Accepted { ty: u8, size: u32 },
-    Refused { number: u8, sheet: u8, place: usize },
+    Refused(Cause),
+}
+
+// The refusal of a sheet that is judged, its number 0 where the sheet is not refused.
+fn refusal_of(x: Judgement) -> Refusal
+    ensures { λ r. ⌜ r ≡ refusalIn x ⌝ }
+{
+    let Judgement::Refused(refusal) = x else {
+        return refuse(NOT_REFUSED, 0);
+    };
+    refusal
 }
 
 // The service check: the type and the size of a sheet, or why it is refused.
@@ -19,12 +36,8 @@ pub fn check(s: &[u8]) -> Checked
     let mut t = [0u16; 36864];
     let mut marks = [0u16; 4096];
     let x = judge_sheet(Edition::Present, s, &mut t, &mut marks);
-    match x {
-        Judgement::Refused(refusal) => Checked::Refused {
-            number: refusal.number,
-            sheet: 0,
-            place: refusal.place,
-        },
-        Judgement::Sheet { root: _, ty, size } => Checked::Accepted { ty, size },
-    }
+    let Judgement::Sheet { root: _, ty, size } = x else {
+        return Checked::Refused(of_sheet(refusal_of(x), OLD));
+    };
+    Checked::Accepted { ty, size }
 }

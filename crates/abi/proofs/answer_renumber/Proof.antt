@@ -28,7 +28,7 @@ same-length-2 c = search needs
 
 returns-2 : tie.Need-returns-2
 returns-2 c =
-    returned-as _ _ _ _ _ (words-not-renumbered _ _ _ _ (c .before .before .before .before .before .r2 .given .1)) (c
+    returned-as _ _ _ _ _ (words-not-renumbered _ _ (c .before .before .before .before .before .r2 .given .1)) (c
         .before .before .refuse .ensures .0) (c .before .before .refuse .ensures .1)
 
 pub answer-renumber-spec : {M : Type 1} → statement M

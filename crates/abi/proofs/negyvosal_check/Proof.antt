@@ -9,11 +9,14 @@ check-requires c κs = search needs
 enum-known-checked : tie.Need-enum-known-checked
 enum-known-checked c = search needs
 
-enum-told : tie.Need-enum-told
-enum-told c = search needs
+cast-answer : tie.Need-cast-answer
+cast-answer c = search needs
 
-refusal-of-requires : tie.Need-refusal-of-requires
-refusal-of-requires c κs = search needs
+answer-requires : tie.Need-answer-requires
+answer-requires c κs = search needs
+
+enum-known-checked-2 : tie.Need-enum-known-checked-2
+enum-known-checked-2 c = search needs
 
 refuse-requires : tie.Need-refuse-requires
 refuse-requires c κs = search needs
@@ -23,25 +26,19 @@ same-length c = search needs
 
 returns : tie.Need-returns
 returns c =
-    check-refused _ _ _ _ _ _ _ _ _ (c .before .before .before .before .before .before .before .check .ensures) (c
-        .before .before .before .before .before .enum-told .given .1) (c .before .before .before .refusal-of .ensures)
-        (c .before .before .refuse .ensures .0) (c .before .before .refuse .ensures .1)
-
-cast-answer : tie.Need-cast-answer
-cast-answer c = search needs
-
-answer-requires : tie.Need-answer-requires
-answer-requires c κs = search needs
+    check-accepted _ _ _ _ _ _ _ (c .before .before .before .before .before .before .before .check .ensures) (c
+        .before .before .before .before .before .checked .given .1) (c .before .before .answer .ensures .0) (c .before
+        .before .answer .ensures .1)
 
 same-length-2 : tie.Need-same-length-2
 same-length-2 c = search needs
 
 returns-2 : tie.Need-returns-2
 returns-2 c =
-    check-accepted _ _ _ _ _ _ _ (c .before .before .before .before .before .before .before .check .ensures) (c
-        .before .before .before .before .before .checked .given .1) (c .before .before .answer .ensures .0) (c .before
-        .before .answer .ensures .1)
+    check-refused _ _ _ _ _ _ (c .before .before .before .before .before .before .before .check .ensures) (c .before
+        .before .before .before .before .checked2 .given .1) (c .before .before .refuse .ensures .0) (c .before
+        .before .refuse .ensures .1)
 
 pub negyvosal-check-spec : {M : Type 1} → statement M
-negyvosal-check-spec = tie.close (tie.spec check-requires enum-known-checked enum-told refusal-of-requires
-    refuse-requires same-length returns cast-answer answer-requires same-length-2 returns-2)
+negyvosal-check-spec = tie.close (tie.spec check-requires enum-known-checked cast-answer answer-requires
+    enum-known-checked-2 refuse-requires same-length returns same-length-2 returns-2)

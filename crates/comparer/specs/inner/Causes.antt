@@ -2,28 +2,25 @@
 -- nothing is refused.
 use mathlib.Core.Option.{Option, none, some}
 use Prim.Native.Nat.{ℕ}
+use Rattle.records.specs.Refusal.{cause, old-sheet, not-refused}
+use Rattle.records.specs.declared.refusal.Cause.{Cause}
 use Rattle.load.specs.declared.load.Loaded.{Loaded}
 use Rattle.load.specs.declared.load.Loaded.the-variants.{Sheet, Refused}
-use Rattle.comparer.specs.Refusals as refusals
-use Rattle.comparer.specs.declared.Cause.{Cause}
+use Rattle.comparer.specs.Refusals.{bad-play}
 use Rattle.comparer.specs.declared.play.Parsed.{Parsed}
 use Rattle.comparer.specs.declared.play.Parsed.the-variants.{Moves, Bad}
 
 -- of a sheet: its number and place, and the sheet
 unfoldable pub causeOf : Loaded → ℕ → Cause
-causeOf (Sheet root row ty size) sheet = record { number = 0; sheet = sheet; place = 0 }
-causeOf (Refused x) sheet = record { number = x .number; sheet = sheet; place = x .place }
-
--- of both sheets together
-abbrev pub bothCause : ℕ → Cause
-bothCause number = record { number = number; sheet = refusals.both-sheets; place = 0 }
+causeOf (Sheet root row ty size) sheet = cause not-refused sheet 0
+causeOf (Refused x) sheet = cause (x .number) sheet (x .place)
 
 -- of a play
 unfoldable pub playCause : Parsed → Cause
-playCause (Moves count) = record { number = 0; sheet = 0; place = 0 }
-playCause (Bad place) = record { number = refusals.bad-play; sheet = refusals.old-sheet; place = place }
+playCause (Moves count) = cause not-refused old-sheet 0
+playCause (Bad place) = cause bad-play old-sheet place
 
 -- of two sheets: the number alone
-unfoldable pub numberOf : Option refusals.Refusal → ℕ
-numberOf none = 0
+unfoldable pub numberOf : Option Cause → ℕ
+numberOf none = not-refused
 numberOf (some x) = x .number

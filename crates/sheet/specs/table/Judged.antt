@@ -3,7 +3,9 @@
 use Prim.Native.Nat.{ℕ}
 use mathlib.Core.Path.{_≡_}
 use mathlib.Core.List.{List}
+use Rattle.records.specs.Refusal.{refusal, not-refused}
 use Rattle.records.specs.declared.edition.Edition.{Edition}
+use Rattle.records.specs.declared.refusal.Refusal.{Refusal}
 use Rattle.procedures.specs.Written as written
 use Rattle.procedures.specs.Context.{whole}
 use Rattle.procedures.specs.Table.{Shown}
@@ -28,3 +30,8 @@ pub record Judged (ed : Edition) (s : List ℕ) (root ty size : ℕ) (u M : List
 unfoldable pub JudgedBy : Edition → List ℕ → Judgement → List ℕ → List ℕ → Type 0
 JudgedBy ed s (Sheet root ty size) u M = Judged ed s root ty size u M
 JudgedBy ed s (Refused x) u M = readUnder ed s ≡ rejected (x .number) (x .place)
+
+-- the refusal of a sheet that is judged; its number is 0 where the sheet is not refused
+unfoldable pub refusalIn : Judgement → Refusal
+refusalIn (Sheet root ty size) = refusal not-refused 0
+refusalIn (Refused x) = x

@@ -18,16 +18,13 @@ enum-told c = search needs
 cause-of-requires : tie.Need-cause-of-requires
 cause-of-requires c κs = search needs
 
-refuse-requires : tie.Need-refuse-requires
-refuse-requires c κs = search needs
-
 returns : tie.Need-returns
 returns c =
-    refused-old _ _ (c .before .before .before .before .before .before .before .before .before .before .args .words
-        .now) (c .before .before .before .before .before .before .before .before .before .before .args .space .now)
-        (refused-sheet _ _ (c .before .before .before .before .load .ensures) (c .before .before .enum-told .given
+    refused-old _ _ (c .before .before .before .before .before .before .before .before .before .args .words
+        .now) (c .before .before .before .before .before .before .before .before .before .args .space .now)
+        (refused-sheet _ _ (c .before .before .before .load .ensures) (c .before .enum-told .given
         .1))
-      (c .before .before .enum-told .given .1) (c .before .cause-of .ensures) (c .refuse .ensures)
+      (c .before .enum-told .given .1) (c .cause-of .ensures)
 
 load-requires-2 : tie.Need-load-requires-2
 load-requires-2 c κs = search needs
@@ -41,18 +38,14 @@ enum-told-2 c = search needs
 cause-of-requires-2 : tie.Need-cause-of-requires-2
 cause-of-requires-2 c κs = search needs
 
-refuse-requires-2 : tie.Need-refuse-requires-2
-refuse-requires-2 c κs = search needs
-
 returns-2 : tie.Need-returns-2
 returns-2 c =
-    let A = taken _ _ (c .before .before .before .before .before .before .before .before .before .load .ensures) (c
-        .before .before .before .before .before .before .before .x .given .1) in
-    refused-new _ _ (c .before .before .before .before .before .before .before .before .before .before .before
-        .before .before .before .before .args .words .now) (c .before .before .before .before .before .before .before
-        .before .before .before .before .before .before .before .before .args .space .now) A (refused-sheet _ _ (c
-        .before .before .before .before .load2 .ensures) (c .before .before .enum-told2 .given .1))
-      (c .before .before .enum-told2 .given .1) (c .before .cause-of2 .ensures) (c .refuse2 .ensures)
+    let A = taken _ _ (c .before .before .before .before .before .before .before .before .load .ensures) (c .before
+        .before .before .before .before .before .x .given .1) in
+    refused-new _ _ (c .before .before .before .before .before .before .before .before .before .before .before .before
+        .before .before .args .words .now) (c .before .before .before .before .before .before .before .before .before
+        .before .before .before .before .before .args .space .now) A (refused-sheet _ _ (c .before .before .before
+        .load2 .ensures) (c .before .enum-told2 .given .1)) (c .before .enum-told2 .given .1) (c .cause-of2 .ensures)
 
 cast-all : tie.Need-cast-all
 cast-all c = search needs
@@ -80,22 +73,18 @@ pair-number-requires c κs =
 both-cause-requires : tie.Need-both-cause-requires
 both-cause-requires c κs = search needs
 
-refuse-requires-3 : tie.Need-refuse-requires-3
-refuse-requires-3 c κs = search needs
-
 returns-3 : tie.Need-returns-3
 returns-3 c =
     let A = taken _ _ (c .before .before .before .before .before .before .before .before .before .before .before
-        .before .before .load .ensures) (c .before .before .before .before .before .before .before .before .before
-        .before .before .x .given .1) in
-    let B = taken _ _ (c .before .before .before .before .before .before .before .before .load2 .ensures) (c .before
-        .before .before .before .before .before .y .given .1) in
+        .before .load .ensures) (c .before .before .before .before .before .before .before .before .before .before .x
+        .given .1) in
+    let B = taken _ _ (c .before .before .before .before .before .before .before .load2 .ensures) (c .before .before
+        .before .before .before .y .given .1) in
     refused-pair _ _ (c .before .before .before .before .before .before .before .before .before .before .before
-        .before .before .before .before .before .before .before .before .args .words .now) (c .before .before .before
+        .before .before .before .before .before .before .before .args .words .now) (c .before .before .before .before
         .before .before .before .before .before .before .before .before .before .before .before .before .before
-        .before .before .before .args .space .now) A B (c .before .before .before .before .alike .ensures) (c .before
-        .before .before .pair-number .ensures) (c .before .before .if1 .taken)
-      (c .before .both-cause .ensures) (c .refuse3 .ensures)
+        .before .args .space .now) A B (c .before .before .before .alike .ensures) (c .before .before .pair-number
+        .ensures) (c .before .if1 .taken) (c .both-cause .ensures)
 
 numbers-of-requires : tie.Need-numbers-of-requires
 numbers-of-requires c κs = search needs
@@ -208,13 +197,11 @@ compare-spec =
     enum-known-x
     enum-told
     cause-of-requires
-    refuse-requires
     returns
     load-requires-2
     enum-known-y
     enum-told-2
     cause-of-requires-2
-    refuse-requires-2
     returns-2
     cast-all
     cast-more
@@ -222,7 +209,6 @@ compare-spec =
     add-pair-number
     pair-number-requires
     both-cause-requires
-    refuse-requires-3
     returns-3
     numbers-of-requires
     two-from-rows-requires

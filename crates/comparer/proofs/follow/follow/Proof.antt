@@ -21,17 +21,12 @@ enum-told c = search needs
 cause-of-requires : tie.Need-cause-of-requires
 cause-of-requires c κs = search needs
 
-refuse-requires : tie.Need-refuse-requires
-refuse-requires c κs = search needs
-
 returns : tie.Need-returns
 returns c =
-    refuses-sheet (c .before .before .before .before .before .before .before .before .before .args .sheet .now) (c
-        .before .before .before .before .before .before .before .before .before .args .play .now) (c .before .before
-        .before .before .before .before .before .before .before .args .words .now) _
-      (refused-sheet _ _ (c .before .before .before .before .load .ensures) (c .before .before .enum-told .given .1))
-          (c .before .before .enum-told .given .1) (c .before .cause-of .ensures)
-      (c .refuse .ensures) refl
+    refuses-sheet (c .before .before .before .before .before .before .before .before .args .sheet .now) (c .before
+        .before .before .before .before .before .before .before .args .play .now) (c .before .before .before .before
+        .before .before .before .before .args .words .now) _ (refused-sheet _ _ (c .before .before .before .load
+        .ensures) (c .before .enum-told .given .1)) (c .before .enum-told .given .1) (c .cause-of .ensures) refl
 
 cast-all : tie.Need-cast-all
 cast-all c = search needs
@@ -45,17 +40,13 @@ mul-if1 c = search needs
 both-cause-requires : tie.Need-both-cause-requires
 both-cause-requires c κs = search needs
 
-refuse-requires-2 : tie.Need-refuse-requires-2
-refuse-requires-2 c κs = search needs
-
 returns-2 : tie.Need-returns-2
 returns-2 c =
-    let F = fit (taken _ _ (c .before .before .before .before .before .before .load .ensures) (c .before .before
+    let F = fit (taken _ _ (c .before .before .before .before .before .load .ensures) (c .before
         .before .before .x .given .1)) in
-    refuses-words F (c .before .before .before .before .before .before .before .before .before .before .before .args
-        .play .now) (c .before .before .before .before .before .before .before .before .before .before .before .args
-        .words .now) _ (c .before .before .if1 .taken) (c .before .both-cause .ensures)
-      (c .refuse2 .ensures) refl
+    refuses-words F (c .before .before .before .before .before .before .before .before .before .before .args
+        .play .now) (c .before .before .before .before .before .before .before .before .before .before .args
+        .words .now) _ (c .before .if1 .taken) (c .both-cause .ensures) refl
 
 count-moves-requires : tie.Need-count-moves-requires
 count-moves-requires c κs = search needs
@@ -69,18 +60,15 @@ enum-told-2 c = search needs
 play-cause-requires : tie.Need-play-cause-requires
 play-cause-requires c κs = search needs
 
-refuse-requires-3 : tie.Need-refuse-requires-3
-refuse-requires-3 c κs = search needs
-
 returns-3 : tie.Need-returns-3
 returns-3 c =
-    let F = fit (taken _ _ (c .before .before .before .before .before .before .before .before .before .load .ensures)
-        (c .before .before .before .before .before .before .before .x .given .1)) in
-    refuses-play F (c .before .before .before .before .before .before .before .before .before .before .before .before
-        .before .before .args .play .now) (c .before .before .before .before .before .before .before .before .before
-        .before .before .before .before .before .args .words .now) _ (c .before .before .before .before .before .if1
-        .left) (c .before .before .before .before .count-moves .ensures)
-      (c .before .before .enum-told2 .given .1) (c .before .play-cause .ensures) (c .refuse3 .ensures) refl
+    let F = fit (taken _ _ (c .before .before .before .before .before .before .before .before .load .ensures)
+        (c .before .before .before .before .before .before .x .given .1)) in
+    refuses-play F (c .before .before .before .before .before .before .before .before .before .before .before
+        .before .before .args .play .now) (c .before .before .before .before .before .before .before .before
+        .before .before .before .before .before .args .words .now) _ (c .before .before .before .before .if1
+        .left) (c .before .before .before .count-moves .ensures)
+      (c .before .enum-told2 .given .1) (c .play-cause .ensures) refl
 
 numbers-of-requires : tie.Need-numbers-of-requires
 numbers-of-requires c κs = search needs
@@ -190,19 +178,16 @@ follow-spec =
     enum-known-x
     enum-told
     cause-of-requires
-    refuse-requires
     returns
     cast-all
     add-if1
     mul-if1
     both-cause-requires
-    refuse-requires-2
     returns-2
     count-moves-requires
     enum-known-parsed
     enum-told-2
     play-cause-requires
-    refuse-requires-3
     returns-3
     numbers-of-requires
     one-from-rows-requires

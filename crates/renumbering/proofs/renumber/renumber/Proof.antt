@@ -10,6 +10,9 @@ read-earlier-requires c κs = search needs
 enum-known-x : tie.Need-enum-known-x
 enum-known-x c = search needs
 
+of-sheet-requires : tie.Need-of-sheet-requires
+of-sheet-requires c κs = search needs
+
 enum-known-x-2 : tie.Need-enum-known-x-2
 enum-known-x-2 c = search needs
 
@@ -45,9 +48,10 @@ renumber-accepted-requires c κs =
 
 returns-3 : tie.Need-returns-3
 returns-3 c =
-    service-refused (c .before .before .before .before .before .before .before .args .s .now) (c .before .before
-    .before .before .before .before .before .args .out .now) (c .before .before .before .before .before .before
-    .before .args .list .now) _ _ (c .before .before .before .read-earlier .ensures) (c .before .x .given .1)
+    service-refused (c .before .before .before .before .before .before .before .before .args .s .now) (c .before .before
+    .before .before .before .before .before .before .args .out .now) (c .before .before .before .before .before .before
+    .before .before .args .list .now) _ _ (c .before .before .before .before .read-earlier .ensures) (c .before .before
+    .x .given .1) (c .of-sheet .ensures)
 
 same-length : tie.Need-same-length
 same-length c = search needs
@@ -74,6 +78,7 @@ renumber-spec =
     (tie.spec
     read-earlier-requires
     enum-known-x
+    of-sheet-requires
     enum-known-x-2
     too-short-requires
     returns

@@ -16,6 +16,12 @@ renumber-copy-requires c κs =
 enum-known-x : tie.Need-enum-known-x
 enum-known-x c = search needs
 
+refuse-requires : tie.Need-refuse-requires
+refuse-requires c κs = search needs
+
+of-sheet-requires : tie.Need-of-sheet-requires
+of-sheet-requires c κs = search needs
+
 enum-known-x-2 : tie.Need-enum-known-x-2
 enum-known-x-2 c = search needs
 
@@ -63,8 +69,8 @@ copy-requires-2 c κs =
     .before .before .before .before .before .before .before .before .before .before .before .before .before .before
     .pre .2))
 
-cast-t23 : tie.Need-cast-t23
-cast-t23 c =
+cast-t25 : tie.Need-cast-t25
+cast-t25 c =
     let R = room (c .before .before .before .before .before .before .before .before .before .before .before .before
     .before .before .before .before .before .before .before .args .s .now) _ _ _ _ _ _ _ _ (c .before .before .before
     .before .before .before .before .before .before .before .before .before .before .before .before .before .before
@@ -75,9 +81,9 @@ cast-t23 c =
 
 returns : tie.Need-returns
 returns c =
-    renumbers-full _ _ _ _ _ _ _ _ _ _ (c .before .before .before .renumber-copy .ensures) (c .before .x .given .1)
-    (c .before .before .before .before .before .before .before .before .before .pre .0) (length-replicate {A = ℕ}
-    4096 0)
+    renumbers-full _ _ _ _ _ _ _ _ _ _ (c .before .before .before .before .before .renumber-copy .ensures) (c .before
+    .before .before .x .given .1) (c .before .before .before .before .before .before .before .before .before .before
+    .before .pre .0) (length-replicate {A = ℕ} 4096 0) (c .before .refuse .ensures) (c .of-sheet .ensures)
 
 same-length : tie.Need-same-length
 same-length c = search needs
@@ -102,13 +108,15 @@ renumber-accepted-spec =
     (tie.spec
     renumber-copy-requires
     enum-known-x
+    refuse-requires
+    of-sheet-requires
     enum-known-x-2
     slice-aggregate-copy
     copy-requires
     slice-aggregate-copy-2
     mul-copy
     copy-requires-2
-    cast-t23
+    cast-t25
     returns
     same-length
     same-length-2

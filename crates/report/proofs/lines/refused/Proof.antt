@@ -10,6 +10,9 @@ slice-aggregate-text c = search needs
 text-requires : tie.Need-text-requires
 text-requires c κs = search needs
 
+cast-decimal : tie.Need-cast-decimal
+cast-decimal c = search needs
+
 decimal-requires : tie.Need-decimal-requires
 decimal-requires c κs = search needs
 
@@ -45,7 +48,7 @@ unfolding refusedText
 returns c =
     after _ _ _ (after _ _ _ (after _ _ _ (after _ _ _ (after _ _ _ (after _ _ _ (c .before .before .before .before
         .before .before .before .before .before .before .before .before .before .before .before .before .before
-        .before .before .before .before .before .before .before .before .before .before .before .before .text
+        .before .before .before .before .before .before .before .before .before .before .before .before .before .text
         .ensures) (c .before .before .before .before .before .before .before .before .before .before .before .before
         .before .before .before .before .before .before .before .before .before .before .before .before .before
         .decimal .ensures)) (c .before .before .before .before .before .before .before .before .before .before .before
@@ -57,6 +60,6 @@ returns c =
 
 pub refused-spec : {M : Type 1} → statement M
 refused-spec = tie.close
-    (tie.spec slice-aggregate-text text-requires decimal-requires slice-aggregate-text-2 text-requires-2
+    (tie.spec slice-aggregate-text text-requires cast-decimal decimal-requires slice-aggregate-text-2 text-requires-2
     sheet-name-requires slice-aggregate-text-3 text-requires-3 decimal-requires-2 slice-aggregate-text-4
     text-requires-4 same-length returns)
