@@ -11,6 +11,7 @@ use borrow.Author.Tests.{ne-eqb, eqb-false, ltb-true, ltb-false}
 use Rattle.language.specs.declared.Numbers.{Numbers}
 use Rattle.language.specs.Choice.{pick}
 use Rattle.language.specs.Number.{numbers, signed}
+use Rattle.language.specs.Operators.{equal, givesNumber}
 use Rattle.language.specs.Operator.{fit, fitSome, remainder, truth, operate}
 use Rattle.language.proofs.NumberLaws.{code-below, by-test}
 
@@ -44,7 +45,7 @@ module _ (N : Numbers) where
   fit-some-below none = none-below
   fit-some-below (some v) = fit-below v
 
-  pub operate-number : (op x y : ℕ) {r : ℕ} → op < 4 → operate N op x y ≡ some r → r < numbers N
+  pub operate-number : (op x y : ℕ) {r : ℕ} → op < equal → operate N op x y ≡ some r → r < numbers N
   unfolding operate
   operate-number op x y h =
       pick-below (eqb op 0) (λ t. fit-below (signed N x +ℤ signed N y)) (λ t₀.
@@ -56,7 +57,7 @@ module _ (N : Numbers) where
       between : (op ≡ 0 → ⊥) → (op ≡ 1 → ⊥) → (op ≡ 2 → ⊥) → (op ≡ 3 → ⊥) → ⊥
       between a b c d = omega arith
 
-  pub operate-truth : (op x y : ℕ) {r : ℕ} → 4 ≤ op → operate N op x y ≡ some r → r < 2
+  pub operate-truth : (op x y : ℕ) {r : ℕ} → equal ≤ op → operate N op x y ≡ some r → r < 2
   unfolding operate
   operate-truth op x y h =
       rw (not-this 0 (omega arith), not-this 1 (omega arith), not-this 2 (omega arith), not-this 3 (omega arith))
@@ -68,8 +69,8 @@ module _ (N : Numbers) where
       not-this : (k : ℕ) → k < 4 → eqb op k ≡ false
       not-this k l = ne-eqb op k (λ e. omega arith)
 
-  pub operate-below : (op x y : ℕ) {r : ℕ} → operate N op x y ≡ some r → r < pick (ltb op 4) (numbers N) 2
+  pub operate-below : (op x y : ℕ) {r : ℕ} → operate N op x y ≡ some r → r < pick (givesNumber op) (numbers N) 2
   operate-below op x y e =
-      by-test (ltb op 4)
-      (λ t. rw t (operate-number op x y (ltb-true op 4 t) e))
-      (λ t. rw t (operate-truth op x y (ltb-false op 4 t) e))
+      by-test (givesNumber op)
+      (λ t. rw t (operate-number op x y (ltb-true op equal t) e))
+      (λ t. rw t (operate-truth op x y (ltb-false op equal t) e))

@@ -7,6 +7,7 @@ use lib.ListN.{getD}
 use lib.Dec.{eqb, ltb, leb}
 use Rattle.language.specs.Choice.{pick}
 use Rattle.language.specs.Number.{numbers}
+use Rattle.language.specs.Operators.{takesNumbers, givesNumber}
 use Rattle.language.specs.declared.Numbers.{Numbers}
 use Rattle.records.specs.Standing.{standingOf, resultOf, argumentOf}
 use Rattle.records.specs.Types.{command, truth, number, truth-variable}
@@ -26,12 +27,12 @@ questions N ty = pick (ltb ty truth-variable) 1 (1 + values N ty)
 unfoldable pub answers : Numbers → ℕ → ℕ
 answers N ty = pick (eqb ty command) 1 (pick (ltb ty truth-variable) (values N ty) (2 * values N ty))
 
--- operators 0 to 5 take numbers, the others truths; 0 to 3 give a number, the others a truth
+-- the type of an operator's operands, and that of its result
 unfoldable pub operandType : ℕ → ℕ
-operandType op = pick (ltb op 6) number truth
+operandType op = pick (takesNumbers op) number truth
 
 unfoldable pub resultType : ℕ → ℕ
-resultType op = pick (ltb op 4) number truth
+resultType op = pick (givesNumber op) number truth
 
 -- whether part j of a record may have type ty, where the part before it has type prev
 unfoldable pub acceptsPart : Rule → List ℕ → Record → ℕ → ℕ → ℕ → Bool

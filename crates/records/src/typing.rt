@@ -5,6 +5,8 @@ use crate::kind::Rule;
 use crate::read::byte_at;
 use crate::standing::argument_of;
 use crate::standing::result_of;
+use language::operator::AND;
+use language::operator::EQUAL;
 ghost use mathlib.Core.Path.{_≡_};
 ghost use mathlib.Core.Bool.{true, false};
 ghost use Prim.Native.Nat.{_+_, _≤_, _<_};
@@ -21,18 +23,18 @@ pub const TRUTH_VARIABLE: u8 = 3;
 
 pub const NUMBER_VARIABLE: u8 = 4;
 
-// The type of an operator's operands.
+// The type of an operator's operands: those below AND take numbers.
 pub(crate) fn operand_type(op: u8) -> u8
     ensures { λ r. ⌜ r ≡ operandType op ⌝ }
 {
-    if op < 6 { NUMBER } else { TRUTH }
+    if op < AND { NUMBER } else { TRUTH }
 }
 
-// The type of its result.
+// The type of its result: those below EQUAL give a number.
 pub(crate) fn result_type(op: u8) -> u8
     ensures { λ r. ⌜ r ≡ resultType op ⌝ }
 {
-    if op < 4 { NUMBER } else { TRUTH }
+    if op < EQUAL { NUMBER } else { TRUTH }
 }
 
 // Whether part j of a record may have type ty, where the part before it has type prev.
