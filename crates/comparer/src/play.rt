@@ -1,5 +1,6 @@
 // The records of a play, and the letters of their moves.
 use records::read::byte_at;
+use records::store::put_byte;
 ghost use mathlib.Core.Path.{_≡_};
 ghost use Prim.Native.Nat.{_+_, _≤_, _%_};
 ghost use lib.ListN.{length, set, take, drop};
@@ -96,9 +97,7 @@ pub(crate) fn first_letter(s: &[u8]) -> usize
 fn put(s: &mut [u8], i: usize, v: usize)
     ensures { λ r. ⌜ now (s .exit) ≡ set (now (s .entry)) i (v % 256) ⌝ }
 {
-    if i < s.len() {
-        s[i] = (v % BYTE) as u8;
-    }
+    put_byte(s, i, (v % BYTE) as u8);
 }
 
 // Writes the record of a letter from a place on: the place after it.

@@ -1,10 +1,11 @@
 // Words of tables, of slots and of marks.
+use records::read::short_at;
+use records::row::WORDS;
 use records::row::put;
 ghost use mathlib.Core.Path.{_≡_};
 ghost use Prim.Native.Nat.{_+_, _%_, _/_, _<_};
 ghost use lib.ListN.{getD, set};
-ghost use Rattle.records.specs.Row.{cell};
-ghost use Rattle.records.specs.Row.{word};
+ghost use Rattle.records.specs.Row.{cell, word};
 ghost use Rattle.expand.specs.Close.{comeOf, usedOf, moreOf, firstBits, passedSlots};
 
 // The words of a row: the kind of a part, its weight (of a row of the expansion), the class of its type, the number of
@@ -20,9 +21,6 @@ pub(crate) const VALUES: u16 = 3;
 pub(crate) const DETAIL: u16 = 4;
 
 pub(crate) const PARTS: u16 = 5;
-
-// How many they are.
-const WORDS: usize = 9;
 
 // A mark has what its part comes down to below this, and above it which arguments a procedure uses.
 const COMES: u16 = 128;
@@ -42,18 +40,11 @@ pub(crate) fn place_of(r: u16, i: u16) -> usize
     WORDS * (r as usize) + (i as usize)
 }
 
-// Word i of a list of words, or 0 beyond its end.
-fn read(t: &[u16], i: usize) -> u16
-    ensures { λ x. ⌜ x ≡ getD (now (t .entry)) i 0 ⌝ }
-{
-    if i < t.len() { t[i] } else { 0 }
-}
-
 // Word i of row r, or 0 beyond the table.
 pub(crate) fn word_at(t: &[u16], r: u16, i: u16) -> u16
     ensures { λ x. ⌜ x ≡ word (now (t .entry)) r i ⌝ }
 {
-    read(t, place_of(r, i))
+    short_at(t, place_of(r, i))
 }
 
 // Word i of row r becomes v, if the table reaches that far.
@@ -68,7 +59,7 @@ pub(crate) fn put_word(t: &mut [u16], r: u16, i: u16, v: u16)
 pub(crate) fn mark_at(marks: &[u16], at: u16) -> u16
     ensures { λ x. ⌜ x ≡ getD (now (marks .entry)) at 0 ⌝ }
 {
-    read(marks, at as usize)
+    short_at(marks, at as usize)
 }
 
 // What the part at a place comes down to: 0, or 1 and the number of a parameter.
@@ -89,7 +80,7 @@ pub(crate) fn used_at(marks: &[u16], at: u16) -> u16
 pub(crate) fn slot_at(slots: &[u16; 128], s: u16) -> u16
     ensures { λ x. ⌜ x ≡ getD (now (slots .entry)) s 0 ⌝ }
 {
-    read(slots, s as usize)
+    short_at(slots, s as usize)
 }
 
 // Slot s becomes the row v.

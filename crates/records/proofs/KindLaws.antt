@@ -6,7 +6,7 @@ use mathlib.Core.Bool.{Bool, true, false}
 use lib.Dec.{eqb}
 use borrow.Author.Tests.{eqb-true}
 use Rattle.language.specs.Choice.{pick}
-use Rattle.records.specs.Kind.{shapeOf}
+use Rattle.records.specs.Kind.{shapeOf, bodyIn, partsIn}
 use Rattle.records.specs.declared.kind.Rule.{Rule}
 use Rattle.records.specs.declared.kind.Rule.the-variants.{Skip, Diverge, Truth, Number, Use, Fetch}
 use Rattle.records.specs.declared.kind.Rule.the-variants.{Operate, Assign, Sequence, If, While, New, Procedure}
@@ -125,3 +125,38 @@ module _ (k body parts : ℕ) (R : Rule) where
 
       none″ : {P : Type 0} → Unknown ≡ Part body parts R → P
       none″ h = let z : _≡_ {A = ℕ} 0 1 = cc in absurd (omega arith)
+
+-- the body and the parts of each shape
+pub body-part : (k body parts r : ℕ) (rule : Rule) → shapeOf k ≡ Part body parts rule → r ≡ body →
+    r ≡ bodyIn (shapeOf k)
+unfolding bodyIn
+body-part k body parts r rule e i = rw (e, i) refl
+
+pub body-declare : (k body r : ℕ) → shapeOf k ≡ Declare body → r ≡ body → r ≡ bodyIn (shapeOf k)
+unfolding bodyIn
+body-declare k body r e i = rw (e, i) refl
+
+pub body-retire : (k body r : ℕ) → shapeOf k ≡ Retire body → r ≡ body → r ≡ bodyIn (shapeOf k)
+unfolding bodyIn
+body-retire k body r e i = rw (e, i) refl
+
+pub body-unknown : (k : ℕ) → shapeOf k ≡ Unknown → 0 ≡ bodyIn (shapeOf k)
+unfolding bodyIn
+body-unknown k e = rw e refl
+
+pub parts-part : (k body parts r : ℕ) (rule : Rule) → shapeOf k ≡ Part body parts rule → r ≡ parts →
+    r ≡ partsIn (shapeOf k)
+unfolding partsIn
+parts-part k body parts r rule e i = rw (e, i) refl
+
+pub parts-declare : (k body : ℕ) → shapeOf k ≡ Declare body → 0 ≡ partsIn (shapeOf k)
+unfolding partsIn
+parts-declare k body e = rw e refl
+
+pub parts-retire : (k body : ℕ) → shapeOf k ≡ Retire body → 0 ≡ partsIn (shapeOf k)
+unfolding partsIn
+parts-retire k body e = rw e refl
+
+pub parts-unknown : (k : ℕ) → shapeOf k ≡ Unknown → 0 ≡ partsIn (shapeOf k)
+unfolding partsIn
+parts-unknown k e = rw e refl

@@ -27,3 +27,16 @@ shapeOf k =
     (pick (eqb k 26) (Part 0 2 While)
     (pick (eqb k 27) (Part 2 1 New)
     (pick (eqb k 28) (Part 11 2 Procedure) Unknown))))))))))))))
+
+-- the length of a record's body and how many parts it has, a use's left out
+unfoldable pub bodyIn : Shape → ℕ
+bodyIn (Part body parts rule) = body
+bodyIn (Declare body) = body
+bodyIn (Retire body) = body
+bodyIn Unknown = 0
+
+unfoldable pub partsIn : Shape → ℕ
+partsIn (Part body parts rule) = parts
+partsIn (Declare body) = 0
+partsIn (Retire body) = 0
+partsIn Unknown = 0

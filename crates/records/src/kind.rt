@@ -1,6 +1,7 @@
 // The kinds of records: one decision over the kind byte.
 ghost use mathlib.Core.Path.{_≡_};
-ghost use Rattle.records.specs.Kind.{shapeOf};
+ghost use Prim.Native.Nat.{_<_};
+ghost use Rattle.records.specs.Kind.{shapeOf, bodyIn, partsIn};
 
 // The kinds of records.
 pub const DECLARE: u8 = 1;
@@ -100,5 +101,39 @@ pub fn shape_of(kind: u8) -> Shape
         WHILE => part(0, 2, Rule::While),
         NEW => part(2, 1, Rule::New),
         PROCEDURE => part(11, 2, Rule::Procedure),
+    }
+}
+
+// The length of the body of a record.
+pub fn body_of(kind: u8) -> usize
+    ensures { λ r. ⌜ (r ≡ bodyIn (shapeOf kind)) × (r < 256) ⌝ }
+{
+    let shape = shape_of(kind);
+    match shape {
+        Shape::Part {
+            body,
+            parts: _,
+            rule: _,
+        } => body as usize,
+        Shape::Declare { body } => body as usize,
+        Shape::Retire { body } => body as usize,
+        Shape::Unknown => 0,
+    }
+}
+
+// How many parts a record has that is no use.
+pub fn parts_of(kind: u8) -> usize
+    ensures { λ r. ⌜ (r ≡ partsIn (shapeOf kind)) × (r < 256) ⌝ }
+{
+    let shape = shape_of(kind);
+    match shape {
+        Shape::Part {
+            body: _,
+            parts,
+            rule: _,
+        } => parts as usize,
+        Shape::Declare { body: _ } => 0,
+        Shape::Retire { body: _ } => 0,
+        Shape::Unknown => 0,
     }
 }

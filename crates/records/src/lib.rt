@@ -9,5 +9,6 @@ pub mod refusal;
 pub mod row;
 pub mod scope;
 pub mod standing;
+pub mod store;
 pub mod typing;
 pub mod weight;

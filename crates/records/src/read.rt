@@ -1,4 +1,4 @@
-// Reading a byte or a standing at a place, past the end as well.
+// Reading a byte, a word or a standing at a place, past the end as well.
 ghost use mathlib.Core.Path.{_≡_};
 ghost use lib.ListN.{getD};
 
@@ -9,8 +9,15 @@ pub fn byte_at(s: &[u8], at: usize) -> u8
     if at < s.len() { s[at] } else { 0 }
 }
 
-// The word at a place, 0 past the end.
-pub(crate) fn word_at(t: &[u32], at: usize) -> u32
+// The word of 16 bits at a place, 0 past the end.
+pub fn short_at(t: &[u16], at: usize) -> u16
+    ensures { λ r. ⌜ r ≡ getD (now (t .entry)) at 0 ⌝ }
+{
+    if at < t.len() { t[at] } else { 0 }
+}
+
+// The word of 32 bits at a place, 0 past the end.
+fn long_at(t: &[u32], at: usize) -> u32
     ensures { λ r. ⌜ r ≡ getD (now (t .entry)) at 0 ⌝ }
 {
     if at < t.len() { t[at] } else { 0 }
@@ -20,5 +27,5 @@ pub(crate) fn word_at(t: &[u32], at: usize) -> u32
 pub fn standing_of(st: &[u32; 255], id: u8) -> u32
     ensures { λ r. ⌜ r ≡ getD (now (st .entry)) id 0 ⌝ }
 {
-    word_at(st, id as usize)
+    long_at(st, id as usize)
 }

@@ -8,7 +8,7 @@ use lib.ListN.{length, getD, set, drop, length-append}
 use lib.Seq.{drop-append-seam, drop-drop}
 use lib.Dec.{eqb}
 use Rattle.language.specs.declared.Numbers.{Numbers}
-use Rattle.records.specs.Kind.{shapeOf}
+use Rattle.records.specs.Kind.{shapeOf, bodyIn}
 use Rattle.procedures.specs.Written.{Written, skip, diverge, truth, number, call, fetch, operate, assign, sequence}
 use Rattle.procedures.specs.Written.{while, choose, new, procedure, Parameter, Writtens, none, more, Name, Sheet}
 use Rattle.procedures.specs.Meaning.{Binder, a-block, inside, after, meaning}
@@ -23,7 +23,7 @@ use Rattle.sheet.specs.Reader.{accepted}
 use Rattle.records.specs.declared.edition.Edition.the-variants.{Earlier}
 use Rattle.sheet.proofs.Right.{gives}
 use Rattle.renumbering.specs.Outcome.{readEarlier}
-use Rattle.renumbering.specs.Work.{bodyIn, Takes, tookParameters, tookIds, Lies}
+use Rattle.renumbering.specs.Work.{Takes, tookParameters, tookIds, Lies}
 use Rattle.renumbering.specs.Found.{AllFine, Taken}
 use Rattle.renumbering.proofs.Leaves.{took-new, took-procedure, took-nothing}
 use Rattle.renumbering.proofs.Lists.{lies-get, lies-head, lies-after, lies-first}

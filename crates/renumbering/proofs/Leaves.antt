@@ -3,23 +3,13 @@ use Prim.Native.Nat.{ℕ, suc, _+_, _-_, _*_, _/_, _%_, _≤_, _<_, min}
 use native.Mathlib.Omega.{arith}
 use mathlib.Core.Path.{_≡_, refl, sym, ap, ap₂, _∙_}
 use mathlib.Core.List.{List, _++_}
-use lib.ListN.{length, getD, set, take, drop, length-append, length-drop, List·getD-eq-default}
-use lib.Seq.{set-out, paste-suc, length-take-le}
+use lib.ListN.{length, getD, set, take, drop, length-append, length-drop}
+use lib.Seq.{paste-suc, length-take-le}
 use lib.Dec.{eqb, leb}
 use borrow.Author.Tests.{eq-eqb, ne-eqb, le-leb, lt-leb}
-use Rattle.records.specs.Kind.{shapeOf}
-use Rattle.records.specs.declared.kind.Shape.the-variants.{Part, Declare, Retire, Unknown}
-use Rattle.records.specs.declared.kind.Rule.{Rule}
 use Rattle.procedures.specs.Renumber.{lowestFrom, lowest}
-use Rattle.renumbering.specs.Work.{bodyIn, partsIn, marked, tookParameters, tookIds, namedEntry, nameEntry}
+use Rattle.renumbering.specs.Work.{marked, tookParameters, tookIds, namedEntry, nameEntry}
 use Rattle.renumbering.specs.Work.{becomesIn, note}
-
--- past the end of a slice
-pub read-past : (s : List ℕ) (i : ℕ) → length s ≤ i → 0 ≡ getD s i 0
-read-past s i h = sym (List·getD-eq-default s 0 h)
-
-pub set-past : (s : List ℕ) (i v : ℕ) → length s ≤ i → s ≡ set s i v
-set-past s i v h = sym (set-out s i v h)
 
 -- the first i bytes copied
 
@@ -66,41 +56,6 @@ pub noted : (l l₁ l₂ l₃ l₄ : List ℕ) (n place id given : ℕ) → l₁
     l₄ ≡ note n (record { place = place; old = id; given = given }) l
 unfolding note
 noted l l₁ l₂ l₃ l₄ n place id given a b c d = rw (d, c, b, a) refl
-
--- kinds
-pub body-part : (k body parts r : ℕ) (rule : Rule) → shapeOf k ≡ Part body parts rule → r ≡ body → r ≡ bodyIn
-    (shapeOf k)
-unfolding bodyIn
-body-part k body parts r rule e i = rw (e, i) refl
-
-pub body-declare : (k body r : ℕ) → shapeOf k ≡ Declare body → r ≡ body → r ≡ bodyIn (shapeOf k)
-unfolding bodyIn
-body-declare k body r e i = rw (e, i) refl
-
-pub body-retire : (k body r : ℕ) → shapeOf k ≡ Retire body → r ≡ body → r ≡ bodyIn (shapeOf k)
-unfolding bodyIn
-body-retire k body r e i = rw (e, i) refl
-
-pub body-unknown : (k : ℕ) → shapeOf k ≡ Unknown → 0 ≡ bodyIn (shapeOf k)
-unfolding bodyIn
-body-unknown k e = rw e refl
-
-pub parts-part : (k body parts r : ℕ) (rule : Rule) → shapeOf k ≡ Part body parts rule → r ≡ parts → r ≡ partsIn
-    (shapeOf k)
-unfolding partsIn
-parts-part k body parts r rule e i = rw (e, i) refl
-
-pub parts-declare : (k body : ℕ) → shapeOf k ≡ Declare body → 0 ≡ partsIn (shapeOf k)
-unfolding partsIn
-parts-declare k body e = rw e refl
-
-pub parts-retire : (k body : ℕ) → shapeOf k ≡ Retire body → 0 ≡ partsIn (shapeOf k)
-unfolding partsIn
-parts-retire k body e = rw e refl
-
-pub parts-unknown : (k : ℕ) → shapeOf k ≡ Unknown → 0 ≡ partsIn (shapeOf k)
-unfolding partsIn
-parts-unknown k e = rw e refl
 
 -- entries
 pub becomes-held : (e id : ℕ) → 2048 ≤ e → (e % 256 ≡ becomesIn e id) × (e % 256 < 256)

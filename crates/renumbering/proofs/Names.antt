@@ -8,7 +8,7 @@ use lib.ListN.{length, getD, set, drop, length-set, length-append}
 use lib.Seq.{getD-set-same, getD-set-other}
 use lib.Dec.{eqb, leb}
 use borrow.Author.Tests.{eq-eqb, ne-eqb, lt-leb}
-use Rattle.records.specs.Kind.{shapeOf}
+use Rattle.records.specs.Kind.{shapeOf, bodyIn}
 use Rattle.procedures.specs.Written.{Name, declare, retire, Sheet}
 use Rattle.procedures.specs.Meaning.{Meaning, private, argument, routine, named, retired, free, declared, meaning}
 use Rattle.procedures.specs.Fine.{FineNames}
@@ -22,7 +22,7 @@ use Rattle.sheet.specs.Reader.{accepted}
 use Rattle.records.specs.declared.edition.Edition.the-variants.{Earlier}
 use Rattle.sheet.proofs.Right.{gives}
 use Rattle.renumbering.specs.Outcome.{readEarlier}
-use Rattle.renumbering.specs.Work.{bodyIn, Takes, namedEntry, nameEntry, heldIn, argumentsIn, becomesIn, arity}
+use Rattle.renumbering.specs.Work.{Takes, namedEntry, nameEntry, heldIn, argumentsIn, becomesIn, arity}
 use Rattle.renumbering.specs.Work.{Scoped}
 use Rattle.renumbering.specs.Work.{Lies}
 use Rattle.renumbering.specs.Found.{Headed}

@@ -6,7 +6,7 @@ use mathlib.Core.Bool.{Bool}
 use mathlib.Core.List.{List, [], _∷_, _++_, append-nil}
 use lib.ListN.{length, getD}
 use Rattle.language.specs.declared.Numbers.{Numbers}
-use Rattle.records.specs.Kind.{shapeOf}
+use Rattle.records.specs.Kind.{shapeOf, bodyIn, partsIn}
 use Rattle.procedures.specs.Written.{Written, skip, diverge, truth, number, call, fetch, operate, assign, sequence}
 use Rattle.procedures.specs.Written.{while, choose, new, procedure, Writtens, none, more, Name}
 use Rattle.procedures.specs.Meaning.{Binder}
@@ -14,7 +14,7 @@ use Rattle.procedures.specs.Fine.{Fine, depth, depths}
 use Rattle.procedures.specs.Width.{width, widths}
 use Rattle.procedures.specs.Renumber.{renumber, renumberAll}
 use Rattle.sheet.specs.Encoding.{encode, encodes}
-use Rattle.renumbering.specs.Work.{bodyIn, partsIn, Lies}
+use Rattle.renumbering.specs.Work.{Lies}
 use Rattle.renumbering.specs.Found as found
 use Rattle.renumbering.specs.Found.{Found, Given, Wrote, PartFound, AllFine, GivenAll, WroteAll, PartsFound}
 use Rattle.renumbering.specs.Found.{CallFound, BlockFound, RoutineFound, Onward}

@@ -10,21 +10,6 @@ use Rattle.procedures.specs.Written.{Name}
 use Rattle.procedures.specs.Meaning.{Binder, Meaning, private, argument, routine, named, retired, free, meaning}
 use Rattle.procedures.specs.Hiding.{isHeld}
 use Rattle.procedures.specs.Renumber.{Change}
-use Rattle.records.specs.declared.kind.Shape.{Shape}
-use Rattle.records.specs.declared.kind.Shape.the-variants.{Part, Declare, Retire, Unknown}
-
--- the length of a record's body and how many parts it has, a use's left out
-unfoldable pub bodyIn : Shape → ℕ
-bodyIn (Part body parts rule) = body
-bodyIn (Declare body) = body
-bodyIn (Retire body) = body
-bodyIn Unknown = 0
-
-unfoldable pub partsIn : Shape → ℕ
-partsIn (Part body parts rule) = parts
-partsIn (Declare body) = 0
-partsIn (Retire body) = 0
-partsIn Unknown = 0
 
 -- the ids taken, in 255 bytes: 1 for each that is
 abbrev pub marked : List ℕ → ℕ → Bool
@@ -46,8 +31,7 @@ tookIds s at kind count k =
     (pick (eqb kind 28) (tookParameters s (at + 4) count (set k (getD s (at + 1) 0) 1)) k)
 
 -- An id's entry in the scope: 256 times the number of arguments of a use; where an enclosing binder has the id 2,048
--- more,
--- and the id which the innermost of these now has.
+-- more, and the id which the innermost of these now has.
 unfoldable pub namedEntry : ℕ → ℕ
 namedEntry count = 256 * count
 

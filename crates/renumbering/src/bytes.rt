@@ -1,4 +1,7 @@
-// Bytes and words at a place, past the end as well.
+// Bytes and words at a place, past the end as well, as numbers.
+use records::read::byte_at;
+use records::read::short_at;
+use records::store::put_byte;
 ghost use mathlib.Core.Path.{_≡_};
 ghost use mathlib.Core.List.{_++_};
 ghost use Prim.Native.Nat.{_≤_, _<_};
@@ -8,10 +11,7 @@ ghost use lib.ListN.{length, getD, set, take, drop};
 pub(crate) fn byte(s: &[u8], i: usize) -> usize
     ensures { λ r. ⌜ (r ≡ getD (now (s .entry)) i 0) × (r < 256) ⌝ }
 {
-    if i < s.len() {
-        return s[i] as usize;
-    }
-    0
+    byte_at(s, i) as usize
 }
 
 // The byte at a place becomes v.
@@ -19,19 +19,14 @@ pub(crate) fn put(s: &mut [u8], i: usize, v: usize)
     requires { ⌜ v < 256 ⌝ }
     ensures { λ r. ⌜ now (s .exit) ≡ set (now (s .entry)) i v ⌝ }
 {
-    if i < s.len() {
-        s[i] = v as u8;
-    }
+    put_byte(s, i, v as u8);
 }
 
 // The word at a place, 0 past the end.
 pub(crate) fn word(t: &[u16], i: usize) -> usize
     ensures { λ r. ⌜ (r ≡ getD (now (t .entry)) i 0) × (r < 65536) ⌝ }
 {
-    if i < t.len() {
-        return t[i] as usize;
-    }
-    0
+    short_at(t, i) as usize
 }
 
 // The word at a place becomes v.
@@ -39,9 +34,7 @@ pub(crate) fn put_word(t: &mut [u16], i: usize, v: usize)
     requires { ⌜ v < 65536 ⌝ }
     ensures { λ r. ⌜ now (t .exit) ≡ set (now (t .entry)) i v ⌝ }
 {
-    if i < t.len() {
-        t[i] = v as u16;
-    }
+    records::row::put(t, i, v as u16);
 }
 
 // The first n bytes of one slice become those of another.

@@ -3,15 +3,13 @@ use Prim.Native.Nat.{ℕ, zero, suc, _+_, _-_, _*_, _%_, _≤_, _<_, min}
 use native.Mathlib.Omega.{arith}
 use native.Mathlib.Nat.{mod-lt}
 use mathlib.Core.List.{List}
-use mathlib.Core.Path.{_≡_, refl, sym, ap, ap₂, _∙_}
-use lib.ListN.{getD, set, length, List·getD-eq-default}
-use lib.Seq.{set-out}
+use mathlib.Core.Path.{_≡_, refl, ap, ap₂, _∙_}
+use lib.ListN.{getD}
 use borrow.Author.Tests.{lt-ltb, le-ltb, eq-eqb, ne-eqb}
 use Rattle.procedures.specs.PartKind.{NAME, OPERATE, ASSIGN, NEW, PARAMETER, USE, CLASS, VALUES, DETAIL, PARTS}
 use Rattle.procedures.specs.Made.{sign}
 use Rattle.procedures.specs.Marks.{bits}
-use Rattle.records.specs.Row.{word}
-use Rattle.records.specs.Row.{cell}
+use Rattle.records.specs.Row.{cell, word}
 use Rattle.forms.specs.Shows.{wordOf}
 use Rattle.weigh.specs.Plan.{procedureRow, numberOf, questionsBy, factorOf, comeAt, argumentOf, throughOf}
 use Rattle.weigh.specs.Plan.{comeOf, usedOf}
@@ -20,10 +18,6 @@ use Rattle.weigh.specs.Plan.{comeOf, usedOf}
 pub word-read : (t : List ℕ) (place i : ℕ) → getD t (9 * place + i) 0 ≡ word t place i
 unfolding word cell
 word-read t place i = refl
-
-pub word-past : (t : List ℕ) (place i : ℕ) → length t ≤ 9 * place + i → 0 ≡ word t place i
-unfolding word cell
-word-past t place i h = sym (List·getD-eq-default t 0 h)
 
 pub number-is : (t : List ℕ) (detail x r : ℕ) → x ≡ word t (detail % 4096) DETAIL → r ≡ min x 124 →
     (r ≡ numberOf t detail) × (r ≤ 124)
@@ -55,12 +49,6 @@ factor-use t F kind detail at place j k r a b c d u p e =
 pub come-read : (M : List ℕ) (place : ℕ) → (getD M place 0 % 128 ≡ comeAt M place) × (getD M place 0 % 128 < 128)
 unfolding comeAt
 come-read M place = (refl, omega arith)
-
-pub come-past : (M : List ℕ) (place : ℕ) → length M ≤ place → (0 ≡ comeAt M place) × (0 < 128)
-unfolding comeAt
-come-past M place h =
-    let e : getD M place 0 ≡ 0 = List·getD-eq-default M 0 h in
-    (rw e, omega arith)
 
 pub argument-read : (t M : List ℕ) (at count j p r : ℕ) → j < count → p ≡ word t at (PARTS + j) → r ≡ comeAt M p →
     r ≡ argumentOf t M at count j
@@ -122,6 +110,3 @@ used-bits F k a b c d p p′ q q′ r r′ s s′ =
     let e : suc k ≡ suc (k + 0) = omega arith in
     let p″ : a ≡ sign (wordOf F (33 + k) (suc (k + 0))) = p ∙ ap (λ x. sign (wordOf F (33 + k) x)) e in
     (rw (← p″, ← q, ← r, ← s), omega arith)
-
-pub mark-past : (M : List ℕ) (place v : ℕ) → length M ≤ place → M ≡ set M place v
-mark-past M place v h = sym (set-out M place v h)

@@ -9,7 +9,9 @@ use crate::row::word_of;
 use forms::read::coefficient;
 use forms::set::least;
 use forms::table::WORDS;
+use records::read::short_at;
 use records::row::PARTS;
+use records::row::put;
 ghost use mathlib.Core.Path.{_≡_};
 ghost use Prim.Native.Nat.{suc, _+_, _≤_, _<_};
 ghost use lib.ListN.{set};
@@ -24,10 +26,7 @@ pub(crate) const COMES: usize = 128;
 pub(crate) fn come_at(marks: &[u16], place: usize) -> usize
     ensures { λ r. ⌜ (r ≡ comeAt (now (marks .entry)) place) × (r < 128) ⌝ }
 {
-    if place < marks.len() {
-        return marks[place] as usize % COMES;
-    }
-    0
+    short_at(marks, place) as usize % COMES
 }
 
 // What argument j of the use at a place comes down to.
@@ -102,7 +101,5 @@ pub(crate) fn set_mark(marks: &mut [u16], place: usize, v: usize)
     requires { ⌜ v < 65536 ⌝ }
     ensures { λ r. ⌜ now (marks .exit) ≡ set (now (marks .entry)) place v ⌝ }
 {
-    if place < marks.len() {
-        marks[place] = v as u16;
-    }
+    put(marks, place, v as u16);
 }

@@ -1,5 +1,6 @@
 // Rows of the table of parts, and what a use's row says of the procedure.
 use forms::set::least;
+use records::read::short_at;
 use records::row::CLASS;
 use records::row::DETAIL;
 use records::row::VALUES;
@@ -26,11 +27,7 @@ pub(crate) fn word_of(t: &[u16], place: usize, i: usize) -> usize
     requires { ⌜ (place < 65536) × (i < 9) ⌝ }
     ensures { λ r. ⌜ (r ≡ word (now (t .entry)) place i) × (r < 65536) ⌝ }
 {
-    let at = WORDS * place + i;
-    if at < t.len() {
-        return t[at] as usize;
-    }
-    0
+    short_at(t, WORDS * place + i) as usize
 }
 
 // A word as a number of 32 bits.

@@ -1,23 +1,19 @@
--- Past the end of a slice nothing is written.
-use Rattle.renumbering.proofs.Leaves.{set-past}
+-- The byte is stored as it is.
 use borrow.Author.Needs.{needs}
 use Rattle.renumbering.proofs.bytes.put.Statement.{statement}
 use Rattle.renumbering.proofs.bytes.put.Tie as tie
 
-cast-s : tie.Need-cast-s
-cast-s c = search needs
+cast-put-byte : tie.Need-cast-put-byte
+cast-put-byte c = search needs
 
-slice-write-s : tie.Need-slice-write-s
-slice-write-s c = search needs
+put-byte-requires : tie.Need-put-byte-requires
+put-byte-requires c κs = search needs
 
 same-length : tie.Need-same-length
 same-length c = search needs
 
 returns : tie.Need-returns
-returns c = search needs
-
-returns-2 : tie.Need-returns-2
-returns-2 c = set-past _ _ _ (c .if1 .left)
+returns c = c .before .before .put-byte .ensures
 
 pub put-spec : {M : Type 1} → statement M
-put-spec = tie.close (tie.spec cast-s slice-write-s same-length returns returns-2)
+put-spec = tie.close (tie.spec cast-put-byte put-byte-requires same-length returns)

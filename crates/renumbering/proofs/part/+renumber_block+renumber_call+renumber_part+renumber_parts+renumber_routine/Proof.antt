@@ -36,8 +36,8 @@ use Rattle.renumbering.proofs.part.enter.Reads as enter-reads
 use Rattle.renumbering.proofs.scope.arguments.Reads as arguments-reads
 use Rattle.renumbering.proofs.scope.becomes.Reads as becomes-reads
 use Rattle.renumbering.proofs.scope.bound_entry.Reads as bound-entry-reads
-use Rattle.renumbering.proofs.step.body_of.Reads as body-of-reads
-use Rattle.renumbering.proofs.step.parts_of.Reads as parts-of-reads
+use Rattle.records.proofs.kind.body_of.Reads as body-of-reads
+use Rattle.records.proofs.kind.parts_of.Reads as parts-of-reads
 use Rattle.renumbering.proofs.part.+renumber_block+renumber_call+renumber_part+renumber_parts+renumber_routine.{
   statement,
 }

@@ -1,10 +1,10 @@
 -- The parts of each shape.
 use native.Mathlib.Omega.{arith}
-use Rattle.renumbering.proofs.Leaves.{parts-part, parts-declare, parts-retire, parts-unknown}
+use Rattle.records.proofs.KindLaws.{parts-part, parts-declare, parts-retire, parts-unknown}
 use borrow.Author.Needs.{needs}
 use mathlib.Core.Path.{sym, refl, _∙_}
-use Rattle.renumbering.proofs.step.parts_of.Statement.{statement}
-use Rattle.renumbering.proofs.step.parts_of.Tie as tie
+use Rattle.records.proofs.kind.parts_of.Statement.{statement}
+use Rattle.records.proofs.kind.parts_of.Tie as tie
 
 shape-of-requires : tie.Need-shape-of-requires
 shape-of-requires c κs = search needs

@@ -1,10 +1,10 @@
 -- Past the end a list gives its default.
+use borrow.Author.Needs.{needs}
 use mathlib.Core.Path.{sym}
 use denote.Ref.{now}
 use lib.ListN.{List·getD-eq-default}
-use borrow.Author.Needs.{needs}
-use Rattle.expand.proofs.words.read.Statement.{statement}
-use Rattle.expand.proofs.words.read.Tie as tie
+use Rattle.records.proofs.read.long_at.Statement.{statement}
+use Rattle.records.proofs.read.long_at.Tie as tie
 
 mul-result : tie.Need-mul-result
 mul-result c = search needs
@@ -18,5 +18,5 @@ returns c = search needs
 returns-2 : tie.Need-returns-2
 returns-2 c = sym (List·getD-eq-default (now (c .before .args .t)) 0 (c .if1 .left))
 
-pub read-spec : {M : Type 1} → statement M
-read-spec = tie.close (tie.spec mul-result shared-slice-read-result returns returns-2)
+pub long-at-spec : {M : Type 1} → statement M
+long-at-spec = tie.close (tie.spec mul-result shared-slice-read-result returns returns-2)

@@ -1,10 +1,10 @@
 -- The body of each shape.
 use native.Mathlib.Omega.{arith}
-use Rattle.renumbering.proofs.Leaves.{body-part, body-declare, body-retire, body-unknown}
+use Rattle.records.proofs.KindLaws.{body-part, body-declare, body-retire, body-unknown}
 use borrow.Author.Needs.{needs}
 use mathlib.Core.Path.{sym, refl, _∙_}
-use Rattle.renumbering.proofs.step.body_of.Statement.{statement}
-use Rattle.renumbering.proofs.step.body_of.Tie as tie
+use Rattle.records.proofs.kind.body_of.Statement.{statement}
+use Rattle.records.proofs.kind.body_of.Tie as tie
 
 shape-of-requires : tie.Need-shape-of-requires
 shape-of-requires c κs = search needs

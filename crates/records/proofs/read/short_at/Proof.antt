@@ -3,8 +3,8 @@ use borrow.Author.Needs.{needs}
 use mathlib.Core.Path.{sym}
 use denote.Ref.{now}
 use lib.ListN.{List·getD-eq-default}
-use Rattle.records.proofs.read.word_at.Statement.{statement}
-use Rattle.records.proofs.read.word_at.Tie as tie
+use Rattle.records.proofs.read.short_at.Statement.{statement}
+use Rattle.records.proofs.read.short_at.Tie as tie
 
 mul-result : tie.Need-mul-result
 mul-result c = search needs
@@ -18,5 +18,5 @@ returns c = search needs
 returns-2 : tie.Need-returns-2
 returns-2 c = sym (List·getD-eq-default (now (c .before .args .t)) 0 (c .if1 .left))
 
-pub word-at-spec : {M : Type 1} → statement M
-word-at-spec = tie.close (tie.spec mul-result shared-slice-read-result returns returns-2)
+pub short-at-spec : {M : Type 1} → statement M
+short-at-spec = tie.close (tie.spec mul-result shared-slice-read-result returns returns-2)
