@@ -1,5 +1,5 @@
--- The term of an accepted sheet has ids, arguments and data in range, so that every move of its complete
--- plays has a letter.
+-- The term of an accepted sheet has ids, arguments and data in range, so that every move of its complete plays has a
+-- letter.
 use mathlib.Core.Path.{_≡_, refl, sym, ap, _∙_}
 use mathlib.Core.Bool.{Bool, true, false}
 use mathlib.Core.List.{List, [], _∷_}

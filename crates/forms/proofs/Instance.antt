@@ -1,6 +1,5 @@
--- A use of a procedure: `set_lower` gives the instance with no argument, and each `add` of an argument's form, with
--- the coefficient of
--- its parameter as the factor, gives the instance with one argument more. Document 02 [1].
+-- A use of a procedure: `set_lower` gives the instance with no argument, and each `add` of an argument's form, with the
+-- coefficient of its parameter as the factor, gives the instance with one argument more. Document 02 [1].
 use Prim.Native.Nat.{ℕ, zero, suc, _+_, _*_, _<_}
 use native.Mathlib.Omega.{arith}
 use mathlib.Core.List.{List}

@@ -1,6 +1,5 @@
 -- Forms in words: a table of rows of 129 words, each a form held at 4,097. Word 0 is the constant, word suc s the
--- coefficient of the
--- parameter of number s. Document 02 [1], "Reckoned size".
+-- coefficient of the parameter of number s. Document 02 [1], "Reckoned size".
 use Prim.Native.Nat.{ℕ, suc, _+_, _*_, _<_}
 use mathlib.Core.List.{List}
 use mathlib.Core.Logic.{_≢_}

@@ -1,5 +1,4 @@
-// A refusal, and what the numbers of check's refusals stand for. Document 01, "Three services"; document
-// 02 [3] for 16.
+// A refusal, and what the numbers of check's refusals stand for. Document 01, "Three services"; document 02 [3] for 16.
 ghost use mathlib.Core.Path.{_≡_};
 ghost use Rattle.records.specs.Refusal.{refusal, cause};
 

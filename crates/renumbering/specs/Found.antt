@@ -24,9 +24,8 @@ use Rattle.renumbering.specs.declared.renumber.Earlier.{Earlier}
 use Rattle.renumbering.specs.declared.renumber.Earlier.the-variants.{Sheet as Root, Refused as Turned}
 use Rattle.renumbering.specs.declared.renumber.Renumbered.{Renumbered}
 
--- an answer with the changes cs after n others: its value and the bytes are as Post says, the list l has the
--- changes, the
--- ids taken are those of `then`
+-- an answer with the changes cs after n others: its value and the bytes are as Post says, the list l has the changes,
+-- the ids taken are those of `then`
 pub record Did {X : Type 0} (Post : X → ℕ → List ℕ → Type 0) (x : X) (cs : List Change) (then : ℕ → Bool) (n : ℕ)
     (l : List ℕ) (r : Step) (b′ l′ k′ : List ℕ) : Type 0 where
   pub value : ℕ

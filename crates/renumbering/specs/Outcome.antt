@@ -33,8 +33,7 @@ abbrev pub listSpace : ℕ
 listSpace = 1020
 
 -- "lists each binding record's change, left to right, in a second lent space: place of the id byte in two bytes, low
--- byte
--- first, old id, new id"
+-- byte first, old id, new id"
 unfoldable pub listed : List Change → List ℕ
 listed [] = []
 listed (c ∷ cs) = c .place % 256 ∷ c .place / 256 ∷ c .old ∷ c .given ∷ listed cs
@@ -49,9 +48,8 @@ unfoldable pub written : Sheet → Renumbering Written → Outcome
 written S (renumbered W cs taken) = done (encodeSheet (withTerm S W)) cs
 written S (none-left p) = refused (cause no-id-left old-sheet p)
 
--- "Refused: first as check does under the earlier rule; then 14 at place 0 where the output is shorter than the
--- sheet or the
--- list space than 1,020 bytes"
+-- "Refused: first as check does under the earlier rule; then 14 at place 0 where the output is shorter than the sheet
+-- or the list space than 1,020 bytes"
 unfoldable pub checked : ℕ → ℕ → ℕ → Checks → Outcome
 checked long room space (rejected n p) = refused (cause n old-sheet p)
 checked long room space (accepted S ty n) =
@@ -61,9 +59,8 @@ checked long room space (accepted S ty n) =
 unfoldable pub outcome : List ℕ → ℕ → ℕ → Outcome
 outcome s room space = checked (length s) room space (readEarlier s)
 
--- "It writes the sheet ..; bytes after the sheet and after the list are untouched", "the number of changes is
--- given"; on
--- refusal "each time sheet and list space are untouched"
+-- "It writes the sheet ..; bytes after the sheet and after the list are untouched", "the number of changes is given";
+-- on refusal "each time sheet and list space are untouched"
 unfoldable pub RenumberedBy : Outcome → Renumbered → List ℕ → List ℕ → List ℕ → List ℕ → Type 0
 RenumberedBy (done b cs) r out out′ list list′ =
     (r ≡ Changed (length cs)) × (out′ ≡ b ++ drop (length b) out)

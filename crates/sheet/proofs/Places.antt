@@ -1,4 +1,5 @@
--- A refusal by check has a number from 1 to 11, or by the present rule 16, and a place that the sheet has, or its end; so no place is above 4,096.
+-- A refusal by check has a number from 1 to 11, or by the present rule 16, and a place that the sheet has, or its end;
+-- so no place is above 4,096.
 use Prim.Native.Nat.{ℕ, zero, suc, _+_, _*_, _≤_, _<_}
 use native.Mathlib.Omega.{arith}
 use mathlib.Core.Path.{_≡_, refl}

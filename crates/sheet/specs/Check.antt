@@ -1,5 +1,5 @@
--- The answer of check, as the code gives it, and the numbers by which it refuses. Document 01, "Three services": "A service on one sheet names it "old"".
--- SHEETS 8.2.
+-- The answer of check, as the code gives it, and the numbers by which it refuses. Document 01, "Three services": "A
+-- service on one sheet names it "old"". SHEETS 8.2.
 use Prim.Native.Nat.{ℕ, _≤_}
 use mathlib.Core.Path.{_≡_}
 use mathlib.Core.Logic.{_⊎_}

@@ -1,3 +1,4 @@
+-- `answer` writes the words that it is given, and says with `status` whether there was room.
 use borrow.Author.Needs.{needs}
 use native.Mathlib.Omega.{arith}
 use denote.Ref.{now}

@@ -1,3 +1,4 @@
+-- The words that `answer_compare` writes are `compareWords`, where there is room for them.
 use borrow.Author.Needs.{needs}
 use Rattle.abi.proofs.Returning.{returned-as, words-same, words-apart, words-not-compared}
 use Rattle.abi.proofs.answer_compare.Statement.{statement}

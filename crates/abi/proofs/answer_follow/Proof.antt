@@ -1,3 +1,4 @@
+-- The words that `answer_follow` writes are `followWords`, where there is room for them.
 use borrow.Author.Needs.{needs}
 use Rattle.abi.proofs.Returning.{returned-as, words-complete, words-begun, words-not-followed}
 use Rattle.abi.proofs.answer_follow.Statement.{statement}

@@ -1,3 +1,4 @@
+-- The words that `answer_renumber` writes are `renumberWords`, where there is room for them.
 use borrow.Author.Needs.{needs}
 use Rattle.abi.proofs.Returning.{returned-as, words-renumbered, words-not-renumbered}
 use Rattle.abi.proofs.answer_renumber.Statement.{statement}

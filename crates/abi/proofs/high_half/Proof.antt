@@ -1,3 +1,4 @@
+-- What `high_half` gives is what `highHalf` says, case by case.
 use borrow.Author.Needs.{needs}
 use mathlib.Core.Path.{refl}
 use Rattle.abi.proofs.high_half.Statement.{statement}

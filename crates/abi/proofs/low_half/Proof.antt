@@ -1,3 +1,4 @@
+-- What `low_half` gives is what `lowHalf` says, case by case.
 use borrow.Author.Needs.{needs}
 use mathlib.Core.Path.{refl}
 use Rattle.abi.proofs.low_half.Statement.{statement}

@@ -1,3 +1,4 @@
+-- The words that `negyvosal_check` writes are `checkWords`, where there is room for them.
 use borrow.Author.Needs.{needs}
 use Rattle.abi.proofs.Returning.{check-accepted, check-refused}
 use Rattle.abi.proofs.negyvosal_check.Statement.{statement}

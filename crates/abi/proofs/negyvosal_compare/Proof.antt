@@ -1,3 +1,4 @@
+-- `negyvosal_compare` keeps what `CompareReturned` says.
 use borrow.Author.Needs.{needs}
 use mathlib.Core.Path.{refl}
 use Rattle.abi.specs.Returned.{no-room}

@@ -1,3 +1,4 @@
+-- `negyvosal_follow` keeps what `FollowReturned` says.
 use borrow.Author.Needs.{needs}
 use mathlib.Core.Path.{refl}
 use Rattle.abi.specs.Returned.{no-room}

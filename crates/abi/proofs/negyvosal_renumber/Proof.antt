@@ -1,3 +1,4 @@
+-- `negyvosal_renumber` keeps what `RenumberReturned` says.
 use borrow.Author.Needs.{needs}
 use mathlib.Core.Path.{refl}
 use Rattle.abi.specs.Returned.{no-room}

@@ -1,3 +1,4 @@
+-- The words that `refuse` writes are `refusalWords`, where there is room for them.
 use borrow.Author.Needs.{needs}
 use Rattle.abi.proofs.Returning.{returned-as, words-refused}
 use Rattle.abi.proofs.refuse.Statement.{statement}

@@ -1,3 +1,4 @@
+-- `fill` ends and stays inside what it is lent.
 use borrow.Author.Needs.{needs}
 use native.Mathlib.Omega.{arith}
 use Prim.Native.Nat.{_-_, _≤_}

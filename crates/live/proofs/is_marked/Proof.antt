@@ -1,3 +1,4 @@
+-- `is_marked` says whether the word of the state's mark is 1.
 use borrow.Author.Needs.{needs}
 use borrow.Author.Tests.{eq-eqb, eqb-true}
 use mathlib.Core.Path.{sym, _∙_}

@@ -1,3 +1,4 @@
+-- `mark_live` keeps what `Marks` says.
 use native.Mathlib.Omega.{arith}
 use Prim.Native.Nat.{_*_}
 use lib.ListN.{length-take}

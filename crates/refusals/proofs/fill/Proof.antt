@@ -1,3 +1,4 @@
+-- `fill` ends and stays inside what it is lent.
 use borrow.Author.Needs.{needs}
 use Prim.Native.Nat.{_-_, _≤_}
 use mathlib.Core.Path.{_≡_}

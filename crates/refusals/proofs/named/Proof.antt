@@ -1,3 +1,4 @@
+-- `named` ends and stays inside its arrays.
 use borrow.Author.Needs.{needs}
 use mathlib.Core.Path.{sym}
 use lib.Seq.{length-take-le}

@@ -1,3 +1,4 @@
+-- What `answer` writes is the text `textOf`.
 use borrow.Author.Needs.{needs}
 use Rattle.report.proofs.Answers.{text-refused, text-same, text-apart}
 use Rattle.report.proofs.answer.Statement.{statement}

@@ -1,3 +1,4 @@
+-- `report` keeps what `Reported` says.
 use borrow.Author.Needs.{needs}
 use Rattle.report.proofs.Fits.{counts}
 use Rattle.report.proofs.report.Statement.{statement}

@@ -1,3 +1,4 @@
+-- `settle` keeps what `Settling` says.
 use borrow.Author.Needs.{needs}
 use Rattle.silent.proofs.laws.Settle.{steps-of, graph-of, settling}
 use Rattle.silent.proofs.laws.Paths.{begun-paths, whole-of}

@@ -1,3 +1,4 @@
+-- What `cond_in` gives is what `condIn` says, case by case.
 use borrow.Author.Needs.{needs}
 use borrow.Author.Tests.{lt-ltb, le-ltb}
 use Rattle.automaton.specs.walk.Down.{condIn}

@@ -1,3 +1,4 @@
+-- `down` goes down as `downOf` does, where the part is no private variable.
 use borrow.Author.Needs.{needs}
 use borrow.Author.Tests.{ne-eqb}
 use Rattle.automaton.specs.walk.Down.{downAs}

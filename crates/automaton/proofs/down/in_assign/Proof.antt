@@ -1,3 +1,4 @@
+-- What `in_assign` gives is what `inAssign` says, case by case.
 use borrow.Author.Needs.{needs}
 use Rattle.automaton.specs.walk.Down.{inAssign}
 use Rattle.automaton.proofs.down.in_assign.Statement.{statement}

@@ -1,3 +1,4 @@
+-- What `in_cond` gives is what `inCond` says, case by case.
 use borrow.Author.Needs.{needs}
 use Rattle.automaton.specs.walk.Down.{inCond}
 use Rattle.automaton.proofs.down.in_cond.Statement.{statement}

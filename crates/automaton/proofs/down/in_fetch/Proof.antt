@@ -1,3 +1,4 @@
+-- What `in_fetch` gives is what `inFetch` says, case by case.
 use borrow.Author.Needs.{needs}
 use Rattle.automaton.specs.walk.Down.{inFetch}
 use Rattle.automaton.proofs.down.in_fetch.Statement.{statement}

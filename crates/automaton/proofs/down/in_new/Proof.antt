@@ -1,3 +1,4 @@
+-- What `in_new` gives is what `inNew` says, case by case.
 use borrow.Author.Needs.{needs}
 use borrow.Author.Tests.{eq-eqb, ne-eqb}
 use Rattle.automaton.specs.walk.Down.{inNew}

@@ -1,3 +1,4 @@
+-- What `in_operate` gives is what `inOperate` says, case by case.
 use borrow.Author.Needs.{needs}
 use Rattle.automaton.specs.walk.Down.{inOperate}
 use Rattle.automaton.proofs.down.in_operate.Statement.{statement}

@@ -1,3 +1,4 @@
+-- What `in_while` gives is what `inWhile` says, case by case.
 use borrow.Author.Needs.{needs}
 use borrow.Author.Tests.{lt-ltb, le-ltb}
 use Rattle.automaton.specs.walk.Down.{inWhile}

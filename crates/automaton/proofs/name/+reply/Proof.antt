@@ -1,3 +1,4 @@
+-- What `reply` gives is what `replyOf` says, case by case.
 use Prim.Native.Nat.{ℕ, _<_}
 use borrow.Author.Needs.{needs}
 use borrow.Author.Tests.{le-leb, lt-leb}

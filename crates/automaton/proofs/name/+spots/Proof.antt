@@ -1,3 +1,4 @@
+-- What `spots` gives is what `argSpots` says, case by case.
 use Prim.Native.Nat.{ℕ, _<_}
 use borrow.Author.Needs.{needs}
 use Rattle.automaton.specs.walk.Name.{argSpots}

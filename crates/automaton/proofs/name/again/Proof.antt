@@ -1,3 +1,4 @@
+-- `again` gives what it is given.
 use borrow.Author.Needs.{needs}
 use mathlib.Core.Path.{sym}
 use Rattle.automaton.proofs.name.again.Statement.{statement}

@@ -1,3 +1,4 @@
+-- What `arg_in` gives is what `argHere` says, case by case.
 use borrow.Author.Needs.{needs}
 use borrow.Author.Tests.{eq-eqb, ne-eqb}
 use Rattle.automaton.specs.walk.Name.{argHere}

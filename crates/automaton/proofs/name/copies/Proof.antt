@@ -1,3 +1,4 @@
+-- What `copies` gives is what `copiesOf` says, case by case.
 use borrow.Author.Needs.{needs}
 use Rattle.automaton.specs.walk.Name.{copiesOf}
 use Rattle.automaton.proofs.name.copies.Statement.{statement}

@@ -1,3 +1,4 @@
+-- What `hear_answer` gives is what `hearAnswer` says, case by case.
 use borrow.Author.Needs.{needs}
 use borrow.Author.Tests.{eq-eqb, ne-eqb}
 use Rattle.automaton.specs.walk.Name.{hearAnswer}

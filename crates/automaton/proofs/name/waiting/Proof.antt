@@ -1,3 +1,4 @@
+-- What `waiting` gives is what `atWait` says, case by case.
 use borrow.Author.Needs.{needs}
 use borrow.Author.Tests.{eq-eqb, ne-eqb}
 use Rattle.automaton.specs.walk.Name.{atWait}

@@ -1,3 +1,4 @@
+-- What `cell` gives is what `word` says, case by case.
 use Prim.Native.Nat.{_+_, _*_}
 use borrow.Author.Needs.{needs}
 use native.Mathlib.Omega.{arith}

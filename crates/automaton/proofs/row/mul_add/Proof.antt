@@ -1,3 +1,4 @@
+-- What `mul_add` gives is what `mulAddOf` says, case by case.
 use native.Mathlib.Omega.{arith}
 use native.Mathlib.Nat.{mul-le-mul}
 use borrow.Author.Tests.{lt-ltb, le-ltb}

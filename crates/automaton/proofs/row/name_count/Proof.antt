@@ -1,3 +1,4 @@
+-- What `name_count` gives is what `nameCount` says, case by case.
 use borrow.Author.Needs.{needs}
 use Rattle.automaton.specs.walk.Row.{nameCount}
 use Rattle.automaton.proofs.row.name_count.Statement.{statement}

@@ -1,3 +1,4 @@
+-- What `name_id` gives is what `nameId` says, case by case.
 use borrow.Author.Needs.{needs}
 use Rattle.automaton.specs.walk.Row.{nameId}
 use Rattle.automaton.proofs.row.name_id.Statement.{statement}

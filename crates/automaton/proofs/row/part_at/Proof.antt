@@ -1,3 +1,4 @@
+-- What `part_at` gives is what `word` says, case by case.
 use Prim.Native.Nat.{_+_}
 use borrow.Author.Needs.{needs}
 use native.Mathlib.Omega.{arith}

@@ -1,3 +1,4 @@
+-- What `part_class` gives is what `partClass` says, case by case.
 use borrow.Author.Needs.{needs}
 use Rattle.automaton.specs.walk.Row.{partClass}
 use Rattle.automaton.proofs.row.part_class.Statement.{statement}

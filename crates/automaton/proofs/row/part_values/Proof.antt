@@ -1,3 +1,4 @@
+-- What `part_values` gives is what `partValues` says, case by case.
 use borrow.Author.Needs.{needs}
 use Rattle.automaton.specs.walk.Row.{partValues}
 use Rattle.automaton.proofs.row.part_values.Statement.{statement}

@@ -1,3 +1,4 @@
+-- What `part_weight` gives is what `partWeight` says, case by case.
 use borrow.Author.Needs.{needs}
 use Rattle.automaton.specs.walk.Row.{partWeight}
 use Rattle.automaton.proofs.row.part_weight.Statement.{statement}

@@ -1,3 +1,4 @@
+-- What `sum` gives is what `sumOf` says, case by case.
 use borrow.Author.Needs.{needs}
 use borrow.Author.Tests.{lt-ltb, le-ltb}
 use Rattle.automaton.specs.walk.Row.{sumOf}

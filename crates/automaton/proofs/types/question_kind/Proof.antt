@@ -1,3 +1,4 @@
+-- What `question_kind` gives is what `questionKind` says, case by case.
 use borrow.Author.Tests.{eq-eqb, ne-eqb}
 use Rattle.automaton.specs.walk.Types.{questionKind}
 use Rattle.automaton.proofs.types.question_kind.Statement.{statement}

@@ -1,3 +1,4 @@
+-- What `question_limit` gives is what `questionLimit` says, case by case.
 use borrow.Author.Needs.{needs}
 use borrow.Author.Tests.{le-leb, lt-leb, lt-ltb, le-ltb, eq-eqb, ne-eqb}
 use Rattle.automaton.specs.walk.Types.{questionLimit}

@@ -1,3 +1,4 @@
+-- What `questions` gives is what `questionsOf` says, case by case.
 use borrow.Author.Needs.{needs}
 use borrow.Author.Tests.{eq-eqb, ne-eqb}
 use Rattle.automaton.specs.walk.Types.{questionsOf}

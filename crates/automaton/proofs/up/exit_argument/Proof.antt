@@ -1,3 +1,4 @@
+-- What `exit_argument` gives is what `exitArgument` says, case by case.
 use borrow.Author.Needs.{needs}
 use borrow.Author.Tests.{lt-ltb, le-ltb}
 use Rattle.automaton.specs.walk.Up.{exitArgument}

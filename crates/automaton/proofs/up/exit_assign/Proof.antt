@@ -1,3 +1,4 @@
+-- What `exit_assign` gives is what `exitAssign` says, case by case.
 use borrow.Author.Tests.{eq-eqb, ne-eqb}
 use Rattle.automaton.specs.walk.Up.{exitAssign}
 use Rattle.automaton.proofs.up.exit_assign.Statement.{statement}

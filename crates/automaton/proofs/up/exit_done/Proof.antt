@@ -1,3 +1,4 @@
+-- What `exit_done` gives is what `exitDone` says, case by case.
 use borrow.Author.Tests.{eq-eqb, ne-eqb}
 use Rattle.automaton.specs.walk.Up.{exitDone}
 use Rattle.automaton.proofs.up.exit_done.Statement.{statement}

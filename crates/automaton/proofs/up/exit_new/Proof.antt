@@ -1,3 +1,4 @@
+-- What `exit_new` gives is what `exitNew` says, case by case.
 use borrow.Author.Tests.{eq-eqb, ne-eqb}
 use Rattle.automaton.specs.walk.Up.{exitNew}
 use Rattle.automaton.proofs.up.exit_new.Statement.{statement}

@@ -1,3 +1,4 @@
+-- What `exit_operate` gives is what `exitOperate` says, case by case.
 use borrow.Author.Needs.{needs}
 use mathlib.Core.Path.{sym, _∙_}
 use Rattle.automaton.proofs.Facts.{result-is, result-nothing}

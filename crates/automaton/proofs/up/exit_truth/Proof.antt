@@ -1,3 +1,4 @@
+-- What `exit_truth` gives is what `exitTruth` says, case by case.
 use borrow.Author.Tests.{eq-eqb, ne-eqb}
 use Rattle.automaton.specs.walk.Up.{exitTruth}
 use Rattle.automaton.proofs.up.exit_truth.Statement.{statement}

@@ -1,3 +1,4 @@
+-- What `exit_value` gives is what `exitValue` says, case by case.
 use borrow.Author.Needs.{needs}
 use borrow.Author.Tests.{lt-ltb, le-ltb, eq-eqb, ne-eqb}
 use Rattle.automaton.specs.walk.Up.{exitValue}

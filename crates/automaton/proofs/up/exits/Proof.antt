@@ -1,3 +1,4 @@
+-- What `exits` gives is what `exitsOf` says, case by case.
 use borrow.Author.Needs.{needs}
 use borrow.Author.Tests.{ne-eqb}
 use Rattle.automaton.specs.walk.Up.{exitsOf}

@@ -1,3 +1,4 @@
+-- `goes` leads a step through a frame, as `goesOf` does.
 use borrow.Author.Needs.{needs}
 use borrow.Author.Tests.{eq-eqb, ne-eqb}
 use Rattle.automaton.specs.walk.Up.{goesOf}

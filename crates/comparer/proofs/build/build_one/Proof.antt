@@ -1,3 +1,4 @@
+-- `build_one` keeps what `OneBuilt` says.
 use borrow.Author.Needs.{needs}
 use native.Mathlib.Omega.{arith}
 use mathlib.Core.Path.{refl}

@@ -1,3 +1,4 @@
+-- `build_two` keeps what `TwoBuilt` says.
 use borrow.Author.Needs.{needs}
 use native.Mathlib.Omega.{arith}
 use mathlib.Core.Path.{refl}

@@ -1,3 +1,4 @@
+-- What `cause_of` gives is what `causeOf` says, case by case.
 use borrow.Author.Needs.{needs}
 use Rattle.comparer.specs.inner.Causes.{causeOf}
 use Rattle.comparer.proofs.causes.cause_of.Statement.{statement}

@@ -1,3 +1,4 @@
+-- What `play_cause` gives is what `playCause` says, case by case.
 use borrow.Author.Needs.{needs}
 use Rattle.comparer.specs.inner.Causes.{playCause}
 use Rattle.comparer.proofs.causes.play_cause.Statement.{statement}

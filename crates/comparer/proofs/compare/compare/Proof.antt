@@ -1,3 +1,4 @@
+-- `compare` keeps what `ComparePromise` says.
 use native.Mathlib.Omega.{arith}
 use borrow.Author.Needs.{needs}
 use Rattle.comparer.proofs.ReadSheets.{refused-sheet, taken, size-some, size-small}

@@ -1,3 +1,4 @@
+-- `decide` keeps what `Verdicts` says.
 use native.Mathlib.Omega.{arith}
 use borrow.Author.Needs.{needs}
 use Rattle.difference.proofs.laws.Outcome.{told-of}

@@ -1,3 +1,4 @@
+-- What `pair_number` gives is what `numberOf` says, case by case.
 use borrow.Author.Needs.{needs}
 use borrow.Author.Tests.{lt-ltb, le-ltb, not-true, not-false}
 use Rattle.comparer.specs.inner.Causes.{numberOf}

@@ -1,3 +1,4 @@
+-- `show` keeps what `Shown` says.
 use mathlib.Core.Path.{refl}
 use Prim.Native.Nat.{_+_, _*_}
 use native.Mathlib.Omega.{arith}

@@ -1,3 +1,4 @@
+-- `follow` keeps what `FollowPromise` says.
 use borrow.Author.Needs.{needs}
 use native.Mathlib.Omega.{arith}
 use mathlib.Core.Path.{refl, sym, ap, _∙_}

@@ -1,3 +1,4 @@
+-- `longest` counts the moves that begin a complete play.
 use borrow.Author.Needs.{needs}
 use native.Mathlib.Omega.{arith}
 use Prim.Native.Nat.{_*_, _-_}

@@ -1,3 +1,4 @@
+-- What `alike` gives is what `matching` says, case by case.
 use borrow.Author.Needs.{needs}
 use borrow.Author.Tests.{eq-eqb, ne-eqb, not-true, not-false}
 use Rattle.comparer.specs.Refusals.{matching}

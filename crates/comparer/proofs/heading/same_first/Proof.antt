@@ -1,3 +1,4 @@
+-- What `same_first` gives is what `sameFirst` says, case by case.
 use borrow.Author.Needs.{needs}
 use mathlib.Core.Path.{_≡_, refl}
 use Rattle.comparer.specs.Refusals.{sameFirst}

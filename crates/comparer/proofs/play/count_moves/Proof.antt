@@ -1,3 +1,4 @@
+-- What `count_moves` gives is what `counted` says, case by case.
 use borrow.Author.Needs.{needs}
 use Prim.Native.Nat.{_-_}
 use lib.ListN.{length}

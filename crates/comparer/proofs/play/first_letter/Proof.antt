@@ -1,3 +1,4 @@
+-- What `first_letter` gives is what `firstLetter` says, case by case.
 use borrow.Author.Needs.{needs}
 use Rattle.comparer.specs.inner.Bytes.{firstLetter}
 use Rattle.comparer.proofs.play.first_letter.Statement.{statement}

@@ -1,3 +1,4 @@
+-- What `letter_from` gives is what `letterFrom` says, case by case.
 use borrow.Author.Needs.{needs}
 use borrow.Author.Tests.{lt-ltb, le-ltb}
 use Rattle.comparer.specs.inner.Bytes.{letterFrom}

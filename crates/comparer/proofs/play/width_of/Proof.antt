@@ -1,3 +1,4 @@
+-- What `width_of` gives is what `widthOf` says, case by case.
 use native.Mathlib.Omega.{arith}
 use borrow.Author.Tests.{lt-ltb, le-ltb}
 use Rattle.comparer.specs.inner.Bytes.{widthOf}

@@ -1,3 +1,4 @@
+-- What `write_play` leaves is what `withRecords` says.
 use borrow.Author.Needs.{needs}
 use native.Mathlib.Omega.{arith}
 use Prim.Native.Nat.{_+_, _-_}

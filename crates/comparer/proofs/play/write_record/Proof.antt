@@ -1,3 +1,4 @@
+-- What `write_record` gives is what `afterRecord` says, and what it leaves what `withRecord` says.
 use borrow.Author.Needs.{needs}
 use Rattle.comparer.proofs.Written.{put-three, put-four}
 use Rattle.comparer.proofs.play.write_record.Statement.{statement}

@@ -1,3 +1,4 @@
+-- What `next_state` gives is what `δ` says, case by case.
 use native.Mathlib.Omega.{arith}
 use Prim.Native.Nat.{_*_}
 use borrow.Author.Needs.{needs}

@@ -1,3 +1,4 @@
+-- What `scan` gives is what `δ` says, case by case.
 use native.Mathlib.Omega.{arith}
 use Prim.Native.Nat.{_-_}
 use Rattle.dfa.proofs.laws.Scan.{scan-first, scan-hit, scan-again, scan-last}

@@ -1,3 +1,4 @@
+-- `past` keeps what `Past` says.
 use native.Mathlib.Omega.{arith}
 use mathlib.Core.Path.{sym, _∙_}
 use borrow.Author.Needs.{needs}

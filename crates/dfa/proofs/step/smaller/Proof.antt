@@ -1,3 +1,4 @@
+-- `smaller` gives the smaller of two numbers.
 use borrow.Author.Needs.{needs}
 use Rattle.dfa.proofs.step.smaller.Statement.{statement}
 use Rattle.dfa.proofs.step.smaller.Tie as tie

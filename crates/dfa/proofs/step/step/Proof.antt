@@ -1,3 +1,4 @@
+-- `step` keeps what `Moved` says.
 use borrow.Author.Needs.{needs}
 use Rattle.dfa.proofs.laws.Step.{next}
 use Rattle.dfa.proofs.step.step.Statement.{statement}

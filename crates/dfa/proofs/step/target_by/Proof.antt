@@ -1,3 +1,4 @@
+-- What `target_by` gives is what `look` says, case by case.
 use native.Mathlib.Omega.{arith}
 use mathlib.Core.Path.{sym, _∙_}
 use borrow.Author.Needs.{needs}

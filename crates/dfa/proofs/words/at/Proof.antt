@@ -1,3 +1,4 @@
+-- `at` gives the word at its place.
 use native.Mathlib.Omega.{arith}
 use borrow.Author.Needs.{needs}
 use Rattle.dfa.proofs.words.at.Statement.{statement}

@@ -1,3 +1,4 @@
+-- `clear` leaves only zeros: so far the words below i are 0, and the others as they were.
 use borrow.Author.Needs.{needs}
 use native.Mathlib.Omega.{arith}
 use Prim.Native.Nat.{ℕ, _-_, _≤_, _<_}

@@ -1,3 +1,4 @@
+-- `compare_checked` keeps what `Answered` says.
 use borrow.Author.Tests.{not-false}
 use borrow.Author.Needs.{needs}
 use Rattle.dfa_tests.proofs.laws.Answer.{setting-of, spell-room, answer-alike, answer-word}

@@ -1,3 +1,4 @@
+-- `live_checked` keeps what `Lives` says.
 use native.Mathlib.Omega.{arith}
 use mathlib.Core.Path.{sym, _∙_}
 use borrow.Author.Tests.{not-false}

@@ -1,3 +1,4 @@
+-- Where `settle_checked` says yes, the words are as `Settling` says.
 use borrow.Author.Tests.{not-false}
 use borrow.Author.Needs.{needs}
 use Rattle.dfa.proofs.laws.Live.{no-true}

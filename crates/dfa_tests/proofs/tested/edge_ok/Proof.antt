@@ -1,3 +1,4 @@
+-- Where `edge_ok` says yes, the words are as `EdgeOk` says.
 use borrow.Author.Needs.{needs}
 use Rattle.dfa.proofs.laws.Live.{no-true}
 use Rattle.dfa_tests.proofs.tested.edge_ok.Statement.{statement}

@@ -1,3 +1,4 @@
+-- Where `edges_ok` says yes, the words are as `Edges` says.
 use borrow.Author.Needs.{needs}
 use borrow.Author.Tests.{not-false}
 use native.Mathlib.Omega.{arith}

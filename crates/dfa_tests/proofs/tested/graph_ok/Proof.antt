@@ -1,3 +1,4 @@
+-- Where `graph_ok` says yes, the words are as `Graph` says.
 use borrow.Author.Needs.{needs}
 use borrow.Author.Tests.{not-false}
 use native.Mathlib.Omega.{arith}

@@ -1,3 +1,4 @@
+-- Where `live_ok` says yes, the words are as `Markable` says.
 use native.Mathlib.Omega.{arith}
 use borrow.Author.Needs.{needs}
 use borrow.Author.Tests.{leb-true, not-false}

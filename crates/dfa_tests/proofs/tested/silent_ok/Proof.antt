@@ -1,3 +1,4 @@
+-- Where `silent_ok` says yes, the words are as `Silent` says.
 use borrow.Author.Needs.{needs}
 use native.Mathlib.Omega.{arith}
 use Prim.Native.Nat.{ℕ, _-_, _≤_, _<_}

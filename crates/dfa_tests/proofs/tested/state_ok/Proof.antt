@@ -1,3 +1,4 @@
+-- Where `state_ok` says yes, the words are as `Edges` says.
 use borrow.Author.Needs.{needs}
 use Rattle.dfa.proofs.laws.Live.{no-true}
 use Rattle.dfa_tests.proofs.tested.state_ok.Statement.{statement}

@@ -1,3 +1,4 @@
+-- Where `words_ok` says yes, the words are as `Graph` says.
 use borrow.Author.Needs.{needs}
 use Rattle.dfa.proofs.laws.Live.{no-true}
 use Rattle.dfa_tests.proofs.tested.words_ok.Statement.{statement}

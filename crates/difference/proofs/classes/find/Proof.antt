@@ -1,3 +1,4 @@
+-- `find` keeps what `Found` says.
 use borrow.Author.Needs.{needs}
 use native.Mathlib.Omega.{arith}
 use mathlib.Core.Path.{_≡_, sym, _∙_}

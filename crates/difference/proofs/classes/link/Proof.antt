@@ -1,3 +1,4 @@
+-- What `link` leaves is what `linked` says.
 use borrow.Author.Tests.{lt-ltb, le-ltb}
 use borrow.Author.Needs.{needs}
 use Rattle.difference.proofs.classes.link.Statement.{statement}

@@ -1,3 +1,4 @@
+-- After `singles` each state is alone in its class.
 use borrow.Author.Needs.{needs}
 use native.Mathlib.Omega.{arith}
 use Prim.Native.Nat.{ℕ, _≤_, _<_, _-_}

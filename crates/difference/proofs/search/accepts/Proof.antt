@@ -1,3 +1,4 @@
+-- What `accepts` gives is what `accepting` says, case by case.
 use borrow.Author.Tests.{eq-eqb, ne-eqb}
 use Rattle.difference.proofs.search.accepts.Statement.{statement}
 use Rattle.difference.proofs.search.accepts.Tie as tie

@@ -1,3 +1,4 @@
+-- `alike` says whether two states both accept, or neither.
 use borrow.Author.Needs.{needs}
 use Rattle.difference.proofs.search.alike.Statement.{statement}
 use Rattle.difference.proofs.search.alike.Tie as tie

@@ -1,3 +1,4 @@
+-- `expand` keeps what `State` says.
 use native.Mathlib.Omega.{arith}
 use Prim.Native.Nat.{_+_, _-_, _*_}
 use mathlib.Core.Path.{refl}

@@ -1,3 +1,4 @@
+-- `first_difference` keeps what `Outcome` says.
 use native.Mathlib.Omega.{arith}
 use Prim.Native.Nat.{_*_}
 use mathlib.Core.Path.{refl, _∙_, ap}

@@ -1,3 +1,4 @@
+-- `prepare` keeps what `State` says.
 
 use native.Mathlib.Omega.{arith}
 use borrow.Author.Needs.{needs}

@@ -1,3 +1,4 @@
+-- What `push` leaves is what `pushed` says.
 use borrow.Author.Needs.{needs}
 use Rattle.difference.proofs.search.push.Statement.{statement}
 use Rattle.difference.proofs.search.push.Tie as tie

@@ -1,3 +1,4 @@
+-- `run` keeps what `Outcome` says.
 use borrow.Author.Needs.{needs}
 use borrow.Author.Tests.{not-true, not-false}
 use native.Mathlib.Omega.{arith}

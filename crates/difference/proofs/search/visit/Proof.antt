@@ -1,3 +1,4 @@
+-- `visit` keeps what `Visited` says.
 use native.Mathlib.Omega.{arith}
 use Rattle.difference.proofs.laws.Classes.{sinks-of}
 use native.Mathlib.Numerals.{add-one}

@@ -1,3 +1,4 @@
+-- `depth` gives the length of the word that is spelled.
 use native.Mathlib.Omega.{arith}
 use Prim.Native.Nat.{ℕ, _≤_, _+_}
 use mathlib.Core.List.{List}

@@ -1,3 +1,4 @@
+-- `spell` keeps what `Spelling` says.
 use native.Mathlib.Omega.{arith}
 use Prim.Native.Nat.{_+_, _*_}
 use Rattle.difference.proofs.laws.Spell.{trail-wide, spells-first, spells-pos, spells-old, spells-less}

@@ -1,3 +1,4 @@
+-- `climb` leads a step through all levels, as `riseAll` does.
 use borrow.Author.Needs.{needs}
 use native.Mathlib.Omega.{arith}
 use mathlib.Core.Path.{_≡_, refl}

@@ -1,3 +1,4 @@
+-- What `exit` gives is what `targetOf` says, case by case.
 use borrow.Author.Needs.{needs}
 use native.Mathlib.Omega.{arith}
 use mathlib.Core.Path.{refl, _∙_}

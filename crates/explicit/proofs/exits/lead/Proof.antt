@@ -1,3 +1,4 @@
+-- `lead` leads a step where `riseAll` leads it.
 use borrow.Author.Needs.{needs}
 use Rattle.explicit.proofs.exits.lead.Statement.{statement}
 use Rattle.explicit.proofs.exits.lead.Tie as tie

@@ -1,3 +1,4 @@
+-- `led` leads a step where `riseAll` leads it.
 use borrow.Author.Needs.{needs}
 use native.Mathlib.Omega.{arith}
 use Rattle.explicit.proofs.PathCode.{from-first}

@@ -1,3 +1,4 @@
+-- `moved` leads a step where `riseAll` leads it.
 use borrow.Author.Needs.{needs}
 use native.Mathlib.Omega.{arith}
 use Rattle.explicit.proofs.PathSteps.{lead-copy, lead-within, lead-low, block-within}

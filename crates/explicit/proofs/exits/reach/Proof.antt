@@ -1,3 +1,4 @@
+-- What `reach` gives is what `targetOf` says, case by case.
 use borrow.Author.Needs.{needs}
 use mathlib.Core.Path.{refl}
 use Rattle.explicit.proofs.Reaching.{reach-as, reach-say, reach-hear, reach-stuck}

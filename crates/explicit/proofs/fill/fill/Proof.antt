@@ -1,3 +1,4 @@
+-- What `fill` gives is what `edgesAfter` says, and what it leaves what `filledOf` says.
 use borrow.Author.Needs.{needs}
 use Rattle.explicit.specs.inner.Kept.{KeptPath}
 use Rattle.explicit.proofs.PathDeeper.{kept-none, kept-fewer}

@@ -1,3 +1,4 @@
+-- What `silent_at` gives is what `silentOf` says, case by case.
 use borrow.Author.Needs.{needs}
 use native.Mathlib.Omega.{arith}
 use Rattle.explicit.proofs.PathRows.{is-go, is-exit, silent-quiet, silent-stuck, silent-say, silent-hear}

@@ -1,3 +1,4 @@
+-- `write_row` writes the row `rowOf`, and gives the number of the edge after it.
 use borrow.Author.Needs.{needs}
 use native.Mathlib.Omega.{arith}
 use mathlib.Core.Path.{refl}

@@ -1,3 +1,4 @@
+-- What `asking` gives is what `askingOf` says, case by case.
 use borrow.Author.Needs.{needs}
 use Rattle.explicit.proofs.HeardQuestions.{asking-most, asking-few}
 use Rattle.explicit.proofs.hear.asking.Statement.{statement}

@@ -1,3 +1,4 @@
+-- `hear` writes the edges `heardEdges`, and gives the number of the edge after them.
 use borrow.Author.Needs.{needs}
 use Rattle.explicit.proofs.Loops.{wrote}
 use Rattle.explicit.proofs.HeardQuestions.{plain-told}

@@ -1,3 +1,4 @@
+-- `hear_answer` writes the edges `valueEdge`, and gives the number of the edge after them.
 use borrow.Author.Needs.{needs}
 use mathlib.Core.Path.{sym, _∙_}
 use Rattle.explicit.proofs.Loops.{told, value-none, value-some}

@@ -1,3 +1,4 @@
+-- `hear_block` writes the edges `blockEdges`, and gives the number of the edge after them.
 use borrow.Author.Needs.{needs}
 use mathlib.Core.Path.{refl}
 use Rattle.explicit.proofs.Loops.{told, wrote, block-none, block-some}

@@ -1,3 +1,4 @@
+-- `hear_called` writes the edges `heardEdges`, and gives the number of the edge after them.
 use borrow.Author.Needs.{needs}
 use native.Mathlib.Omega.{arith}
 use Rattle.explicit.proofs.Loops.{wrote}

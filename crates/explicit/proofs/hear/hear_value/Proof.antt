@@ -1,3 +1,4 @@
+-- `hear_value` writes the edges `valueEdge`, and gives the number of the edge after them.
 use borrow.Author.Needs.{needs}
 use Rattle.explicit.proofs.Loops.{told, value-none, value-some}
 use Rattle.explicit.proofs.hear.hear_value.Statement.{statement}

@@ -1,3 +1,4 @@
+-- What `heard` gives is what `targetOf` says, case by case.
 use borrow.Author.Needs.{needs}
 use Rattle.explicit.proofs.PathCode.{heard-start, heard-later}
 use Rattle.explicit.proofs.hear.heard.Statement.{statement}

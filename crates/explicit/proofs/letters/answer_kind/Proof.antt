@@ -1,3 +1,4 @@
+-- What `answer_kind` gives is what `answerKind` says, case by case.
 use borrow.Author.Tests.{eq-eqb, ne-eqb}
 use Rattle.explicit.specs.inner.Moves.{answerKind}
 use Rattle.explicit.proofs.letters.answer_kind.Statement.{statement}

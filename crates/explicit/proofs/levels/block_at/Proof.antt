@@ -1,3 +1,4 @@
+-- What `block_at` gives is what `blockIn` says, case by case.
 use borrow.Author.Needs.{needs}
 use native.Mathlib.Omega.{arith}
 use Rattle.explicit.proofs.PathSteps.{block-zero, Looking, look-first, look-within, look-found, look-again}

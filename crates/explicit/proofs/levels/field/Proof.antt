@@ -1,3 +1,4 @@
+-- What `field` gives is what `fieldOf` says, case by case.
 use borrow.Author.Needs.{needs}
 use borrow.Author.Tests.{le-leb, lt-leb, lt-ltb, le-ltb, eq-eqb, ne-eqb}
 use mathlib.Core.Path.{refl}

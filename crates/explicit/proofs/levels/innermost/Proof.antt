@@ -1,3 +1,4 @@
+-- What `innermost` gives is what `innermostOf` says, case by case.
 use borrow.Author.Needs.{needs}
 use native.Mathlib.Omega.{arith}
 use Rattle.explicit.proofs.PathSteps.{innermost-none, innermost-here, innermost-outside}

@@ -1,3 +1,4 @@
+-- `put_four` writes four words, one after the other.
 use borrow.Author.Needs.{needs}
 use native.Mathlib.Omega.{arith}
 use Rattle.explicit.proofs.PathWords.{four}

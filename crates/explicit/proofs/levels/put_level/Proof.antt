@@ -1,3 +1,4 @@
+-- What `put_level` leaves is what `withLevel` says.
 use borrow.Author.Needs.{needs}
 use native.Mathlib.Omega.{arith}
 use Rattle.explicit.proofs.PathWords.{thirteen}

@@ -1,3 +1,4 @@
+-- What `start_at` gives is what `startOf` says, case by case.
 use borrow.Author.Needs.{needs}
 use native.Mathlib.Omega.{arith}
 use Rattle.explicit.specs.inner.Levels.{levelAt}

@@ -1,3 +1,4 @@
+-- What `up_at` gives is what `upOf` says, case by case.
 use borrow.Author.Needs.{needs}
 use native.Mathlib.Omega.{arith}
 use Rattle.explicit.proofs.PathSteps.{up-none, up-some}

@@ -1,3 +1,4 @@
+-- What `up_with` gives is what `pick` says, case by case.
 use borrow.Author.Needs.{needs}
 use native.Mathlib.Omega.{arith}
 use native.Mathlib.Numerals.{add-one}

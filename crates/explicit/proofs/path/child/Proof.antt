@@ -1,3 +1,4 @@
+-- What `child` gives is what `childOf` says, case by case.
 use borrow.Author.Needs.{needs}
 use Rattle.explicit.proofs.PathCode.{child-is}
 use Rattle.explicit.proofs.Steady.{small-word}

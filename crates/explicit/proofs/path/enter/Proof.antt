@@ -1,3 +1,4 @@
+-- `enter` keeps what `Arrived` says.
 use borrow.Author.Needs.{needs}
 use native.Mathlib.Omega.{arith}
 use mathlib.Core.Path.{_≡_, refl, sym, _∙_}

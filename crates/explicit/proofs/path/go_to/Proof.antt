@@ -1,3 +1,4 @@
+-- `go_to` keeps what `Arrived` says.
 use borrow.Author.Needs.{needs}
 use Rattle.explicit.proofs.PathDeeper.{kept-fewer}
 use native.Mathlib.Omega.{arith}

@@ -1,3 +1,4 @@
+-- What `least` gives is what `leastOf` says, case by case.
 use borrow.Author.Needs.{needs}
 use native.Mathlib.Omega.{arith}
 use Rattle.explicit.specs.inner.Kept.{leastOf}

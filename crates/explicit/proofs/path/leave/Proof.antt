@@ -1,3 +1,4 @@
+-- `leave` gives up the levels in which the state does not lie.
 use borrow.Author.Needs.{needs}
 use native.Mathlib.Omega.{arith}
 use Prim.Native.Nat.{_≤_}

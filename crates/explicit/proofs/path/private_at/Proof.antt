@@ -1,3 +1,4 @@
+-- What `private_at` gives is what `inPrivate` says, case by case.
 use borrow.Author.Needs.{needs}
 use native.Mathlib.Omega.{arith}
 use denote.Ref.{now}

@@ -1,3 +1,4 @@
+-- What `spot_at` gives is what `spotIn` says, case by case.
 use borrow.Author.Needs.{needs}
 use native.Mathlib.Omega.{arith}
 use mathlib.Core.Path.{sym, _∙_}

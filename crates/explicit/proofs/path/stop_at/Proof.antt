@@ -1,3 +1,4 @@
+-- What `stop_at` gives is what `stopOf` says, case by case.
 use borrow.Author.Needs.{needs}
 use native.Mathlib.Omega.{arith}
 use Rattle.explicit.specs.inner.Levels.{levelAt}

@@ -1,3 +1,4 @@
+-- What `until` gives is what `untilOf` says, case by case.
 use borrow.Author.Needs.{needs}
 use native.Mathlib.Omega.{arith}
 use Rattle.explicit.specs.inner.Kept.{untilOf}

@@ -1,3 +1,4 @@
+-- What `value_at` gives is what `storeOf` says, case by case.
 use borrow.Author.Needs.{needs}
 use native.Mathlib.Omega.{arith}
 use Rattle.explicit.proofs.PathSteps.{value-unset, value-there, block-within}

@@ -1,3 +1,4 @@
+-- Past the end nothing is written.
 use borrow.Author.Needs.{needs}
 use lib.Seq.{set-out}
 use mathlib.Core.Path.{sym}

@@ -1,3 +1,4 @@
+-- What `write_edge` leaves is what `withEdge` says.
 use borrow.Author.Needs.{needs}
 use borrow.Author.Tests.{le-leb, lt-leb, lt-ltb, le-ltb, eq-eqb, ne-eqb}
 use Rattle.explicit.specs.inner.Rows.{withEdge, edgeAt}

@@ -1,3 +1,4 @@
+-- What `sheet_spot` gives is what `sheetSpot` says, case by case.
 use borrow.Author.Needs.{needs}
 use native.Mathlib.Omega.{arith}
 use Rattle.explicit.specs.inner.Kept.{sheetSpot}

@@ -1,3 +1,4 @@
+-- What `link` leaves is what `linkedTo` says.
 use borrow.Author.Needs.{needs}
 use Rattle.live.proofs.laws.Links.{link-stores}
 use Rattle.live.proofs.links.link.Statement.{statement}

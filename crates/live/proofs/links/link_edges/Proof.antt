@@ -1,3 +1,4 @@
+-- `link_edges` keeps what `Links` says.
 use native.Mathlib.Omega.{arith}
 use Prim.Native.Nat.{_*_, _+_, _-_}
 use Rattle.dfa.specs.Graph.{rest}

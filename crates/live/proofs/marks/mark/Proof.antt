@@ -1,3 +1,4 @@
+-- `mark` keeps what `Marks` says.
 use native.Mathlib.Omega.{arith}
 use Prim.Native.Nat.{_*_, _+_, _-_, ℕ}
 use mathlib.Core.List.{List}

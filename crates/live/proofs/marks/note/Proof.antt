@@ -1,3 +1,4 @@
+-- What `note` leaves is what `noted` says.
 use borrow.Author.Needs.{needs}
 use Rattle.live.proofs.laws.Marks.{note-kept, note-stores}
 use Rattle.live.proofs.marks.note.Statement.{statement}

@@ -1,3 +1,4 @@
+-- What `answer` writes is the text `renumberText`.
 use borrow.Author.Needs.{needs}
 use native.Mathlib.Omega.{arith}
 use Rattle.report.proofs.Listed.{told-changed, told-refused}

@@ -1,3 +1,4 @@
+-- What `change_at` writes is the text `changeAt`.
 use borrow.Author.Needs.{needs}
 use Rattle.report.proofs.Listed.{change-found}
 use Rattle.report.proofs.changes.change_at.Statement.{statement}

@@ -1,3 +1,4 @@
+-- What `change_line` writes is the text `changeText`.
 use borrow.Author.Needs.{needs}
 use Rattle.report.specs.Changes.{changeText}
 use Rattle.report.proofs.Pages.{after}

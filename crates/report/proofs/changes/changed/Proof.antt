@@ -1,3 +1,4 @@
+-- What `changed` writes is the text `changedText`.
 use borrow.Author.Needs.{needs}
 use Rattle.report.specs.Changes.{changedText}
 use Rattle.report.proofs.Pages.{after}

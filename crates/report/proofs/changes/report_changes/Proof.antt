@@ -1,3 +1,4 @@
+-- `report_changes` keeps what `RenumberReported` says.
 use borrow.Author.Needs.{needs}
 use Rattle.report.proofs.Fits.{counts}
 use Rattle.report.proofs.changes.report_changes.Statement.{statement}

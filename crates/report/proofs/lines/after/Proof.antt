@@ -1,3 +1,4 @@
+-- `after` gives the place after a record, which is within the bytes.
 use borrow.Author.Needs.{needs}
 use denote.Ref.{now}
 use Rattle.report.proofs.Printed.{width-short, width-long, room, no-room}

@@ -1,3 +1,4 @@
+-- What `apart` writes is the text `apartText`.
 use borrow.Author.Needs.{needs}
 use Rattle.report.specs.Text.{apartText}
 use Rattle.report.proofs.Pages.{after}

@@ -1,3 +1,4 @@
+-- What `first_move` writes is the text `firstMove`.
 use borrow.Author.Needs.{needs}
 use Rattle.report.proofs.Answers.{move-line}
 use Rattle.report.proofs.lines.first_move.Statement.{statement}

@@ -1,3 +1,4 @@
+-- What `move_line` writes is the text `moveText`.
 use borrow.Author.Needs.{needs}
 use Rattle.report.specs.Text.{moveText}
 use Rattle.report.proofs.Pages.{after}

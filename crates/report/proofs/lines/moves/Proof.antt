@@ -1,3 +1,4 @@
+-- What `moves` writes is the text `movesText`.
 use borrow.Author.Needs.{needs}
 use Prim.Native.Nat.{_-_, _≤_}
 use mathlib.Core.Path.{_≡_, refl}

@@ -1,3 +1,4 @@
+-- What `refused` writes is the text `refusedText`.
 use borrow.Author.Needs.{needs}
 use Rattle.report.specs.Text.{refusedText}
 use Rattle.report.proofs.Pages.{after}

@@ -1,3 +1,4 @@
+-- What `sheet_name` writes is the text `sheetName`.
 use borrow.Author.Needs.{needs}
 use Rattle.report.proofs.Printed.{name-old, name-new, name-both}
 use Rattle.report.proofs.lines.sheet_name.Statement.{statement}

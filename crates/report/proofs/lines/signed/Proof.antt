@@ -1,3 +1,4 @@
+-- What `signed` writes is the text `signedDigits`.
 use borrow.Author.Needs.{needs}
 use Rattle.report.proofs.Decimals.{from-0, below-0}
 use Rattle.report.proofs.lines.signed.Statement.{statement}

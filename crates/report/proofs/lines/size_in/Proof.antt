@@ -1,3 +1,4 @@
+-- What `size_in` gives is what `sizeIn` says, case by case.
 use borrow.Author.Needs.{needs}
 use Rattle.report.proofs.Answers.{size-found, no-size}
 use Rattle.report.proofs.lines.size_in.Statement.{statement}

@@ -1,3 +1,4 @@
+-- What `sizes` writes is the text `sizesText`.
 use borrow.Author.Needs.{needs}
 use Rattle.report.specs.Text.{sizesText}
 use Rattle.report.proofs.Pages.{after}

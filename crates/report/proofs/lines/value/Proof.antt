@@ -1,3 +1,4 @@
+-- What `value` writes is the text `valueText`.
 use borrow.Author.Needs.{needs}
 use Rattle.report.proofs.Printed.{no-value, some-value}
 use Rattle.report.proofs.lines.value.Statement.{statement}

@@ -1,3 +1,4 @@
+-- What `decimal` writes is the text `digits`.
 use Prim.Native.Nat.{ℕ, _<_}
 use borrow.Author.Needs.{needs}
 use borrow.Fn.Kinds.{In}

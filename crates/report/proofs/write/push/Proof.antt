@@ -1,3 +1,4 @@
+-- `push` writes one byte, if there is room.
 use borrow.Author.Needs.{needs}
 use Rattle.report.proofs.Pages.{pushed-room, pushed-full}
 use Rattle.report.proofs.write.push.Statement.{statement}

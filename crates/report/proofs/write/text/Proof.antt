@@ -1,3 +1,4 @@
+-- `text` writes the bytes that it is given.
 use borrow.Author.Needs.{needs}
 use Prim.Native.Nat.{_-_, _≤_}
 use mathlib.Core.Path.{_≡_, refl}

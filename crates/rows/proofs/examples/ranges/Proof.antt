@@ -1,3 +1,4 @@
+-- `ranges` ends and stays inside its arrays.
 use borrow.Author.Needs.{needs}
 use Prim.Native.Nat.{_-_, _≤_}
 use Rattle.rows.proofs.examples.ranges.Statement.{statement}

@@ -1,3 +1,4 @@
+-- `refusal` keeps what `Counts` says.
 use borrow.Author.Needs.{needs}
 use Rattle.report.proofs.Fits.{counts}
 use Rattle.rows.proofs.lent.refusal.Statement.{statement}

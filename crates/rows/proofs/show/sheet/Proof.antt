@@ -1,3 +1,4 @@
+-- `sheet` keeps what `Counts` says.
 use borrow.Author.Needs.{needs}
 use Rattle.report.proofs.Pages.{one, after}
 use Rattle.report.proofs.Fits.{counts}

@@ -1,3 +1,4 @@
+-- `begin` keeps what `Begun` says.
 use native.Mathlib.Omega.{arith}
 use Prim.Native.Nat.{_-_}
 use Rattle.silent.proofs.laws.Paths.{begin-first, begin-small, begin-again, begin-last}

@@ -1,3 +1,4 @@
+-- `find_path` keeps what `PathFound` says.
 use mathlib.Core.Path.{sym}
 use borrow.Author.Needs.{needs}
 use Rattle.silent.proofs.laws.Only.{steps-same}

@@ -1,3 +1,4 @@
+-- `find_paths` keeps what `Through` says.
 use native.Mathlib.Omega.{arith}
 use Prim.Native.Nat.{_-_}
 use Rattle.silent.proofs.laws.Paths.{through-first, through-again, through-last}

@@ -1,3 +1,4 @@
+-- What `own_path` gives is what `own` says, case by case.
 use mathlib.Core.Path.{sym, _∙_}
 use borrow.Author.Needs.{needs}
 use Rattle.silent.proofs.laws.Paths.{own-here, own-none}

@@ -1,3 +1,4 @@
+-- `replace` keeps what `Replacing` says.
 use native.Mathlib.Omega.{arith}
 use mathlib.Core.Path.{sym, _∙_}
 use Rattle.silent.proofs.laws.Replace.{replace-first, replace-only, replace-less, replace-again}

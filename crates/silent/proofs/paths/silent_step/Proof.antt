@@ -1,3 +1,4 @@
+-- What `silent_step` gives is what `stepped` says, case by case.
 use mathlib.Core.Path.{sym, _∙_}
 use borrow.Author.Needs.{needs}
 use Rattle.silent.proofs.laws.Settle.{step-stay, step-go}

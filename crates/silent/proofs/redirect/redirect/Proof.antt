@@ -1,3 +1,4 @@
+-- `redirect` keeps what `Redirected` says.
 use native.Mathlib.Omega.{arith}
 use Prim.Native.Nat.{_-_}
 use Rattle.silent.proofs.laws.Settle.{scan, redirect-first, redirect-whole, redirect-target, ended-lt}

@@ -1,3 +1,4 @@
+-- What `settled_at` gives is what `ended` says, case by case.
 use native.Mathlib.Omega.{arith}
 use mathlib.Core.Path.{ap}
 use Prim.Native.Nat.{_-_}
