@@ -36,8 +36,8 @@ use Rattle.renumbering.proofs.Names.{or-false, or-assoc, or-swap, put-o
 -- terms that are in order, each in its scope
 pub data Pending (N : Numbers) (ns : List Name) : Writtens → Type 0 where
   no-more : Pending N ns none
-  one-more : {w : Written} {ws : Writtens} (bs : List Binder) → Fine N ns bs w → Pending N ns ws → Pending N ns (more
-      w ws)
+  one-more : {w : Written} {ws : Writtens} (bs : List Binder) → Fine N ns bs w → Pending N ns ws → Pending N ns
+      (more w ws)
 
 -- terms and then others
 joined : Writtens → Writtens → Writtens
@@ -125,8 +125,8 @@ plain : (N : Numbers) (ns : List Name) (s : List ℕ) (at kind body : ℕ) (k : 
     Opened N ns s at kind body k taken w
 plain N ns s at kind body k taken w H ws c q m n T P e l B = record {
     head = H; parts = ws; then = taken; fine = P; bytes = e; long = l;
-    takes = subst (λ (x : List ℕ). Takes x taken) (took-nothing s k at kind (min (getD s (at + 3) 0) 4) (λ z. m (sym
-        q ∙ z))
+    takes = subst (λ (x : List ℕ). Takes x taken) (took-nothing s k at kind (min (getD s (at + 3) 0) 4)
+        (λ z. m (sym q ∙ z))
       (λ z. n (sym q ∙ z))) T;
     bound = λ id. ap (λ (x : Bool). taken id || x) (B id) }
 
@@ -149,22 +149,22 @@ module _ (N : Numbers) (ns : List Name) (s : List ℕ) (at kind body : ℕ) (k :
   open-term bs (truth v) F L =
       let q : kind ≡ 18 = e ∙ lies-head s (18 ∷ v ∷ []) at L in
       let i′ : body ≡ 1 = rw q at i in
-      plain N ns s at kind body k taken (truth v) (18 ∷ v ∷ []) none 18 q (λ z. omega (arith, z)) (λ z. omega (arith,
-          z)) T
+      plain N ns s at kind body k taken (truth v) (18 ∷ v ∷ []) none 18 q (λ z. omega (arith, z))
+          (λ z. omega (arith, z)) T
         no-more refl (omega (arith, i′)) (λ id. refl)
   open-term bs (number v) F L =
       let q : kind ≡ 19 = e ∙ lies-head s (19 ∷ v ∷ []) at L in
       let i′ : body ≡ 1 = rw q at i in
-      plain N ns s at kind body k taken (number v) (19 ∷ v ∷ []) none 19 q (λ z. omega (arith, z)) (λ z. omega
-          (arith, z))
+      plain N ns s at kind body k taken (number v) (19 ∷ v ∷ []) none 19 q (λ z. omega (arith, z))
+          (λ z. omega (arith, z))
         T no-more refl (omega (arith, i′)) (λ id. refl)
   open-term bs (call a ws) F L =
       let q : kind ≡ 20 = e ∙ lies-head s (20 ∷ a ∷ encodes ws) at L in
       let i′ : body ≡ 1 = rw q at i in
-      plain N ns s at kind body k taken (call a ws) (20 ∷ a ∷ []) ws 20 q (λ z. omega (arith, z)) (λ z. omega (arith,
-          z)) T
-        (all-pending N ns bs ws (use-arity N ns bs ws (meaning ns bs a) (F .1) .1)) refl (omega (arith, i′)) (λ id.
-            refl)
+      plain N ns s at kind body k taken (call a ws) (20 ∷ a ∷ []) ws 20 q (λ z. omega (arith, z))
+          (λ z. omega (arith, z)) T
+        (all-pending N ns bs ws (use-arity N ns bs ws (meaning ns bs a) (F .1) .1)) refl (omega (arith, i′))
+            (λ id. refl)
   open-term bs (fetch x) F L =
       let q : kind ≡ 21 = e ∙ lies-head s (21 ∷ encode x) at L in
       let i′ : body ≡ 0 = rw q at i in
@@ -174,8 +174,8 @@ module _ (N : Numbers) (ns : List Name) (s : List ℕ) (at kind body : ℕ) (k :
   open-term bs (operate op x y) F L =
       let q : kind ≡ 22 = e ∙ lies-head s (22 ∷ op ∷ (encode x ++ encode y)) at L in
       let i′ : body ≡ 1 = rw q at i in
-      plain N ns s at kind body k taken (operate op x y) (22 ∷ op ∷ []) (more x (more y none)) 22 q (λ z. omega
-          (arith, z))
+      plain N ns s at kind body k taken (operate op x y) (22 ∷ op ∷ []) (more x (more y none)) 22 q
+          (λ z. omega (arith, z))
         (λ z. omega (arith, z)) T (one-more bs (F .1) (one-more bs (F .3) no-more))
         (ap (λ (z : List ℕ). 22 ∷ op ∷ z) (two-bytes x y)) (omega (arith, i′))
         (λ id. ap (λ (z : Bool). isBound x id || z) (or-false (isBound y id)))
@@ -213,13 +213,13 @@ module _ (N : Numbers) (ns : List Name) (s : List ℕ) (at kind body : ℕ) (k :
       let i′ : body ≡ 2 = rw q at i in
       let p : getD s (at + 1) 0 ≡ a = lies-get s (27 ∷ a ∷ d ∷ encode x) at 1 L in
       record {
-        head = 27 ∷ a ∷ d ∷ []; parts = more x none; then = put a true taken; fine = one-more (a-block a d ∷ bs) (F
-            .4) no-more;
+        head = 27 ∷ a ∷ d ∷ []; parts = more x none; then = put a true taken; fine = one-more (a-block a d ∷ bs)
+            (F .4) no-more;
         bytes = ap (λ (z : List ℕ). 27 ∷ a ∷ d ∷ z) (one-bytes x); long = omega (arith, i′);
         takes = subst (λ (z : List ℕ). Takes z (put a true taken))
           (took-new s k (set k a 1) at kind a (min (getD s (at + 3) 0) 4) q (sym p) refl) (takes-put k taken a T);
-        bound = λ id. ap₂ (λ (u v : Bool). u || v) (put-or a taken id ∙ or-swap (eqb a id) (taken id)) (or-false
-            (isBound x id))
+        bound = λ id. ap₂ (λ (u v : Bool). u || v) (put-or a taken id ∙ or-swap (eqb a id) (taken id))
+            (or-false (isBound x id))
           ∙ or-assoc (taken id) (eqb a id) (isBound x id) }
   open-term bs (procedure a ty ps x y) F L =
       let q : kind ≡ 28 = e ∙ lies-head s (encode (procedure a ty ps x y)) at L in
@@ -245,8 +245,8 @@ module _ (N : Numbers) (ns : List Name) (s : List ℕ) (at kind body : ℕ) (k :
           let g : Bool = eqb a id in
           let t : Bool = taken id in
           let b : Bool = isBound x id || isBound y id in
-          ap₂ (λ (u v : Bool). u || (isBound x id || v)) (put-all ps (put a true taken) id
-            ∙ ap (λ (u : Bool). h || u) (put-or a taken id)) (or-false (isBound y id))
+          ap₂ (λ (u v : Bool). u || (isBound x id || v))
+            (put-all ps (put a true taken) id ∙ ap (λ (u : Bool). h || u) (put-or a taken id)) (or-false (isBound y id))
           ∙ shuffle h g t b }
 
 -- what is left to go through from a place on
@@ -280,8 +280,8 @@ bound-again S s k k′ at kind body next G h e u i z =
         let b : encode w ++ encodes ws ≡ H ++ (encodes vs ++ encodes ws) =
           ap (λ (x : List ℕ). x ++ encodes ws) (O .bytes) ∙ append-assoc H (encodes vs) (encodes ws) in
         let n : next ≡ at + length H = omega (arith, z, O .long) in
-        let l : length (encode w) ≡ length H + length (encodes vs) = ap length (O .bytes) ∙ length-append H (encodes
-            vs) in
+        let l : length (encode w) ≡ length H + length (encodes vs) = ap length (O .bytes) ∙ length-append H
+            (encodes vs) in
         record {
           pending = joined vs ws;
           fine = joined-pending (S .numbers) (S .names) vs ws (O .fine) P;

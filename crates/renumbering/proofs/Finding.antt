@@ -66,8 +66,8 @@ module _ (n : ℕ) (l : List ℕ) (r : Step) (b′ l′ k′ : List ℕ) where
       Found Then (over g A) n l r b′ l′ k′
   unfolding Found next over before
   parts-one Post Then g (renumbered x cs then) h F =
-      did-so Post Then (more x none) (g x) cs then (h x) (did-same Post (more x none) (cs ++ []) cs then (append-nil
-          cs) F)
+      did-so Post Then (more x none) (g x) cs then (h x)
+          (did-same Post (more x none) (cs ++ []) cs then (append-nil cs) F)
   parts-one Post Then g (none-left p) h F = F
 
   last-two : (Post : Posts Writtens) (Then : Posts Written) (g : Written → Written → Written) (x : Written)
@@ -95,8 +95,8 @@ module _ (n : ℕ) (l : List ℕ) (r : Step) (b′ l′ k′ : List ℕ) where
       Written)
       (cs ds : List Change) (C : Renumbering Written) →
       ((z : Written) (w : ℕ) → Post (more x (more y (more z none))) w b′ → Then (g x y z) w b′) →
-      Found Post (before cs (over (more x) (before ds (over (more y)
-        (next C (λ z u. over (more z) (renumbered none [] u))))))) n l r b′ l′ k′ →
+      Found Post (before cs (over (more x)
+        (before ds (over (more y) (next C (λ z u. over (more z) (renumbered none [] u))))))) n l r b′ l′ k′ →
       Found Then (before cs (before ds (over (g x y) C))) n l r b′ l′ k′
   unfolding Found next over before
   last-three Post Then g x y cs ds (renumbered z es then) h F =
@@ -109,8 +109,8 @@ module _ (n : ℕ) (l : List ℕ) (r : Step) (b′ l′ k′ : List ℕ) where
       Written)
       (cs : List Change) (B : Renumbering Written) (C : (ℕ → Bool) → Renumbering Written) →
       ((y z : Written) (w : ℕ) → Post (more x (more y (more z none))) w b′ → Then (g x y z) w b′) →
-      Found Post (before cs (over (more x) (next B (λ y t. over (more y)
-        (next (C t) (λ z u. over (more z) (renumbered none [] u))))))) n l r b′ l′ k′ →
+      Found Post (before cs (over (more x)
+        (next B (λ y t. over (more y) (next (C t) (λ z u. over (more z) (renumbered none [] u))))))) n l r b′ l′ k′ →
       Found Then (before cs (next B (λ y t. over (g x y) (C t)))) n l r b′ l′ k′
   unfolding Found next over before
   middle-three Post Then g x cs (renumbered y ds then) C h F = last-three Post Then g x y cs ds (C then) (h y) F
@@ -119,8 +119,8 @@ module _ (n : ℕ) (l : List ℕ) (r : Step) (b′ l′ k′ : List ℕ) where
   pub parts-three : (Post : Posts Writtens) (Then : Posts Written) (g : Written → Written → Written → Written)
       (A : Renumbering Written) (B C : (ℕ → Bool) → Renumbering Written) →
       ((x y z : Written) (w : ℕ) → Post (more x (more y (more z none))) w b′ → Then (g x y z) w b′) →
-      Found Post (next A (λ x t. over (more x) (next (B t) (λ y u. over (more y)
-        (next (C u) (λ z v. over (more z) (renumbered none [] v))))))) n l r b′ l′ k′ →
+      Found Post (next A (λ x t. over (more x) (next (B t)
+        (λ y u. over (more y) (next (C u) (λ z v. over (more z) (renumbered none [] v))))))) n l r b′ l′ k′ →
       Found Then (next A (λ x t. next (B t) (λ y u. over (g x y) (C u)))) n l r b′ l′ k′
   unfolding Found next
   parts-three Post Then g (renumbered x cs then) B C h F = middle-three Post Then g x cs (B then) C (h x) F
@@ -136,14 +136,14 @@ module _ (n : ℕ) (l : List ℕ) (r : Step) (b′ l′ k′ : List ℕ) where
         value = F .value;
         answer = F .answer ∙ ap (Done (F .value)) i;
         post = F .post;
-        list = F .list ∙ ap (λ x. notes n ds x) g ∙ ap (λ x. notes x ds (notes m cs l₀)) e ∙ sym (notes-append m cs
-            ds l₀);
+        list = F .list ∙ ap (λ x. notes n ds x) g ∙ ap (λ x. notes x ds (notes m cs l₀)) e ∙ sym
+            (notes-append m cs ds l₀);
         takes = F .takes }
   found-before Post (none-left p) m c l₀ cs e g F = F
 
 -- an id was wanting
-pub found-full : {X Y : Type 0} (Post : Posts X) (Then : Posts Y) (A : Renumbering X) (K : X → (ℕ → Bool) →
-    Renumbering Y)
+pub found-full : {X Y : Type 0} (Post : Posts X) (Then : Posts Y) (A : Renumbering X)
+    (K : X → (ℕ → Bool) → Renumbering Y)
     (n p : ℕ) (l : List ℕ) (r : Step) (b l₁ k b′ l′ k′ : List ℕ) → Found Post A n l r b l₁ k → r ≡ Full p →
     Found Then (next A K) n l r b′ l′ k′
 unfolding Found next
@@ -152,8 +152,8 @@ found-full Post Then (renumbered x cs then) K n p l r b l₁ k b′ l′ k′ F 
 found-full Post Then (none-left q) K n p l r b l₁ k b′ l′ k′ F e = F
 
 -- one and then the next
-pub found-next : {X Y : Type 0} (Post : Posts X) (Then : Posts Y) (A : Renumbering X) (K : X → (ℕ → Bool) →
-    Renumbering Y)
+pub found-next : {X Y : Type 0} (Post : Posts X) (Then : Posts Y) (A : Renumbering X)
+    (K : X → (ℕ → Bool) → Renumbering Y)
     (n w c : ℕ) (l : List ℕ) (x r : Step) (b₁ l₁ k₁ b′ l′ k′ : List ℕ) → Found Post A n l x b₁ l₁ k₁ → x ≡ Done w c →
     ((y : X) (then : ℕ → Bool) → Post y w b₁ → Takes k₁ then → Found Then (K y then) c l₁ r b′ l′ k′) →
     Found Then (next A K) n l r b′ l′ k′

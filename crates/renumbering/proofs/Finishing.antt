@@ -79,8 +79,8 @@ module _ (S : Sheet) (s : List ℕ) (root ty n : ℕ) (e : readEarlier s ≡ acc
   term-lies : Lies s root (encode (S .term))
   term-lies = record {
       rest = [];
-      here = ap₂ (λ (x : ℕ) (y : List ℕ). drop x y) (sym heading-long) own-bytes ∙ drop-append-seam heading (encode
-          (S .term))
+      here = ap₂ (λ (x : ℕ) (y : List ℕ). drop x y) (sym heading-long) own-bytes ∙ drop-append-seam heading
+          (encode (S .term))
         ∙ sym (append-nil (encode (S .term))) }
 
   -- the pass over its term
@@ -184,8 +184,8 @@ room s b l b′ l′ root v n x A W d h g =
     record {
       bytes = omega (arith, i, h, ap length (F .bytes), length-append B (drop (length s) b), F .wide,
         length-drop (length s) b);
-      list = omega (arith, g, F .few, F .count, ap length (F .list), length-append (listed (F .changes)) (drop (4 *
-          n) l),
+      list = omega (arith, g, F .few, F .count, ap length (F .list), length-append (listed (F .changes))
+          (drop (4 * n) l),
         listed-length (F .changes), length-drop (4 * n) l);
       few = F .few }
 
@@ -218,8 +218,8 @@ renumbers-done s b l b′ l′ out out′ list list′ root v n m x W d A h g o 
       let B : List ℕ = encodeSheet (withTerm S (F .term)) in
       let L : List ℕ = listed (F .changes) in
       let k : length L ≡ 4 * n = omega (arith, listed-length (F .changes), F .count) in
-      subst (λ (a : Renumbering Written). RenumberedBy (written S a) (Changed m) out out′ list list′) (sym (F
-          .renumbers))
+      subst (λ (a : Renumbering Written). RenumberedBy (written S a) (Changed m) out out′ list list′)
+          (sym (F .renumbers))
         (ap Changed (i ∙ F .count),
         o ∙ ap₂ (λ (y z : List ℕ). y ++ z) (ap (take (length s)) (F .bytes) ∙ take-at B (drop (length s) b) (length s)
           (F .wide)) (ap (λ (y : ℕ). drop y out) (sym (F .wide))),

@@ -132,8 +132,8 @@ module _ (S : Sheet) (s : List ℕ) (root : ℕ) (k scope : List ℕ) (at : ℕ)
       lies = lies-after s (encodeName n) (encodeNames rest) (encodeNames rest) at next L refl w;
       ends = omega (arith, E, w, length-append (encodeName n) (encodeNames rest));
       takes = takes-same (set k id 1) (put id true (isNamed earlier)) (isNamed (n ∷ earlier))
-        (λ j. put-or id (isNamed earlier) j ∙ ap (λ (g : ℕ → Bool). g j) (sym m)) (takes-put k (isNamed earlier) id
-            takes);
+        (λ j. put-or id (isNamed earlier) j ∙ ap (λ (g : ℕ → Bool). g j) (sym m))
+            (takes-put k (isNamed earlier) id takes);
       scoped = scoped-named earlier n scope id c scoped h i a o;
       named-all = λ j. ap (λ (g : ℕ → Bool). g j || isNamed rest j) m
         ∙ ap (λ (b : Bool). b || isNamed rest j) (or-swap (eqb id j) (isNamed earlier j))
@@ -206,8 +206,8 @@ pub name-last : (S : Sheet) (s : List ℕ) (root : ℕ) (k scope : List ℕ) (at
     at →
     Takes k (isNamed (S .names)) × Scoped (S .names) [] (λ id. id) scope
 unfolding isNamed declared meaning
-name-last S s root k scope at G h = go (G .earlier) (G .rest) (G .ends) (G .takes) (G .scoped) (G .named-all) (G
-    .means-all)
+name-last S s root k scope at G h = go (G .earlier) (G .rest) (G .ends) (G .takes) (G .scoped) (G .named-all)
+    (G .means-all)
   where
     go : (earlier rest : List Name) → at + length (encodeNames rest) ≡ root → Takes k (isNamed earlier) →
         Scoped earlier [] (λ id. id) scope →

@@ -66,8 +66,8 @@ module _ (N : Numbers) (ns : List Name) (s scope k : List ℕ) (bs : List Binder
         (P .does N ns bs f taken ws c (parts-given W H ws a G e i m d F))
 
   -- a record by its kind
-  module _ (kind body count : ℕ) (e : kind ≡ getD s at 0) (usage : kind ≡ 20 → CallFound s scope b l k left at n r b′
-      l′ k′)
+  module _ (kind body count : ℕ) (e : kind ≡ getD s at 0)
+      (usage : kind ≡ 20 → CallFound s scope b l k left at n r b′ l′ k′)
       (block : kind ≡ 27 → BlockFound s scope b l k left at n r b′ l′ k′)
       (routine : kind ≡ 28 → RoutineFound s scope b l k left at n r b′ l′ k′) (i : body ≡ bodyIn (shapeOf kind))
       (c : count ≡ partsIn (shapeOf kind)) (other : (kind ≡ 20 → ⊥) → (kind ≡ 27 → ⊥) → (kind ≡ 28 → ⊥) →
@@ -80,8 +80,8 @@ module _ (N : Numbers) (ns : List Name) (s scope k : List ℕ) (bs : List Binder
         let q : kind ≡ 16 = e ∙ lies-head s (16 ∷ []) at (G .lies) in
         let i′ : body ≡ 0 = rw q at i in
         let c′ : count ≡ 0 = rw q at c in
-        let F = at-parts skip (16 ∷ []) none (at + 1 + body) count (other (λ z. omega (arith, q, z)) (λ z. omega
-            (arith, q, z)) (λ z. omega (arith, q, z)))
+        let F = at-parts skip (16 ∷ []) none (at + 1 + body) count
+            (other (λ z. omega (arith, q, z)) (λ z. omega (arith, q, z)) (λ z. omega (arith, q, z)))
           G c′ refl (omega (arith, i′)) refl refl tt in
         parts-none n l r b′ l′ k′ (WroteAll (at + 1 + body) none b) (Wrote at skip b) skip taken
           (λ w A. wrote-all at (at + 1 + body) (16 ∷ []) skip skip none none b b′ w refl refl (omega (arith, i′))
@@ -91,8 +91,8 @@ module _ (N : Numbers) (ns : List Name) (s scope k : List ℕ) (bs : List Binder
         let q : kind ≡ 17 = e ∙ lies-head s (17 ∷ ty ∷ []) at (G .lies) in
         let i′ : body ≡ 1 = rw q at i in
         let c′ : count ≡ 0 = rw q at c in
-        let F = at-parts (diverge ty) (17 ∷ ty ∷ []) none (at + 1 + body) count (other (λ z. omega (arith, q, z)) (λ
-            z. omega (arith, q, z)) (λ z. omega (arith, q, z)))
+        let F = at-parts (diverge ty) (17 ∷ ty ∷ []) none (at + 1 + body) count
+            (other (λ z. omega (arith, q, z)) (λ z. omega (arith, q, z)) (λ z. omega (arith, q, z)))
           G c′ refl (omega (arith, i′)) refl
           refl tt in
         parts-none n l r b′ l′ k′ (WroteAll (at + 1 + body) none b) (Wrote at (diverge ty) b) (diverge ty) taken
@@ -102,8 +102,8 @@ module _ (N : Numbers) (ns : List Name) (s scope k : List ℕ) (bs : List Binder
         let q : kind ≡ 18 = e ∙ lies-head s (18 ∷ v ∷ []) at (G .lies) in
         let i′ : body ≡ 1 = rw q at i in
         let c′ : count ≡ 0 = rw q at c in
-        let F = at-parts (truth v) (18 ∷ v ∷ []) none (at + 1 + body) count (other (λ z. omega (arith, q, z)) (λ z.
-            omega (arith, q, z)) (λ z. omega (arith, q, z)))
+        let F = at-parts (truth v) (18 ∷ v ∷ []) none (at + 1 + body) count
+            (other (λ z. omega (arith, q, z)) (λ z. omega (arith, q, z)) (λ z. omega (arith, q, z)))
           G c′ refl (omega (arith, i′)) refl refl tt in
         parts-none n l r b′ l′ k′ (WroteAll (at + 1 + body) none b) (Wrote at (truth v) b) (truth v) taken
           (λ w A. wrote-all at (at + 1 + body) (18 ∷ v ∷ []) (truth v) (truth v) none none b b′ w refl refl
@@ -112,8 +112,8 @@ module _ (N : Numbers) (ns : List Name) (s scope k : List ℕ) (bs : List Binder
         let q : kind ≡ 19 = e ∙ lies-head s (19 ∷ v ∷ []) at (G .lies) in
         let i′ : body ≡ 1 = rw q at i in
         let c′ : count ≡ 0 = rw q at c in
-        let F = at-parts (number v) (19 ∷ v ∷ []) none (at + 1 + body) count (other (λ z. omega (arith, q, z)) (λ z.
-            omega (arith, q, z)) (λ z. omega (arith, q, z)))
+        let F = at-parts (number v) (19 ∷ v ∷ []) none (at + 1 + body) count
+            (other (λ z. omega (arith, q, z)) (λ z. omega (arith, q, z)) (λ z. omega (arith, q, z)))
           G c′ refl (omega (arith, i′)) refl refl
           tt in
         parts-none n l r b′ l′ k′ (WroteAll (at + 1 + body) none b) (Wrote at (number v) b) (number v) taken
@@ -125,11 +125,11 @@ module _ (N : Numbers) (ns : List Name) (s scope k : List ℕ) (bs : List Binder
         let q : kind ≡ 21 = e ∙ lies-head s (21 ∷ encode x) at (G .lies) in
         let i′ : body ≡ 0 = rw q at i in
         let c′ : count ≡ 1 = rw q at c in
-        let F = at-parts (fetch x) (21 ∷ []) (more x none) (at + 1 + body) count (other (λ z. omega (arith, q, z)) (λ
-            z. omega (arith, q, z)) (λ z. omega (arith, q, z)))
+        let F = at-parts (fetch x) (21 ∷ []) (more x none) (at + 1 + body) count
+            (other (λ z. omega (arith, q, z)) (λ z. omega (arith, q, z)) (λ z. omega (arith, q, z)))
           G c′
-          (ap (λ (z : List ℕ). 21 ∷ z) (one-bytes x)) (omega (arith, i′)) (omega arith) (omega arith) (G .fine .0,
-              tt) in
+          (ap (λ (z : List ℕ). 21 ∷ z) (one-bytes x)) (omega (arith, i′)) (omega arith) (omega arith)
+              (G .fine .0, tt) in
         parts-one n l r b′ l′ k′ (WroteAll (at + 1 + body) (more x none) b) (Wrote at (fetch x) b) fetch
           (renumber bs f taken (1 + at) x)
           (λ x′ w A. wrote-all at (at + 1 + body) (21 ∷ []) (fetch x) (fetch x′) (more x none) (more x′ none) b b′ w
@@ -141,8 +141,8 @@ module _ (N : Numbers) (ns : List Name) (s scope k : List ℕ) (bs : List Binder
         let c′ : count ≡ 2 = rw q at c in
         let h : (x y : Written) → encode (operate op x y) ≡ (22 ∷ op ∷ []) ++ encodes (more x (more y none)) =
           λ x y. ap (λ (z : List ℕ). 22 ∷ op ∷ z) (two-bytes x y) in
-        let F = at-parts (operate op x y) (22 ∷ op ∷ []) (more x (more y none)) (at + 1 + body) count (other (λ z.
-            omega (arith, q, z)) (λ z. omega (arith, q, z)) (λ z. omega (arith, q, z)))
+        let F = at-parts (operate op x y) (22 ∷ op ∷ []) (more x (more y none)) (at + 1 + body) count
+            (other (λ z. omega (arith, q, z)) (λ z. omega (arith, q, z)) (λ z. omega (arith, q, z)))
           G c′ (h x y)
           (omega (arith, i′)) (omega arith) (omega arith) (G .fine .1, (G .fine .3, tt)) in
         parts-two n l r b′ l′ k′ (WroteAll (at + 1 + body) (more x (more y none)) b) (Wrote at (operate op x y) b)
@@ -156,8 +156,8 @@ module _ (N : Numbers) (ns : List Name) (s scope k : List ℕ) (bs : List Binder
         let c′ : count ≡ 2 = rw q at c in
         let h : (x y : Written) → encode (assign x y) ≡ (23 ∷ []) ++ encodes (more x (more y none)) =
           λ x y. ap (λ (z : List ℕ). 23 ∷ z) (two-bytes x y) in
-        let F = at-parts (assign x y) (23 ∷ []) (more x (more y none)) (at + 1 + body) count (other (λ z. omega
-            (arith, q, z)) (λ z. omega (arith, q, z)) (λ z. omega (arith, q, z)))
+        let F = at-parts (assign x y) (23 ∷ []) (more x (more y none)) (at + 1 + body) count
+            (other (λ z. omega (arith, q, z)) (λ z. omega (arith, q, z)) (λ z. omega (arith, q, z)))
           G c′ (h x y)
           (omega (arith, i′)) (omega arith) (omega arith) (G .fine .0, (G .fine .2, tt)) in
         parts-two n l r b′ l′ k′ (WroteAll (at + 1 + body) (more x (more y none)) b) (Wrote at (assign x y) b)
@@ -170,8 +170,8 @@ module _ (N : Numbers) (ns : List Name) (s scope k : List ℕ) (bs : List Binder
         let c′ : count ≡ 2 = rw q at c in
         let h : (x y : Written) → encode (sequence x y) ≡ (24 ∷ []) ++ encodes (more x (more y none)) =
           λ x y. ap (λ (z : List ℕ). 24 ∷ z) (two-bytes x y) in
-        let F = at-parts (sequence x y) (24 ∷ []) (more x (more y none)) (at + 1 + body) count (other (λ z. omega
-            (arith, q, z)) (λ z. omega (arith, q, z)) (λ z. omega (arith, q, z)))
+        let F = at-parts (sequence x y) (24 ∷ []) (more x (more y none)) (at + 1 + body) count
+            (other (λ z. omega (arith, q, z)) (λ z. omega (arith, q, z)) (λ z. omega (arith, q, z)))
           G c′ (h x y)
           (omega (arith, i′)) (omega arith) (omega arith) (G .fine .0, (G .fine .2, tt)) in
         parts-two n l r b′ l′ k′ (WroteAll (at + 1 + body) (more x (more y none)) b) (Wrote at (sequence x y) b)
@@ -184,12 +184,12 @@ module _ (N : Numbers) (ns : List Name) (s scope k : List ℕ) (bs : List Binder
         let c′ : count ≡ 3 = rw q at c in
         let h : (x y z : Written) → encode (choose x y z) ≡ (25 ∷ []) ++ encodes (more x (more y (more z none))) =
           λ x y z. ap (λ (u : List ℕ). 25 ∷ u) (three-bytes x y z) in
-        let F = at-parts (choose x y z) (25 ∷ []) (more x (more y (more z none))) (at + 1 + body) count (other (λ z.
-            omega (arith, q, z)) (λ z. omega (arith, q, z)) (λ z. omega (arith, q, z)))
+        let F = at-parts (choose x y z) (25 ∷ []) (more x (more y (more z none))) (at + 1 + body) count
+            (other (λ z. omega (arith, q, z)) (λ z. omega (arith, q, z)) (λ z. omega (arith, q, z)))
           G c′ (h x y z)
           (omega (arith, i′)) (omega arith) (omega arith) (G .fine .0, (G .fine .2, (G .fine .3, tt))) in
-        parts-three n l r b′ l′ k′ (WroteAll (at + 1 + body) (more x (more y (more z none))) b) (Wrote at (choose x y
-            z) b)
+        parts-three n l r b′ l′ k′ (WroteAll (at + 1 + body) (more x (more y (more z none))) b)
+            (Wrote at (choose x y z) b)
           choose (renumber bs f taken (1 + at) x) (λ t. renumber bs f t (1 + at + width x) y)
           (λ t. renumber bs f t (1 + at + width x + width y) z)
           (λ x′ y′ z′ w A. wrote-all at (at + 1 + body) (25 ∷ []) (choose x y z) (choose x′ y′ z′)
@@ -201,8 +201,8 @@ module _ (N : Numbers) (ns : List Name) (s scope k : List ℕ) (bs : List Binder
         let c′ : count ≡ 2 = rw q at c in
         let h : (x y : Written) → encode (while x y) ≡ (26 ∷ []) ++ encodes (more x (more y none)) =
           λ x y. ap (λ (z : List ℕ). 26 ∷ z) (two-bytes x y) in
-        let F = at-parts (while x y) (26 ∷ []) (more x (more y none)) (at + 1 + body) count (other (λ z. omega
-            (arith, q, z)) (λ z. omega (arith, q, z)) (λ z. omega (arith, q, z)))
+        let F = at-parts (while x y) (26 ∷ []) (more x (more y none)) (at + 1 + body) count
+            (other (λ z. omega (arith, q, z)) (λ z. omega (arith, q, z)) (λ z. omega (arith, q, z)))
           G c′ (h x y)
           (omega (arith, i′)) (omega arith) (omega arith) (G .fine .0, (G .fine .2, tt)) in
         parts-two n l r b′ l′ k′ (WroteAll (at + 1 + body) (more x (more y none)) b) (Wrote at (while x y) b)

@@ -160,8 +160,8 @@ routine-full s scope b l k l₁ k₁ b′ left at n id p x i D e = record {
       rw (whole-of N ns s scope k bs f taken left at h ty ps X Y G)
       (found-full (Chosen b) (Wrote at (procedure h ty ps X Y) b) (renumberId bs taken (1 + at) h)
         (λ given t. parameters-of N ns s scope k bs f taken left at h ty ps X Y G given t) n p l x b l₁ k₁ b′ l₁ k₁
-        (id-at scope l k l₁ k₁ b at id h n x ns bs f taken D (id-is N ns s scope k bs f taken left at h ty ps X Y G
-            id i)
+        (id-at scope l k l₁ k₁ b at id h n x ns bs f taken D
+            (id-is N ns s scope k bs f taken left at h ty ps X Y G id i)
           (small N ns s scope k bs f taken left at h ty ps X Y G) (G .scoped) (G .takes)) e) }
 
 -- for one of its parameters
@@ -177,8 +177,8 @@ routine-full-parameter s scope inner b l k b₁ l₁ k₁ b₂ l₂ k₂ left at
       rw (whole-of N ns s scope k bs f taken left at h ty ps X Y G)
       (found-next (Chosen b) (Wrote at (procedure h ty ps X Y) b) (renumberId bs taken (1 + at) h)
         (λ given t. parameters-of N ns s scope k bs f taken left at h ty ps X Y G given t) n w m l x z b l₁ k₁ b₂ l₂ k₂
-        (id-at scope l k l₁ k₁ b at id h n x ns bs f taken D (id-is N ns s scope k bs f taken left at h ty ps X Y G
-            id i)
+        (id-at scope l k l₁ k₁ b at id h n x ns bs f taken D
+            (id-is N ns s scope k bs f taken left at h ty ps X Y G id i)
           (small N ns s scope k bs f taken left at h ty ps X Y G) (G .scoped) (G .takes)) d
         (λ given then C T.
           found-full (WroteParameters ns bs f (at + 4) 4 ps b₁ inner) (Wrote at (procedure h ty ps X Y) b)
@@ -204,8 +204,8 @@ routine-full-body s scope inner b l k b₁ l₁ k₁ b₂ l₂ k₂ b₃ l₃ k�
         (found-next (Chosen b) (Wrote at (procedure h ty ps X Y) b) (renumberId bs taken (1 + at) h)
           (λ given t. parameters-of N ns s scope k bs f taken left at h ty ps X Y G given t) n w m l x r b l₁ k₁ b₃
               l₃ k₃
-          (id-at scope l k l₁ k₁ b at id h n x ns bs f taken D (id-is N ns s scope k bs f taken left at h ty ps X Y G
-              id i)
+          (id-at scope l k l₁ k₁ b at id h n x ns bs f taken D
+              (id-is N ns s scope k bs f taken left at h ty ps X Y G id i)
             (small N ns s scope k bs f taken left at h ty ps X Y G) (G .scoped) (G .takes)) d
           (λ given then C T.
             found-next (WroteParameters ns bs f (at + 4) 4 ps b₁ inner) (Wrote at (procedure h ty ps X Y) b)

@@ -23,8 +23,8 @@ shared-slice-read-to c = omega arith
 slice-write-to : tie.Need-slice-write-to Inv-loop μ-loop
 slice-write-to c =
     copied-inside (c .before .before .before .args .from .now) (c .before .before .before .args .to .now) (c .before
-    .before .loop .to) (c .before .before .loop .i) (c .before .before .before .args .n) (c .before .before .before
-    .pre) (c .before .loop-test .taken) (c .before .before .loop .inv .1)
+    .before .loop .to) (c .before .before .loop .i) (c .before .before .before .args .n)
+    (c .before .before .before .pre) (c .before .loop-test .taken) (c .before .before .loop .inv .1)
 
 add-i : tie.Need-add-i Inv-loop μ-loop
 add-i c = omega arith
@@ -35,20 +35,20 @@ loop-less c = omega arith
 loop-again : tie.Need-loop-again Inv-loop μ-loop
 loop-again c =
     (omega arith, copied-again (c .before .before .before .args .from .now) (c .before .before .before .args .to
-    .now) (c .before .before .loop .to) (c .before .before .loop .i) (c .before .before .before .args .n) (c .before
-    .before .before .pre) (c .before .loop-test .taken) (c .before .before .loop .inv .1))
+    .now) (c .before .before .loop .to) (c .before .before .loop .i) (c .before .before .before .args .n)
+    (c .before .before .before .pre) (c .before .loop-test .taken) (c .before .before .loop .inv .1))
 
 same-length : tie.Need-same-length Inv-loop μ-loop
 same-length c =
-    copied-same (c .before .before .args .from .now) (c .before .before .args .to .now) (c .before .loop .to) (c
-    .before .loop .i) (c .before .before .args .n) (c .before .before .pre) (c .before .loop .inv .0) (c .before
-    .loop .inv .1)
+    copied-same (c .before .before .args .from .now) (c .before .before .args .to .now) (c .before .loop .to)
+    (c .before .loop .i) (c .before .before .args .n) (c .before .before .pre) (c .before .loop .inv .0)
+    (c .before .loop .inv .1)
 
 returns : tie.Need-returns Inv-loop μ-loop
 returns c =
-    copied-last (c .before .before .args .from .now) (c .before .before .args .to .now) (c .before .loop .to) (c
-    .before .loop .i) (c .before .before .args .n) (c .before .loop .inv .0) (c .loop-test .left) (c .before .loop
-    .inv .1)
+    copied-last (c .before .before .args .from .now) (c .before .before .args .to .now) (c .before .loop .to)
+    (c .before .loop .i) (c .before .before .args .n) (c .before .loop .inv .0) (c .loop-test .left)
+    (c .before .loop .inv .1)
 
 pub copy-spec : {M : Type 1} → statement M
 copy-spec =

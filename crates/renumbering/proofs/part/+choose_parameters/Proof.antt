@@ -68,11 +68,11 @@ module _ (t : ℕ) where
   choose-parameters-put-requires : choose-parameters-lts.Need-put-requires (choose-parameters-calls t)
       (choose-parameters-at t) choose-parameters.Post
   choose-parameters-put-requires c κs =
-      omega (arith, within-value _ _ _ _ _ (c .before .before .before .before .choose-id .ensures .within) (c .before
-      .before .x .given .1))
+      omega (arith, within-value _ _ _ _ _ (c .before .before .before .before .choose-id .ensures .within)
+      (c .before .before .x .given .1))
 
-  choose-parameters-bound-entry-requires : choose-parameters-lts.Need-bound-entry-requires (choose-parameters-calls
-      t) (choose-parameters-at t) choose-parameters.Post
+  choose-parameters-bound-entry-requires : choose-parameters-lts.Need-bound-entry-requires
+      (choose-parameters-calls t) (choose-parameters-at t) choose-parameters.Post
   choose-parameters-bound-entry-requires c κs =
       (omega (arith, within-value _ _ _ _ _ (c .before .before .before .before .before .before .choose-id .ensures
       .within) (c .before .before .before .before .x .given .1)), omega arith)
@@ -81,27 +81,27 @@ module _ (t : ℕ) where
       (choose-parameters-at t) choose-parameters.Post
   choose-parameters-enter-requires c κs = search needs
 
-  choose-parameters-add-choose-parameters : choose-parameters-lts.Need-add-choose-parameters (choose-parameters-calls
-      t) (choose-parameters-at t) choose-parameters.Post
+  choose-parameters-add-choose-parameters : choose-parameters-lts.Need-add-choose-parameters
+      (choose-parameters-calls t) (choose-parameters-at t) choose-parameters.Post
   choose-parameters-add-choose-parameters c = search needs
 
-  choose-parameters-sub-choose-parameters : choose-parameters-lts.Need-sub-choose-parameters (choose-parameters-calls
-      t) (choose-parameters-at t) choose-parameters.Post
+  choose-parameters-sub-choose-parameters : choose-parameters-lts.Need-sub-choose-parameters
+      (choose-parameters-calls t) (choose-parameters-at t) choose-parameters.Post
   choose-parameters-sub-choose-parameters c = search needs
 
   choose-parameters-choose-parameters-requires : choose-parameters-lts.Need-choose-parameters-requires
       (choose-parameters-calls t) (choose-parameters-at t) choose-parameters.Post
   choose-parameters-choose-parameters-requires c κs =
       omega (arith, within-changes _ _ _ _ _ (c .before .before .before .before .before .before .before .before
-      .before .before .before .before .choose-id .ensures .within) (c .before .before .before .before .before .before
-      .before .before .before .before .x .given .1))
+      .before .before .before .before .choose-id .ensures .within)
+      (c .before .before .before .before .before .before .before .before .before .before .x .given .1))
 
   choose-parameters-returns-2 : choose-parameters-lts.Need-returns-2 (choose-parameters-calls t)
       (choose-parameters-at t) choose-parameters.Post
   choose-parameters-returns-2 c =
       parameters-full _ _ _ _ _ _ _ _ _ _ _ _ _ _ _ _ (c .before .before .before .before .before .before .if1 .left)
-      (c .before .before .before .before .before .byte .ensures .0) (c .before .before .choose-id .ensures) (c
-      .enum-told .given .1)
+      (c .before .before .before .before .before .byte .ensures .0) (c .before .before .choose-id .ensures)
+      (c .enum-told .given .1)
 
   choose-parameters-returns-3 : choose-parameters-lts.Need-returns-3 (choose-parameters-calls t)
       (choose-parameters-at t) choose-parameters.Post
@@ -112,8 +112,8 @@ module _ (t : ℕ) where
       .before .before .byte .ensures .0) (c .before .before .before .before .before .before .before .before .before
       .before .before .before .before .choose-id .ensures) (c .before .before .before .before .before .before .before
       .before .before .before .before .x .given .1) (c .before .before .before .before .before .before .before
-      .before .put .ensures) (c .before .before .before .before .before .before .bound-entry .ensures .0) (c .before
-      .before .before .before .before .enter .ensures) refl refl (c .choose-parameters .ensures)
+      .before .put .ensures) (c .before .before .before .before .before .before .bound-entry .ensures .0)
+      (c .before .before .before .before .before .enter .ensures) refl refl (c .choose-parameters .ensures)
 
 pub +choose-parameters-spec : {M : Type 1} → statement M
 +choose-parameters-spec = close μ-choose-parameters λ t. choose-parameters-lts.spec (choose-parameters-calls t)

@@ -24,7 +24,7 @@ use Rattle.renumbering.proofs.part.renumber_parts.Kinds as renumber-par
 use Rattle.renumbering.proofs.part.+renumber_block+renumber_call+renumber_part+renumber_parts+renumber_routine.Lts-renumber_parts as renumber-parts-lts
 use Rattle.renumbering.proofs.part.renumber_routine.Reads as renumber-routine
 use Rattle.renumbering.proofs.part.renumber_routine.Kinds as renumber-routine-kinds
-use Rattle.renumbering.proofs.part.+renumber_block+renumber_call+renumber_part+renumber_parts+renumber_routine.Lts-renumber_routine as renumber-routine-lts
+use Rattle.renumbering.proofs.part.+renumber_block+renumber_call+renumber_part+renumber_parts+renumber_routine.Lts-renumber_routine as routine-lts
 use Rattle.forms.proofs.set.least.Reads as least-reads
 use Rattle.records.proofs.read.byte_at.Reads as byte-at-reads
 use Rattle.renumbering.proofs.bytes.byte.Reads as byte-reads
@@ -155,7 +155,7 @@ abbrev renumber-parts-calls : ℕ → renumber-parts-lts.Claims
 renumber-parts-calls t =
     (renumber-part-below t, renumber-part.Post, renumber-parts-below t, renumber-parts.Post)
 
-abbrev renumber-routine-calls : ℕ → renumber-routine-lts.Claims
+abbrev renumber-routine-calls : ℕ → routine-lts.Claims
 renumber-routine-calls t =
     (byte-reads.Asked, byte-reads.Learnt, least-reads.Asked, least-reads.Learnt, choose-id-reads.Asked,
     choose-id-reads.Learnt, put-reads.Asked, put-reads.Learnt, choose-parameters-reads.Asked,
@@ -195,8 +195,8 @@ module _ (t : ℕ) where
   renumber-block-put-requires : renumber-block-lts.Need-put-requires (renumber-block-calls t) (renumber-block-at t)
       renumber-block.Post
   renumber-block-put-requires c κs =
-      omega (arith, within-value _ _ _ _ _ (c .before .before .before .before .choose-id .ensures .within) (c .before
-      .before .x .given .1))
+      omega (arith, within-value _ _ _ _ _ (c .before .before .before .before .choose-id .ensures .within)
+      (c .before .before .x .given .1))
 
   renumber-block-bound-entry-requires : renumber-block-lts.Need-bound-entry-requires (renumber-block-calls t)
       (renumber-block-at t) renumber-block.Post
@@ -204,8 +204,8 @@ module _ (t : ℕ) where
       (omega (arith, within-value _ _ _ _ _ (c .before .before .before .before .before .before .before .choose-id
       .ensures .within) (c .before .before .before .before .before .x .given .1)), omega arith)
 
-  renumber-block-enter-requires : renumber-block-lts.Need-enter-requires (renumber-block-calls t) (renumber-block-at
-      t) renumber-block.Post
+  renumber-block-enter-requires : renumber-block-lts.Need-enter-requires (renumber-block-calls t)
+      (renumber-block-at t) renumber-block.Post
   renumber-block-enter-requires c κs = search needs
 
   renumber-block-add-renumber-part : renumber-block-lts.Need-add-renumber-part (renumber-block-calls t)
@@ -216,14 +216,14 @@ module _ (t : ℕ) where
       (renumber-block-at t) renumber-block.Post
   renumber-block-renumber-part-requires c κs =
       omega (arith, within-changes _ _ _ _ _ (c .before .before .before .before .before .before .before .before
-      .before .before .before .before .before .choose-id .ensures .within) (c .before .before .before .before .before
-      .before .before .before .before .before .before .x .given .1))
+      .before .before .before .before .before .choose-id .ensures .within)
+      (c .before .before .before .before .before .before .before .before .before .before .before .x .given .1))
 
   renumber-block-returns : renumber-block-lts.Need-returns (renumber-block-calls t) (renumber-block-at t)
       renumber-block.Post
   renumber-block-returns c =
-      block-full _ _ _ _ _ _ _ _ _ _ _ _ _ _ (c .before .before .before .before .before .byte .ensures .0) (c .before
-      .before .choose-id .ensures) (c .enum-told .given .1)
+      block-full _ _ _ _ _ _ _ _ _ _ _ _ _ _ (c .before .before .before .before .before .byte .ensures .0)
+      (c .before .before .choose-id .ensures) (c .enum-told .given .1)
 
   renumber-block-returns-2 : renumber-block-lts.Need-returns-2 (renumber-block-calls t) (renumber-block-at t)
       renumber-block.Post
@@ -233,8 +233,8 @@ module _ (t : ℕ) where
       .before .before .before .before .before .before .before .before .before .before .before .before .before .before
       .choose-id .ensures) (c .before .before .before .before .before .before .before .before .before .before .before
       .before .x .given .1) (c .before .before .before .before .before .before .before .before .before .put .ensures)
-      (c .before .before .before .before .before .before .bound-entry .ensures .0) (c .before .before .before .before
-      .before .enter .ensures) refl (c .renumber-part .ensures)
+      (c .before .before .before .before .before .before .bound-entry .ensures .0)
+      (c .before .before .before .before .before .enter .ensures) refl (c .renumber-part .ensures)
 
 -- renumber_call
 module _ (t : ℕ) where
@@ -253,8 +253,8 @@ module _ (t : ℕ) where
   renumber-call-add-put : renumber-call-lts.Need-add-put (renumber-call-calls t) (renumber-call-at t) renumber-call.Post
   renumber-call-add-put c = search needs
 
-  renumber-call-becomes-requires : renumber-call-lts.Need-becomes-requires (renumber-call-calls t) (renumber-call-at
-      t) renumber-call.Post
+  renumber-call-becomes-requires : renumber-call-lts.Need-becomes-requires (renumber-call-calls t)
+      (renumber-call-at t) renumber-call.Post
   renumber-call-becomes-requires c κs = search needs
 
   renumber-call-put-requires : renumber-call-lts.Need-put-requires (renumber-call-calls t) (renumber-call-at t)
@@ -278,8 +278,8 @@ module _ (t : ℕ) where
       call-found _ _ _ _ _ _ _ _ _ _ _ _ _ _ _ _ _ _ (c .before .before .before .before .before .before .before
       .before .before .before .byte .ensures .0) (c .before .before .before .before .before .before .before .before
       .word .ensures .0) (c .before .before .before .before .before .before .becomes .ensures .0) (c .before .before
-      .before .before .before .put .ensures) (c .before .before .before .before .arguments .ensures .0) refl (c
-      .renumber-parts .ensures)
+      .before .before .before .put .ensures) (c .before .before .before .before .arguments .ensures .0) refl
+      (c .renumber-parts .ensures)
 
 -- renumber_part
 module _ (t : ℕ) where
@@ -290,8 +290,8 @@ module _ (t : ℕ) where
       renumber-part.Post
   renumber-part-returns-2 c = part-past _ _ _ _ _ _ _ _ (c .if2 .taken)
 
-  renumber-part-byte-at-requires : renumber-part-lts.Need-byte-at-requires (renumber-part-calls t) (renumber-part-at
-      t) renumber-part.Post
+  renumber-part-byte-at-requires : renumber-part-lts.Need-byte-at-requires (renumber-part-calls t)
+      (renumber-part-at t) renumber-part.Post
   renumber-part-byte-at-requires c κs = search needs
 
   renumber-part-sub-renumber-block : renumber-part-lts.Need-sub-renumber-block (renumber-part-calls t)
@@ -307,9 +307,9 @@ module _ (t : ℕ) where
   renumber-part-returns-3 c =
       let e : c .before .before .before .before .before .before .before .before .before .args .left ≡ suc (c .before
       .before .before .before .before .before .before .before .before .args .left - 1) = omega (arith, c .before
-      .before .before .before .before .before .before .if1 .left) in part-block _ _ _ _ _ _ _ _ _ _ _ _ _ _ e (c
-      .before .before .before .before .before .byte-at .ensures) (c .before .before .before .before .if3 .taken) (c
-      .renumber-block .ensures)
+      .before .before .before .before .before .before .if1 .left) in part-block _ _ _ _ _ _ _ _ _ _ _ _ _ _ e
+      (c .before .before .before .before .before .byte-at .ensures) (c .before .before .before .before .if3 .taken)
+      (c .renumber-block .ensures)
 
   renumber-part-sub-renumber-routine : renumber-part-lts.Need-sub-renumber-routine (renumber-part-calls t)
       (renumber-part-at t) renumber-part.Post
@@ -322,11 +322,11 @@ module _ (t : ℕ) where
   renumber-part-returns-4 : renumber-part-lts.Need-returns-4 (renumber-part-calls t) (renumber-part-at t)
       renumber-part.Post
   renumber-part-returns-4 c =
-      let e : c .before .before .before .before .before .before .before .before .before .before .args .left ≡ suc (c
-      .before .before .before .before .before .before .before .before .before .before .args .left - 1) = omega
+      let e : c .before .before .before .before .before .before .before .before .before .before .args .left ≡ suc
+      (c .before .before .before .before .before .before .before .before .before .before .args .left - 1) = omega
       (arith, c .before .before .before .before .before .before .before .before .if1 .left) in part-routine _ _ _ _ _
-      _ _ _ _ _ _ _ _ _ e (c .before .before .before .before .before .before .byte-at .ensures) (c .before .before
-      .before .before .if4 .taken) (c .renumber-routine .ensures)
+      _ _ _ _ _ _ _ _ _ e (c .before .before .before .before .before .before .byte-at .ensures)
+      (c .before .before .before .before .if4 .taken) (c .renumber-routine .ensures)
 
   renumber-part-sub-renumber-call : renumber-part-lts.Need-sub-renumber-call (renumber-part-calls t)
       (renumber-part-at t) renumber-part.Post
@@ -349,8 +349,8 @@ module _ (t : ℕ) where
       renumber-part.Post
   renumber-part-add-from c = search needs
 
-  renumber-part-body-of-requires : renumber-part-lts.Need-body-of-requires (renumber-part-calls t) (renumber-part-at
-      t) renumber-part.Post
+  renumber-part-body-of-requires : renumber-part-lts.Need-body-of-requires (renumber-part-calls t)
+      (renumber-part-at t) renumber-part.Post
   renumber-part-body-of-requires c κs = search needs
 
   renumber-part-add-from-2 : renumber-part-lts.Need-add-from-2 (renumber-part-calls t) (renumber-part-at t)
@@ -414,76 +414,76 @@ module _ (t : ℕ) where
   renumber-parts-returns-2 : renumber-parts-lts.Need-returns-2 (renumber-parts-calls t) (renumber-parts-at t)
       renumber-parts.Post
   renumber-parts-returns-2 c =
-      parts-full _ _ _ _ _ _ _ _ _ _ _ _ _ _ (c .before .before .before .before .before .before .if1 .left) (c
-      .before .before .renumber-part .ensures) (c .enum-told .given .1)
+      parts-full _ _ _ _ _ _ _ _ _ _ _ _ _ _ (c .before .before .before .before .before .before .if1 .left)
+      (c .before .before .renumber-part .ensures) (c .enum-told .given .1)
 
   renumber-parts-returns-3 : renumber-parts-lts.Need-returns-3 (renumber-parts-calls t) (renumber-parts-at t)
       renumber-parts.Post
   renumber-parts-returns-3 c =
       parts-more _ _ _ _ _ _ _ _ _ _ _ _ _ _ _ _ _ _ _ _ (c .before .before .before .before .before .before .before
       .before .before .before .before .if1 .left) (c .before .before .before .before .before .before .before
-      .renumber-part .ensures) (c .before .before .before .before .before .x .given .1) refl (c .renumber-parts
-      .ensures)
+      .renumber-part .ensures) (c .before .before .before .before .before .x .given .1) refl
+      (c .renumber-parts .ensures)
 
 -- renumber_routine
 module _ (t : ℕ) where
-  renumber-routine-add-byte : renumber-routine-lts.Need-add-byte (renumber-routine-calls t) (renumber-routine-at t)
+  renumber-routine-add-byte : routine-lts.Need-add-byte (renumber-routine-calls t) (renumber-routine-at t)
       renumber-routine.Post
   renumber-routine-add-byte c = search needs
 
-  renumber-routine-byte-requires : renumber-routine-lts.Need-byte-requires (renumber-routine-calls t)
+  renumber-routine-byte-requires : routine-lts.Need-byte-requires (renumber-routine-calls t)
       (renumber-routine-at t) renumber-routine.Post
   renumber-routine-byte-requires c κs = search needs
 
-  renumber-routine-add-byte-2 : renumber-routine-lts.Need-add-byte-2 (renumber-routine-calls t) (renumber-routine-at
-      t) renumber-routine.Post
+  renumber-routine-add-byte-2 : routine-lts.Need-add-byte-2 (renumber-routine-calls t)
+      (renumber-routine-at t) renumber-routine.Post
   renumber-routine-add-byte-2 c = search needs
 
-  renumber-routine-byte-requires-2 : renumber-routine-lts.Need-byte-requires-2 (renumber-routine-calls t)
+  renumber-routine-byte-requires-2 : routine-lts.Need-byte-requires-2 (renumber-routine-calls t)
       (renumber-routine-at t) renumber-routine.Post
   renumber-routine-byte-requires-2 c κs = search needs
 
-  renumber-routine-least-requires : renumber-routine-lts.Need-least-requires (renumber-routine-calls t)
+  renumber-routine-least-requires : routine-lts.Need-least-requires (renumber-routine-calls t)
       (renumber-routine-at t) renumber-routine.Post
   renumber-routine-least-requires c κs = search needs
 
-  renumber-routine-add-choose-id : renumber-routine-lts.Need-add-choose-id (renumber-routine-calls t)
+  renumber-routine-add-choose-id : routine-lts.Need-add-choose-id (renumber-routine-calls t)
       (renumber-routine-at t) renumber-routine.Post
   renumber-routine-add-choose-id c = search needs
 
-  renumber-routine-choose-id-requires : renumber-routine-lts.Need-choose-id-requires (renumber-routine-calls t)
+  renumber-routine-choose-id-requires : routine-lts.Need-choose-id-requires (renumber-routine-calls t)
       (renumber-routine-at t) renumber-routine.Post
   renumber-routine-choose-id-requires c κs = search needs
 
-  renumber-routine-enum-known-own : renumber-routine-lts.Need-enum-known-own (renumber-routine-calls t)
+  renumber-routine-enum-known-own : routine-lts.Need-enum-known-own (renumber-routine-calls t)
       (renumber-routine-at t) renumber-routine.Post
   renumber-routine-enum-known-own c = search needs
 
-  renumber-routine-enum-told : renumber-routine-lts.Need-enum-told (renumber-routine-calls t) (renumber-routine-at t)
+  renumber-routine-enum-told : routine-lts.Need-enum-told (renumber-routine-calls t) (renumber-routine-at t)
       renumber-routine.Post
   renumber-routine-enum-told c = search needs
 
-  renumber-routine-returns : renumber-routine-lts.Need-returns (renumber-routine-calls t) (renumber-routine-at t)
+  renumber-routine-returns : routine-lts.Need-returns (renumber-routine-calls t) (renumber-routine-at t)
       renumber-routine.Post
   renumber-routine-returns c =
       routine-full _ _ _ _ _ _ _ _ _ _ _ _ _ _ (c .before .before .before .before .before .before .before .byte
       .ensures .0) (c .before .before .choose-id .ensures) (c .enum-told .given .1)
 
-  renumber-routine-add-put : renumber-routine-lts.Need-add-put (renumber-routine-calls t) (renumber-routine-at t)
+  renumber-routine-add-put : routine-lts.Need-add-put (renumber-routine-calls t) (renumber-routine-at t)
       renumber-routine.Post
   renumber-routine-add-put c = search needs
 
-  renumber-routine-put-requires : renumber-routine-lts.Need-put-requires (renumber-routine-calls t)
+  renumber-routine-put-requires : routine-lts.Need-put-requires (renumber-routine-calls t)
       (renumber-routine-at t) renumber-routine.Post
   renumber-routine-put-requires c κs =
-      omega (arith, within-value _ _ _ _ _ (c .before .before .before .before .choose-id .ensures .within) (c .before
-      .before .own .given .1))
+      omega (arith, within-value _ _ _ _ _ (c .before .before .before .before .choose-id .ensures .within)
+      (c .before .before .own .given .1))
 
-  renumber-routine-add-first : renumber-routine-lts.Need-add-first (renumber-routine-calls t) (renumber-routine-at t)
+  renumber-routine-add-first : routine-lts.Need-add-first (renumber-routine-calls t) (renumber-routine-at t)
       renumber-routine.Post
   renumber-routine-add-first c = search needs
 
-  renumber-routine-choose-parameters-requires : renumber-routine-lts.Need-choose-parameters-requires
+  renumber-routine-choose-parameters-requires : routine-lts.Need-choose-parameters-requires
       (renumber-routine-calls t) (renumber-routine-at t) renumber-routine.Post
   renumber-routine-choose-parameters-requires c κs =
       omega (arith, within-changes _ _ _ _ _ (c .before .before .before .before .before .before .before .before
@@ -491,15 +491,15 @@ module _ (t : ℕ) where
       .own .given .1), c .before .before .before .before .before .before .before .before .before .before .before
       .before .before .least .ensures)
 
-  renumber-routine-enum-known-y : renumber-routine-lts.Need-enum-known-y (renumber-routine-calls t)
+  renumber-routine-enum-known-y : routine-lts.Need-enum-known-y (renumber-routine-calls t)
       (renumber-routine-at t) renumber-routine.Post
   renumber-routine-enum-known-y c = search needs
 
-  renumber-routine-enum-told-2 : renumber-routine-lts.Need-enum-told-2 (renumber-routine-calls t)
+  renumber-routine-enum-told-2 : routine-lts.Need-enum-told-2 (renumber-routine-calls t)
       (renumber-routine-at t) renumber-routine.Post
   renumber-routine-enum-told-2 c = search needs
 
-  renumber-routine-returns-2 : renumber-routine-lts.Need-returns-2 (renumber-routine-calls t) (renumber-routine-at t)
+  renumber-routine-returns-2 : routine-lts.Need-returns-2 (renumber-routine-calls t) (renumber-routine-at t)
       renumber-routine.Post
   renumber-routine-returns-2 c =
       routine-full-parameter _ _ _ _ _ _ _ _ _ _ _ _ _ _ _ _ _ _ _ _ _ _ _ (c .before .before .before .before .before
@@ -511,14 +511,14 @@ module _ (t : ℕ) where
       .ensures) (c .before .before .before .before .before .before .before .before .before .before .before .own
       .given .1) (c .before .before .choose-parameters .ensures) (c .enum-told2 .given .1)
 
-  renumber-routine-add-from : renumber-routine-lts.Need-add-from (renumber-routine-calls t) (renumber-routine-at t)
+  renumber-routine-add-from : routine-lts.Need-add-from (renumber-routine-calls t) (renumber-routine-at t)
       renumber-routine.Post
   renumber-routine-add-from c =
       omega (arith, c .before .before .before .before .before .before .before .before .before .before .before .before
       .before .before .before .before .before .before .before .before .before .pre .1 .2)
 
-  renumber-routine-renumber-part-requires : renumber-routine-lts.Need-renumber-part-requires (renumber-routine-calls
-      t) (renumber-routine-at t) renumber-routine.Post
+  renumber-routine-renumber-part-requires : routine-lts.Need-renumber-part-requires
+      (renumber-routine-calls t) (renumber-routine-at t) renumber-routine.Post
   renumber-routine-renumber-part-requires c κs =
       omega (arith, c .before .before .before .before .before .before .before .before .before .before .before .before
       .before .before .before .before .before .before .before .before .before .before .before .before .before .pre
@@ -536,15 +536,15 @@ module _ (t : ℕ) where
       .before .before .before .before .before .before .before .before .before .before .before .before .before .before
       .before .before .before .least .ensures)
 
-  renumber-routine-enum-known-z : renumber-routine-lts.Need-enum-known-z (renumber-routine-calls t)
+  renumber-routine-enum-known-z : routine-lts.Need-enum-known-z (renumber-routine-calls t)
       (renumber-routine-at t) renumber-routine.Post
   renumber-routine-enum-known-z c = search needs
 
-  renumber-routine-enum-told-3 : renumber-routine-lts.Need-enum-told-3 (renumber-routine-calls t)
+  renumber-routine-enum-told-3 : routine-lts.Need-enum-told-3 (renumber-routine-calls t)
       (renumber-routine-at t) renumber-routine.Post
   renumber-routine-enum-told-3 c = search needs
 
-  renumber-routine-returns-3 : renumber-routine-lts.Need-returns-3 (renumber-routine-calls t) (renumber-routine-at t)
+  renumber-routine-returns-3 : routine-lts.Need-returns-3 (renumber-routine-calls t) (renumber-routine-at t)
       renumber-routine.Post
   renumber-routine-returns-3 c =
       routine-full-body _ _ _ _ _ _ _ _ _ _ _ _ _ _ _ _ _ _ _ _ _ _ _ _ _ _ _ _ _ (c .before .before .before .before
@@ -556,12 +556,12 @@ module _ (t : ℕ) where
       .before .before .before .before .before .before .before .least .ensures) (c .before .before .before .before
       .before .before .before .before .before .before .before .before .before .before .before .before .before .before
       .before .before .before .choose-id .ensures) (c .before .before .before .before .before .before .before .before
-      .before .before .before .before .before .before .before .before .before .before .before .own .given .1) (c
-      .before .before .before .before .before .before .before .before .before .before .choose-parameters .ensures) (c
-      .before .before .before .before .before .before .before .before .y .given .1) (c .before .before .renumber-part
-      .ensures) (c .enum-told3 .given .1)
+      .before .before .before .before .before .before .before .before .before .before .before .own .given .1)
+      (c .before .before .before .before .before .before .before .before .before .before .choose-parameters .ensures)
+      (c .before .before .before .before .before .before .before .before .y .given .1)
+      (c .before .before .renumber-part .ensures) (c .enum-told3 .given .1)
 
-  renumber-routine-bound-entry-requires : renumber-routine-lts.Need-bound-entry-requires (renumber-routine-calls t)
+  renumber-routine-bound-entry-requires : routine-lts.Need-bound-entry-requires (renumber-routine-calls t)
       (renumber-routine-at t) renumber-routine.Post
   renumber-routine-bound-entry-requires c κs =
       (omega (arith, within-value _ _ _ _ _ (c .before .before .before .before .before .before .before .before
@@ -572,11 +572,11 @@ module _ (t : ℕ) where
       .before .before .before .before .before .before .before .before .before .before .before .before .before .before
       .before .before .before .before .least .ensures))
 
-  renumber-routine-enter-requires : renumber-routine-lts.Need-enter-requires (renumber-routine-calls t)
+  renumber-routine-enter-requires : routine-lts.Need-enter-requires (renumber-routine-calls t)
       (renumber-routine-at t) renumber-routine.Post
   renumber-routine-enter-requires c κs = search needs
 
-  renumber-routine-renumber-part-requires-2 : renumber-routine-lts.Need-renumber-part-requires-2
+  renumber-routine-renumber-part-requires-2 : routine-lts.Need-renumber-part-requires-2
       (renumber-routine-calls t) (renumber-routine-at t) renumber-routine.Post
   renumber-routine-renumber-part-requires-2 c κs =
       omega (arith, c .before .before .before .before .before .before .before .before .before .before .before .before
@@ -588,10 +588,10 @@ module _ (t : ℕ) where
       .before .before .before .before .before .before .before .before .before .before .renumber-part .ensures
       .onward) (c .before .before .before .before .before .before .before .before .before .z .given .1),
       onward-changes _ _ _ (c .before .before .before .before .before .before .before .before .before .before .before
-      .renumber-part .ensures .onward) (c .before .before .before .before .before .before .before .before .before .z
-      .given .1))
+      .renumber-part .ensures .onward)
+      (c .before .before .before .before .before .before .before .before .before .z .given .1))
 
-  renumber-routine-returns-4 : renumber-routine-lts.Need-returns-4 (renumber-routine-calls t) (renumber-routine-at t)
+  renumber-routine-returns-4 : routine-lts.Need-returns-4 (renumber-routine-calls t) (renumber-routine-at t)
       renumber-routine.Post
   renumber-routine-returns-4 c =
       routine-found _ _ _ _ _ _ _ _ _ _ _ _ _ _ _ _ _ _ _ _ _ _ _ _ _ _ _ _ _ _ _ _ _ _ _ _ (c .before .before
@@ -614,9 +614,9 @@ module _ (t : ℕ) where
       .before .before .before .choose-parameters .ensures) (c .before .before .before .before .before .before .before
       .before .before .before .before .before .before .before .before .before .before .before .y .given .1) (c
       .before .before .before .before .before .before .before .before .before .before .before .before .renumber-part
-      .ensures) (c .before .before .before .before .before .before .before .before .before .before .z .given .1) (c
-      .before .before .before .before .before .before .bound-entry .ensures .0) (c .before .before .before .before
-      .before .enter .ensures) (c .renumber-part2 .ensures)
+      .ensures) (c .before .before .before .before .before .before .before .before .before .before .z .given .1)
+      (c .before .before .before .before .before .before .bound-entry .ensures .0)
+      (c .before .before .before .before .before .enter .ensures) (c .renumber-part2 .ensures)
 
 pub +renumber-block+renumber-call+renumber-part+renumber-parts+renumber-routine-spec :
     {M : Type 1} → statement M
@@ -690,7 +690,7 @@ pub +renumber-block+renumber-call+renumber-part+renumber-parts+renumber-routine-
     (renumber-parts-renumber-parts-requires t)
     (renumber-parts-returns-2 t)
     (renumber-parts-returns-3 t))
-    λ t. renumber-routine-lts.spec (renumber-routine-calls t)
+    λ t. routine-lts.spec (renumber-routine-calls t)
     (renumber-routine-at t)
     renumber-routine.Post
     (renumber-routine-add-byte t)

@@ -15,8 +15,8 @@ held-requires c κs = search needs
 
 returns : tie.Need-returns
 returns c =
-    id-kept _ _ _ _ _ _ _ _ (omega arith) (c .before .before .word .ensures .0) (c .before .held .ensures) (not-true
-    _ (c .if1 .taken))
+    id-kept _ _ _ _ _ _ _ _ (omega arith) (c .before .before .word .ensures .0) (c .before .held .ensures)
+    (not-true _ (c .if1 .taken))
 
 lowest-free-requires : tie.Need-lowest-free-requires
 lowest-free-requires c κs = search needs
@@ -24,8 +24,8 @@ lowest-free-requires c κs = search needs
 returns-2 : tie.Need-returns-2
 returns-2 c =
     id-none _ _ _ _ _ _ _ _ _ (c .before .before .before .before .before .before .word .ensures .0) (c .before
-    .before .before .before .before .held .ensures) (not-false _ (c .before .before .before .before .if1 .left)) (c
-    .before .lowest-free .ensures .0) (c .if2 .taken)
+    .before .before .before .before .held .ensures) (not-false _ (c .before .before .before .before .if1 .left))
+    (c .before .lowest-free .ensures .0) (c .if2 .taken)
 
 note-change-requires : tie.Need-note-change-requires
 note-change-requires c κs = search needs
@@ -41,8 +41,8 @@ returns-3 c =
     id-given _ _ _ _ _ _ _ _ _ _ _ _ (c .before .before .before .before .before .before .before .before .before
     .before .word .ensures .0) (c .before .before .before .before .before .before .before .before .before .held
     .ensures) (not-false _ (c .before .before .before .before .before .before .before .before .if1 .left)) (c .before
-    .before .before .before .before .lowest-free .ensures .0) (c .before .before .before .before .if2 .left) (c
-    .before .before .note-change .ensures) (c .put .ensures) refl
+    .before .before .before .before .lowest-free .ensures .0) (c .before .before .before .before .if2 .left)
+    (c .before .before .note-change .ensures) (c .put .ensures) refl
 
 pub choose-id-spec : {M : Type 1} → statement M
 choose-id-spec =

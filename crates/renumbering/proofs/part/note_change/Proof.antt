@@ -30,8 +30,8 @@ put-requires-4 c κs = search needs
 
 returns : tie.Need-returns
 returns c =
-    noted _ _ _ _ _ _ _ _ _ (c .before .before .before .before .before .before .put .ensures) (c .before .before
-    .before .before .put2 .ensures) (c .before .before .put3 .ensures) (c .put4 .ensures)
+    noted _ _ _ _ _ _ _ _ _ (c .before .before .before .before .before .before .put .ensures)
+    (c .before .before .before .before .put2 .ensures) (c .before .before .put3 .ensures) (c .put4 .ensures)
 
 pub note-change-spec : {M : Type 1} → statement M
 note-change-spec =

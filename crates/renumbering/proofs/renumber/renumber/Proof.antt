@@ -21,12 +21,12 @@ too-short-requires c κs = search needs
 
 returns : tie.Need-returns
 returns c =
-    service-short (c .before .before .before .before .before .before .before .before .before .args .s .now) (c
-    .before .before .before .before .before .before .before .before .before .args .out .now) (c .before .before
+    service-short (c .before .before .before .before .before .before .before .before .before .args .s .now)
+    (c .before .before .before .before .before .before .before .before .before .args .out .now) (c .before .before
     .before .before .before .before .before .before .before .args .list .now) _ _ (accepted-of (c .before .before
     .before .before .before .before .before .before .before .args .s .now) _ _ (c .before .before .before .before
-    .before .read-earlier .ensures) (c .before .before .before .x2 .given .1)) (c .before .if1 .taken) (c .too-short
-    .ensures)
+    .before .read-earlier .ensures) (c .before .before .before .x2 .given .1)) (c .before .if1 .taken)
+    (c .too-short .ensures)
 
 too-short-requires-2 : tie.Need-too-short-requires-2
 too-short-requires-2 c κs = search needs
@@ -35,8 +35,8 @@ returns-2 : tie.Need-returns-2
 returns-2 c =
     service-narrow (c .before .before .before .before .before .before .before .before .before .before .args .s .now)
     (c .before .before .before .before .before .before .before .before .before .before .args .out .now) (c .before
-    .before .before .before .before .before .before .before .before .before .args .list .now) _ _ (accepted-of (c
-    .before .before .before .before .before .before .before .before .before .before .args .s .now) _ _ (c .before
+    .before .before .before .before .before .before .before .before .before .args .list .now) _ _ (accepted-of
+    (c .before .before .before .before .before .before .before .before .before .before .args .s .now) _ _ (c .before
     .before .before .before .before .before .read-earlier .ensures) (c .before .before .before .before .x2 .given
     .1)) (c .before .before .if1 .left) (c .before .if2 .taken) (c .too-short2 .ensures)
 

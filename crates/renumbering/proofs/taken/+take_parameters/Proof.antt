@@ -46,8 +46,8 @@ module _ (t : ℕ) where
       (take-parameters-at t) take-parameters.Post
   take-parameters-byte-requires c κs = search needs
 
-  take-parameters-put-requires : take-parameters-lts.Need-put-requires (take-parameters-calls t) (take-parameters-at
-      t) take-parameters.Post
+  take-parameters-put-requires : take-parameters-lts.Need-put-requires (take-parameters-calls t)
+      (take-parameters-at t) take-parameters.Post
   take-parameters-put-requires c κs = search needs
 
   take-parameters-add-take-parameters : take-parameters-lts.Need-add-take-parameters (take-parameters-calls t)
@@ -58,8 +58,8 @@ module _ (t : ℕ) where
       (take-parameters-at t) take-parameters.Post
   take-parameters-sub-take-parameters c = search needs
 
-  take-parameters-take-parameters-requires : take-parameters-lts.Need-take-parameters-requires (take-parameters-calls
-      t) (take-parameters-at t) take-parameters.Post
+  take-parameters-take-parameters-requires : take-parameters-lts.Need-take-parameters-requires
+      (take-parameters-calls t) (take-parameters-at t) take-parameters.Post
   take-parameters-take-parameters-requires c κs = search needs
 
   take-parameters-returns-2 : take-parameters-lts.Need-returns-2 (take-parameters-calls t) (take-parameters-at t)

@@ -36,13 +36,13 @@ loop-less c = omega arith
 loop-again : tie.Need-loop-again Inv-loop μ-loop
 loop-again c =
     (omega arith, lowest-again (c .before .before .before .before .before .args .taken .now) (c .before .before
-    .before .loop .id) _ (c .before .before .loop-test .taken) (c .before .before .before .loop .inv .1) (c .before
-    .byte .ensures .0) (c .if1 .left))
+    .before .loop .id) _ (c .before .before .loop-test .taken) (c .before .before .before .loop .inv .1)
+    (c .before .byte .ensures .0) (c .if1 .left))
 
 returns-2 : tie.Need-returns-2 Inv-loop μ-loop
 returns-2 c =
-    (lowest-last (c .before .before .before .args .taken .now) (c .before .loop .id) (omega arith) (c .before .loop
-    .inv .1), omega arith)
+    (lowest-last (c .before .before .before .args .taken .now) (c .before .loop .id) (omega arith)
+    (c .before .loop .inv .1), omega arith)
 
 pub lowest-free-spec : {M : Type 1} → statement M
 lowest-free-spec =

@@ -40,13 +40,13 @@ loop-again c =
     (omega (arith, c .body-of .ensures .1), bounds-again (c .before .before .before .before .before .before .before
     .args .s .now) (c .before .before .before .before .before .before .before .args .root) _ _ _ (c .before .before
     .before .before .before .loop .at) _ _ _ (c .before .before .before .before .before .loop .inv .1) (c .before
-    .before .before .before .loop-test .taken) (c .before .before .before .byte-at .ensures) (c .before .take-ids
-    .ensures) (c .body-of .ensures .0) refl)
+    .before .before .before .loop-test .taken) (c .before .before .before .byte-at .ensures)
+    (c .before .take-ids .ensures) (c .body-of .ensures .0) refl)
 
 returns : tie.Need-returns Inv-loop μ-loop
 returns c =
-    bounds-last (c .before .before .before .args .s .now) (c .before .before .before .args .root) _ _ (c .before
-    .loop .at) (c .before .loop .inv .1) (c .loop-test .left)
+    bounds-last (c .before .before .before .args .s .now) (c .before .before .before .args .root) _ _
+    (c .before .loop .at) (c .before .loop .inv .1) (c .loop-test .left)
 
 pub take-bound-spec : {M : Type 1} → statement M
 take-bound-spec =

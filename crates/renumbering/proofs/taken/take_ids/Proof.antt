@@ -39,10 +39,10 @@ take-parameters-requires c κs = search needs
 returns-2 : tie.Need-returns-2
 returns-2 c =
     took-procedure (c .before .before .before .before .before .before .before .before .before .before .args .s .now)
-    _ _ _ (c .before .before .before .before .before .before .before .before .before .before .args .at) _ _ _ _ (c
-    .before .before .before .before .before .before .before .if1 .left) (c .before .before .before .before .before
-    .before .if2 .taken) (c .before .before .before .before .before .before .before .before .byte .ensures .0) (c
-    .before .before .before .before .before .byte2 .ensures .0) (c .before .before .before .before .least .ensures)
+    _ _ _ (c .before .before .before .before .before .before .before .before .before .before .args .at) _ _ _ _
+    (c .before .before .before .before .before .before .before .if1 .left) (c .before .before .before .before .before
+    .before .if2 .taken) (c .before .before .before .before .before .before .before .before .byte .ensures .0)
+    (c .before .before .before .before .before .byte2 .ensures .0) (c .before .before .before .before .least .ensures)
     (c .before .before .put2 .ensures) (c .take-parameters .ensures)
 
 returns-3 : tie.Need-returns-3

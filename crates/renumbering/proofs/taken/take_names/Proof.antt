@@ -66,8 +66,8 @@ loop-again c =
 
 returns : tie.Need-returns Inv-loop μ-loop
 returns c =
-    named-last (c .before .before .before .args .s .now) (c .before .before .before .args .root) _ _ _ _ (c .before
-    .loop .at) (c .before .loop .inv .1) (c .loop-test .left)
+    named-last (c .before .before .before .args .s .now) (c .before .before .before .args .root) _ _ _ _
+    (c .before .loop .at) (c .before .loop .inv .1) (c .loop-test .left)
 
 pub take-names-spec : {M : Type 1} → statement M
 take-names-spec =
