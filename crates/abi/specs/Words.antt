@@ -38,16 +38,20 @@ kind-apart = 4
 abbrev pub kind-renumbered : ℕ
 kind-renumbered = 5
 
+-- how many numbers a word of 32 bits can be
+abbrev pub word-values : ℕ
+word-values = 4294967296
+
 -- a number in two words: its low 32 bits, and the others
 abbrev pub lowHalf : ℕ → ℕ
-lowHalf v = v % 4294967296
+lowHalf v = v % word-values
 
 abbrev pub highHalf : ℕ → ℕ
-highHalf v = v / 4294967296
+highHalf v = v / word-values
 
 -- nothing is lost by it
 abbrev pub GivenWhole : Type 0
-GivenWhole = (v : ℕ) → lowHalf v + 4294967296 * highHalf v ≡ v
+GivenWhole = (v : ℕ) → lowHalf v + word-values * highHalf v ≡ v
 
 -- a refusal: number, sheet (0 old, 1 new, 2 both) and place
 unfoldable pub refusalWords : Cause → List ℕ

@@ -9,9 +9,16 @@ pub data Given : Type 0 where
   moves : List (List ℕ) → Given
   bad : ℕ → Given
 
--- how many bytes a record of a kind has: kinds 5 and 6 have a value
+-- the first kind of moves with a value, and the first number that is no kind
+abbrev pub valued : ℕ
+valued = 5
+
+abbrev pub kinds : ℕ
+kinds = 7
+
+-- how many bytes a record of a kind has
 abbrev pub width : ℕ → ℕ
-width kind = pick (ltb kind 5) 3 4
+width kind = pick (ltb kind valued) 3 4
 
 -- one record more at the start
 unfoldable pub preceded : List ℕ → Given → Given
@@ -23,8 +30,8 @@ unfoldable pub parse : ℕ → List ℕ → Given
 parse at [] = moves []
 parse at (k ∷ []) = bad at
 parse at (k ∷ i ∷ []) = bad at
-parse at (k ∷ i ∷ j ∷ []) = pick (ltb k 5) (moves ((k ∷ i ∷ j ∷ []) ∷ [])) (bad at)
+parse at (k ∷ i ∷ j ∷ []) = pick (ltb k valued) (moves ((k ∷ i ∷ j ∷ []) ∷ [])) (bad at)
 parse at (k ∷ i ∷ j ∷ v ∷ s) =
     let three = preceded (k ∷ i ∷ j ∷ []) (parse (at + 3) (v ∷ s)) in
     let four = preceded (k ∷ i ∷ j ∷ v ∷ []) (parse (at + 4) s) in
-    pick (ltb k 5) three (pick (ltb k 7) four (bad at))
+    pick (ltb k valued) three (pick (ltb k kinds) four (bad at))

@@ -50,12 +50,19 @@ unfoldable pub onGiven : Given → Option Cause
 onGiven (moves rs) = none
 onGiven (bad place) = refusing bad-play old-sheet place
 
+-- how many words are asked for each state, and how many bytes of play space for each move
+abbrev pub words-a-state : ℕ
+words-a-state = 32
+
+abbrev pub bytes-a-move : ℕ
+bytes-a-move = 4
+
 -- words that are asked for, for sizes that add up to n, and bytes of play space
 abbrev pub words-asked : ℕ → ℕ
-words-asked n = 32 * (n + 1)
+words-asked n = words-a-state * (n + 1)
 
 abbrev pub bytes-asked : ℕ → ℕ
-bytes-asked n = 4 * (n - 1)
+bytes-asked n = bytes-a-move * (n - 1)
 
 -- follow on a sheet, a play and so many words
 unfoldable pub followRefusal : List ℕ → List ℕ → ℕ → Option Cause

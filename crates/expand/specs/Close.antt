@@ -6,6 +6,7 @@ use mathlib.Core.Bool.{Bool, true, false}
 use lib.ListN.{getD, set}
 use lib.Dec.{eqb, ltb}
 use Rattle.language.specs.Choice.{pick}
+use Rattle.records.specs.Limits.{held-at}
 use Rattle.records.specs.Row.{cell}
 use Rattle.procedures.specs.PartKind.{NAME, FETCH, OPERATE, ASSIGN, SEQUENCE, IF, WHILE, NEW, PRIVATE, KIND, CLASS}
 use Rattle.procedures.specs.PartKind.{VALUES, DETAIL, PARTS, PROCEDURE, USE}
@@ -124,7 +125,7 @@ leafWeight kind = pick (eqb kind NAME) 2 (pick (eqb kind PRIVATE) 2 1)
 -- the rows with the row n for the part at a place
 unfoldable pub closedRow : List ℕ → List ℕ → List ℕ → ℕ → ℕ → ℕ → ℕ → ℕ → ℕ → List ℕ
 closedRow t slots rows at n a b c d =
-    partsPut (headPut rows n (word t at KIND) (min (weightOf t rows at a b c d) 4097) (word t at CLASS)
+    partsPut (headPut rows n (word t at KIND) (min (weightOf t rows at a b c d) held-at) (word t at CLASS)
       (word t at VALUES) (detailOf t slots at)) n a b c d
 
 -- the slots with those of the parameters of procedure k

@@ -12,6 +12,7 @@ use Rattle.procedures.specs.Occurs.{IsParameter}
 use Rattle.procedures.specs.Context.{Context, whole, in-block, in-procedure, in-scope, binders, forms, makes}
 use Rattle.procedures.specs.Expand.{Slots, no-slots, Expands}
 use Rattle.procedures.specs.PartKind.{PROCEDURE, USE, NEW, KIND, DETAIL, PARTS}
+use Rattle.records.specs.Limits.{greatest-depth}
 use Rattle.records.specs.Row.{word}
 use Rattle.procedures.specs.Table.{Shown, Known, Few, FewIn}
 use Rattle.procedures.specs.Marks.{Marked, MarkedIn}
@@ -160,7 +161,7 @@ pub record Ready (N : Numbers) (ns : List Name) (t marks : List ℕ) (π : ℕ �
   pub shown : Shown N ns t whole π at end W
   pub marked : Marked N ns t marks whole at W
   pub fine : Fine N ns [] W
-  pub shallow : depth W ≤ 32
+  pub shallow : depth W ≤ greatest-depth
   pub room : made N ns [] (forms N ns whole) (makes N ns whole) W ≤ ROWS
 
 -- its expansion, and that its rows are right

@@ -7,6 +7,7 @@ use lib.ListN.{length}
 use Rattle.language.specs.Number.{code, fromByte}
 use Rattle.language.specs.Typing.{operands}
 use Rattle.language.specs.declared.Numbers.{Numbers}
+use Rattle.records.specs.Limits.{held-at}
 use Rattle.records.specs.Rule.{values}
 use Rattle.records.specs.Row.{classOf}
 use Rattle.procedures.specs.Written.{Written, skip, diverge, truth, number, call, fetch, operate, assign, sequence}
@@ -29,7 +30,7 @@ module _ (N : Numbers) (ns : List Name) (t : List ℕ) where
   pub record Right (Γ : Context) (W : Written) (n : ℕ) (x : Row) : Type 0 where
     pub classed : word t n CLASS ≡ classOf (typed ns (binders Γ) W)
     pub valued : word t n VALUES ≡ values N (typed ns (binders Γ) W)
-    pub weighed : word t n WEIGHT ≡ min (rowWeight (λ a. word t a WEIGHT) x) 4097
+    pub weighed : word t n WEIGHT ≡ min (rowWeight (λ a. word t a WEIGHT) x) held-at
 
   -- all rows that an expansion makes are right
   unfoldable mutual

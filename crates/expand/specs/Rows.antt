@@ -20,6 +20,7 @@ use Rattle.procedures.specs.Shared.{Parts, no-part, part, Row}
 use Rattle.procedures.specs.Expand.{operation}
 use Rattle.procedures.specs.PartKind.{SKIP, DIVERGE, CONSTANT, NAME, FETCH, OPERATE, ASSIGN, SEQUENCE, IF, WHILE, NEW}
 use Rattle.procedures.specs.PartKind.{PRIVATE, KIND, DETAIL, PARTS}
+use Rattle.nodes.specs.Rep as nodes
 use Rattle.records.specs.Row.{word}
 
 -- the word of a row that has its weight
@@ -28,7 +29,7 @@ WEIGHT = 1
 
 -- how many rows there may be; it is also what stands where there is no row
 abbrev pub ROWS : ℕ
-ROWS = 12288
+ROWS = nodes.ROWS
 
 -- the words of all of them
 abbrev pub WORDS : ℕ

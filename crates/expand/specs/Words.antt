@@ -11,7 +11,7 @@ use Rattle.procedures.specs.Held.{held}
 use Rattle.procedures.specs.Shared.{Parts, no-part, part, Row, skip, diverge, const, private, name, fetch, operate}
 use Rattle.procedures.specs.Shared.{assign, seq, while, cond, new}
 use Rattle.records.specs.Row.{word}
-use Rattle.nodes.specs.Rep.{TyRow}
+use Rattle.nodes.specs.Rep.{TyRow, ROWS}
 
 -- how many parts there are
 unfoldable pub counted : Parts → ℕ
@@ -30,7 +30,7 @@ Arguments u r j (part T a xs) = (word u r (5 + j) ≡ a) × TyRow u a T × Argum
 
 -- the kind, the weight and the type of the row r
 pub record RowWords (u : List ℕ) (r kind w : ℕ) (T : Ty) : Type 0 where
-  pub inside : r < 12288
+  pub inside : r < ROWS
   pub kinded : word u r 0 ≡ kind
   pub weighed : word u r 1 ≡ held w
   pub typed : TyRow u r T

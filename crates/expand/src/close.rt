@@ -16,6 +16,7 @@ use records::weight::sat_mul;
 ghost use mathlib.Core.Path.{_≡_};
 ghost use Prim.Native.Nat.{_+_, _*_, _<_, min};
 ghost use lib.ListN.{length, getD, set};
+ghost use Rattle.records.specs.Limits.{held-at};
 ghost use Rattle.records.specs.Row.{word};
 ghost use Rattle.expand.specs.Close.{partsOf, staysOf, questionsBy, answersBy, argumentWeight, nameWeight};
 ghost use Rattle.expand.specs.Close.{plainWeight, firstValues, weightOf, detailOf, headPut, partsPut, closedRow};
@@ -133,7 +134,7 @@ fn answers_by(class: u16, values: u16) -> u32
 // What argument j of the name at a place adds to its weight, where the argument's row weighs w.
 fn argument_weight(t: &[u16], at: u16, j: u16, w: u16) -> u32
     requires { ⌜ j < 4 ⌝ }
-    ensures { λ r. ⌜ r ≡ min (argumentWeight (now (t .entry)) at j w) 4097 ⌝ }
+    ensures { λ r. ⌜ r ≡ min (argumentWeight (now (t .entry)) at j w) held-at ⌝ }
 {
     if j < arguments_of(word_at(t, at, DETAIL)) {
         let p = word_at(t, at, PARTS + j);
@@ -147,7 +148,7 @@ fn argument_weight(t: &[u16], at: u16, j: u16, w: u16) -> u32
 
 // The weight of a name at a place whose arguments' rows weigh as given.
 fn name_weight(t: &[u16], at: u16, a: u16, b: u16, c: u16, d: u16) -> u32
-    ensures { λ r. ⌜ r ≡ min (nameWeight (now (t .entry)) at a b c d) 4097 ⌝ }
+    ensures { λ r. ⌜ r ≡ min (nameWeight (now (t .entry)) at a b c d) held-at ⌝ }
 {
     let first = argument_weight(t, at, 0, a);
     let second = argument_weight(t, at, 1, b);
@@ -158,7 +159,7 @@ fn name_weight(t: &[u16], at: u16, a: u16, b: u16, c: u16, d: u16) -> u32
 
 // The weight of a row of another kind: v are the values of its first part, d is its detail, a, b, c weigh its parts.
 fn plain_weight(kind: u16, v: u16, d: u16, a: u16, b: u16, c: u16) -> u32
-    ensures { λ r. ⌜ r ≡ min (plainWeight kind v d a b c) 4097 ⌝ }
+    ensures { λ r. ⌜ r ≡ min (plainWeight kind v d a b c) held-at ⌝ }
 {
     if kind == PRIVATE {
         return 2;
@@ -196,7 +197,7 @@ fn first_values(t: &[u16], at: u16) -> u16
 
 // The weight of the row for the part at a place whose parts are the rows a, b, c and d, held at 4,097.
 fn weight_of(t: &[u16], rows: &[u16], at: u16, a: u16, b: u16, c: u16, d: u16) -> u16
-    ensures { λ r. ⌜ r ≡ min (weightOf (now (t .entry)) (now (rows .entry)) at a b c d) 4097 ⌝ }
+    ensures { λ r. ⌜ r ≡ min (weightOf (now (t .entry)) (now (rows .entry)) at a b c d) held-at ⌝ }
 {
     let kind = word_at(t, at, KIND);
     let first = word_at(rows, a, WEIGHT);

@@ -2,12 +2,11 @@
 use automaton::row::mul_add;
 use automaton::row::sum;
 ghost use mathlib.Core.Path.{_≡_};
-ghost use Prim.Native.Nat.{_%_};
-ghost use lib.ListN.{set};
-ghost use Rattle.explicit.specs.inner.Rows.{withEdge, withHead};
+ghost use Rattle.explicit.specs.inner.Rows.{held, withEdge, withHead};
 
 // How many numbers a word of 32 bits can be.
 const WORDS: usize = 4294967296;
+
 // Where parts of an automaton of n states begin: this many times n words are before the first edges of its states, and
 // before the end of its edges.
 const FIRSTS: usize = 5;
@@ -16,7 +15,7 @@ pub(crate) const EDGES: usize = 6;
 
 // Word i becomes v, where there is such a word.
 pub(crate) fn put(words: &mut [u32], i: usize, v: usize)
-    ensures { λ r. ⌜ now (words .exit) ≡ set (now (words .entry)) i (v % 4294967296) ⌝ }
+    ensures { λ r. ⌜ now (words .exit) ≡ held (now (words .entry)) i v ⌝ }
 {
     if i < words.len() {
         words[i] = (v % WORDS) as u32;

@@ -1,5 +1,5 @@
--- Forms in words: a table of rows of 129 words, each a form held at 4,097. Word 0 is the constant, word suc s the
--- coefficient of the parameter of number s. Document 02 [1], "Reckoned size".
+-- Forms in words: a table of rows, each a form held at 4,097. Word 0 is the constant, word suc s the coefficient of the
+-- parameter of number s. Document 02 [1], "Reckoned size".
 use Prim.Native.Nat.{ℕ, suc, _+_, _*_, _<_}
 use mathlib.Core.List.{List}
 use mathlib.Core.Logic.{_≢_}
@@ -7,6 +7,13 @@ use mathlib.Core.Path.{_≡_}
 use lib.ListN.{getD}
 use Rattle.procedures.specs.Form.{Form}
 use Rattle.procedures.specs.Held.{held}
+
+-- how many enclosing parameters there may be, and how many words a row has
+abbrev pub parameters : ℕ
+parameters = 128
+
+abbrev pub formWidth : ℕ
+formWidth = 129
 
 -- how many rows there are, and how many words
 abbrev pub formRows : ℕ
@@ -17,7 +24,7 @@ formWords = 20769
 
 -- word i of a row
 unfoldable pub wordOf : List ℕ → ℕ → ℕ → ℕ
-wordOf F row i = getD F (129 * row + i) 0
+wordOf F row i = getD F (formWidth * row + i) 0
 
 -- a row shows a form, of the coefficients those below m
 pub record Shows (F : List ℕ) (row m : ℕ) (f : Form) : Type 0 where
@@ -26,4 +33,4 @@ pub record Shows (F : List ℕ) (row m : ℕ) (f : Form) : Type 0 where
 
 -- the words of the other rows are as they were
 pub record SameBut (F F′ : List ℕ) (row : ℕ) : Type 0 where
-  pub others : (r i : ℕ) → r ≢ row → i < 129 → wordOf F′ r i ≡ wordOf F r i
+  pub others : (r i : ℕ) → r ≢ row → i < formWidth → wordOf F′ r i ≡ wordOf F r i

@@ -8,11 +8,11 @@ use records::weight::sat_add;
 ghost use mathlib.Core.Path.{_≡_};
 ghost use Prim.Native.Nat.{_<_, _≤_, min};
 ghost use Rattle.forms.specs.Contract.{ConstantSet, UnitSet, LowerSet};
-ghost use Rattle.forms.specs.Shows.{formRows};
+ghost use Rattle.forms.specs.Shows.{parameters, formRows};
 
 // A row becomes the constant c.
 pub fn set_constant(f: &mut [u16; WORDS], row: usize, m: usize, c: u32)
-    requires { ⌜ (row < formRows) × (m ≤ 128) ⌝ }
+    requires { ⌜ (row < formRows) × (m ≤ parameters) ⌝ }
     ensures { λ r. ⌜ ConstantSet (now (f .entry)) (now (f .exit)) row m c ⌝ }
 {
     let b = WIDTH * row;
@@ -23,7 +23,7 @@ pub fn set_constant(f: &mut [u16; WORDS], row: usize, m: usize, c: u32)
 
 // A row becomes the parameter s.
 pub fn set_unit(f: &mut [u16; WORDS], row: usize, m: usize, s: usize)
-    requires { ⌜ (row < formRows) × ((m ≤ 128) × (s < m)) ⌝ }
+    requires { ⌜ (row < formRows) × ((m ≤ parameters) × (s < m)) ⌝ }
     ensures { λ r. ⌜ UnitSet (now (f .entry)) (now (f .exit)) row m s ⌝ }
 {
     set_constant(f, row, m, 0);
@@ -42,7 +42,7 @@ pub fn least(a: usize, b: usize) -> usize
 
 // A row becomes another without its coefficients from k on.
 pub fn set_lower(f: &mut [u16; WORDS], to: usize, from: usize, k: usize, m: usize)
-    requires { ⌜ (to < formRows) × ((from < formRows) × (m ≤ 128)) ⌝ }
+    requires { ⌜ (to < formRows) × ((from < formRows) × (m ≤ parameters)) ⌝ }
     ensures { λ r. ⌜ LowerSet (now (f .entry)) (now (f .exit)) to from k m ⌝ }
 {
     let n = least(k, m);

@@ -11,7 +11,7 @@ ghost use lib.ListN.{length};
 ghost use Rattle.procedures.specs.Held.{held};
 ghost use Rattle.forms.specs.Become.{Become, summed};
 ghost use Rattle.forms.specs.Contract.{Added, ConstantAdded, AddedWith};
-ghost use Rattle.forms.specs.Shows.{formRows, formWords};
+ghost use Rattle.forms.specs.Shows.{parameters, formWidth, formRows, formWords};
 
 // x + factor * y, held at 4,097.
 fn sum_of(x: u32, factor: u32, y: u32) -> u32
@@ -22,8 +22,9 @@ fn sum_of(x: u32, factor: u32, y: u32) -> u32
 
 // The first n words of a row become themselves and `factor` times those of another.
 fn add_words(s: &mut [u16], to: usize, from: usize, factor: u32, n: usize)
-    requires { ⌜ (to < formRows) × ((from < formRows) × ((n ≤ 129) × (formWords ≤ length (now s)))) ⌝ }
-    ensures { λ r. ⌜ Become (now (s .entry)) (now (s .exit)) (129 * to) n (summed (now (s .entry)) to from factor) ⌝ }
+    requires { ⌜ (to < formRows) × ((from < formRows) × ((n ≤ formWidth) × (formWords ≤ length (now s)))) ⌝ }
+    ensures { λ r. ⌜ Become (now (s .entry)) (now (s .exit)) (formWidth * to) n
+        (summed (now (s .entry)) to from factor) ⌝ }
 {
     let b = WIDTH * to;
     let a = WIDTH * from;
@@ -39,7 +40,7 @@ fn add_words(s: &mut [u16], to: usize, from: usize, factor: u32, n: usize)
 
 // A row becomes itself and `factor` times another.
 fn add(f: &mut [u16; WORDS], to: usize, from: usize, factor: u32, m: usize)
-    requires { ⌜ (to < formRows) × ((from < formRows) × (m ≤ 128)) ⌝ }
+    requires { ⌜ (to < formRows) × ((from < formRows) × (m ≤ parameters)) ⌝ }
     ensures { λ r. ⌜ Added (now (f .entry)) (now (f .exit)) to from factor m ⌝ }
 {
     add_words(f, to, from, factor, 1 + m);
@@ -73,7 +74,7 @@ fn add_first(f: &mut [u16; WORDS], to: usize, from: usize, factor: u32, c: u32)
 // A row becomes itself, `factor` times another, and the constant c. Where no parameters are around, as in a sheet without
 // procedures, there is one word to be written, once.
 pub fn add_with(f: &mut [u16; WORDS], to: usize, from: usize, factor: u32, m: usize, c: u32)
-    requires { ⌜ (to < formRows) × ((from < formRows) × (m ≤ 128)) ⌝ }
+    requires { ⌜ (to < formRows) × ((from < formRows) × (m ≤ parameters)) ⌝ }
     ensures { λ r. ⌜ AddedWith (now (f .entry)) (now (f .exit)) to from factor m c ⌝ }
 {
     if m == 0 {

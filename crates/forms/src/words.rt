@@ -3,7 +3,7 @@ use crate::table::WIDTH;
 ghost use mathlib.Core.Path.{_≡_};
 ghost use Prim.Native.Nat.{_+_, _*_, _<_, _≤_};
 ghost use lib.ListN.{getD, set, length};
-ghost use Rattle.forms.specs.Shows.{formRows, formWords, wordOf};
+ghost use Rattle.forms.specs.Shows.{formWidth, formRows, formWords, wordOf};
 ghost use Rattle.forms.specs.Become.{Become};
 
 // Word i.
@@ -36,8 +36,8 @@ pub(crate) fn clear(s: &mut [u16], b: usize, n: usize)
 
 // The first n words of a row become those of another.
 pub(crate) fn copy(s: &mut [u16], to: usize, from: usize, n: usize)
-    requires { ⌜ (to < formRows) × ((from < formRows) × ((n ≤ 129) × (formWords ≤ length (now s)))) ⌝ }
-    ensures { λ r. ⌜ Become (now (s .entry)) (now (s .exit)) (129 * to) n (wordOf (now (s .entry)) from) ⌝ }
+    requires { ⌜ (to < formRows) × ((from < formRows) × ((n ≤ formWidth) × (formWords ≤ length (now s)))) ⌝ }
+    ensures { λ r. ⌜ Become (now (s .entry)) (now (s .exit)) (formWidth * to) n (wordOf (now (s .entry)) from) ⌝ }
 {
     let b = WIDTH * to;
     let a = WIDTH * from;

@@ -3,10 +3,19 @@
 use files::read_sheet;
 use libc::STDOUT_FILENO;
 
+// The bytes read of a file: one more than a sheet may have, so that a longer one is refused.
+const LONGEST: usize = 4097;
+
+// The working words, the bytes of play space and those of the longest text.
+const WORDS: usize = 16384;
+
+const SPACE: usize = 2040;
+
+const TEXT: usize = 8192;
+
 fn main() {
-    // One byte more than a sheet may have, so that a longer file is refused.
-    let mut old = [0u8; 4097];
-    let mut new = [0u8; 4097];
+    let mut old = [0u8; LONGEST];
+    let mut new = [0u8; LONGEST];
     let first = read_sheet(b"old.sheet", &mut old);
     if !first.good {
         return;
@@ -17,9 +26,9 @@ fn main() {
     }
     let n = first.count;
     let m = second.count;
-    let mut words = [0u32; 16384];
-    let mut space = [0u8; 2040];
-    let mut out = [0u8; 8192];
+    let mut words = [0u32; WORDS];
+    let mut space = [0u8; SPACE];
+    let mut out = [0u8; TEXT];
     let count = report::report(&old[..n], &new[..m], &mut words, &mut space, &mut out);
     io::write_all(STDOUT_FILENO, &out[..count]);
 }

@@ -10,7 +10,12 @@ use Rattle.language.specs.Term.{new, Args, no-args, arg, Operation}
 use Rattle.language.specs.Typing.{Scope, operands, results}
 use Rattle.language.specs.Weight.{weight}
 use Rattle.language.specs.declared.Numbers.{Numbers}
+use Rattle.records.specs.Limits.{greatest-size}
 use Rattle.records.specs.Row.{word}
+
+-- how many rows there may be
+abbrev pub ROWS : ℕ
+ROWS = 12288
 
 -- the class of a type and the number of values of its data
 unfoldable pub TyRow : List ℕ → ℕ → Ty → Type 0
@@ -24,10 +29,10 @@ Fresh rs r = (i : ℕ) → Scope rs i r → ⊥
 
 -- the row of a term M of type T
 pub record Represented (t : List ℕ) (at kind : ℕ) (M : Term) (T : Ty) : Type 0 where
-  pub inside : at < 12288
+  pub inside : at < ROWS
   pub kinded : word t at 0 ≡ kind
   pub weighed : word t at 1 ≡ weight M
-  pub small : weight M ≤ 4096
+  pub small : weight M ≤ greatest-size
   pub typed : TyRow t at T
 
 unfoldable pub count : Args → ℕ

@@ -8,6 +8,9 @@ use lib.ListN.{length}
 use Rattle.language.specs.Number.{inRange}
 use Rattle.language.specs.Weight.{size}
 use Rattle.language.specs.declared.Numbers.{Numbers}
+use Rattle.records.specs.Limits.{greatest-z, greatest-rule, most-names, greatest-depth, greatest-size, bytes, ids, types}
+use Rattle.records.specs.Limits.{counts, truths, operators, data-types}
+use Rattle.records.specs.Types as a-type
 use Rattle.records.specs.Rule.{operandType}
 use Rattle.procedures.specs.Written.{Written, skip, diverge, truth, number, call, fetch, operate, assign}
 use Rattle.procedures.specs.Written.{sequence, while, choose, new, procedure, Parameter, Writtens, none, more}
@@ -56,31 +59,35 @@ Unlike j (p ∷ ps) = (p .id ≡ j → ⊥) × Unlike j ps
 unfoldable pub FineParameters : List Name → List Parameter → List Parameter → Type 0
 FineParameters ns earlier [] = Unit
 FineParameters ns earlier (p ∷ ps) =
-    (p .id < 255) × (declared ns (p .id) ≡ free) × Unlike (p .id) earlier × (p .holds < 5) × FineParameters ns
-        (p ∷ earlier) ps
+    (p .id < ids) × (declared ns (p .id) ≡ free) × Unlike (p .id) earlier × (p .holds < types)
+    × FineParameters ns (p ∷ earlier) ps
 
 -- a term in the scope of names and of enclosing binders
 unfoldable mutual
   pub Fine : Numbers → List Name → List Binder → Written → Type 0
   Fine N ns bs skip = Unit
-  Fine N ns bs (diverge ty) = ty < 5
-  Fine N ns bs (truth b) = b < 2
-  Fine N ns bs (number b) = (b < 256) × (inRange N b ≡ true)
-  Fine N ns bs (call id ws) = (id < 255) × FineUse (meaning ns bs id) (ws ≡ none) (λ tys. FineArgs N ns bs ws tys)
-  Fine N ns bs (fetch v) = Fine N ns bs v × (3 ≤ typed ns bs v)
+  Fine N ns bs (diverge ty) = ty < types
+  Fine N ns bs (truth b) = b < truths
+  Fine N ns bs (number b) = (b < bytes) × (inRange N b ≡ true)
+  Fine N ns bs (call id ws) = (id < ids) × FineUse (meaning ns bs id) (ws ≡ none) (λ tys. FineArgs N ns bs ws tys)
+  Fine N ns bs (fetch v) = Fine N ns bs v × (a-type.truth-variable ≤ typed ns bs v)
   Fine N ns bs (operate op l r) =
-      (op < 9) × Fine N ns bs l × (typed ns bs l ≡ operandType op) × Fine N ns bs r × (typed ns bs r ≡ operandType op)
+      (op < operators) × Fine N ns bs l × (typed ns bs l ≡ operandType op) × Fine N ns bs r
+      × (typed ns bs r ≡ operandType op)
   Fine N ns bs (assign v e) =
-      Fine N ns bs v × (3 ≤ typed ns bs v) × Fine N ns bs e × (typed ns bs e + 2 ≡ typed ns bs v)
-  Fine N ns bs (sequence c m) = Fine N ns bs c × (typed ns bs c ≡ 0) × Fine N ns bs m
+      Fine N ns bs v × (a-type.truth-variable ≤ typed ns bs v) × Fine N ns bs e × (typed ns bs e + 2 ≡ typed ns bs v)
+  Fine N ns bs (sequence c m) = Fine N ns bs c × (typed ns bs c ≡ a-type.command) × Fine N ns bs m
   Fine N ns bs (choose b m n) =
-      Fine N ns bs b × (typed ns bs b ≡ 1) × Fine N ns bs m × Fine N ns bs n × (typed ns bs n ≡ typed ns bs m)
-  Fine N ns bs (while b c) = Fine N ns bs b × (typed ns bs b ≡ 1) × Fine N ns bs c × (typed ns bs c ≡ 0)
+      Fine N ns bs b × (typed ns bs b ≡ a-type.truth) × Fine N ns bs m × Fine N ns bs n
+      × (typed ns bs n ≡ typed ns bs m)
+  Fine N ns bs (while b c) =
+      Fine N ns bs b × (typed ns bs b ≡ a-type.truth) × Fine N ns bs c × (typed ns bs c ≡ a-type.command)
   Fine N ns bs (new id d c) =
       let inner : List Binder = a-block id d ∷ bs in
-      (id < 255) × (declared ns id ≡ free) × (0 < d) × (d < 3) × Fine N ns inner c × (typed ns inner c ≡ 0)
+      (id < ids) × (declared ns id ≡ free) × (0 < d) × (d < data-types) × Fine N ns inner c
+      × (typed ns inner c ≡ a-type.command)
   Fine N ns bs (procedure id ty ps body rest) =
-      (id < 255) × (declared ns id ≡ free) × (ty < 5) × (length ps < 5) × FineParameters ns [] ps
+      (id < ids) × (declared ns id ≡ free) × (ty < types) × (length ps < counts) × FineParameters ns [] ps
       × Fine N ns (inside ps bs) body × (typed ns (inside ps bs) body ≡ ty) × Fine N ns (after id ty ps bs) rest
 
   -- arguments of the given types
@@ -92,24 +99,24 @@ unfoldable mutual
 
 unfoldable pub AllTypes : List ℕ → Type 0
 AllTypes [] = Unit
-AllTypes (ty ∷ tys) = (ty < 5) × AllTypes tys
+AllTypes (ty ∷ tys) = (ty < types) × AllTypes tys
 
 -- name records, after those in earlier, the last first
 unfoldable pub FineNames : List Name → List Name → Type 0
 FineNames earlier [] = Unit
 FineNames earlier (declare id ty tys ∷ ns) =
-    (id < 255) × (declared earlier id ≡ free) × (ty < 5) × (length tys < 5) × AllTypes tys
+    (id < ids) × (declared earlier id ≡ free) × (ty < types) × (length tys < counts) × AllTypes tys
     × FineNames (declare id ty tys ∷ earlier) ns
 FineNames earlier (retire id ∷ ns) =
-    (id < 255) × (declared earlier id ≡ free) × FineNames (retire id ∷ earlier) ns
+    (id < ids) × (declared earlier id ≡ free) × FineNames (retire id ∷ earlier) ns
 
 -- A sheet that is accepted. The bound on the length of its bytes is left to the crate that has the encoding.
 pub record Accepted (S : Sheet) : Type 0 where
   pub z-above : 0 < S .numbers .z
-  pub z-below : S .numbers .z < 8
-  pub rule-below : S .numbers .rule < 2
-  pub few-names : length (S .names) ≤ 32
+  pub z-below : S .numbers .z ≤ greatest-z
+  pub rule-below : S .numbers .rule ≤ greatest-rule
+  pub few-names : length (S .names) ≤ most-names
   pub fine-names : FineNames [] (S .names)
   pub fine-term : Fine (S .numbers) (S .names) [] (S .term)
-  pub shallow : depth (S .term) ≤ 32
-  pub small : size (tyOf (S .numbers) (typeOf S)) (termOf S) ≤ 4096
+  pub shallow : depth (S .term) ≤ greatest-depth
+  pub small : size (tyOf (S .numbers) (typeOf S)) (termOf S) ≤ greatest-size

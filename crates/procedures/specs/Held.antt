@@ -2,10 +2,11 @@
 -- "Reckoned size").
 use Prim.Native.Nat.{ℕ, min}
 use mathlib.Core.Path.{_≡_}
+use Rattle.records.specs.Limits.{held-at}
 use Rattle.procedures.specs.Form.{Form}
 
 unfoldable pub held : ℕ → ℕ
-held n = min n 4097
+held n = min n held-at
 
 unfoldable pub heldForm : Form → Form
 heldForm f = record { constant = held (f .constant); of = λ s. held (f .of s) }

@@ -13,6 +13,7 @@ use mathlib.Core.List.{List, [], _∷_}
 use lib.ListN.{length}
 use Rattle.language.specs.Number.{code, fromByte}
 use Rattle.language.specs.declared.Numbers.{Numbers}
+use Rattle.records.specs.Limits.{most-bytes}
 use Rattle.records.specs.Rule.{values}
 use Rattle.records.specs.Row.{word, classOf}
 use Rattle.procedures.specs.Environment.{beyond}
@@ -37,7 +38,7 @@ module _ (N : Numbers) (ns : List Name) (t : List ℕ) where
   -- the row of the part W, of a kind, from a place up to another
   pub record PartRow (Γ : Context) (kind : ℕ) (W : Written) (at end : ℕ) : Type 0 where
     pub before : at < end
-    pub within : end ≤ 4096
+    pub within : end ≤ most-bytes
     pub kinded : word t at KIND ≡ kind
     pub ended : word t at END ≡ end
     pub classed : word t at CLASS ≡ classOf (typed ns (binders Γ) W)
@@ -108,7 +109,7 @@ module _ (N : Numbers) (ns : List Name) (t : List ℕ) where
   Known (in-procedure ps Γ) π at = Known Γ π at
   Known (in-scope id ty ps body Γ) π at =
       let k : ℕ = length (binders Γ) in
-      (b : ℕ) × (b ≤ at) × (word t (π k) DETAIL ≡ k) × (π k < word t (π k) PARTS) × (π k < 4096)
+      (b : ℕ) × (b ≤ at) × (word t (π k) DETAIL ≡ k) × (π k < word t (π k) PARTS) × (π k < most-bytes)
       × Shown (in-procedure ps Γ) π (word t (π k) PARTS) b body × Known Γ π (π k)
 
 -- the binders inside a part are numbered below 128: a level of depth has four at most

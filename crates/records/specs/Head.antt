@@ -9,6 +9,7 @@ use lib.Dec.{eqb, leb}
 use Rattle.language.specs.Choice.{pick}
 use Rattle.language.specs.Number.{inRange}
 use Rattle.language.specs.declared.Numbers.{Numbers}
+use Rattle.records.specs.Limits.{bytes, ids, types, truths, operators, data-types}
 use Rattle.records.specs.Kind.{shapeOf}
 use Rattle.records.specs.Standing.{free, retired, standingOf, isNamed, countOf}
 use Rattle.records.specs.Judge.{hides, procedureOf}
@@ -50,7 +51,7 @@ limited s r limit = onByte (byteOf s (r .place + 1) limit) (λ a. Good (withBody
 -- "one byte, two's complement, -Z to Z"
 unfoldable pub constant : List ℕ → Numbers → Record → Head
 constant s N r =
-    onByte (byteOf s (r .place + 1) 256) (λ a.
+    onByte (byteOf s (r .place + 1) bytes) (λ a.
       pick (inRange N a) (Good (withBody r a 0)) (Refused (refusal out-of-range (r .place + 1))))
 
 -- a use, whose id has the standing c: its parts are as many as its name declares, or its procedure has parameters
@@ -62,7 +63,7 @@ used s r id c =
 -- "use of an id neither enclosing, declared nor retired: 5", "use of a retired id: 6"
 unfoldable pub useOf : List ℕ → List ℕ → Record → Head
 useOf s st r =
-    onByte (byteOf s (r .place + 1) 255) (λ id.
+    onByte (byteOf s (r .place + 1) ids) (λ id.
       pick (eqb (getD st id 0) free) (Refused (refusal id-unknown (r .place + 1)))
       (pick (eqb (getD st id 0) retired) (Refused (refusal id-retired (r .place + 1)))
       (Good (used s r id (getD st id 0)))))
@@ -70,13 +71,13 @@ useOf s st r =
 -- the data of a new: 1 truth, 2 number
 unfoldable pub dataByte : List ℕ → Record → ℕ → Head
 dataByte s r id =
-    onByte (byteOf s (r .place + 2) 3) (λ d.
+    onByte (byteOf s (r .place + 2) data-types) (λ d.
       pick (eqb d 0) (Refused (refusal out-of-range (r .place + 2))) (Good (withBody r id d)))
 
 -- "id declared or retired before, or a new on such an id: 4"; "16 at the id byte, judged after 4"
 unfoldable pub newOf : Edition → List ℕ → List ℕ → Record → Head
 newOf ed s st r =
-    onByte (byteOf s (r .place + 1) 255) (λ id.
+    onByte (byteOf s (r .place + 1) ids) (λ id.
       pick (isNamed (standingOf (getD st id 0))) (Refused (refusal id-taken (r .place + 1)))
       (pick (hides ed (standingOf (getD st id 0))) (Refused (refusal id-enclosed (r .place + 1))) (dataByte s r id)))
 
@@ -92,12 +93,12 @@ procedureHead ed s st r =
 -- the body of a record
 unfoldable pub bodyOf : Edition → Rule → List ℕ → List ℕ → Numbers → Record → Head
 bodyOf ed Skip s st N r = Good r
-bodyOf ed Diverge s st N r = limited s r 5
-bodyOf ed Truth s st N r = limited s r 2
+bodyOf ed Diverge s st N r = limited s r types
+bodyOf ed Truth s st N r = limited s r truths
 bodyOf ed Number s st N r = constant s N r
 bodyOf ed Use s st N r = useOf s st r
 bodyOf ed Fetch s st N r = Good r
-bodyOf ed Operate s st N r = limited s r 9
+bodyOf ed Operate s st N r = limited s r operators
 bodyOf ed Assign s st N r = Good r
 bodyOf ed Sequence s st N r = Good r
 bodyOf ed If s st N r = Good r

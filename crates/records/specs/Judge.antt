@@ -6,6 +6,7 @@ use mathlib.Core.List.{List}
 use lib.ListN.{length, getD}
 use lib.Dec.{eqb, leb, ltb}
 use Rattle.language.specs.Choice.{pick}
+use Rattle.records.specs.Limits.{ids, types, counts, not-there}
 use Rattle.records.specs.Refusal.{refusal, cut-short, out-of-range, id-taken, id-enclosed}
 use Rattle.records.specs.Standing.{standingOf, isNamed, isHeld}
 use Rattle.records.specs.declared.standing.Standing.{Standing}
@@ -25,16 +26,16 @@ below s at limit =
     pick (leb (length s) at) (Refused (refusal cut-short (length s)))
     (pick (leb limit (getD s at 0)) (Refused (refusal out-of-range at)) Good)
 
--- a byte of something that is not there: 255
+-- a byte of something that is not there
 unfoldable pub unused : List ℕ → ℕ → Judged
 unused s at =
     pick (leb (length s) at) (Refused (refusal cut-short (length s)))
-    (pick (eqb (getD s at 0) 255) Good (Refused (refusal out-of-range at)))
+    (pick (eqb (getD s at 0) not-there) Good (Refused (refusal out-of-range at)))
 
 -- the id of a binder: "a bound id that is declared or retired gets 4"
 unfoldable pub bound : List ℕ → List ℕ → ℕ → Judged
 bound s st at =
-    andThen (below s at 255)
+    andThen (below s at ids)
       (pick (isNamed (standingOf (getD st (getD s at 0) 0))) (Refused (refusal id-taken at)) Good)
 
 -- Document 02 [3]: "a new, a procedure or a parameter may not take an id that an enclosing one holds"; by the earlier rule
@@ -67,12 +68,12 @@ parameterId ed s st place j =
 unfoldable pub pair : Edition → List ℕ → List ℕ → ℕ → ℕ → Judged
 pair ed s st place j =
     pick (ltb j (getD s (place + 3) 0))
-    (andThen (parameterId ed s st place j) (below s (place + 5 + 2 * j) 5))
+    (andThen (parameterId ed s st place j) (below s (place + 5 + 2 * j) types))
     (andThen (unused s (place + 4 + 2 * j)) (unused s (place + 5 + 2 * j)))
 
 -- the body of the procedure at a place: id, result type, count of parameters, four pairs
 unfoldable pub procedureOf : Edition → List ℕ → List ℕ → ℕ → Judged
 procedureOf ed s st place =
-    andThen (bound s st (place + 1)) (andThen (apart ed s st (place + 1)) (andThen (below s (place + 2) 5)
-      (andThen (below s (place + 3) 5) (andThen (pair ed s st place 0) (andThen (pair ed s st place 1)
+    andThen (bound s st (place + 1)) (andThen (apart ed s st (place + 1)) (andThen (below s (place + 2) types)
+      (andThen (below s (place + 3) counts) (andThen (pair ed s st place 0) (andThen (pair ed s st place 1)
       (andThen (pair ed s st place 2) (pair ed s st place 3)))))))

@@ -1,3 +1,4 @@
+pub mod Limits
 pub mod Kind
 pub mod Standing
 pub mod Refusal

@@ -4,6 +4,7 @@ use crate::typing::TRUTH_VARIABLE;
 use language::Numbers;
 ghost use mathlib.Core.Path.{_≡_};
 ghost use Prim.Native.Nat.{_+_, _*_, _≤_, _<_, min};
+ghost use Rattle.records.specs.Limits.{held-at};
 ghost use Rattle.records.specs.Rule.{values, questions, answers};
 
 // The greatest size of a sheet, and where weights and sizes are held.
@@ -13,7 +14,7 @@ pub const HELD: u32 = 4097;
 
 // a + b, held at 4,097.
 pub fn sat_add(a: u32, b: u32) -> u32
-    ensures { λ r. ⌜ r ≡ min (a + b) 4097 ⌝ }
+    ensures { λ r. ⌜ r ≡ min (a + b) held-at ⌝ }
 {
     if HELD <= a {
         return HELD;
@@ -27,7 +28,7 @@ pub fn sat_add(a: u32, b: u32) -> u32
 
 // a * b, held at 4,097.
 pub fn sat_mul(a: u32, b: u32) -> u32
-    ensures { λ r. ⌜ r ≡ min (a * b) 4097 ⌝ }
+    ensures { λ r. ⌜ r ≡ min (a * b) held-at ⌝ }
 {
     if a == 0 {
         return 0;

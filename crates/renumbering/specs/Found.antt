@@ -6,6 +6,7 @@ use mathlib.Core.Bool.{Bool, false}
 use mathlib.Core.List.{List, [], _++_}
 use lib.ListN.{length, drop}
 use Rattle.language.specs.declared.Numbers.{Numbers}
+use Rattle.records.specs.Limits.{most-bytes}
 use Rattle.procedures.specs.Written.{Written, call, new, procedure, Parameter, Writtens, none, more, Name, Sheet}
 use Rattle.procedures.specs.Rules.{withTerm}
 use Rattle.procedures.specs.Meaning.{Binder, inside}
@@ -84,7 +85,7 @@ pub record Given (N : Numbers) (ns : List Name) (s scope k : List ℕ) (bs : Lis
   pub fine : Fine N ns bs W
   pub deep : depth W ≤ left
   pub lies : Lies s at (encode W)
-  pub short : at + width W ≤ 4096
+  pub short : at + width W ≤ most-bytes
   pub scoped : Scoped ns bs f scope
   pub takes : Takes k taken
 
@@ -114,7 +115,7 @@ pub record GivenAll (N : Numbers) (ns : List Name) (s scope k : List ℕ) (bs : 
   pub fine : AllFine N ns bs ws
   pub deep : depths ws ≤ left
   pub lies : Lies s at (encodes ws)
-  pub short : at + widths ws ≤ 4096
+  pub short : at + widths ws ≤ most-bytes
   pub scoped : Scoped ns bs f scope
   pub takes : Takes k taken
 

@@ -96,7 +96,8 @@ module _
   here-accepted : size (tyOf (numbersAt s) ty) (termOf here) ≤ 4096 → AcceptedUnder ed here
   here-accepted h = record {
       ordered = record {
-        z-above = R .z-above; z-below = R .z-below; rule-below = R .rule-below; few-names = l; fine-names = f;
+        z-above = R .z-above; z-below = omega (arith, R .z-below); rule-below = omega (arith, R .rule-below);
+        few-names = l; fine-names = f;
         fine-term = P .fine; shallow = P .shallow;
         small = subst (λ (x : ℕ). size (tyOf (numbersAt s) x) (termOf here) ≤ 4096) here-type h };
       short = subst (λ (x : List ℕ). length x ≤ 4096) here-bytes (R .short);

@@ -4,6 +4,7 @@ use Prim.Native.Nat.{ℕ, _≤_}
 use mathlib.Core.Path.{_≡_}
 use mathlib.Core.List.{[]}
 use lib.ListN.{length}
+use Rattle.records.specs.Limits.{most-bytes}
 use Rattle.records.specs.declared.edition.Edition.{Edition}
 use Rattle.records.specs.declared.edition.Edition.the-variants.{Present}
 use Rattle.procedures.specs.Written.{Sheet}
@@ -13,7 +14,7 @@ use Rattle.sheet.specs.Encoding.{encodeSheet}
 
 pub record AcceptedUnder (ed : Edition) (S : Sheet) : Type 0 where
   pub ordered : fine.Accepted S
-  pub short : length (encodeSheet S) ≤ 4096
+  pub short : length (encodeSheet S) ≤ most-bytes
   -- "a new, a procedure or a parameter may not take an id that an enclosing one holds"
   pub apart : ed ≡ Present → Apart [] (S .term)
 

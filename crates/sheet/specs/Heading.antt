@@ -5,6 +5,7 @@ use mathlib.Core.List.{List}
 use lib.ListN.{getD, take, drop}
 use lib.Dec.{eqb, ltb}
 use Rattle.language.specs.Choice.{pick}
+use Rattle.records.specs.Limits.{ids, types, counts}
 use Rattle.records.specs.Refusal.{refusal, id-taken}
 use Rattle.records.specs.Judge.{andThen, below, unused}
 use Rattle.records.specs.Standing.{free}
@@ -15,11 +16,11 @@ use Rattle.records.specs.declared.judge.Judged.the-variants.{Good, Refused}
 -- an id that is neither declared nor retired
 unfoldable pub fresh : List ℕ → List ℕ → ℕ → Judged
 fresh s st at =
-    andThen (below s at 255) (pick (eqb (getD st (getD s at 0) 0) free) Good (Refused (refusal id-taken at)))
+    andThen (below s at ids) (pick (eqb (getD st (getD s at 0) 0) free) Good (Refused (refusal id-taken at)))
 
 -- the type of argument j of the record at a place
 unfoldable pub argument : List ℕ → ℕ → ℕ → Judged
-argument s at j = pick (ltb j (getD s (at + 3) 0)) (below s (at + 4 + j) 5) (unused s (at + 4 + j))
+argument s at j = pick (ltb j (getD s (at + 3) 0)) (below s (at + 4 + j) types) (unused s (at + 4 + j))
 
 abbrev pub arguments : List ℕ → ℕ → Judged
 arguments s at = andThen (argument s at 0) (andThen (argument s at 1) (andThen (argument s at 2) (argument s at 3)))
@@ -27,7 +28,7 @@ arguments s at = andThen (argument s at 0) (andThen (argument s at 1) (andThen (
 -- the body of the declare record at a place: id, result type, count, four argument types
 unfoldable pub declareOf : List ℕ → List ℕ → ℕ → Judged
 declareOf s st at =
-    andThen (fresh s st (at + 1)) (andThen (below s (at + 2) 5) (andThen (below s (at + 3) 5) (arguments s at)))
+    andThen (fresh s st (at + 1)) (andThen (below s (at + 2) types) (andThen (below s (at + 3) counts) (arguments s at)))
 
 -- the body of the retire record at a place: id
 unfoldable pub retireOf : List ℕ → List ℕ → ℕ → Judged

@@ -8,6 +8,7 @@ use lib.Dec.{eqb, ltb, leb}
 use Rattle.language.specs.Choice.{pick}
 use Rattle.language.specs.Weight.{size}
 use Rattle.language.specs.declared.Numbers.{Numbers}
+use Rattle.records.specs.Limits.{greatest-z, greatest-rule, most-bytes, most-names, greatest-depth, greatest-size, ids}
 use Rattle.records.specs.Refusal.{too-long, cut-short, out-of-range, wrong-type, too-deep, too-many-names}
 use Rattle.records.specs.Refusal.{left-over, too-large}
 use Rattle.records.specs.Kind.{shapeOf}
@@ -128,7 +129,7 @@ namesStep ed rec n N s st at =
     (wholeOfShape (shapeOf (getD s at 0))
       (λ body. nameOf rec n s st at body (declaredStanding at) (declareOf s st at) (declareAt s at))
       (λ body. nameOf rec n s st at body retired (retireOf s st at) (retireAt s at))
-      (bind (readPart ed 32 N s st 0 at) (λ t ty end. got (whole [] at t) ty end))
+      (bind (readPart ed greatest-depth N s st 0 at) (λ t ty end. got (whole [] at t) ty end))
       (refused out-of-range at))
 
 unfoldable pub namesOf : Edition → ℕ → Numbers → List ℕ → List ℕ → ℕ → Answer Whole
@@ -144,18 +145,18 @@ numbersAt s = record { z = getD s 0 0; rule = getD s 1 0 }
 
 -- no id has a standing yet
 abbrev pub nothing : List ℕ
-nothing = replicate 255 0
+nothing = replicate ids 0
 
 -- a whole sheet, judged left to right, but for its size
 unfoldable pub wholeOf : Edition → List ℕ → Answer Whole
 wholeOf ed s =
-    pick (ltb 4096 (length s)) (refused too-long 4096)
+    pick (ltb most-bytes (length s)) (refused too-long most-bytes)
     (pick (leb (length s) 0) (refused cut-short (length s))
     (pick (eqb (getD s 0 0) 0) (refused out-of-range 0)
-    (pick (ltb 7 (getD s 0 0)) (refused out-of-range 0)
+    (pick (ltb greatest-z (getD s 0 0)) (refused out-of-range 0)
     (pick (leb (length s) 1) (refused cut-short (length s))
-    (pick (ltb 1 (getD s 1 0)) (refused out-of-range 1)
-    (closed s (namesOf ed 32 (numbersAt s) s nothing 2)))))))
+    (pick (ltb greatest-rule (getD s 1 0)) (refused out-of-range 1)
+    (closed s (namesOf ed most-names (numbersAt s) s nothing 2)))))))
 
 -- the records that were read
 unfoldable pub first : Writtens → Written
@@ -209,7 +210,8 @@ sizeIn s x ty = size (tyOf (numbersAt s) ty) (termOf (sheetIn s x))
 
 -- its size is judged last
 unfoldable pub checks : List ℕ → Answer Whole → Checks
-checks s (got x ty end) = pick (ltb 4096 (sizeIn s x ty)) (rejected too-large 0) (accepted (sheetIn s x) ty (sizeIn s x ty))
+checks s (got x ty end) =
+    pick (ltb greatest-size (sizeIn s x ty)) (rejected too-large 0) (accepted (sheetIn s x) ty (sizeIn s x ty))
 checks s (refused n p) = rejected n p
 
 unfoldable pub readUnder : Edition → List ℕ → Checks

@@ -13,6 +13,7 @@ use Rattle.procedures.specs.Come.{come}
 use Rattle.procedures.specs.Held.{held, SameForm}
 use Rattle.procedures.specs.Context.{Context, whole, binders, forms, downs, Sees}
 use Rattle.procedures.specs.PartKind.{DETAIL, PARTS}
+use Rattle.records.specs.Limits.{most-bytes, greatest-depth}
 use Rattle.records.specs.Row.{word}
 use Rattle.procedures.specs.Table.{Shown}
 use Rattle.procedures.specs.Marks.{Marked, MarkedArgs}
@@ -22,9 +23,9 @@ use Rattle.weigh.specs.Plan.{procedureRow, factorOf, extraOf, comeAt}
 -- the weight of the term at a place, held at 4,097, and the marks of its parts
 pub record Weighs (t : List ℕ) (root : ℕ) (M : List ℕ) (r : ℕ) : Type 0 where
   pub weight : (N : Numbers) (ns : List Name) (π : ℕ → ℕ) (W : Written) (end : ℕ) → Shown N ns t whole π root end W →
-    Fine N ns [] W → depth W ≤ 32 → r ≡ held (formOf N ns [] no-forms W .constant)
+    Fine N ns [] W → depth W ≤ greatest-depth → r ≡ held (formOf N ns [] no-forms W .constant)
   pub marks : (N : Numbers) (ns : List Name) (π : ℕ → ℕ) (W : Written) (end : ℕ) → Shown N ns t whole π root end W →
-    Fine N ns [] W → depth W ≤ 32 → Marked N ns t M whole root W
+    Fine N ns [] W → depth W ≤ greatest-depth → Marked N ns t M whole root W
 
 -- the forms of the procedures with numbers below n are as they were
 pub record SameRows (F F′ : List ℕ) (n : ℕ) : Type 0 where
@@ -42,7 +43,7 @@ module _ (N : Numbers) (ns : List Name) (t : List ℕ) where
   -- the procedure that stands in Δ and has its record at p may be used from a place on
   pub record ReadyOne (F M : List ℕ) (p at : ℕ) (Δ : Context) (ps : List Parameter) (body : Written) : Type 0 where
     pub numbered : word t p DETAIL ≡ length (binders Δ)
-    pub placed : p < 4096
+    pub placed : p < most-bytes
     pub before : word t p PARTS < at
     pub few : length (binders Δ) ≤ 124
     pub four : length ps ≤ 4

@@ -27,10 +27,18 @@ nameId t at = word t at DETAIL % 256
 unfoldable pub nameCount : List ℕ → ℕ → ℕ
 nameCount t at = word t at DETAIL / 256
 
+-- numbers below this are added without becoming too large, and those below its root are multiplied
+abbrev pub TOO-LARGE : ℕ
+TOO-LARGE = 4294967296
+
+abbrev pub TOO-LARGE-FACTOR : ℕ
+TOO-LARGE-FACTOR = 65536
+
 -- a + b, and 0 where one of them is too large
 unfoldable pub sumOf : ℕ → ℕ → ℕ
-sumOf a b = pick (ltb a 4294967296) (pick (ltb b 4294967296) (a + b) 0) 0
+sumOf a b = pick (ltb a TOO-LARGE) (pick (ltb b TOO-LARGE) (a + b) 0) 0
 
 -- x * w + n, and 0 where one of them is too large
 unfoldable pub mulAddOf : ℕ → ℕ → ℕ → ℕ
-mulAddOf x w n = pick (ltb x 65536) (pick (ltb w 65536) (pick (ltb n 4294967296) (x * w + n) 0) 0) 0
+mulAddOf x w n =
+    pick (ltb x TOO-LARGE-FACTOR) (pick (ltb w TOO-LARGE-FACTOR) (pick (ltb n TOO-LARGE) (x * w + n) 0) 0) 0

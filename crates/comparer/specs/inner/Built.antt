@@ -13,6 +13,7 @@ use Rattle.dfa.specs.Graph.{rest, Graph}
 use Rattle.silent.specs.Silent.{Silent, Settling}
 use Rattle.explicit.specs.Explicit.{Explicit}
 use Rattle.explicit.specs.inner.Ready.{Ready}
+use Rattle.comparer.specs.Refusals.{words-asked}
 
 -- the table t, of words of 16 bits, represents a term of size `all` at the root, and there are words enough
 pub record OneReady (N : Numbers) (t : List ℕ) (root all : ℕ) (ws : List ℕ) : Type 0 where
@@ -20,7 +21,7 @@ pub record OneReady (N : Numbers) (t : List ℕ) (root all : ℕ) (ws : List ℕ
   pub term : Term
   pub ready : Words t → Ready N t root type term
   pub sized : size type term ≡ all
-  pub room : 32 * (all + 1) ≤ length ws
+  pub room : words-asked all ≤ length ws
 
 -- the words hold its automaton of n states, settled; on average a state has at most 8 edges
 pub record OneBuilt (N : Numbers) (T : Ty) (M : Term) (n : ℕ) (ws : List ℕ) : Type 0 where
@@ -42,7 +43,7 @@ pub record TwoReady (N : Numbers) (t u : List ℕ) (root other all more : ℕ) (
   pub other-ready : Words u → Ready N u other type other-term
   pub sized : size type term ≡ all
   pub other-sized : size type other-term ≡ more
-  pub room : 32 * (all + more + 1) ≤ length ws
+  pub room : words-asked (all + more) ≤ length ws
 
 pub record TwoBuilt (N : Numbers) (T : Ty) (M M′ : Term) (n : ℕ) (ws : List ℕ) : Type 0 where
   pub silent-words : List ℕ

@@ -17,6 +17,8 @@ use Rattle.language.specs.Move.{Word, Before, records}
 use Rattle.language.specs.Play.{Complete}
 use Rattle.language.specs.Weight.{size}
 use Rattle.machine.specs.Range.{TyIn, InRange}
+use Rattle.records.specs.Limits.{greatest-z, greatest-size}
+use Rattle.comparer.specs.Refusals.{words-asked, bytes-asked}
 use Rattle.comparer.specs.inner.Built.{TwoBuilt}
 use Rattle.comparer.specs.declared.Comparison.{Comparison}
 use Rattle.comparer.specs.declared.Comparison.the-variants.{Same, Apart}
@@ -27,7 +29,7 @@ pub record Deciding (ws space : List ℕ) (all more : ℕ) : Type 0 where
   pub type : Ty
   pub term : Term
   pub other-term : Term
-  pub z-below : numbers .z ≤ 7
+  pub z-below : numbers .z ≤ greatest-z
   pub typed : Typed [] term type
   pub other-typed : Typed [] other-term type
   pub type-in : TyIn numbers type
@@ -35,10 +37,10 @@ pub record Deciding (ws space : List ℕ) (all more : ℕ) : Type 0 where
   pub other-in : InRange numbers other-term
   pub sized : size type term ≡ all
   pub other-sized : size type other-term ≡ more
-  pub small : all ≤ 4096
-  pub other-small : more ≤ 4096
-  pub room : 32 * (all + more + 1) ≤ length ws
-  pub space-room : 4 * (all + more - 1) ≤ length space
+  pub small : all ≤ greatest-size
+  pub other-small : more ≤ greatest-size
+  pub room : words-asked (all + more) ≤ length ws
+  pub space-room : bytes-asked (all + more) ≤ length space
   pub built : TwoBuilt numbers type term other-term (all + more + 1) ws
 
 -- exactly one of two terms has the play: 0 the first, 1 the second
