@@ -238,18 +238,8 @@ fn expand_parts(
     let later = wanted / 2;
     let last = later / 2;
     let a = expand_part(t, marks, slots, rows, level, left, n, at, wanted % 2, 0);
-    let b = expand_part(
-        t,
-        marks,
-        slots,
-        rows,
-        level,
-        left,
-        a.count,
-        at,
-        later % 2,
-        1,
-    );
+    let i = a.count;
+    let b = expand_part(t, marks, slots, rows, level, left, i, at, later % 2, 1);
     if last == 0 {
         return Four {
             a: a.row,
@@ -260,18 +250,9 @@ fn expand_parts(
         };
     }
     let c = expand_part(t, marks, slots, rows, level, left, b.count, at, last % 2, 2);
-    let d = expand_part(
-        t,
-        marks,
-        slots,
-        rows,
-        level,
-        left,
-        c.count,
-        at,
-        last / 2 % 2,
-        3,
-    );
+    let j = c.count;
+    let fourth = last / 2;
+    let d = expand_part(t, marks, slots, rows, level, left, j, at, fourth % 2, 3);
     Four {
         a: a.row,
         b: b.row,

@@ -180,9 +180,7 @@ pub(crate) fn exit(
                 next,
                 block: _,
                 set: _,
-            } => {
-                return led(s.o, p, i, next, own, block, set);
-            }
+            } => return led(s.o, p, i, next, own, block, set),
             Out::Exit {
                 kind: k,
                 value: x,
@@ -193,19 +191,13 @@ pub(crate) fn exit(
                 result = x;
                 up = up_at(p, i);
             }
-            Out::Say { said: _, next: _ } => {
-                return dead(s.n);
-            }
+            Out::Say { said: _, next: _ } => return dead(s.n),
             Out::Hear {
                 at: _,
                 kind: _,
                 value: _,
-            } => {
-                return dead(s.n);
-            }
-            Out::Stuck => {
-                return dead(s.n);
-            }
+            } => return dead(s.n),
+            Out::Stuck => return dead(s.n),
         }
     }
     dead(s.n)

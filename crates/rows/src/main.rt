@@ -39,5 +39,6 @@ fn main() {
     routines::weights();
     routines::variables();
     routines::ids();
+    routines::parameters();
     routines::expressions();
 }

@@ -1146,7 +1146,7 @@ pub fn variables() {
     );
 }
 
-// What an id and an argument mean where they stand.
+// What an id means where it stands.
 pub fn ids() {
     // A procedure uses one that is around it.
     row(
@@ -1175,6 +1175,10 @@ pub fn ids() {
         &STATIC,
         &[23, 20, 10, 19, 1],
     );
+}
+
+// What an id and an argument mean in a procedure with a parameter.
+pub fn parameters() {
     // A parameter with the procedure's own id.
     row(
         b"procedure p(p) = p; p in p(c) | c; c",
