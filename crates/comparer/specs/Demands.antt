@@ -15,6 +15,7 @@ use Rattle.sheet.specs.Fine.{Accepted}
 use Rattle.sheet.specs.Reader.{readSheet, rejected}
 use Rattle.sheet.specs.Check.{NumberOf}
 use Rattle.comparer.specs.Plays.{CompletePlay, reckoned, Alike, Only, FirstPlay}
+use Rattle.comparer.specs.Refusals.{headings-differ, too-few-words, space-too-short, bad-play}
 use Rattle.comparer.specs.Refusals.{followRefusal, compareRefusal}
 use Rattle.comparer.specs.Promise.{Holds, FollowPromise, ComparePromise}
 use Rattle.comparer.specs.declared.Following.{Following}
@@ -26,10 +27,10 @@ abbrev pub CheckNumber : ℕ → Type 0
 CheckNumber k = NumberOf Present k
 
 unfoldable pub FollowNumber : ℕ → Type 0
-FollowNumber k = CheckNumber k ⊎ ((k ≡ 13) ⊎ (k ≡ 15))
+FollowNumber k = CheckNumber k ⊎ ((k ≡ too-few-words) ⊎ (k ≡ bad-play))
 
 unfoldable pub CompareNumber : ℕ → Type 0
-CompareNumber k = CheckNumber k ⊎ ((k ≡ 12) ⊎ ((k ≡ 13) ⊎ (k ≡ 14)))
+CompareNumber k = CheckNumber k ⊎ ((k ≡ headings-differ) ⊎ ((k ≡ too-few-words) ⊎ (k ≡ space-too-short)))
 
 pub record NumbersOnly : Type 0 where
   pub of-check : (s : List ℕ) (number place : ℕ) → readSheet s ≡ rejected number place → CheckNumber number

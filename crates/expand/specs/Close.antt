@@ -9,26 +9,31 @@ use Rattle.language.specs.Choice.{pick}
 use Rattle.records.specs.Limits.{held-at}
 use Rattle.records.specs.Row.{cell}
 use Rattle.procedures.specs.PartKind.{NAME, FETCH, OPERATE, ASSIGN, SEQUENCE, IF, WHILE, NEW, PRIVATE, KIND, CLASS}
-use Rattle.procedures.specs.PartKind.{VALUES, DETAIL, PARTS, PROCEDURE, USE}
+use Rattle.procedures.specs.PartKind.{VALUES, DETAIL, PARTS, IDS, PLACES, PROCEDURE, USE}
 use Rattle.records.specs.Row.{word}
+use Rattle.procedures.specs.Marks.{COMES}
 use Rattle.expand.specs.Rows.{WEIGHT}
 
 -- what a part comes down to, of its mark
 unfoldable pub comeOf : ℕ → ℕ
-comeOf mark = mark % 128
+comeOf mark = mark % COMES
 
 -- which arguments a procedure uses, of its mark: a bit each
 unfoldable pub usedOf : ℕ → ℕ
-usedOf mark = mark / 128
+usedOf mark = mark / COMES
 
 -- bit j
 unfoldable pub bitOf : ℕ → ℕ → ℕ
 bitOf w zero = w % 2
 bitOf w (suc j) = bitOf (w / 2) j
 
+-- the greatest word
+abbrev pub LAST-WORD : ℕ
+LAST-WORD = 65535
+
 -- a sum, held at the greatest word
 unfoldable pub moreOf : ℕ → ℕ → ℕ
-moreOf x y = min (x + y) 65535
+moreOf x y = min (x + y) LAST-WORD
 
 -- as many bits as there are arguments, four at most
 unfoldable pub firstBits : ℕ → ℕ
@@ -37,7 +42,7 @@ firstBits c = pick (eqb c 0) 0 (pick (eqb c 1) 1 (pick (eqb c 2) 3 (pick (eqb c 
 -- which parts a record of a kind has, where its detail is given: a bit each
 unfoldable pub partsOf : ℕ → ℕ → ℕ
 partsOf kind d =
-    pick (eqb kind NAME) (firstBits (d / 256))
+    pick (eqb kind NAME) (firstBits (d / IDS))
     (pick (eqb kind FETCH) 1
     (pick (eqb kind NEW) 1
     (pick (eqb kind OPERATE) 3
@@ -63,7 +68,7 @@ answersBy class v = pick (eqb class 0) 1 (pick (eqb class 1) v (2 * v))
 -- what argument j of the name at a place adds to its weight, where the argument's row weighs w
 unfoldable pub argumentWeight : List ℕ → ℕ → ℕ → ℕ → ℕ
 argumentWeight t at j w =
-    pick (ltb j (word t at DETAIL / 256))
+    pick (ltb j (word t at DETAIL / IDS))
     (questionsBy (word t (word t at (PARTS + j)) CLASS) (word t (word t at (PARTS + j)) VALUES) * w
       + answersBy (word t (word t at (PARTS + j)) CLASS) (word t (word t at (PARTS + j)) VALUES))
     0

@@ -11,10 +11,10 @@ use Rattle.procedures.specs.Made.{made}
 use Rattle.procedures.specs.Occurs.{IsParameter}
 use Rattle.procedures.specs.Context.{Context, whole, in-block, in-procedure, in-scope, binders, forms, makes}
 use Rattle.procedures.specs.Expand.{Slots, no-slots, Expands}
-use Rattle.procedures.specs.PartKind.{PROCEDURE, USE, NEW, KIND, DETAIL, PARTS}
-use Rattle.records.specs.Limits.{greatest-depth}
+use Rattle.procedures.specs.PartKind.{PROCEDURE, USE, NEW, KIND, DETAIL, PARTS, PLACES}
+use Rattle.records.specs.Limits.{most-bytes, greatest-depth}
 use Rattle.records.specs.Row.{word}
-use Rattle.procedures.specs.Table.{Shown, Known, Few, FewIn}
+use Rattle.procedures.specs.Table.{Shown, Known, BINDERS, Few, FewIn}
 use Rattle.procedures.specs.Marks.{Marked, MarkedIn}
 use Rattle.expand.specs.Rows.{WEIGHT, ROWS, WORDS, decode}
 use Rattle.expand.specs.Local.{Local}
@@ -52,9 +52,13 @@ Weighs Γ ε rows T =
     (length T ≡ WORDS)
     × ((s : ℕ) → IsParameter (binders Γ) s → word T (ε .passed s) WEIGHT ≡ word rows (ε .passed s) WEIGHT)
 
+-- one more than a sheet may have places
+abbrev pub TURNS : ℕ
+TURNS = 4097
+
 -- a bound of the turns to come: it falls from a part to its parts, and from a use to the procedure's term
 unfoldable pub turns : ℕ → ℕ → ℕ
-turns at end = 4097 * end + (4096 - at)
+turns at end = TURNS * end + (most-bytes - at)
 
 module _ (N : Numbers) (ns : List Name) (t marks slots rows : List ℕ) where
   -- the part W, from a place up to another, in Γ, is to be expanded, where `level` binders are around and n rows made
@@ -68,7 +72,7 @@ module _ (N : Numbers) (ns : List Name) (t marks slots rows : List ℕ) where
     pub few : Few Γ W
     pub few-in : FewIn Γ
     pub shows : Shows slots ε (binders Γ)
-    pub long : length slots ≡ 128
+    pub long : length slots ≡ BINDERS
     pub passed : (s : ℕ) → IsParameter (binders Γ) s → Within n (ε .passed s)
     pub numbered : level ≡ length (binders Γ)
     pub enough : turns at end ≤ left
@@ -130,11 +134,11 @@ pub record Used (t marks slots : List ℕ) (level left at : ℕ) (rows after : L
   pub c : ℕ
   pub d : ℕ
   pub i : ℕ
-  pub pieces : Pieces t marks slots level left at (usedOf (getD marks (word t at DETAIL % 4096) 0)) rows between n a
+  pub pieces : Pieces t marks slots level left at (usedOf (getD marks (word t at DETAIL % PLACES) 0)) rows between n a
       b c d i
-  pub body : Expanding t marks (passedSlots slots (word t (word t at DETAIL % 4096) DETAIL) a b c d)
-    (moreOf (word t (word t at DETAIL % 4096) DETAIL) (word t at DETAIL / 4096)) left
-    (word t (word t at DETAIL % 4096) PARTS) between after i r m
+  pub body : Expanding t marks (passedSlots slots (word t (word t at DETAIL % PLACES) DETAIL) a b c d)
+    (moreOf (word t (word t at DETAIL % PLACES) DETAIL) (word t at DETAIL / PLACES)) left
+    (word t (word t at DETAIL % PLACES) PARTS) between after i r m
 
 -- the procedure that is used at a place is entered: what its term becomes in its slots, the use becomes
 pub record Entered (t marks slots inner : List ℕ) (level left at : ℕ) (rows between : List ℕ) (n body more i : ℕ) :

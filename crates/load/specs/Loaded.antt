@@ -5,7 +5,7 @@ use mathlib.Core.Path.{_≡_}
 use mathlib.Core.List.{List, []}
 use Rattle.procedures.specs.Written as written
 use Rattle.procedures.specs.Meaning.{tyOf, termOf}
-use Rattle.nodes.specs.Rep.{Rep}
+use Rattle.nodes.specs.Rep.{DEPTH, Rep}
 use Rattle.expand.specs.Contract.{Top}
 use Rattle.sheet.specs.Encoding.{headingLength}
 use Rattle.sheet.specs.Reader.{numbersAt, readSheet, accepted, rejected}
@@ -23,7 +23,7 @@ pub record Ready (s : List ℕ) (root row ty size : ℕ) (u : List ℕ) : Type 0
   pub accepts : readSheet s ≡ accepted sheet ty size
   pub numbered : sheet .numbers ≡ numbersAt s
   pub rooted : root ≡ headingLength sheet
-  pub represents : Rep (numbersAt s) u 6144 row [] [] (termOf sheet) (tyOf (numbersAt s) ty)
+  pub represents : Rep (numbersAt s) u DEPTH row [] [] (termOf sheet) (tyOf (numbersAt s) ty)
 
 unfoldable pub LoadedBy : List ℕ → Loaded → List ℕ → Type 0
 LoadedBy s (Sheet root row ty size) u = Ready s root row ty size u

@@ -17,6 +17,10 @@ use Rattle.records.specs.Row.{word}
 abbrev pub ROWS : ℕ
 ROWS = 12288
 
+-- how deep the rows of a term may lie in each other
+abbrev pub DEPTH : ℕ
+DEPTH = 6144
+
 -- the class of a type and the number of values of its data
 unfoldable pub TyRow : List ℕ → ℕ → Ty → Type 0
 TyRow t at command = word t at 2 ≡ 0

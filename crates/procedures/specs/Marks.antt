@@ -1,5 +1,5 @@
 -- Marks of parts, a word for each place of a sheet: what a part comes down to (specs/Come), and of a procedure also which
--- arguments it uses (a bit for each parameter), times 128. Document 02 [1]; only inner contracts cite it.
+-- arguments it uses (a bit for each parameter), times `COMES`. Document 02 [1]; only inner contracts cite it.
 use Prim.Native.Nat.{ℕ, zero, suc, _+_, _*_, _<_}
 use mathlib.Core.Path.{_≡_}
 use mathlib.Core.List.{List, [], _∷_}
@@ -14,6 +14,10 @@ use Rattle.procedures.specs.Context.{Context, whole, in-block, in-proced
 use Rattle.procedures.specs.Made.{sign}
 use Rattle.procedures.specs.PartKind.{PARTS}
 use Rattle.records.specs.Row.{word}
+
+-- what a part comes down to is below this
+abbrev pub COMES : ℕ
+COMES = 128
 
 -- which of four arguments are used: a bit each, the first lowest
 unfoldable pub bits : (ℕ → ℕ) → ℕ
@@ -51,7 +55,7 @@ module _ (N : Numbers) (ns : List Name) (t marks : List ℕ) where
     Marked Γ at (new id d x) = Comes Γ at (new id d x) × Marked (in-block id d Γ) (word t at PARTS) x
     Marked Γ at (procedure id ty ps body rest) =
         (getD marks at 0 ≡ come ns (binders Γ) (downs ns Γ) (procedure id ty ps body rest)
-          + 128 * usedBits N ns Γ ps body)
+          + COMES * usedBits N ns Γ ps body)
         × Marked (in-procedure ps Γ) (word t at PARTS) body
         × Marked (in-scope id ty ps body Γ) (word t at (PARTS + 1)) rest
 
@@ -67,5 +71,5 @@ module _ (N : Numbers) (ns : List Name) (t marks : List ℕ) where
   MarkedIn (in-procedure ps Γ) π = MarkedIn Γ π
   MarkedIn (in-scope id ty ps body Γ) π =
       let p : ℕ = π (length (binders Γ)) in
-      (c : ℕ) × (c < 128) × (getD marks p 0 ≡ c + 128 * usedBits N ns Γ ps body)
+      (c : ℕ) × (c < COMES) × (getD marks p 0 ≡ c + COMES * usedBits N ns Γ ps body)
       × Marked (in-procedure ps Γ) (word t p PARTS) body × MarkedIn Γ π

@@ -68,3 +68,11 @@ DETAIL = 4
 
 abbrev pub PARTS : ℕ
 PARTS = 5
+
+-- the detail of a name is its id and this many times the number of its arguments
+abbrev pub IDS : ℕ
+IDS = 256
+
+-- the detail of a use of a procedure is the place of the procedure's record and this many times the number of arguments
+abbrev pub PLACES : ℕ
+PLACES = 4096

@@ -25,14 +25,14 @@ use Rattle.procedures.specs.Fine.{depth}
 use Rattle.procedures.specs.Context.{Context, whole, in-block, in-procedure, in-scope, binders}
 use Rattle.procedures.specs.PartKind.{SKIP, DIVERGE, CONSTANT, NAME, FETCH, OPERATE, ASSIGN, SEQUENCE, IF, WHILE}
 use Rattle.procedures.specs.PartKind.{NEW, PROCEDURE, PRIVATE, PARAMETER, USE, KIND, END, CLASS, VALUES, DETAIL}
-use Rattle.procedures.specs.PartKind.{PARTS}
+use Rattle.procedures.specs.PartKind.{PARTS, IDS, PLACES}
 
 -- the place of a procedure's record and how many arguments a use of it has
 unfoldable pub useDetail : ℕ → ℕ → ℕ
-useDetail place count = place + 4096 * count
+useDetail place count = place + PLACES * count
 
 unfoldable pub nameDetail : ℕ → ℕ → ℕ
-nameDetail id count = id + 256 * count
+nameDetail id count = id + IDS * count
 
 module _ (N : Numbers) (ns : List Name) (t : List ℕ) where
   -- the row of the part W, of a kind, from a place up to another
@@ -112,9 +112,12 @@ module _ (N : Numbers) (ns : List Name) (t : List ℕ) where
       (b : ℕ) × (b ≤ at) × (word t (π k) DETAIL ≡ k) × (π k < word t (π k) PARTS) × (π k < most-bytes)
       × Shown (in-procedure ps Γ) π (word t (π k) PARTS) b body × Known Γ π (π k)
 
--- the binders inside a part are numbered below 128: a level of depth has four at most
+-- the binders inside a part are numbered below this: a level of depth has four at most
+abbrev pub BINDERS : ℕ
+BINDERS = 128
+
 unfoldable pub Few : Context → Written → Type 0
-Few Γ W = length (binders Γ) + 4 * depth W ≤ 128
+Few Γ W = length (binders Γ) + 4 * depth W ≤ BINDERS
 
 -- the same of the terms of the procedures of a context
 unfoldable pub FewIn : Context → Type 0

@@ -6,18 +6,20 @@ use mathlib.Core.List.{List, [], _∷_, _++_}
 use lib.ListN.{length, getD, set, drop}
 use lib.Dec.{eqb, leb}
 use Rattle.language.specs.Choice.{pick}
+use Rattle.records.specs.Limits.{ids}
+use Rattle.procedures.specs.PartKind.{NEW, PROCEDURE}
 use Rattle.procedures.specs.Written.{Name}
 use Rattle.procedures.specs.Meaning.{Binder, Meaning, private, argument, routine, named, retired, free, meaning}
 use Rattle.procedures.specs.Hiding.{isHeld}
 use Rattle.procedures.specs.Renumber.{Change}
 
--- the ids taken, in 255 bytes: 1 for each that is
+-- the ids taken, a byte for each id: 1 for each that is
 abbrev pub marked : List ℕ → ℕ → Bool
 marked k id = eqb (getD k id 0) 1
 
 pub record Takes (k : List ℕ) (taken : ℕ → Bool) : Type 0 where
-  pub sized : length k ≡ 255
-  pub marks : (id : ℕ) → id < 255 → marked k id ≡ taken id
+  pub sized : length k ≡ ids
+  pub marks : (id : ℕ) → id < ids → marked k id ≡ taken id
 
 -- the ids of n parameters whose pairs begin at a place taken
 unfoldable pub tookParameters : List ℕ → ℕ → ℕ → List ℕ → List ℕ
@@ -27,29 +29,38 @@ tookParameters s at (suc n) k = tookParameters s (at + 2) n (set k (getD s at 0)
 -- the ids that the record of a kind at a place binds taken
 unfoldable pub tookIds : List ℕ → ℕ → ℕ → ℕ → List ℕ → List ℕ
 tookIds s at kind count k =
-    pick (eqb kind 27) (set k (getD s (at + 1) 0) 1)
-    (pick (eqb kind 28) (tookParameters s (at + 4) count (set k (getD s (at + 1) 0) 1)) k)
+    pick (eqb kind NEW) (set k (getD s (at + 1) 0) 1)
+    (pick (eqb kind PROCEDURE) (tookParameters s (at + 4) count (set k (getD s (at + 1) 0) 1)) k)
 
--- An id's entry in the scope: 256 times the number of arguments of a use; where an enclosing binder has the id 2,048
--- more, and the id which the innermost of these now has.
+-- An id's entry in the scope: `ARGUMENTS` times the number of arguments of a use, which is below `COUNTS`; where an
+-- enclosing binder has the id `HELD` more, and the id which the innermost of these now has.
+abbrev pub ARGUMENTS : ℕ
+ARGUMENTS = 256
+
+abbrev pub COUNTS : ℕ
+COUNTS = 8
+
+abbrev pub HELD : ℕ
+HELD = 2048
+
 unfoldable pub namedEntry : ℕ → ℕ
-namedEntry count = 256 * count
+namedEntry count = ARGUMENTS * count
 
 -- that of a name record of a kind
 unfoldable pub nameEntry : ℕ → ℕ → ℕ
 nameEntry kind count = pick (eqb kind 1) (namedEntry count) 0
 
 unfoldable pub boundEntry : ℕ → ℕ → ℕ
-boundEntry given count = 2048 + 256 * count + given
+boundEntry given count = HELD + ARGUMENTS * count + given
 
 unfoldable pub heldIn : ℕ → Bool
-heldIn e = leb 2048 e
+heldIn e = leb HELD e
 
 unfoldable pub argumentsIn : ℕ → ℕ
-argumentsIn e = e / 256 % 8
+argumentsIn e = e / ARGUMENTS % COUNTS
 
 unfoldable pub becomesIn : ℕ → ℕ → ℕ
-becomesIn e id = pick (leb 2048 e) (e % 256) id
+becomesIn e id = pick (leb HELD e) (e % ARGUMENTS) id
 
 -- how many arguments a use has, by what its id means
 unfoldable pub arity : Meaning → ℕ
@@ -62,10 +73,10 @@ arity free = 0
 
 -- the scope is that of the binders bs, f says what the ids become
 pub record Scoped (ns : List Name) (bs : List Binder) (f : ℕ → ℕ) (scope : List ℕ) : Type 0 where
-  pub sized : length scope ≡ 255
-  pub helds : (id : ℕ) → id < 255 → heldIn (getD scope id 0) ≡ isHeld bs id
-  pub becomes : (id : ℕ) → id < 255 → becomesIn (getD scope id 0) id ≡ f id
-  pub counts : (id : ℕ) → id < 255 → argumentsIn (getD scope id 0) ≡ arity (meaning ns bs id)
+  pub sized : length scope ≡ ids
+  pub helds : (id : ℕ) → id < ids → heldIn (getD scope id 0) ≡ isHeld bs id
+  pub becomes : (id : ℕ) → id < ids → becomesIn (getD scope id 0) id ≡ f id
+  pub counts : (id : ℕ) → id < ids → argumentsIn (getD scope id 0) ≡ arity (meaning ns bs id)
 
 -- the bytes xs lie in s from a place on
 pub record Lies (s : List ℕ) (at : ℕ) (xs : List ℕ) : Type 0 where

@@ -6,18 +6,26 @@ use lib.ListN.{getD}
 use lib.Dec.{eqb, ltb}
 use Rattle.language.specs.Choice.{pick}
 use Rattle.procedures.specs.PartKind.{NAME, FETCH, OPERATE, ASSIGN, IF, NEW, PRIVATE, PARAMETER, USE}
-use Rattle.procedures.specs.PartKind.{CLASS, VALUES, DETAIL, PARTS}
+use Rattle.procedures.specs.PartKind.{CLASS, VALUES, DETAIL, PARTS, IDS, PLACES}
 use Rattle.records.specs.Row.{word}
-use Rattle.procedures.specs.Marks.{bits}
+use Rattle.procedures.specs.Marks.{COMES, bits}
 use Rattle.forms.specs.Shows.{wordOf}
+
+-- where the rows of the forms of procedures begin: before them is a row for each level of depth that is left
+abbrev pub PROCEDURES : ℕ
+PROCEDURES = 33
 
 -- the row of the form of the procedure with a number
 abbrev pub procedureRow : ℕ → ℕ
-procedureRow k = 33 + k
+procedureRow k = PROCEDURES + k
+
+-- the greatest number that a procedure has: it may have four parameters
+abbrev pub GREATEST : ℕ
+GREATEST = 124
 
 -- the number of the procedure of a use with the given detail
 unfoldable pub numberOf : List ℕ → ℕ → ℕ
-numberOf t detail = min (word t (detail % 4096) DETAIL) 124
+numberOf t detail = min (word t (detail % PLACES) DETAIL) GREATEST
 
 -- how many questions a type has, and how many answers they have in all, by its class and its number of values
 unfoldable pub questionsBy : ℕ → ℕ → ℕ
@@ -30,13 +38,13 @@ answersBy class values = pick (eqb class 0) 1 (pick (eqb class 2) (values + valu
 unfoldable pub partsOf : ℕ → ℕ → ℕ
 partsOf kind detail =
     pick (ltb kind NAME) 0
-    (pick (eqb kind NAME) (min (detail / 256) 4)
+    (pick (eqb kind NAME) (min (detail / IDS) 4)
     (pick (eqb kind FETCH) 1
     (pick (ltb kind IF) 2
     (pick (eqb kind IF) 3
     (pick (ltb kind NEW) 2
     (pick (eqb kind NEW) 1
-    (pick (eqb kind USE) (min (detail / 4096) 4) 0)))))))
+    (pick (eqb kind USE) (min (detail / PLACES) 4) 0)))))))
 
 -- the weight of a record without its parts
 unfoldable pub ownOf : ℕ → ℕ
@@ -57,7 +65,7 @@ extraOf t kind place = pick (eqb kind NAME) (answersBy (word t place CLASS) (wor
 
 -- what the part at a place comes down to, by its mark
 unfoldable pub comeAt : List ℕ → ℕ → ℕ
-comeAt M place = getD M place 0 % 128
+comeAt M place = getD M place 0 % COMES
 
 -- the same of argument j of the use `at`
 unfoldable pub argumentOf : List ℕ → List ℕ → ℕ → ℕ → ℕ → ℕ
@@ -70,9 +78,9 @@ throughOf t M at count k c = pick (eqb c 0) 0 (pick (ltb (c - 1) k) c (argumentO
 -- the same of any record but a procedure
 unfoldable pub comeOf : List ℕ → List ℕ → ℕ → ℕ → ℕ → ℕ → ℕ
 comeOf t M kind detail at count =
-    pick (eqb kind PARAMETER) (1 + min detail 124)
+    pick (eqb kind PARAMETER) (1 + min detail GREATEST)
     (pick (eqb kind USE)
-      (throughOf t M at count (numberOf t detail) (comeAt M (word t (detail % 4096) PARTS))) 0)
+      (throughOf t M at count (numberOf t detail) (comeAt M (word t (detail % PLACES) PARTS))) 0)
 
 -- which arguments the procedure k uses, by its form
 unfoldable pub usedOf : List ℕ → ℕ → ℕ

@@ -15,10 +15,10 @@ use Rattle.procedures.specs.Context.{Context, whole, binders, forms, downs, See
 use Rattle.procedures.specs.PartKind.{DETAIL, PARTS}
 use Rattle.records.specs.Limits.{most-bytes, greatest-depth}
 use Rattle.records.specs.Row.{word}
-use Rattle.procedures.specs.Table.{Shown}
+use Rattle.procedures.specs.Table.{BINDERS, Shown}
 use Rattle.procedures.specs.Marks.{Marked, MarkedArgs}
-use Rattle.forms.specs.Shows.{wordOf, Shows}
-use Rattle.weigh.specs.Plan.{procedureRow, factorOf, extraOf, comeAt}
+use Rattle.forms.specs.Shows.{formWidth, wordOf, Shows}
+use Rattle.weigh.specs.Plan.{PROCEDURES, procedureRow, GREATEST, factorOf, extraOf, comeAt}
 
 -- the weight of the term at a place, held at 4,097, and the marks of its parts
 pub record Weighs (t : List ℕ) (root : ℕ) (M : List ℕ) (r : ℕ) : Type 0 where
@@ -29,11 +29,11 @@ pub record Weighs (t : List ℕ) (root : ℕ) (M : List ℕ) (r : ℕ) : Type 0 
 
 -- the forms of the procedures with numbers below n are as they were
 pub record SameRows (F F′ : List ℕ) (n : ℕ) : Type 0 where
-  pub rows : (k i : ℕ) → k < n → i < 129 → wordOf F′ (procedureRow k) i ≡ wordOf F (procedureRow k) i
+  pub rows : (k i : ℕ) → k < n → i < formWidth → wordOf F′ (procedureRow k) i ≡ wordOf F (procedureRow k) i
 
 -- the forms of parts that are read with more than `left` levels left are as they were
 pub record SameAbove (F F′ : List ℕ) (left : ℕ) : Type 0 where
-  pub rows : (r i : ℕ) → left < r → r < 33 → i < 129 → wordOf F′ r i ≡ wordOf F r i
+  pub rows : (r i : ℕ) → left < r → r < PROCEDURES → i < formWidth → wordOf F′ r i ≡ wordOf F r i
 
 -- the marks from a place up to another are as they were
 abbrev pub SameMarks : List ℕ → List ℕ → ℕ → ℕ → Type 0
@@ -45,7 +45,7 @@ module _ (N : Numbers) (ns : List Name) (t : List ℕ) where
     pub numbered : word t p DETAIL ≡ length (binders Δ)
     pub placed : p < most-bytes
     pub before : word t p PARTS < at
-    pub few : length (binders Δ) ≤ 124
+    pub few : length (binders Δ) ≤ GREATEST
     pub four : length ps ≤ 4
     pub comes : comeAt M (word t p PARTS) ≡ come ns (inside ps (binders Δ)) (downs ns Δ) body
     pub formed : Shows F (procedureRow (length (binders Δ))) (length (binders Δ) + 4)
@@ -61,7 +61,7 @@ module _ (N : Numbers) (ns : List Name) (t : List ℕ) where
     pub shown : Shown N ns t Γ π at end W
     pub fine : Fine N ns (binders Γ) W
     pub deep : depth W ≤ left
-    pub few : length (binders Γ) + 4 * left ≤ 128
+    pub few : length (binders Γ) + 4 * left ≤ BINDERS
     pub ready : Ready F M Γ π at
 
   -- its form is in its row, its marks are set, and what is earlier is as it was
@@ -90,7 +90,7 @@ module _ (N : Numbers) (ns : List Name) (t : List ℕ) where
     pub jobs : Jobs F₀ Γ π at kind detail count left j from end g h ws
     pub based : SameRows F₀ F (length (binders Γ))
     pub after : at < from
-    pub few : length (binders Γ) + 4 * left ≤ 128
+    pub few : length (binders Γ) + 4 * left ≤ BINDERS
     pub ready : Ready F M Γ π at
     pub formed : Shows F (suc left) m g
 

@@ -15,7 +15,7 @@ use Rattle.automaton.specs.walk.RowKind.{SKIP, CONSTANT, NAME, FETCH, OP
 use Rattle.automaton.specs.walk.RowKind.{PRIVATE}
 use Rattle.automaton.specs.walk.Role.{SAME, THEN, TEST, SELECT, RIGHT, ASSIGNED, BLOCK}
 use Rattle.automaton.specs.walk.Column.{KIND, VALUES, DETAIL}
-use Rattle.automaton.specs.walk.Row.{partOf, partWeight, partValues, sumOf, mulAddOf}
+use Rattle.automaton.specs.walk.Row.{SHORTS, partOf, partWeight, partValues, sumOf, mulAddOf}
 use Rattle.automaton.specs.walk.Name.{framedOf, inName}
 
 -- the exit with an answer
@@ -79,7 +79,7 @@ unfoldable pub inNew : List ℕ → ℕ → ℕ → ℕ → ℕ → Spot
 inNew t at q x k =
     pick (eqb (partWeight t at 0) 0) (Here Stuck)
     (Inside (partOf t at 0) q x (k % partWeight t at 0)
-      (framedOf BLOCK (mulAddOf (k / partWeight t at 0) (partWeight t at 0) 0) (sumOf (at % 65536) 1) (partWeight t at
+      (framedOf BLOCK (mulAddOf (k / partWeight t at 0) (partWeight t at 0) 0) (sumOf (at % SHORTS) 1) (partWeight t at
           0)
         (k / partWeight t at 0) 0))
 

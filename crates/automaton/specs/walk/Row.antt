@@ -27,6 +27,10 @@ nameId t at = word t at DETAIL % 256
 unfoldable pub nameCount : List ℕ → ℕ → ℕ
 nameCount t at = word t at DETAIL / 256
 
+-- how many numbers a word of 16 bits can be
+abbrev pub SHORTS : ℕ
+SHORTS = 65536
+
 -- numbers below this are added without becoming too large, and those below its root are multiplied
 abbrev pub TOO-LARGE : ℕ
 TOO-LARGE = 4294967296

@@ -15,6 +15,7 @@ use Rattle.machine.specs.Edge.{edge-hear}
 use Rattle.machine.specs.Position.{Context, Store, types, State, Exit as ExitOf, StateArgs, ExitArgs}
 use Rattle.machine.specs.Numbering.{numbered, numberedArgs, numbered-replies}
 use Rattle.nodes.specs.Rep.{Rep}
+use Rattle.automaton.specs.walk.Row.{SHORTS}
 use Rattle.automaton.specs.declared.Move.{Move as Record}
 use Rattle.automaton.specs.walk.MoveKind.{RUN, DONE, ASK, READ, OK, VALUE, WRITE, NO-MOVE}
 use Rattle.automaton.specs.walk.Name.{noMove}
@@ -56,7 +57,7 @@ GivenMove m = (m .kind ≡ NO-MOVE) ⊎ ((i : ℕ) × (j : ℕ) × (e : Event) �
 
 -- every word of the table is a word of 16 bits
 abbrev pub Words : List ℕ → Type 0
-Words t = (i : ℕ) → getD t i 0 < 65536
+Words t = (i : ℕ) → getD t i 0 < SHORTS
 
 -- the values of a store, the innermost first
 unfoldable pub stored : (n : Context) → Store n → List ℕ

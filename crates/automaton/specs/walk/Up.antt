@@ -10,7 +10,7 @@ use Rattle.automaton.specs.declared.Out.{Out}
 use Rattle.automaton.specs.declared.Out.the-variants.{Go, Exit, Say, Hear, Stuck}
 use Rattle.automaton.specs.walk.MoveKind.{DONE, OK, VALUE}
 use Rattle.automaton.specs.walk.Role.{THEN, TEST, SELECT, RIGHT, ASSIGNED, ARGUMENT, BLOCK}
-use Rattle.automaton.specs.walk.Row.{sumOf, mulAddOf}
+use Rattle.automaton.specs.walk.Row.{SHORTS, sumOf, mulAddOf}
 use Rattle.automaton.specs.walk.Types.{questionKind, questionValue, answerNumber}
 
 -- the truths
@@ -46,7 +46,7 @@ exitResult (some v) block set = Exit VALUE v block set
 unfoldable pub exitOperate : Numbers → ℕ → ℕ → Frame → ℕ → ℕ → Out
 exitOperate N kind value f block set =
     pick (eqb kind VALUE)
-    (pick (ltb value (f .c)) (exitResult (operate N (f .b % 256) (f .a % 65536) (value % 65536)) block set) Stuck)
+    (pick (ltb value (f .c)) (exitResult (operate N (f .b % 256) (f .a % SHORTS) (value % SHORTS)) block set) Stuck)
     Stuck
 
 -- the answer ok of a variable ends its assignment

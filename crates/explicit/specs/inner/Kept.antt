@@ -7,6 +7,7 @@ use lib.Dec.{eqb, ltb, leb}
 use Rattle.language.specs.Choice.{pick}
 use Rattle.language.specs.declared.Numbers.{Numbers}
 use Rattle.records.specs.Row.{word}
+use Rattle.nodes.specs.Rep.{DEPTH}
 use Rattle.automaton.specs.declared.Move.{Move}
 use Rattle.automaton.specs.declared.Frame.{Frame}
 use Rattle.automaton.specs.declared.Out.{Out}
@@ -68,7 +69,7 @@ childOf t root p c k part kind value f =
 pub record Stands (t : List ℕ) (root : ℕ) (fs : List Frame) (l : Level) : Type 0 where
   pub before-answers : l .end ≤ afterOf t root
   pub says : (N : Numbers) (k : ℕ) (m : Move) → l .base ≤ k → k < l .end → sheetAt t N root k m ≡
-    riseAll N (l .f ∷ fs) (stepAt t N (6144 - length fs) (l .part) (l .kind) (l .value) (k - l .base)
+    riseAll N (l .f ∷ fs) (stepAt t N (DEPTH - length fs) (l .part) (l .kind) (l .value) (k - l .base)
       (storeOf (l .f ∷ fs)) m)
 
 -- the words hold c levels that say so, and their states begin at k or before

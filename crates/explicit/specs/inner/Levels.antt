@@ -3,6 +3,7 @@ use mathlib.Core.Path.{_≡_}
 use mathlib.Core.List.{List, [], _∷_}
 use Prim.Native.Nat.{ℕ, zero, suc, _+_, _*_, _≤_, _<_}
 use lib.ListN.{getD, set, length}
+use Rattle.automaton.specs.walk.Row.{SHORTS}
 use Rattle.automaton.specs.declared.Frame.{Frame}
 use Rattle.explicit.specs.declared.Level.{Level}
 use Rattle.explicit.specs.inner.Field.{LEVELS, FIELDS, PART, QUESTION, QUESTION-VALUE, BASE, END, OUTER, ROLE}
@@ -49,7 +50,7 @@ pub record Plain (fs : List Frame) (l : Level) : Type 0 where
   pub first-state : l .base ≡ baseOf fs + l .f .base
   pub owned : Owned (l .f ∷ fs)
   pub upper : l .up ≡ upOf (l .f ∷ fs)
-  pub small : l .base < 65536
+  pub small : l .base < SHORTS
   pub some : 0 < l .base
 
 -- the words hold c levels

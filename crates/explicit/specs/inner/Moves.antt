@@ -14,7 +14,7 @@ use Rattle.automaton.specs.declared.Out.the-variants.{Go, Exit, Say, Hear, Stuc
 use Rattle.automaton.specs.walk.MoveKind.{RUN, DONE, ASK, READ, OK, VALUE, WRITE, OPENING}
 use Rattle.automaton.specs.walk.Class.{COMMAND, EXPRESSION}
 use Rattle.automaton.specs.walk.Column.{CLASS, VALUES}
-use Rattle.automaton.specs.walk.Row.{sumOf, nameId, nameCount, partClass, partValues}
+use Rattle.automaton.specs.walk.Row.{SHORTS, sumOf, nameId, nameCount, partClass, partValues}
 use Rattle.automaton.specs.walk.Types.{questionLimit}
 use Rattle.automaton.specs.walk.Name.{noMove}
 use Rattle.explicit.specs.declared.Wait.{Wait}
@@ -30,7 +30,7 @@ codeAt N r = pick (ltb r (N .z)) (r + N .z + 1) (r - N .z)
 unfoldable pub letterOf : Numbers → Move → ℕ
 letterOf N m =
     let place = m .kind % 8 * KIND-UNIT + m .id % 256 * ID-UNIT + m .arg % 256 * ARGUMENT-UNIT in
-    pick (ltb (m .kind) VALUE) place (place + rank N (m .value % 65536))
+    pick (ltb (m .kind) VALUE) place (place + rank N (m .value % SHORTS))
 
 -- how many values the answers of a kind to the question q of value x have at a type: none where the type has no such
 -- question or the question no such answers, and one where they carry no value

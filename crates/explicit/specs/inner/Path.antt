@@ -9,6 +9,7 @@ use lib.Dec.{eqb, ltb}
 use Rattle.language.specs.Choice.{pick}
 use Rattle.language.specs.declared.Numbers.{Numbers}
 use Rattle.records.specs.Row.{word}
+use Rattle.automaton.specs.walk.Row.{SHORTS}
 use Rattle.automaton.specs.declared.Move.{Move}
 use Rattle.automaton.specs.declared.Frame.{Frame}
 use Rattle.automaton.specs.declared.Out.{Out}
@@ -32,7 +33,7 @@ SameAt t F k (Here o) = Unit
 SameAt t F k (Inside part kind value inner f) = Same t F k part kind value inner f
 
 abbrev pub Steady : List ℕ → (ℕ → Move → Spot) → Type 0
-Steady t F = (k : ℕ) (m : Move) → k < 65536 → SameAt t F k (F k m)
+Steady t F = (k : ℕ) (m : Move) → k < SHORTS → SameAt t F k (F k m)
 
 -- a step of the innermost part, seen in the whole sheet
 unfoldable pub riseAll : Numbers → List Frame → Out → Out

@@ -8,7 +8,7 @@ use Rattle.language.specs.Typing.{Typed}
 use Rattle.language.specs.Weight.{size}
 use Rattle.machine.specs.Range.{TyIn, InRange}
 use Rattle.records.specs.Limits.{greatest-z, greatest-size}
-use Rattle.nodes.specs.Rep.{Rep}
+use Rattle.nodes.specs.Rep.{DEPTH, Rep}
 use Rattle.automaton.specs.walk.Shows.{Words}
 
 -- the table represents the term M of type T at the root, and all numbers are in range
@@ -16,7 +16,7 @@ pub record Ready (N : Numbers) (t : List ℕ) (root : ℕ) (T : Ty) (M : Term) :
   pub z-above : 0 < N .z
   pub z-below : N .z ≤ greatest-z
   pub words : Words t
-  pub represents : Rep N t 6144 root [] [] M T
+  pub represents : Rep N t DEPTH root [] [] M T
   pub small : size T M ≤ greatest-size
   pub typed : Typed [] M T
   pub type-in : TyIn N T

@@ -47,16 +47,20 @@ pub record ShownRows (ws : List ℕ) (n c : ℕ) (row : ℕ → StateRow) : Type
   pub firsts : (p : ℕ) → p < c → getD ws (5 * n + p) 0 ≡ edgesBelow row p
   pub edges : (p : ℕ) → p < c → Standing ws n (edgesBelow row p) (row p .edges)
 
+-- how many states the automata of two sheets have at most, with the dead state
+abbrev pub STATES : ℕ
+STATES = 8193
+
 -- the words have room for n states and e edges
 pub record Room (ws : List ℕ) (n e : ℕ) : Type 0 where
-  pub few : n ≤ 8193
+  pub few : n ≤ STATES
   pub words : 6 * n + 1 + 2 * e ≤ length ws
   pub small : 6 * n + 1 + 2 * e < WORDS
 
 -- the words are an automaton of n states, with these rows
 pub record Automaton (ws : List ℕ) (n : ℕ) (row : ℕ → StateRow) : Type 0 where
   pub some : 0 < n
-  pub few : n ≤ 8193
+  pub few : n ≤ STATES
   pub room : 6 * n + 1 + 2 * edgesBelow row n ≤ length ws
   pub shown : ShownRows ws n n row
   pub last : getD ws (6 * n) 0 ≡ edgesBelow row n

@@ -5,6 +5,7 @@ use lib.Dec.{eqb, ltb, leb}
 use Rattle.language.specs.Choice.{pick}
 use Rattle.language.specs.declared.Numbers.{Numbers}
 use Rattle.records.specs.Row.{word}
+use Rattle.nodes.specs.Rep.{DEPTH}
 use Rattle.automaton.specs.declared.Move.{Move}
 use Rattle.automaton.specs.declared.Out.{Out}
 use Rattle.automaton.specs.declared.Out.the-variants.{Go, Say, Hear, Stuck}
@@ -37,7 +38,7 @@ atStart t root m = pick (eqb (m .kind) NO-MOVE) (Hear root OPENING 0) (openedOf 
 unfoldable pub withinOf : List ℕ → Numbers → ℕ → ℕ → ℕ → Move → Out
 withinOf t N root k after m =
     onSpot (argHere root (word t root CLASS) (word t root VALUES) (word t root WEIGHT) k 1 after)
-    (λ part kind value inner f. riseOf N f (stepAt t N 6144 part kind value inner (λ row. 0) m))
+    (λ part kind value inner f. riseOf N f (stepAt t N DEPTH part kind value inner (λ row. 0) m))
 
 -- answer k of a type, at the place of the whole term
 unfoldable pub repliedOf : ℕ → ℕ → ℕ → Move

@@ -10,8 +10,8 @@ use Rattle.renumbering.proofs.renumber.renumber_accepted.Tie as tie
 
 renumber-copy-requires : tie.Need-renumber-copy-requires
 renumber-copy-requires c κs =
-    (accepted-root (c .before .before .before .before .before .pre .0), accepted-short (c .before .before .before
-    .before .before .pre .0), length-replicate {A = ℕ} 4096 0)
+    (accepted-root (c .before .before .before .before .before .pre .0), accepted-short
+    (c .before .before .before .before .before .pre .0), length-replicate {A = ℕ} 4096 0)
 
 enum-known-x : tie.Need-enum-known-x
 enum-known-x c = search needs
@@ -28,8 +28,8 @@ enum-known-x-2 c = search needs
 slice-aggregate-copy : tie.Need-slice-aggregate-copy
 slice-aggregate-copy c =
     sym ((room (c .before .before .before .before .before .before .before .before .before .before .args .s .now) _ _
-    _ _ _ _ _ _ (c .before .before .before .before .before .before .before .before .before .before .pre .0) (c
-    .before .before .before .before .renumber-copy .ensures) (c .before .before .x2 .given .1) (length-replicate {A =
+    _ _ _ _ _ _ (c .before .before .before .before .before .before .before .before .before .before .pre .0)
+    (c .before .before .before .before .renumber-copy .ensures) (c .before .before .x2 .given .1) (length-replicate {A =
     ℕ} 4096 0) (length-replicate {A = ℕ} 1020 0)) .bytes)
 
 copy-requires : tie.Need-copy-requires
@@ -54,8 +54,8 @@ mul-copy c =
     let R = room (c .before .before .before .before .before .before .before .before .before .before .before .before
     .before .before .before .before .args .s .now) _ _ _ _ _ _ _ _ (c .before .before .before .before .before .before
     .before .before .before .before .before .before .before .before .before .before .pre .0) (c .before .before
-    .before .before .before .before .before .before .before .before .renumber-copy .ensures) (c .before .before
-    .before .before .before .before .before .before .x2 .given .1) (length-replicate {A = ℕ} 4096 0)
+    .before .before .before .before .before .before .before .before .renumber-copy .ensures)
+    (c .before .before .before .before .before .before .before .before .x2 .given .1) (length-replicate {A = ℕ} 4096 0)
     (length-replicate {A = ℕ} 1020 0) in omega (arith, R .few)
 
 copy-requires-2 : tie.Need-copy-requires-2
@@ -63,8 +63,8 @@ copy-requires-2 c κs =
     let R = room (c .before .before .before .before .before .before .before .before .before .before .before .before
     .before .before .before .before .args .s .now) _ _ _ _ _ _ _ _ (c .before .before .before .before .before .before
     .before .before .before .before .before .before .before .before .before .before .pre .0) (c .before .before
-    .before .before .before .before .before .before .before .before .renumber-copy .ensures) (c .before .before
-    .before .before .before .before .before .before .x2 .given .1) (length-replicate {A = ℕ} 4096 0)
+    .before .before .before .before .before .before .before .before .renumber-copy .ensures)
+    (c .before .before .before .before .before .before .before .before .x2 .given .1) (length-replicate {A = ℕ} 4096 0)
     (length-replicate {A = ℕ} 1020 0) in (omega (arith, R .list, R .few), omega (arith, R .few, c .before .before
     .before .before .before .before .before .before .before .before .before .before .before .before .before .before
     .pre .2))
@@ -76,8 +76,8 @@ cast-t25 c =
     .before .before .before .before .before .before .before .before .before .before .before .before .before .before
     .before .before .pre .0) (c .before .before .before .before .before .before .before .before .before .before
     .before .before .before .renumber-copy .ensures) (c .before .before .before .before .before .before .before
-    .before .before .before .before .x2 .given .1) (length-replicate {A = ℕ} 4096 0) (length-replicate {A = ℕ} 1020
-    0) in omega (arith, R .few)
+    .before .before .before .before .x2 .given .1) (length-replicate {A = ℕ} 4096 0)
+    (length-replicate {A = ℕ} 1020 0) in omega (arith, R .few)
 
 returns : tie.Need-returns
 returns c =
@@ -99,8 +99,8 @@ returns-2 c =
     .ensures) (c .before .before .before .before .before .before .before .before .before .before .before .x2 .given
     .1) (c .before .before .before .before .before .before .before .before .before .before .before .before .before
     .before .before .before .before .before .before .pre .0) (length-replicate {A = ℕ} 4096 0) (length-replicate {A =
-    ℕ} 1020 0) (c .before .before .before .before .before .before .before .copy .ensures) (c .before .before .copy2
-    .ensures) refl
+    ℕ} 1020 0) (c .before .before .before .before .before .before .before .copy .ensures)
+    (c .before .before .copy2 .ensures) refl
 
 pub renumber-accepted-spec : {M : Type 1} → statement M
 renumber-accepted-spec =
