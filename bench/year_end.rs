@@ -6,7 +6,7 @@
 mod boundary;
 mod peer;
 
-use boundary::{negyvosal_check, negyvosal_compare, ACCEPTED, APART, SAME, WORDS};
+use boundary::{negyvosal_check, negyvosal_compare, ACCEPTED, APART, OLD_MARK, SAME, WORDS};
 use peer::{Answer, Peer};
 use std::path::Path;
 use std::process::ExitCode;
@@ -111,8 +111,9 @@ impl Pair {
         (answer, now() - start)
     }
 
-    /// Whether the library's words and play space say what the peer answers, and nothing more.
+    /// Whether the library's words, but for the marks, and play space say what the peer answers, and nothing more.
     fn agrees(&self, words: [u32; WORDS], answer: &Option<Answer>) -> bool {
+        let words = &words[..OLD_MARK];
         match answer {
             None => false,
             Some(Answer::Same) => words == [SAME, 0, 0, 0, 0] && self.space.iter().all(|&b| b == UNTOUCHED),

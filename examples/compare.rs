@@ -1,7 +1,11 @@
-//! Compares two routines: c; c against c; then follows the play shown.
+//! Compares two routines: c; c against c; says how many names each uses; then follows the play shown.
 
-/// The words of an answer, and the kinds that are met here.
-const WORDS: usize = 5;
+/// How many words an answer has, and which of them say how many names the old and the new sheet use.
+const WORDS: usize = 11;
+const OLD_USED: usize = 6;
+const NEW_USED: usize = 9;
+
+/// The kinds of answers that are met here.
 const FOLLOWS: u32 = 2;
 const APART: u32 = 4;
 
@@ -51,12 +55,14 @@ fn main() {
     let old = [&heading[..], &[24, 20, 8, 20, 8]].concat();
     let new = [&heading[..], &[20, 8]].concat();
     let (mut words, mut space) = (vec![0; 16384], [0; 2040]);
-    let [kind, sheet, low, high, _] = compare(&old, &new, &mut words, &mut space);
+    let answer = compare(&old, &new, &mut words, &mut space);
+    let [kind, sheet, low, high, ..] = answer;
     assert_eq!(kind, APART, "the sheets are apart");
     let moves = whole(low, high);
     println!("apart in {} {moves}", ["old", "new"][sheet as usize]);
+    println!("names used: old {} new {}", answer[OLD_USED], answer[NEW_USED]);
     let bytes = (0..moves).fold(0, |at, _| at + if space[at] < 5 { 3 } else { 4 });
-    let [kind, complete, low, high, _] = follow(&old, &space[..bytes], &mut words);
+    let [kind, complete, low, high, ..] = follow(&old, &space[..bytes], &mut words);
     assert_eq!(kind, FOLLOWS, "the play is followed");
     println!("old follows {} complete {}", whole(low, high), if complete == 1 { "yes" } else { "no" });
 }

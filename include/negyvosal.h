@@ -9,7 +9,7 @@
 extern "C" {
 #endif
 
-/* An answer is five words at the start of `out`. Word 0 is its kind; the others follow from it:
+/* An answer is eleven words at the start of `out`, whatever the service. Word 0 is its kind; the others follow from it:
  *
  *   word 0                   word 1     word 2       word 3       word 4
  *   NEGYVOSAL_REFUSED (0)    number     sheet        place low    place high
@@ -18,6 +18,14 @@ extern "C" {
  *   NEGYVOSAL_SAME (3)       0          0            0            0             compare
  *   NEGYVOSAL_APART (4)      sheet      moves low    moves high   0             compare
  *   NEGYVOSAL_RENUMBERED (5) changes    0            0            0             renumber
+ *
+ * Words 5 to 7 tell of the names that the sheet checked or the old sheet uses, words 8 to 10 of those of the new sheet:
+ *
+ *   word 0                   words 5, 6, 7            words 8, 9, 10
+ *   NEGYVOSAL_ACCEPTED (1)   mark, used, unused       0, 0, 0
+ *   NEGYVOSAL_SAME (3)       mark, used, unused       mark, used, unused
+ *   NEGYVOSAL_APART (4)      mark, used, unused       mark, used, unused
+ *   any other                0, 0, 0                  0, 0, 0
  *
  * number:   the cause of the refusal, 1 to 17.
  * sheet:    which sheet: NEGYVOSAL_OLD, NEGYVOSAL_NEW or NEGYVOSAL_BOTH. A service on one sheet names it old.
@@ -28,12 +36,16 @@ extern "C" {
  * complete: 1 where the whole play is a complete play of the sheet, else 0.
  * moves:    how many moves the play has that one sheet has and the other has not.
  * changes:  how many ids that a new, a procedure or a parameter binds are others in the sheet written, at most 254.
+ * mark:     a bit for each name record of the sheet, the first record lowest, set where some use in the sheet means that
+ *           name. A retirement has a bit too, which is never set.
+ * used:     how many bits of the mark are set.
+ * unused:   the number of the first declared record whose bit is not set, counted from 0, or 32.
  *
  * A place, a count and a number of moves are 64-bit: the low and the high half, in that order. NEGYVOSAL_WHOLE puts them
  * together. A place in a sheet is at most 4,096 and a number of moves at most 8,191; in a play of 4 GiB and more a place and
  * a count may need both.
  */
-#define NEGYVOSAL_WORDS 5
+#define NEGYVOSAL_WORDS 11
 #define NEGYVOSAL_WHOLE(low, high) ((uint64_t)(high) << 32 | (low))
 
 /* Operator 3 of a sheet, remainder, gives the number from 0 up to, but not including, the absolute value of the right
@@ -47,6 +59,14 @@ extern "C" {
  * byte. A procedure encloses the term in which it may be used, a parameter the procedure's term. Side by side the
  * same id is fine. Renumber reads a sheet without that rule, so it never gives 16; it gives 17, at the id byte,
  * where no id is left for one that hides another. */
+
+/* Where the words stand that tell of names. A sheet checked is the old one. */
+#define NEGYVOSAL_OLD_MARK 5
+#define NEGYVOSAL_OLD_USED 6
+#define NEGYVOSAL_OLD_UNUSED 7
+#define NEGYVOSAL_NEW_MARK 8
+#define NEGYVOSAL_NEW_USED 9
+#define NEGYVOSAL_NEW_UNUSED 10
 
 #define NEGYVOSAL_REFUSED 0
 #define NEGYVOSAL_ACCEPTED 1
@@ -69,8 +89,8 @@ extern "C" {
 #define NEGYVOSAL_LIST 1020
 #define NEGYVOSAL_CHANGE 4
 
-/* Every service writes its answer into the first five words of `out` and returns 1. Words after the five stay as they
- * were. Where `out_length` is below five it changes nothing and returns 0.
+/* Every service writes its answer into the first NEGYVOSAL_WORDS words of `out` and returns 1. Words after them stay as
+ * they were. Where `out_length` is below NEGYVOSAL_WORDS it changes nothing and returns 0.
  *
  * Any bytes and any lengths are fine. Sheets and plays are only read. No pointer may be null, even with a length of 0, and
  * what is written (`words`, `space`, `output`, `list`, `out`) may overlap nothing else that is lent. Calls keep nothing

@@ -1,8 +1,21 @@
 //! The boundary of the library for the Rust programs here, as `negyvosal.h` has it for C: the words of an answer and the
 //! services. A program takes it in as a module of its own.
 
-/// How many words an answer has, and its kinds.
-pub const WORDS: usize = 5;
+/// How many words an answer has: word 0 is its kind, the next four are its values, and the rest tell which names its
+/// sheets use.
+pub const WORDS: usize = 11;
+
+/// The words that tell of the names of the sheet that check accepts, or of the old one of two that are compared: its
+/// mark, how many names it uses, and the first declared record that it does not use, or 32. The same of the new one.
+/// Where there are none, as in a refusal, they are 0.
+pub const OLD_MARK: usize = 5;
+pub const OLD_USED: usize = 6;
+pub const OLD_UNUSED: usize = 7;
+pub const NEW_MARK: usize = 8;
+pub const NEW_USED: usize = 9;
+pub const NEW_UNUSED: usize = 10;
+
+/// The kinds of answers.
 pub const REFUSED: u32 = 0;
 pub const ACCEPTED: u32 = 1;
 pub const FOLLOWS: u32 = 2;

@@ -16,7 +16,7 @@ mod terms;
 #[path = "../../tests/independent/weigh.rs"]
 mod weigh;
 
-use boundary::{negyvosal_check, negyvosal_compare, ACCEPTED, REFUSED, SAME, WORDS};
+use boundary::{negyvosal_check, negyvosal_compare, ACCEPTED, OLD_MARK, REFUSED, SAME, WORDS};
 use sheets::Hard;
 use std::path::Path;
 use std::process::ExitCode;
@@ -76,6 +76,7 @@ fn time(hard: &Hard) -> (bool, bool) {
     let size = hard.size.unwrap_or(0);
     let (mut words, mut space) = (vec![0; 32 * (2 * size as usize + 1)], vec![0; 8 * size as usize]);
     let (compared, compare_time) = timed(&mut || compare(&hard.sheet, &mut words, &mut space));
+    let (checked, compared) = (&checked[..OLD_MARK], &compared[..OLD_MARK]);
     let (right, told) = match hard.size {
         Some(size) => (checked == [ACCEPTED, 0, size, 0, 0] && compared == [SAME, 0, 0, 0, 0], format!("size {size}")),
         None => (checked == [REFUSED, TOO_LARGE, 0, 0, 0] && compared == checked, "refused 11".to_string()),

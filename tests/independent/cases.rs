@@ -6,6 +6,7 @@ pub mod deep;
 mod hiding;
 mod limits;
 mod long;
+pub mod names;
 pub mod near;
 mod pairs;
 mod plays;
@@ -22,6 +23,7 @@ use damage::{damaged, misnamed, random_bytes};
 use hiding::hidden;
 use limits::sheet_at_a_limit;
 use long::Long;
+use names::sheet_of_names;
 use plays::{play_for, random_play};
 
 pub enum Case {
@@ -114,7 +116,7 @@ fn arithmetic_sheet(random: &mut Random) -> Vec<u8> {
 }
 
 fn sheet_to_check(random: &mut Random) -> Vec<u8> {
-    match random.below(12) {
+    match random.below(13) {
         0..=1 => sheet(random),
         2..=4 => sheet_at_a_limit(random),
         5 => random_bytes(random),
@@ -123,6 +125,7 @@ fn sheet_to_check(random: &mut Random) -> Vec<u8> {
             let sheet = sheet(random);
             hidden(random, sheet)
         }
+        9 => sheet_of_names(random),
         _ => {
             let sheet = sheet(random);
             damaged(random, sheet)

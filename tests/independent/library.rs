@@ -3,6 +3,8 @@
 pub use crate::boundary::WORDS;
 use crate::boundary::{negyvosal_check, negyvosal_compare, negyvosal_follow, negyvosal_renumber};
 use crate::boundary::{ACCEPTED, APART, FOLLOWS, REFUSED, RENUMBERED, SAME};
+use crate::boundary::{NEW_MARK, NEW_UNUSED, NEW_USED, OLD_MARK, OLD_UNUSED, OLD_USED};
+use crate::mark::Mark;
 use crate::services::{listed, records, Answer};
 
 pub type Words = [u32; WORDS];
@@ -218,26 +220,41 @@ fn halves(number: usize) -> [u32; 2] {
     [number as u32, (number as u64 >> 32) as u32]
 }
 
-/// The words that an answer should have.
+/// The words that an answer should have: its kind and values, and then the marks of the sheets that it speaks of.
 pub fn words_of(answer: &Answer) -> Words {
     match answer {
         Answer::Refused { number, sheet, place } => {
             let [low, high] = halves(*place);
-            [REFUSED, *number, sheet.word(), low, high]
+            words([REFUSED, *number, sheet.word(), low, high], &[])
         }
-        Answer::Accepted { kind, size } => [ACCEPTED, *kind, *size as u32, 0, 0],
+        Answer::Accepted { kind, size, mark } => words([ACCEPTED, *kind, *size as u32, 0, 0], &[*mark]),
         Answer::Followed { count, complete } => {
             let [low, high] = halves(*count);
-            [FOLLOWS, *complete as u32, low, high, 0]
+            words([FOLLOWS, *complete as u32, low, high, 0], &[])
         }
-        Answer::Same => [SAME, 0, 0, 0, 0],
-        Answer::Apart { sheet, play } => {
+        Answer::Same { marks } => words([SAME, 0, 0, 0, 0], marks),
+        Answer::Apart { sheet, play, marks } => {
             let [low, high] = halves(play.len());
-            [APART, sheet.word(), low, high, 0]
+            words([APART, sheet.word(), low, high, 0], marks)
         }
-        Answer::Renumbered { changes, .. } => [RENUMBERED, changes.len() as u32, 0, 0, 0],
+        Answer::Renumbered { changes, .. } => words([RENUMBERED, changes.len() as u32, 0, 0, 0], &[]),
         Answer::Unknown => [u32::MAX; WORDS],
     }
+}
+
+/// Where the words of a mark stand, of the old sheet and of the new one.
+const MARKS: [[usize; 3]; 2] = [[OLD_MARK, OLD_USED, OLD_UNUSED], [NEW_MARK, NEW_USED, NEW_UNUSED]];
+
+/// The first words of an answer, and those of the marks; the others are 0.
+fn words(first: [u32; OLD_MARK], marks: &[Mark]) -> Words {
+    let mut words = [0; WORDS];
+    words[..OLD_MARK].copy_from_slice(&first);
+    for (mark, [bits, used, unused]) in marks.iter().zip(MARKS) {
+        words[bits] = mark.bits;
+        words[used] = mark.used;
+        words[unused] = mark.unused;
+    }
+    words
 }
 
 /// The bytes that an answer should write into play space.

@@ -8,7 +8,7 @@
 //! 2 MiB of stack on the deepest and largest sheets and on those of the files.
 //!
 //! After the word `procedures`, `random` and `write` have cases with procedures, kind 28 of document 02; after the word
-//! `renumber`, sheets to renumber.
+//! `renumber`, sheets to renumber; after the word `names`, sheets with many name records, of which some are used.
 
 #[path = "../../include/negyvosal.rs"]
 mod boundary;
@@ -19,6 +19,7 @@ mod inline;
 mod landing;
 mod library;
 mod machine;
+mod mark;
 mod moves;
 mod random;
 mod reader;
@@ -36,7 +37,7 @@ use cases::Case;
 use random::Random;
 use std::process::ExitCode;
 
-const USAGE: &str = "usage: independent [procedures | renumber] \
+const USAGE: &str = "usage: independent [procedures | renumber | names] \
     vectors FILE... | random SEED COUNT | near SEED COUNT | write SEED COUNT | stack FILE... | \
     compare OLD NEW [WORDS SPACE]";
 
@@ -52,6 +53,7 @@ fn run(arguments: &[String]) -> Result<bool, String> {
     match arguments.split_first() {
         Some((word, rest)) if word == "procedures" => run_mode(rest, cases::procedures::case),
         Some((word, rest)) if word == "renumber" => run_mode(rest, cases::renumber::case),
+        Some((word, rest)) if word == "names" => run_mode(rest, cases::names::case),
         _ => run_mode(arguments, cases::case),
     }
 }

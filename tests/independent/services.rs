@@ -3,6 +3,7 @@
 
 use crate::compare::{first_difference, Difference};
 use crate::machine::{Machine, Move};
+use crate::mark::Mark;
 use crate::reader::{read, read_under, Fault, Rule, Sheet};
 use crate::renumber::{renumbered, Change, LIST};
 use crate::vectors::hex;
@@ -28,6 +29,9 @@ impl Which {
     }
 }
 
+/// The marks of an old and a new sheet.
+pub type Marks = [Mark; 2];
+
 #[derive(Clone, Debug, PartialEq)]
 pub enum Answer {
     Refused {
@@ -38,15 +42,20 @@ pub enum Answer {
     Accepted {
         kind: u32,
         size: u64,
+        mark: Mark,
     },
     Followed {
         count: usize,
         complete: bool,
     },
-    Same,
+    /// Both comparisons have the marks of the old and the new sheet.
+    Same {
+        marks: Marks,
+    },
     Apart {
         sheet: Which,
         play: Vec<Move>,
+        marks: Marks,
     },
     Renumbered {
         sheet: Vec<u8>,
@@ -67,7 +76,7 @@ fn refused_both(number: u32) -> Answer {
 pub fn check(bytes: &[u8]) -> Answer {
     match read(bytes) {
         Err(fault) => refused(fault, Which::Old),
-        Ok(sheet) => Answer::Accepted { kind: sheet.term.gives.byte() as u32, size: sheet.size },
+        Ok(sheet) => Answer::Accepted { kind: sheet.term.gives.byte() as u32, size: sheet.size, mark: sheet.mark() },
     }
 }
 
@@ -129,7 +138,7 @@ pub fn first_moves(bytes: &[u8], count: usize) -> Option<Vec<Move>> {
 pub fn compare(old: &[u8], new: &[u8], words: usize, space: usize, most_pairs: usize) -> Answer {
     match read_both(old, new, words, space) {
         Err(answer) => answer,
-        Ok((a, b)) => compare_machines(&Machine::of(&a), &Machine::of(&b), most_pairs),
+        Ok((a, b)) => compare_machines(&Machine::of(&a), &Machine::of(&b), marks_of(&a, &b), most_pairs),
     }
 }
 
@@ -149,12 +158,16 @@ pub fn read_both(old: &[u8], new: &[u8], words: usize, space: usize) -> Result<(
     Ok((a, b))
 }
 
-pub fn compare_machines(old: &Machine, new: &Machine, most_pairs: usize) -> Answer {
+pub fn marks_of(old: &Sheet, new: &Sheet) -> Marks {
+    [old.mark(), new.mark()]
+}
+
+pub fn compare_machines(old: &Machine, new: &Machine, marks: Marks, most_pairs: usize) -> Answer {
     match first_difference(old, new, most_pairs) {
-        Difference::Same => Answer::Same,
+        Difference::Same => Answer::Same { marks },
         Difference::TooMany => Answer::Unknown,
         Difference::Apart { in_old, play } => {
-            Answer::Apart { sheet: if in_old { Which::Old } else { Which::New }, play }
+            Answer::Apart { sheet: if in_old { Which::Old } else { Which::New }, play, marks }
         }
     }
 }
@@ -186,16 +199,18 @@ pub fn records(play: &[Move]) -> Vec<u8> {
     bytes
 }
 
-/// The lines that show an answer. Those of a comparison come after the line with the sizes.
+/// The lines that show an answer. Those of a comparison come after the lines with the sizes and the names used.
 pub fn text(answer: &Answer) -> String {
     match answer {
         Answer::Refused { number, sheet, place } => format!("refused {number} {} {place}\n", sheet.name()),
-        Answer::Accepted { kind, size } => format!("accepted type {kind} size {size}\n"),
+        Answer::Accepted { kind, size, mark: Mark { bits, used, unused } } => {
+            format!("accepted type {kind} size {size} mark {bits} used {used} unused {unused}\n")
+        }
         Answer::Followed { count, complete } => {
             format!("follows {count} complete {}\n", if *complete { "yes" } else { "no" })
         }
-        Answer::Same => "same\n".to_string(),
-        Answer::Apart { sheet, play } => {
+        Answer::Same { .. } => "same\n".to_string(),
+        Answer::Apart { sheet, play, .. } => {
             let head = format!("apart in {} {}\n", sheet.name(), play.len());
             play.iter().fold(head, |lines, m| lines + &move_text(m))
         }
@@ -216,15 +231,17 @@ fn move_text(m: &Move) -> String {
 
 /// What the program of document 01 prints for two sheets.
 pub fn compare_text(old: &[u8], new: &[u8], words: usize, space: usize) -> String {
-    let answer = compare(old, new, words, space, usize::MAX);
-    let sizes = match (check(old), check(new)) {
-        (Answer::Accepted { size: a, .. }, Answer::Accepted { size: b, .. }) => {
-            format!("old {a} new {b}\n")
+    match read_both(old, new, words, space) {
+        Err(answer) => text(&answer),
+        Ok((a, b)) => {
+            let answer = compare(old, new, words, space, usize::MAX);
+            format!("old {} new {}\n{}{}", a.size, b.size, uses_text(&a, &b), text(&answer))
         }
-        _ => String::new(),
-    };
-    match answer {
-        Answer::Refused { .. } => text(&answer),
-        _ => sizes + &text(&answer),
     }
+}
+
+/// The line that says how many of the declared names each sheet uses.
+fn uses_text(old: &Sheet, new: &Sheet) -> String {
+    let [a, b] = [old, new].map(|sheet| format!("{} of {}", sheet.mark().used, sheet.declared()));
+    format!("uses {a} and {b}\n")
 }

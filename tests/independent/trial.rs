@@ -1,13 +1,19 @@
 //! Runs random cases through the services here and through the library, and reports where they disagree.
 
 use crate::cases::{near, Case};
+use crate::compare::{first_difference, Difference};
 use crate::library::{self, bytes_of, words_of, Compared, Words, WORDS};
 use crate::machine::Machine;
+use crate::mark::NONE;
 use crate::random::Random;
-use crate::reader::{read, read_under, Rule, Sheet};
+use crate::reader::{read, read_under, Fault, Rule, Sheet};
 use crate::renumber::LIST;
-use crate::services::{self, Answer, Which};
+use crate::services::{self, Answer, Marks, Which};
+use crate::sheet::{written, Record};
 use crate::vectors::hex;
+
+/// The number of the refusal of a use of a retired id.
+const RETIRED: u32 = 6;
 
 /// The most pairs that one comparison visits.
 const MOST_PAIRS: usize = 300_000;
@@ -16,6 +22,10 @@ const MOST_PAIRS: usize = 300_000;
 #[derive(Default)]
 struct Counts {
     accepted: usize,
+    most_used: u32,
+    /// Accepted sheets that use all the names they declare, and ones that declare some and use none.
+    all_used: usize,
+    none_used: usize,
     followed: usize,
     complete: usize,
     same: usize,
@@ -29,6 +39,9 @@ struct Counts {
     unaltered: usize,
     /// Comparisons of two sheets without any play.
     empty: usize,
+    /// Comparisons of two sheets with different marks, and those that are the same.
+    unlike_marks: usize,
+    same_with_unlike_marks: usize,
     longest_play: usize,
     largest: u64,
     most_states: usize,
@@ -42,17 +55,25 @@ impl Counts {
     fn note(&mut self, answer: &Answer) {
         match answer {
             Answer::Refused { number, .. } => self.refused[*number as usize] += 1,
-            Answer::Accepted { size, .. } => {
+            Answer::Accepted { size, mark, .. } => {
                 self.accepted += 1;
                 self.largest = self.largest.max(*size);
+                self.most_used = self.most_used.max(mark.used);
+                self.all_used += (mark.used > 0 && mark.unused == NONE) as usize;
+                self.none_used += (mark.used == 0 && mark.unused != NONE) as usize;
             }
             Answer::Followed { complete, .. } => {
                 self.followed += 1;
                 self.complete += *complete as usize;
             }
-            Answer::Same => self.same += 1,
-            Answer::Apart { play, .. } => {
+            Answer::Same { marks: [old, new] } => {
+                self.same += 1;
+                self.unlike_marks += (old != new) as usize;
+                self.same_with_unlike_marks += (old != new) as usize;
+            }
+            Answer::Apart { play, marks: [old, new], .. } => {
                 self.apart += 1;
+                self.unlike_marks += (old != new) as usize;
                 self.longest_play = self.longest_play.max(play.len());
             }
             Answer::Renumbered { changes, .. } => {
@@ -67,9 +88,15 @@ impl Counts {
     fn print(&self) {
         println!("check: {} accepted, sizes up to {}", self.accepted, self.largest);
         println!("check: {} refused that the earlier rule accepts", self.turned_away);
+        println!(
+            "check: up to {} names used; all {} times, none {} times",
+            self.most_used, self.all_used, self.none_used
+        );
         println!("follow: {} followed, {} of them complete", self.followed, self.complete);
         println!("compare: {} same, {} of them without plays", self.same, self.empty);
         println!("compare: {} apart, by up to {} moves", self.apart, self.longest_play);
+        let (unlike, same) = (self.unlike_marks, self.same_with_unlike_marks);
+        println!("compare: {unlike} with different marks, {same} of them same");
         println!("compare: {} with over {MOST_PAIRS} pairs, tried in part only", self.capped);
         println!("compare: up to {} states, {} times with a silent loop", self.most_states, self.rounds);
         println!("compare: {} with both sizes {} or more", self.near, near::SMALLEST);
@@ -118,7 +145,8 @@ fn run_case(case: &Case, room: usize, counts: &mut Counts) -> Result<(), String>
             let answer = services::check(sheet);
             counts.note(&answer);
             counts.turned_away += (read(sheet).is_err() && read_under(Rule::Earlier, sheet).is_ok()) as usize;
-            expect_words(&answer, library::check(sheet, room)?)
+            expect_words(&answer, library::check(sheet, room)?)?;
+            expect_mark(sheet)
         }
         Case::Follow { sheet, play, words } => {
             let answer = services::follow(sheet, play, *words);
@@ -147,6 +175,24 @@ fn run_case(case: &Case, room: usize, counts: &mut Counts) -> Result<(), String>
     }
 }
 
+/// That a name is used is also to be seen without looking at the term: once its id is retired, the sheet is refused for
+/// it.
+fn expect_mark(bytes: &[u8]) -> Result<(), String> {
+    let Ok(sheet) = read(bytes) else {
+        return Ok(());
+    };
+    let mark = sheet.mark();
+    for (number, record) in sheet.heading.records.iter().enumerate() {
+        let mut heading = sheet.heading.clone();
+        heading.records[number] = Record::Retire { id: record.id() };
+        let refused = matches!(read(&written(&heading, &sheet.term)), Err(Fault { number: RETIRED, .. }));
+        if refused != (mark.bits >> number & 1 == 1) {
+            return Err(format!("bit {number} of the mark {} is wrong", mark.bits));
+        }
+    }
+    Ok(())
+}
+
 /// What document 02 says of a sheet renumbered: it is accepted and has the plays that the earlier rule gave the old one,
 /// with the same type and size, and there is nothing left to change.
 fn expect_renumbered(bytes: &[u8], answer: &Answer) -> Result<(), String> {
@@ -166,8 +212,11 @@ fn expect_renumbered(bytes: &[u8], answer: &Answer) -> Result<(), String> {
     if services::renumber(sheet, sheet.len(), LIST) != again {
         return Err("it is not renumbered once and for all".to_string());
     }
-    match services::compare_machines(&Machine::of(&old), &Machine::of(&new), MOST_PAIRS) {
-        Answer::Apart { .. } => Err("it has other plays".to_string()),
+    if old.mark() != new.mark() {
+        return Err("it uses other names".to_string());
+    }
+    match first_difference(&Machine::of(&old), &Machine::of(&new), MOST_PAIRS) {
+        Difference::Apart { .. } => Err("it has other plays".to_string()),
         _ => Ok(()),
     }
 }
@@ -186,14 +235,15 @@ fn run_compare(a: &Sheet, b: &Sheet, alike: bool, got: &Compared, counts: &mut C
     let (old, new) = (Machine::of(a), Machine::of(b));
     expect_states(a, &old)?;
     expect_states(b, &new)?;
-    let answer = services::compare_machines(&old, &new, MOST_PAIRS);
+    let marks = services::marks_of(a, b);
+    let answer = services::compare_machines(&old, &new, marks, MOST_PAIRS);
     counts.note(&answer);
     counts.most_states = counts.most_states.max(old.reached).max(new.reached);
     counts.near += (a.size.min(b.size) >= near::SMALLEST) as usize;
     counts.rounds += (old.goes_round() || new.goes_round()) as usize;
-    counts.empty += (answer == Answer::Same && old.start().is_none()) as usize;
+    counts.empty += (answer == Answer::Same { marks } && old.start().is_none()) as usize;
     match &answer {
-        Answer::Unknown => expect_some_answer(&old, &new, got),
+        Answer::Unknown => expect_some_answer(&old, &new, marks, got),
         Answer::Apart { .. } if alike => Err("a tidied copy is apart".to_string()),
         Answer::Apart { play, .. } if play.len() as u64 > a.size + b.size - 1 => {
             Err(format!("the play has {} moves", play.len()))
@@ -215,14 +265,14 @@ fn expect_states(sheet: &Sheet, machine: &Machine) -> Result<(), String> {
 }
 
 /// Of a pair whose search was given up: the answer is "same", or a complete play of exactly the sheet named.
-fn expect_some_answer(old: &Machine, new: &Machine, got: &Compared) -> Result<(), String> {
-    if got.words == words_of(&Answer::Same) {
+fn expect_some_answer(old: &Machine, new: &Machine, marks: Marks, got: &Compared) -> Result<(), String> {
+    if got.words == words_of(&Answer::Same { marks }) {
         return got.expect_space(&[]);
     }
     let moves = got.words[2] as usize;
     let shown = services::first_moves(got.space(), moves).ok_or("play space holds no such play")?;
     let sheet = if got.words[1] == 0 { Which::Old } else { Which::New };
-    let answer = Answer::Apart { sheet, play: shown };
+    let answer = Answer::Apart { sheet, play: shown, marks };
     expect_words(&answer, got.words)?;
     let bytes = bytes_of(&answer);
     got.expect_space(&bytes)?;

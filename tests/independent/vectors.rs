@@ -4,10 +4,11 @@ use crate::cases;
 use crate::services;
 use std::collections::HashMap;
 
-/// A value of a case: the objects hold texts and whole numbers only.
+/// A value of a case: the objects hold texts, whole numbers and lists of these only.
 enum Value {
     Text(String),
     Number(usize),
+    Numbers(Vec<usize>),
 }
 
 type Case = HashMap<String, Value>;
@@ -67,10 +68,28 @@ impl Line<'_> {
         if self.rest.starts_with('"') {
             return Ok(Value::Text(self.text()?));
         }
+        if self.passes('[') {
+            return self.numbers().map(Value::Numbers);
+        }
+        self.number().map(Value::Number)
+    }
+
+    /// The rest of a list, which is not empty.
+    fn numbers(&mut self) -> Result<Vec<usize>, String> {
+        let mut numbers = vec![self.number()?];
+        while self.passes(',') {
+            numbers.push(self.number()?);
+        }
+        self.expect(']')?;
+        Ok(numbers)
+    }
+
+    fn number(&mut self) -> Result<usize, String> {
+        self.blank();
         let end = self.rest.find(|c: char| !c.is_ascii_digit()).unwrap_or(self.rest.len());
         let (digits, rest) = self.rest.split_at(end);
         self.rest = rest;
-        digits.parse().map(Value::Number).map_err(|_| format!("a value expected before '{rest}'"))
+        digits.parse().map_err(|_| format!("a value expected before '{rest}'"))
     }
 
     fn case(&mut self) -> Result<Case, String> {
@@ -142,13 +161,31 @@ fn outcome(case: &Case) -> Result<String, String> {
     }
 }
 
+/// The marks that a comparison passes on; none where it is refused.
+fn marks_of(old: &[u8], new: &[u8], words: usize, space: usize) -> Option<[usize; 2]> {
+    let (a, b) = services::read_both(old, new, words, space).ok()?;
+    Some(services::marks_of(&a, &b).map(|mark| mark.bits as usize))
+}
+
+/// The marks that a case gives.
+fn marks(case: &Case) -> Result<Option<[usize; 2]>, String> {
+    if text(case, "service")? != "compare" {
+        return Ok(None);
+    }
+    let (old, new) = (bytes(text(case, "old")?)?, bytes(text(case, "new")?)?);
+    Ok(marks_of(&old, &new, number(case, "words")?, number(case, "space")?))
+}
+
 fn run_line(line: &str) -> Result<(), String> {
     let case = Line { rest: line }.case()?;
     let (wanted, got) = (text(&case, "expect")?, outcome(&case)?);
-    if wanted == got {
-        Ok(())
-    } else {
-        Err(format!("expected {wanted:?}, got {got:?}"))
+    if wanted != got {
+        return Err(format!("expected {wanted:?}, got {got:?}"));
+    }
+    match (case.get("marks"), marks(&case)?) {
+        (None, None) => Ok(()),
+        (Some(Value::Numbers(wanted)), Some(got)) if wanted[..] == got => Ok(()),
+        (_, got) => Err(format!("the marks are {got:?}")),
     }
 }
 
@@ -175,7 +212,16 @@ pub fn line(case: &cases::Case) -> String {
             services::text(&services::renumber(sheet, *output, *list)),
         ),
     };
-    format!("{{\"service\": {given}, \"expect\": \"{}\"}}", expect.replace('\n', "\\n"))
+    format!("{{\"service\": {given}, \"expect\": \"{}\"{}}}", expect.replace('\n', "\\n"), marks_field(case))
+}
+
+/// The field of a line that has the marks of a comparison.
+fn marks_field(case: &cases::Case) -> String {
+    let marks = match case {
+        cases::Case::Compare { old, new, words, space, .. } => marks_of(old, new, *words, *space),
+        _ => None,
+    };
+    marks.map_or(String::new(), |[old, new]| format!(", \"marks\": [{old}, {new}]"))
 }
 
 /// Runs the files; whether all cases give what they should.

@@ -1,5 +1,5 @@
--- What the boundary promises of follow, compare and renumber: where fewer than five words are lent for the answer, 0,
--- and nothing changes; else 1, the answer in the first five words of `out`, and what the service promises of all else.
+-- What the boundary promises of follow, compare and renumber: where fewer words are lent than an answer has, 0, and
+-- nothing changes; else 1, the answer in the first words of `out`, and what the service promises of all else.
 use mathlib.Core.Path.{_≡_}
 use mathlib.Core.List.{List, _++_}
 use Prim.Native.Nat.{ℕ, _≤_, _<_}
@@ -9,21 +9,21 @@ use Rattle.comparer.specs.declared.Following.{Following}
 use Rattle.comparer.specs.declared.Comparison.{Comparison}
 use Rattle.renumbering.specs.Outcome.{RenumberPromise}
 use Rattle.renumbering.specs.declared.renumber.Renumbered.{Renumbered}
-use Rattle.abi.specs.Words.{followWords, compareWords, renumberWords}
+use Rattle.abi.specs.Words.{answer-words, followWords, compareWords, renumberWords}
 
 pub data FollowReturned (s play ws out : List ℕ) (r : ℕ) (ws′ out′ : List ℕ) : Type 0 where
-  no-room : length out < 5 → r ≡ 0 → ws′ ≡ ws → out′ ≡ out → FollowReturned s play ws out r ws′ out′
-  answers : (a : Following) → 5 ≤ length out → r ≡ 1 → FollowPromise s play ws a ws′ →
-    out′ ≡ followWords a ++ drop 5 out → FollowReturned s play ws out r ws′ out′
+  no-room : length out < answer-words → r ≡ 0 → ws′ ≡ ws → out′ ≡ out → FollowReturned s play ws out r ws′ out′
+  answers : (a : Following) → answer-words ≤ length out → r ≡ 1 → FollowPromise s play ws a ws′ →
+    out′ ≡ followWords a ++ drop answer-words out → FollowReturned s play ws out r ws′ out′
 
 pub data CompareReturned (old new ws space out : List ℕ) (r : ℕ) (ws′ space′ out′ : List ℕ) : Type 0 where
-  no-room : length out < 5 → r ≡ 0 → ws′ ≡ ws → space′ ≡ space → out′ ≡ out →
+  no-room : length out < answer-words → r ≡ 0 → ws′ ≡ ws → space′ ≡ space → out′ ≡ out →
     CompareReturned old new ws space out r ws′ space′ out′
-  answers : (a : Comparison) → 5 ≤ length out → r ≡ 1 → ComparePromise old new ws space a ws′ space′ →
-    out′ ≡ compareWords a ++ drop 5 out → CompareReturned old new ws space out r ws′ space′ out′
+  answers : (a : Comparison) → answer-words ≤ length out → r ≡ 1 → ComparePromise old new ws space a ws′ space′ →
+    out′ ≡ compareWords a ++ drop answer-words out → CompareReturned old new ws space out r ws′ space′ out′
 
 pub data RenumberReturned (s output list out : List ℕ) (r : ℕ) (output′ list′ out′ : List ℕ) : Type 0 where
-  no-room : length out < 5 → r ≡ 0 → output′ ≡ output → list′ ≡ list → out′ ≡ out →
+  no-room : length out < answer-words → r ≡ 0 → output′ ≡ output → list′ ≡ list → out′ ≡ out →
     RenumberReturned s output list out r output′ list′ out′
-  answers : (a : Renumbered) → 5 ≤ length out → r ≡ 1 → RenumberPromise s a output output′ list list′ →
-    out′ ≡ renumberWords a ++ drop 5 out → RenumberReturned s output list out r output′ list′ out′
+  answers : (a : Renumbered) → answer-words ≤ length out → r ≡ 1 → RenumberPromise s a output output′ list list′ →
+    out′ ≡ renumberWords a ++ drop answer-words out → RenumberReturned s output list out r output′ list′ out′

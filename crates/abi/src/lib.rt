@@ -1,5 +1,6 @@
-// The services for callers in C and Rust. An answer is five words: its kind, then its values. A count or a place takes
-// two of them, its low and its high half, so that it is given whole.
+// The services for callers in C and Rust. An answer is eleven words: its kind and its values, five words; then the
+// names used, three words for the sheet checked or the old one and three for the new one. A count or a place takes two
+// words, its low and its high half, so that it is given whole.
 use comparer::Comparison;
 use comparer::Following;
 use comparer::compare::compare;
@@ -10,7 +11,6 @@ use renumbering::renumber::renumber;
 use sheet::check::Checked;
 use sheet::check::check;
 ghost use mathlib.Core.Path.{_≡_};
-ghost use mathlib.Core.List.{[], _∷_};
 ghost use Rattle.sheet.specs.Reader.{readSheet};
 ghost use Rattle.sheet.specs.Check.{checkedOf};
 ghost use Rattle.abi.specs.Words.{lowHalf, highHalf, refusalWords, checkWords, followWords, compareWords};
@@ -18,7 +18,7 @@ ghost use Rattle.abi.specs.Words.{renumberWords, answered, status};
 ghost use Rattle.abi.specs.Returned.{FollowReturned, CompareReturned, RenumberReturned};
 
 // How many words an answer has.
-const WORDS: usize = 5;
+const WORDS: usize = 11;
 
 // What a service returns: whether there is room for an answer, which is then written.
 const NO_ROOM: u32 = 0;
@@ -56,18 +56,18 @@ fn high_half(v: usize) -> u32
 }
 
 // Writes an answer, if there is room for it.
-fn answer(out: &mut [u32], kind: u32, a: u32, b: u32, c: u32, d: u32) -> u32
+fn answer(out: &mut [u32], words: [u32; WORDS]) -> u32
     ensures returned { λ r. ⌜ r ≡ status (now (out .entry)) ⌝ }
-    ensures written { λ r. ⌜ now (out .exit) ≡ answered (kind ∷ a ∷ b ∷ c ∷ d ∷ []) (now (out .entry)) ⌝ }
+    ensures written { λ r. ⌜ now (out .exit) ≡ answered words (now (out .entry)) ⌝ }
 {
     if out.len() < WORDS {
         return NO_ROOM;
     }
-    out[0] = kind;
-    out[1] = a;
-    out[2] = b;
-    out[3] = c;
-    out[4] = d;
+    let mut i = 0;
+    while i < WORDS {
+        out[i] = words[i];
+        i += 1;
+    }
     WRITTEN
 }
 
@@ -76,14 +76,11 @@ fn refuse(out: &mut [u32], x: Cause) -> u32
     ensures returned { λ r. ⌜ r ≡ status (now (out .entry)) ⌝ }
     ensures written { λ r. ⌜ now (out .exit) ≡ answered (refusalWords x) (now (out .entry)) ⌝ }
 {
-    answer(
-        out,
-        REFUSED,
-        x.number as u32,
-        x.sheet as u32,
-        low_half(x.place),
-        high_half(x.place),
-    )
+    let number = x.number as u32;
+    let sheet = x.sheet as u32;
+    let low = low_half(x.place);
+    let high = high_half(x.place);
+    answer(out, [REFUSED, number, sheet, low, high, 0, 0, 0, 0, 0, 0])
 }
 
 // Writes the answer of follow.
@@ -93,10 +90,12 @@ fn answer_follow(out: &mut [u32], r: Following) -> u32
 {
     match r {
         Following::Follows { count, complete } => {
+            let low = low_half(count);
+            let high = high_half(count);
             if complete {
-                return answer(out, FOLLOWS, 1, low_half(count), high_half(count), 0);
+                return answer(out, [FOLLOWS, 1, low, high, 0, 0, 0, 0, 0, 0, 0]);
             }
-            answer(out, FOLLOWS, 0, low_half(count), high_half(count), 0)
+            answer(out, [FOLLOWS, 0, low, high, 0, 0, 0, 0, 0, 0, 0])
         }
         Following::Refused(x) => refuse(out, x),
     }
@@ -108,15 +107,48 @@ fn answer_compare(out: &mut [u32], r: Comparison) -> u32
     ensures written { λ x. ⌜ now (out .exit) ≡ answered (compareWords r) (now (out .entry)) ⌝ }
 {
     match r {
-        Comparison::Same => answer(out, SAME, 0, 0, 0, 0),
-        Comparison::Apart { sheet, moves } => answer(
+        Comparison::Same { old, new } => answer(
             out,
-            APART,
-            sheet as u32,
-            low_half(moves),
-            high_half(moves),
-            0,
+            [
+                SAME,
+                0,
+                0,
+                0,
+                0,
+                old.mark,
+                old.used,
+                old.unused,
+                new.mark,
+                new.used,
+                new.unused,
+            ],
         ),
+        Comparison::Apart {
+            sheet,
+            moves,
+            old,
+            new,
+        } => {
+            let which = sheet as u32;
+            let low = low_half(moves);
+            let high = high_half(moves);
+            answer(
+                out,
+                [
+                    APART,
+                    which,
+                    low,
+                    high,
+                    0,
+                    old.mark,
+                    old.used,
+                    old.unused,
+                    new.mark,
+                    new.used,
+                    new.unused,
+                ],
+            )
+        }
         Comparison::Refused(x) => refuse(out, x),
     }
 }
@@ -127,12 +159,14 @@ fn answer_renumber(out: &mut [u32], r: Renumbered) -> u32
     ensures written { λ x. ⌜ now (out .exit) ≡ answered (renumberWords r) (now (out .entry)) ⌝ }
 {
     match r {
-        Renumbered::Changed { changes } => answer(out, RENUMBERED, changes, 0, 0, 0),
+        Renumbered::Changed { changes } => {
+            answer(out, [RENUMBERED, changes, 0, 0, 0, 0, 0, 0, 0, 0, 0])
+        }
         Renumbered::Refused(x) => refuse(out, x),
     }
 }
 
-// The service check: the answer in the first five words of out, and 1; or 0, with out as it was, where it has fewer.
+// The service check: the answer in the first eleven words of out, and 1; or 0, with out as it was, where it has fewer.
 #[no_mangle]
 pub extern "C" fn negyvosal_check(sheet: &[u8], out: &mut [u32]) -> u32
     ensures returned { λ r. ⌜ r ≡ status (now (out .entry)) ⌝ }
@@ -141,12 +175,18 @@ pub extern "C" fn negyvosal_check(sheet: &[u8], out: &mut [u32]) -> u32
 {
     let checked = check(sheet);
     match checked {
-        Checked::Accepted { ty, size } => answer(out, ACCEPTED, ty as u32, size, 0, 0),
+        Checked::Accepted { ty, size, uses: u } => {
+            let t = ty as u32;
+            answer(
+                out,
+                [ACCEPTED, t, size, 0, 0, u.mark, u.used, u.unused, 0, 0, 0],
+            )
+        }
         Checked::Refused(x) => refuse(out, x),
     }
 }
 
-// The service follow: the answer in the first five words of out, and 1; or 0, and nothing is changed, where out has
+// The service follow: the answer in the first eleven words of out, and 1; or 0, and nothing is changed, where out has
 // fewer.
 #[no_mangle]
 pub extern "C" fn negyvosal_follow(

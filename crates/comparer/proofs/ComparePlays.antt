@@ -31,11 +31,14 @@ use Rattle.comparer.specs.Refusals.{refusing, sameFirst, matching, onRea
 use Rattle.comparer.specs.Refusals.{compareRefusal}
 use Rattle.comparer.specs.Promise.{Decided, same, apart, ComparedBy, ComparePromise}
 use Rattle.comparer.specs.inner.Built.{TwoReady, TwoBuilt}
-use Rattle.comparer.specs.inner.Deciding.{Deciding, OnlyTerm, Verdicts, alike, differ}
+use Rattle.comparer.specs.inner.Deciding.{Deciding, OnlyTerm, Verdicts, alike, differ, answerOf}
 use Rattle.comparer.specs.inner.Causes.{causeOf, numberOf}
+use Rattle.sheet.specs.Mark.{usesOf}
+use Rattle.sheet.specs.declared.mark.Uses.{Uses}
+use Rattle.comparer.specs.declared.Decision.{Decision}
 use Rattle.comparer.specs.declared.Comparison.{Comparison}
 use Rattle.comparer.specs.declared.Comparison.the-variants.{Refused}
-use Rattle.comparer.proofs.ReadSheets.{heading-after, Fit, fit-as, fit-held, fit-type, fit-ready}
+use Rattle.comparer.proofs.ReadSheets.{heading-after, Fit, fit-as, fit-held, fit-type, fit-ready, fit-used}
 
 -- a refusal leaves everything as it was
 refuses : (old new ws space : List ℕ) {x q : Cause} → compareRefusal old new (length ws) (length space) ≡ some x →
@@ -57,8 +60,8 @@ unfolding compareRefusal onRead
 refused-old old new ws space h e f = refuses old new ws space (rw h) (handed-on e f)
 
 -- the old sheet is read, and the new one refused
-pub refused-new : (old new ws space : List ℕ) {root row ty size : ℕ} {t : List ℕ} {y : Loaded} {z : Wrong} {q : Cause}
-    → load.Ready old root row ty size t → readSheet new ≡ rejected (z .number) (z .place) →
+pub refused-new : (old new ws space : List ℕ) {root row ty size : ℕ} {v : Uses} {t : List ℕ} {y : Loaded}
+    {z : Wrong} {q : Cause} → load.Ready old root row ty size v t → readSheet new ≡ rejected (z .number) (z .place) →
     y ≡ loaded.Refused z → q ≡ causeOf y 1 → ComparePromise old new ws space (Refused q) ws space
 unfolding compareRefusal onRead
 refused-new old new ws space A h e f = refuses old new ws space (rw (A .accepts, h)) (handed-on e f)
@@ -117,33 +120,38 @@ module _ (S T : Sheet) {N : Numbers} {X : Ty} (e : S .numbers ≡ N) (f : tyOf (
   only-as (suc (suc k)) u h = absurd h
 
   -- the whole verdict
-  decided-as : {space : List ℕ} {r : Comparison} {space′ : List ℕ} →
-      Verdicts N X (termOf S) (termOf T) space r space′ → Decided S T space r space′
-  decided-as (alike a p k) = same (record { answer = a; plays = λ u. alike-as u (p u); space-kept = k })
-  decided-as (differ which play a o h l w) = apart (record
-    { which = which; play = play; answer = a
+  decided-as : {space : List ℕ} {d : Decision} {r : Comparison} {space′ : List ℕ} →
+      Verdicts N X (termOf S) (termOf T) space d space′ → r ≡ answerOf d (usesOf S) (usesOf T) →
+      Decided S T space r space′
+  unfolding answerOf
+  decided-as (alike a p k) m =
+      same (record { answer = m ∙ rw a refl; plays = λ u. alike-as u (p u); space-kept = k })
+  decided-as (differ which play a o h l w) m = apart (record
+    { which = which; play = play; answer = m ∙ rw a refl
     ; first = record { only = only-as which play o; earlier = λ v b. alike-as v (h v (rw e at b)) }
     ; short = rw (f, g) l; written = rw e w })
 
--- two sheets that fit, of one type
-pub record Both (N : Numbers) (old new : List ℕ) (row other all more : ℕ) (t u : List ℕ) : Type 0 where
+-- two sheets that fit, of one type, and the names that they use
+pub record Both (N : Numbers) (old new : List ℕ) (row other all more : ℕ) (v w : Uses) (t u : List ℕ) : Type 0 where
   pub ty : ℕ
   pub first : Fit N ty old row all t
   pub second : Fit N ty new other more u
+  pub first-used : v ≡ usesOf (first .sheet)
+  pub second-used : w ≡ usesOf (second .sheet)
 
 -- two sheets that are loaded, where they are comparable
-pub both : {old new : List ℕ} {root row ty all other other-row b more : ℕ} {t u : List ℕ} {k : Bool} {N : Numbers} →
-    load.Ready old root row ty all t → load.Ready new other other-row b more u →
-    k ≡ matching old new root other ty b → k ≡ true → N ≡ numbersAt old → Both N old new row other-row all more t u
-both {ty = ty} {other = other} A B c h n =
+pub both : {old new : List ℕ} {root row ty all other other-row b more : ℕ} {v w : Uses} {t u : List ℕ} {k : Bool}
+    {N : Numbers} → load.Ready old root row ty all v t → load.Ready new other other-row b more w u →
+    k ≡ matching old new root other ty b → k ≡ true → N ≡ numbersAt old → Both N old new row other-row all more v w t u
+both {old} {new} {row = row} {ty} {all} {other} {other-row} {more = more} {t = t} {u = u} {N = N} A B c h n =
     let o = as-one other (heading-after A) c h in
-    record
-      { ty = ty; first = fit-as A (sym n) refl
-      ; second = fit-as B (sym (o .numbers) ∙ sym n) (sym (o .types)) }
+    let F : Fit N ty old row all t = fit-as A (sym n) refl in
+    let G : Fit N ty new other-row more u = fit-as B (sym (o .numbers) ∙ sym n) (sym (o .types)) in
+    record { ty = ty; first = F; second = G; first-used = fit-used A F; second-used = fit-used B G }
 
 -- two sheets that fit
-module _ {N : Numbers} {old new : List ℕ} {row other all more : ℕ} {t u : List ℕ}
-    (P : Both N old new row other all more t u) where
+module _ {N : Numbers} {old new : List ℕ} {row other all more : ℕ} {v w : Uses} {t u : List ℕ}
+    (P : Both N old new row other all more v w t u) where
   -- their type, and each of them
   abbrev ty : ℕ
   ty = P .ty
@@ -173,19 +181,20 @@ module _ {N : Numbers} {old new : List ℕ} {row other all more : ℕ} {t u : Li
     ; space-room = l; built = b (two-ready ws h) }
 
   -- the answer to an accepted call
-  pub compared : (ws ws₁ ws₂ ws₃ space space′ : List ℕ) (r : Comparison) (h : 32 * (all + more + 1) ≤ length ws)
+  pub compared : (ws ws₁ ws₂ ws₃ space space′ : List ℕ) (d : Decision) (r : Comparison)
+      (h : 32 * (all + more + 1) ≤ length ws)
       (e : length ws₁ ≡ length ws) (l : 4 * (all + more - 1) ≤ length space)
       (b : (R : TwoReady N t u row other all more ws) →
         TwoBuilt N (R .type) (R .term) (R .other-term) (all + more + 1) ws₁) →
       ((D : Deciding ws₁ space all more) →
-        Verdicts (D .numbers) (D .type) (D .term) (D .other-term) space r space′) →
-      length ws₂ ≡ length ws₁ → ws₃ ≡ replicate (length ws₂) 0 →
+        Verdicts (D .numbers) (D .type) (D .term) (D .other-term) space d space′) →
+      r ≡ answerOf d v w → length ws₂ ≡ length ws₁ → ws₃ ≡ replicate (length ws₂) 0 →
       compareRefusal old new (length ws) (length space) ≡ none → ComparePromise old new ws space r ws₃ space′
   unfolding ComparedBy deciding
-  compared ws ws₁ ws₂ ws₃ space space′ r h e l b d j k n = rw n (record
+  compared ws ws₁ ws₂ ws₃ space space′ d r h e l b f m j k n = rw n (record
     { first-sheet = F .sheet; second-sheet = F′ .sheet; first-held = fit-held F; second-held = fit-held F′
     ; decided = decided-as (F .sheet) (F′ .sheet) (F .numbers) (fit-type F) (fit-type F′)
-        (d (deciding ws ws₁ space h e l b))
+        (f (deciding ws ws₁ space h e l b)) (m ∙ ap₂ (answerOf d) (P .first-used) (P .second-used))
     ; cleared = k ∙ ap (λ i. replicate i 0) (j ∙ e) })
 
 -- by the three tests
@@ -214,8 +223,8 @@ pub record Passed (fit : Bool) (words space n : ℕ) : Type 0 where
   pub space-enough : 4 * (n - 1) ≤ space
 
 -- both sheets are loaded
-module _ (old new ws space : List ℕ) {root row ty all other other-row b more : ℕ} {t u : List ℕ}
-    (A : load.Ready old root row ty all t) (B : load.Ready new other other-row b more u) where
+module _ (old new ws space : List ℕ) {root row ty all other other-row b more : ℕ} {v w : Uses} {t u : List ℕ}
+    (A : load.Ready old root row ty all v t) (B : load.Ready new other other-row b more w u) where
   -- the judgement after that
   judged : compareRefusal old new (length ws) (length space) ≡
       pairRefusal (matching old new root other ty b) (length ws) (length space) (all + more)

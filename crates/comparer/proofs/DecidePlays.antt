@@ -29,8 +29,8 @@ use Rattle.explicit.specs.Explicit.{Explicit}
 use Rattle.explicit.specs.Letter.{AllSmall}
 use Rattle.comparer.specs.inner.Built.{TwoBuilt}
 use Rattle.comparer.specs.inner.Deciding.{Deciding, OnlyTerm, Verdicts, alike, differ, Shown}
-use Rattle.comparer.specs.declared.Comparison.{Comparison}
-use Rattle.comparer.specs.declared.Comparison.the-variants.{Same}
+use Rattle.comparer.specs.declared.Decision.{Decision}
+use Rattle.comparer.specs.declared.Decision.the-variants.{Same}
 use Rattle.comparer.proofs.OnePlay.{plays-small}
 use Rattle.comparer.proofs.TwoPlays.{FoundPlay, ends, same-plays, first-play}
 use Rattle.comparer.proofs.WritingPlays.{records-written}
@@ -167,7 +167,7 @@ module _ (ws space : List ℕ) (all more : ℕ) (D : Deciding ws space all more)
         by (inr h) = rw (ne-eqb p (all - 1) (λ d. h .0 (omega (arith, all-is)))) (h .1)
 
     -- the play shown is the first play of exactly one of the terms
-    pub decided-apart : {r : Comparison} {space′ : List ℕ} → Shown n k (all - 1) ws₁ space r space′ →
+    pub decided-apart : {r : Decision} {space′ : List ℕ} → Shown n k (all - 1) ws₁ space r space′ →
         Verdicts N T M M′ space r space′
     decided-apart {r} {space′} s =
         differ (pick (eqb (getD ws₁ (n + 4 * k) 0) (all - 1)) 0 1) (found .word)

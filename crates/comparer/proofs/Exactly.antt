@@ -14,6 +14,7 @@ use Rattle.comparer.specs.Refusals.{compareRefusal}
 use Rattle.comparer.specs.Promise.{SamePlays, ApartPlays, Decided, same, apart, Compared, ComparedBy}
 use Rattle.comparer.specs.Promise.{ComparePromise}
 use Rattle.comparer.specs.Demands.{Shown, Exact, ExactAnswer}
+use Rattle.sheet.specs.Mark.{usesOf}
 use Rattle.comparer.specs.declared.Comparison.{Comparison}
 use Rattle.comparer.specs.declared.Comparison.the-variants.{Same, Apart, Refused}
 
@@ -26,8 +27,8 @@ not-alike (suc (suc k)) S T u o a = o
 
 -- which kind an answer is
 kind : Comparison → ℕ
-kind Same = 0
-kind (Apart which moves) = 1
+kind (Same old new) = 0
+kind (Apart which moves old new) = 1
 kind (Refused x) = 2
 
 -- what is written before the rest of play space stands first in it
@@ -36,18 +37,19 @@ stands-first [] ys = refl
 stands-first (x ∷ xs) ys = ap (λ (y : List ℕ). x ∷ y) (stands-first xs ys)
 
 module _ (S T : Sheet) (space : List ℕ) (r : Comparison) (space′ : List ℕ) where
-  same-if : Decided S T space r space′ → r ≡ Same → (u : Word) → Alike S T u
+  same-if : Decided S T space r space′ → r ≡ Same (usesOf S) (usesOf T) → (u : Word) → Alike S T u
   unfolding kind
   same-if (same d) e = d .plays
   same-if (apart d) e =
       let z : _≡_ {A = ℕ} 1 0 = ap kind (sym (d .answer) ∙ e) in
       absurd (omega arith)
 
-  only-if : Decided S T space r space′ → ((u : Word) → Alike S T u) → r ≡ Same
+  only-if : Decided S T space r space′ → ((u : Word) → Alike S T u) → r ≡ Same (usesOf S) (usesOf T)
   only-if (same d) h = d .answer
   only-if (apart d) h = absurd (not-alike (d .which) S T (d .play) (d .first .only) (h (d .play)))
 
-  one-of : Decided S T space r space′ → ((r ≡ Same) × ((u : Word) → Alike S T u)) ⊎ Shown S T r space′
+  one-of : Decided S T space r space′ →
+      ((r ≡ Same (usesOf S) (usesOf T)) × ((u : Word) → Alike S T u)) ⊎ Shown S T r space′
   one-of (same d) = inl (d .answer, d .plays)
   one-of (apart d) = inr (record
     { which = d .which

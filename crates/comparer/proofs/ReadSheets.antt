@@ -17,6 +17,8 @@ use Rattle.sheet.specs.Encoding.{headingLength}
 use Rattle.sheet.specs.Fine.{Accepted}
 use Rattle.records.specs.declared.edition.Edition.the-variants.{Present}
 use Rattle.sheet.specs.Reader.{numbersAt, readSheet, accepted, rejected}
+use Rattle.sheet.specs.Mark.{usesOf}
+use Rattle.sheet.specs.declared.mark.Uses.{Uses}
 use Rattle.sheet.proofs.Right.{gives}
 use Rattle.sheet.proofs.WellTyped.{accepted-typed}
 use Rattle.automaton.specs.walk.Shows.{Words}
@@ -34,8 +36,8 @@ unfolding LoadedBy
 refused-sheet s u L e = rw e at L
 
 -- a sheet that is loaded
-pub taken : (s u : List ℕ) {x : Loaded} {root row ty size : ℕ} → LoadedBy s x u → x ≡ loaded.Sheet root row ty size →
-    Ready s root row ty size u
+pub taken : (s u : List ℕ) {x : Loaded} {root row ty size : ℕ} {v : Uses} → LoadedBy s x u →
+    x ≡ loaded.Sheet root row ty size v → Ready s root row ty size v u
 unfolding LoadedBy
 taken s u L e = rw e at L
 
@@ -44,7 +46,8 @@ pub two-first : (S : Sheet) → 2 ≤ headingLength S
 unfolding headingLength
 two-first S = omega arith
 
-pub heading-after : {s : List ℕ} {root row ty all : ℕ} {t : List ℕ} → Ready s root row ty all t → 2 ≤ root
+pub heading-after : {s : List ℕ} {root row ty all : ℕ} {v : Uses} {t : List ℕ} → Ready s root row ty all v t →
+    2 ≤ root
 heading-after A = omega (arith, A .rooted, two-first (A .sheet))
 
 -- the sheet that s holds, of numbers N and type ty: its term is typed and in range and has the size `all`, and the
@@ -81,24 +84,32 @@ module _ (S : Sheet) (A : Accepted S) (s t : List ℕ) (row all ty : ℕ) (h : r
     ; represents = r }
 
 -- THEOREM: what loading leaves of an accepted sheet fits
-pub fit : {s : List ℕ} {root row ty all : ℕ} {t : List ℕ} → Ready s root row ty all t →
+pub fit : {s : List ℕ} {root row ty all : ℕ} {v : Uses} {t : List ℕ} → Ready s root row ty all v t →
     Fit (numbersAt s) ty s row all t
-fit {s} {root} {row} {ty} {all} {t} b =
+fit {s} {root} {row} {ty} {all} {v} {t} b =
     let g = gives Present s (b .sheet) ty all (b .accepts) in
     fits (b .sheet) (g .1) s t row all ty (b .accepts) (b .numbered) (sym (g .2))
       (ap (λ N. size (tyOf N ty) (termOf (b .sheet))) (sym (b .numbered)) ∙ sym (g .3)) (b .represents)
 
 -- the same by names of the code
-pub fit-as : {s : List ℕ} {root row ty all : ℕ} {t : List ℕ} → Ready s root row ty all t → {N : Numbers} {k : ℕ} →
-    numbersAt s ≡ N → ty ≡ k → Fit N k s row all t
-fit-as {s} {root} {row} {ty} {all} {t} b {N} {k} e f =
+pub fit-as : {s : List ℕ} {root row ty all : ℕ} {v : Uses} {t : List ℕ} → Ready s root row ty all v t →
+    {N : Numbers} {k : ℕ} → numbersAt s ≡ N → ty ≡ k → Fit N k s row all t
+fit-as {s} {root} {row} {ty} {all} {v} {t} b {N} {k} e f =
     rw (← f) (subst (λ M. Fit M ty s row all t) e (fit b))
 
+-- the names that it uses
+pub fit-used : {s : List ℕ} {root row ty all : ℕ} {v : Uses} {t : List ℕ} → Ready s root row ty all v t → {N : Numbers}
+    {k : ℕ} (F : Fit N k s row all t) → v ≡ usesOf (F .sheet)
+fit-used b F =
+    let e = sym (b .accepts) ∙ F .reads in
+    let f : b .sheet ≡ F .sheet = cc in
+    b .used ∙ ap usesOf f
+
 -- the size of a sheet that is loaded
-pub size-some : {s : List ℕ} {root row ty all : ℕ} {t : List ℕ} → Ready s root row ty all t → 0 < all
+pub size-some : {s : List ℕ} {root row ty all : ℕ} {v : Uses} {t : List ℕ} → Ready s root row ty all v t → 0 < all
 size-some b = fit b .some
 
-pub size-small : {s : List ℕ} {root row ty all : ℕ} {t : List ℕ} → Ready s root row ty all t → all ≤ 4096
+pub size-small : {s : List ℕ} {root row ty all : ℕ} {v : Uses} {t : List ℕ} → Ready s root row ty all v t → all ≤ 4096
 size-small b = fit b .small
 
 module _ {N : Numbers} {ty : ℕ} {s : List ℕ} {row all : ℕ} {t : List ℕ} (F : Fit N ty s row all t) where

@@ -16,7 +16,7 @@ use Rattle.dfa.proofs.laws.Rest.{rest-is, rest-length}
 use Rattle.difference.proofs.laws.Trace.{trail-spelled}
 use Rattle.comparer.specs.inner.Bytes.{withRecords}
 use Rattle.comparer.specs.inner.Deciding.{Shown}
-use Rattle.comparer.specs.declared.Comparison.the-variants.{Apart}
+use Rattle.comparer.specs.declared.Decision.the-variants.{Apart}
 
 module _ (n k r : ℕ) (ws ws′ : List ℕ) (t : Trail n (take (5 * n) ws) k) (s : Spelling n k ws ws′ r) where
   -- the word has fewer letters than there are states

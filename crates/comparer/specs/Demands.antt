@@ -14,6 +14,7 @@ use Rattle.procedures.specs.Meaning.{typeOf}
 use Rattle.sheet.specs.Fine.{Accepted}
 use Rattle.sheet.specs.Reader.{readSheet, rejected}
 use Rattle.sheet.specs.Check.{NumberOf}
+use Rattle.sheet.specs.Mark.{usesOf}
 use Rattle.comparer.specs.Plays.{CompletePlay, reckoned, Alike, Only, FirstPlay}
 use Rattle.comparer.specs.Refusals.{headings-differ, too-few-words, space-too-short, bad-play}
 use Rattle.comparer.specs.Refusals.{followRefusal, compareRefusal}
@@ -54,7 +55,7 @@ CompareUnique = (old new ws space : List ℕ) (r r₂ : Comparison) (ws₁ ws₂
 pub record Shown (S T : Sheet) (r : Comparison) (space : List ℕ) : Type 0 where
   pub which : ℕ
   pub play : Word
-  pub answer : r ≡ Apart which (length play)
+  pub answer : r ≡ Apart which (length play) (usesOf S) (usesOf T)
   pub first : FirstPlay S T which play
   pub records-first : take (length (records (S .numbers) play)) space ≡ records (S .numbers) play
   pub short : length play ≤ reckoned S + reckoned T - 1
@@ -65,8 +66,11 @@ pub record Exact (old new : List ℕ) (r : Comparison) (space : List ℕ) : Type
   pub second-sheet : Sheet
   pub first-held : Holds old first-sheet
   pub second-held : Holds new second-sheet
-  pub decided : ((r ≡ Same) × ((u : Word) → Alike first-sheet second-sheet u)) ⊎ Shown first-sheet second-sheet r space
-  pub same-exactly : (r ≡ Same) ↔ ((u : Word) → Alike first-sheet second-sheet u)
+  pub decided :
+    ((r ≡ Same (usesOf first-sheet) (usesOf second-sheet)) × ((u : Word) → Alike first-sheet second-sheet u))
+    ⊎ Shown first-sheet second-sheet r space
+  pub same-exactly :
+    (r ≡ Same (usesOf first-sheet) (usesOf second-sheet)) ↔ ((u : Word) → Alike first-sheet second-sheet u)
 
 -- of whatever keeps compare's promise, where nothing is refused
 abbrev pub ExactAnswer : Type 0

@@ -10,6 +10,7 @@ use Rattle.language.specs.Move.{Word, Before, record-of, records}
 use Rattle.records.specs.declared.refusal.Cause.{Cause}
 use Rattle.procedures.specs.Written.{Sheet}
 use Rattle.sheet.specs.Reader.{readSheet, accepted}
+use Rattle.sheet.specs.Mark.{usesOf}
 use Rattle.comparer.specs.Plays.{CompletePlay, reckoned, Alike, FirstPlay}
 use Rattle.comparer.specs.Records.{moves, parse}
 use Rattle.comparer.specs.Refusals.{followRefusal, compareRefusal}
@@ -70,9 +71,10 @@ FollowedBy (some x) s play ws r ws′ = (r ≡ NotFollowed x) × (ws′ ≡ ws)
 abbrev pub FollowPromise : List ℕ → List ℕ → List ℕ → Following → List ℕ → Type 0
 FollowPromise s play ws r ws′ = FollowedBy (followRefusal s play (length ws)) s play ws r ws′
 
--- "same": the sheets have the same complete plays; "same" leaves play space untouched
+-- "same": the sheets have the same complete plays; "same" leaves play space untouched. Document 02 [6]: "Compare passes
+-- on both sheets' marks"
 pub record SamePlays (S T : Sheet) (space : List ℕ) (r : Comparison) (space′ : List ℕ) : Type 0 where
-  pub answer : r ≡ Same
+  pub answer : r ≡ Same (usesOf S) (usesOf T)
   pub plays : (u : Word) → Alike S T u
   pub space-kept : space′ ≡ space
 
@@ -81,7 +83,7 @@ pub record SamePlays (S T : Sheet) (space : List ℕ) (r : Comparison) (space′
 pub record ApartPlays (S T : Sheet) (space : List ℕ) (r : Comparison) (space′ : List ℕ) : Type 0 where
   pub which : ℕ
   pub play : Word
-  pub answer : r ≡ Apart which (length play)
+  pub answer : r ≡ Apart which (length play) (usesOf S) (usesOf T)
   pub first : FirstPlay S T which play
   pub short : length play ≤ reckoned S + reckoned T - 1
   pub written : space′ ≡ records (S .numbers) play ++ drop (length (records (S .numbers) play)) space

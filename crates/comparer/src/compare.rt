@@ -1,6 +1,7 @@
 // The service compare.
 use crate::BYTES_A_MOVE;
 use crate::Comparison;
+use crate::Decision;
 use crate::HEADINGS_DIFFER;
 use crate::SPACE_TOO_SHORT;
 use crate::TOO_FEW_WORDS;
@@ -21,6 +22,7 @@ use load::load::load;
 use records::refusal::NEW;
 use records::refusal::NOT_REFUSED;
 use records::refusal::OLD;
+use sheet::mark::Uses;
 use sheet::reading::numbers_of;
 ghost use mathlib.Core.Path.{_≡_};
 ghost use Prim.Native.Nat.{_+_, _*_, _<_, _≤_};
@@ -29,10 +31,10 @@ ghost use Rattle.difference.specs.Spelled.{Trail, Spelling};
 ghost use Rattle.comparer.specs.Refusals.{pairRefusal};
 ghost use Rattle.comparer.specs.Promise.{ComparePromise};
 ghost use Rattle.comparer.specs.inner.Causes.{numberOf};
-ghost use Rattle.comparer.specs.inner.Deciding.{Deciding, Verdicts, Shown};
+ghost use Rattle.comparer.specs.inner.Deciding.{Deciding, Verdicts, Shown, answerOf};
 
 // Writes the play of entry k: its number of moves, and which sheet has it. The old sheet has it where it ends at f.
-fn show(words: &mut [u32], space: &mut [u8], n: usize, k: usize, f: usize) -> Comparison
+fn show(words: &mut [u32], space: &mut [u8], n: usize, k: usize, f: usize) -> Decision
     requires { ⌜ Trail n (take (5 * n) (now words)) k × (32 * n ≤ length (now words)) ⌝ }
     ensures { λ r. ⌜ Shown n k f (now (words .entry)) (now (space .entry)) r (now (space .exit)) ⌝ }
 {
@@ -40,13 +42,13 @@ fn show(words: &mut [u32], space: &mut [u8], n: usize, k: usize, f: usize) -> Co
     let moves = spell(words, n, k);
     write_play(words, 5 * n, moves, space);
     if last == f {
-        return Comparison::Apart { sheet: OLD, moves };
+        return Decision::Apart { sheet: OLD, moves };
     }
-    Comparison::Apart { sheet: NEW, moves }
+    Decision::Apart { sheet: NEW, moves }
 }
 
 // Compares the sheets of sizes `all` and `more` whose automata stand in the words.
-fn decide(words: &mut [u32], space: &mut [u8], all: usize, more: usize) -> Comparison
+fn decide(words: &mut [u32], space: &mut [u8], all: usize, more: usize) -> Decision
     requires { ⌜ Deciding (now words) (now space) all more ⌝ }
     ensures { λ r. ⌜ ((D : Deciding (now (words .entry)) (now (space .entry)) all more)
         → Verdicts (D .numbers) (D .type) (D .term) (D .other-term) (now (space .entry)) r (now (space .exit))) ⌝ }
@@ -61,7 +63,7 @@ fn decide(words: &mut [u32], space: &mut [u8], all: usize, more: usize) -> Compa
     };
     let v = first_difference(words, t);
     match v {
-        Verdict::Same => Comparison::Same,
+        Verdict::Same => Decision::Same,
         Verdict::Apart(k) => show(words, space, n, k, all - 1),
     }
 }
@@ -84,7 +86,23 @@ fn pair_number(matching: bool, words: usize, space: usize, size: usize) -> u8
     NOT_REFUSED
 }
 
-// Whether two sheets have the same complete plays; or the first play that only one of them has, and which.
+// The answer, from what is decided and the names that the old and the new sheet use.
+fn answer(d: Decision, old: Uses, new: Uses) -> Comparison
+    ensures { λ r. ⌜ r ≡ answerOf d old new ⌝ }
+{
+    match d {
+        Decision::Same => Comparison::Same { old, new },
+        Decision::Apart { sheet, moves } => Comparison::Apart {
+            sheet,
+            moves,
+            old,
+            new,
+        },
+    }
+}
+
+// Whether two sheets have the same complete plays; or the first play that only one of them has, and which; and the names
+// that both use.
 pub fn compare(old: &[u8], new: &[u8], words: &mut [u32], space: &mut [u8]) -> Comparison
     ensures { λ r. ⌜ ComparePromise (now (old .entry)) (now (new .entry)) (now (words .entry)) (now (space .entry)) r
         (now (words .exit)) (now (space .exit)) ⌝ }
@@ -96,6 +114,7 @@ pub fn compare(old: &[u8], new: &[u8], words: &mut [u32], space: &mut [u8]) -> C
         row,
         ty,
         size,
+        uses,
     } = x
     else {
         return Comparison::Refused(cause_of(x, OLD));
@@ -107,6 +126,7 @@ pub fn compare(old: &[u8], new: &[u8], words: &mut [u32], space: &mut [u8]) -> C
         row: other_row,
         ty: b,
         size: other_size,
+        uses: other_uses,
     } = y
     else {
         return Comparison::Refused(cause_of(y, NEW));
@@ -119,7 +139,7 @@ pub fn compare(old: &[u8], new: &[u8], words: &mut [u32], space: &mut [u8]) -> C
         return Comparison::Refused(both_cause(number));
     }
     two_from_rows(&t, &u, numbers_of(old), row, other_row, all, more, words);
-    let r = decide(words, space, all, more);
+    let d = decide(words, space, all, more);
     clear(words);
-    r
+    answer(d, uses, other_uses)
 }

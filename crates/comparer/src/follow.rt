@@ -70,6 +70,7 @@ pub fn follow(sheet: &[u8], play: &[u8], words: &mut [u32]) -> Following
         row,
         ty: _,
         size,
+        uses: _,
     } = x
     else {
         return Following::Refused(cause_of(x, OLD));

@@ -1,5 +1,6 @@
 // The services: check (crate sheet), follow and compare.
 use records::refusal::Cause;
+use sheet::mark::Uses;
 
 // The records of a play.
 pub mod play;
@@ -39,10 +40,24 @@ pub enum Following {
     Refused(Cause),
 }
 
-// The answer of compare: the same complete plays; or the sheet that has the first play that only one of them has, and
-// its number of moves; or the refusal.
-pub enum Comparison {
+// What is decided of two sheets: they have the same complete plays; or the sheet that has the first play that only one of
+// them has, and its number of moves.
+pub(crate) enum Decision {
     Same,
     Apart { sheet: u8, moves: usize },
+}
+
+// The answer of compare: what is decided, with the names that the old and the new sheet use; or the refusal.
+pub enum Comparison {
+    Same {
+        old: Uses,
+        new: Uses,
+    },
+    Apart {
+        sheet: u8,
+        moves: usize,
+        old: Uses,
+        new: Uses,
+    },
     Refused(Cause),
 }

@@ -21,6 +21,7 @@ use crate::words::put_slot;
 use crate::words::slot_at;
 use crate::words::used_at;
 use crate::words::word_at;
+use records::row::TABLE;
 ghost use mathlib.Core.Path.{_≡_};
 ghost use Prim.Native.Nat.{_+_, _≤_, _<_};
 ghost use lib.ListN.{length, getD, set};
@@ -28,10 +29,8 @@ ghost use Rattle.records.specs.Row.{word};
 ghost use Rattle.expand.specs.Close.{comeOf, moreOf};
 ghost use Rattle.expand.specs.Contract.{Expanding, Piece, Pieces, Closed, Entered, Recorded, Top};
 
-// The words of a table of parts, how many places a sheet has, and the words of all rows. They are arrays and not slices
-// because a slice, which is two words, goes through memory at every call of the cycle.
-const TABLE: usize = 36864;
-
+// How many places a sheet has, and the words of all rows. They and the table of parts are arrays and not slices because
+// a slice, which is two words, goes through memory at every call of the cycle.
 const SHEET: usize = 4096;
 
 const ROWS: usize = 110592;

@@ -23,6 +23,7 @@ use Rattle.expand.proofs.Automaton.{rows-represent}
 use Rattle.sheet.specs.Reader.{numbersAt}
 use Rattle.sheet.specs.table.Tabled.{places}
 use Rattle.sheet.specs.table.Judged.{Judged, JudgedBy}
+use Rattle.sheet.specs.declared.mark.Uses.{Uses}
 use Rattle.sheet.specs.declared.judge.Judgement.{Judgement}
 use Rattle.sheet.specs.declared.judge.Judgement.the-variants as judged
 use Rattle.sheet.proofs.Right.{gives}
@@ -30,8 +31,8 @@ use Rattle.load.specs.Loaded.{Expanded, Ready, LoadedBy}
 use Rattle.load.specs.declared.load.Loaded.the-variants.{Sheet, Refused}
 
 -- a sheet that is judged
-pub judged-of : (s u M : List ℕ) {x : Judgement} {root ty size : ℕ} → JudgedBy Present s x u M →
-    x ≡ judged.Sheet root ty size → Judged Present s root ty size u M
+pub judged-of : (s u M : List ℕ) {x : Judgement} {root ty size : ℕ} {uses : Uses} →
+    JudgedBy Present s x u M → x ≡ judged.Sheet root ty size uses → Judged Present s root ty size uses u M
 unfolding JudgedBy
 judged-of s u M J e = rw e at J
 
@@ -41,7 +42,7 @@ pub load-refused : (s u M after : List ℕ) {x : Judgement} {y : Refusal} → Ju
 unfolding JudgedBy LoadedBy
 load-refused s u M after J e = rw e at J
 
-module _ {s u M : List ℕ} {root ty size : ℕ} (J : Judged Present s root ty size u M) where
+module _ {s u M : List ℕ} {root ty size : ℕ} {uses : Uses} (J : Judged Present s root ty size uses u M) where
   abbrev S : written.Sheet
   S = J .sheet
 
@@ -69,12 +70,12 @@ module _ {s u M : List ℕ} {root ty size : ℕ} (J : Judged Present s root ty s
 
   -- THEOREM: the rows to which it is expanded represent its term
   pub load-sheet : {r : ℕ} {rows after : List ℕ} → Expanded u M root rows after r → length rows ≡ 110592 →
-      LoadedBy s (Sheet root r ty size) after
+      LoadedBy s (Sheet root r ty size uses) after
   unfolding LoadedBy
   load-sheet {r} {rows} {after} T l =
       let n : ℕ = T .count in
       let w = T .expands .of (S .numbers) (S .names) places (S .term) (J .end) ready l in
       let p = rows-represent S ordered after r n (w .expands) (w .local) in
       record {
-        sheet = S; accepts = J .accepts; numbered = J .numbered; rooted = J .rooted;
+        sheet = S; accepts = J .accepts; numbered = J .numbered; rooted = J .rooted; used = J .used;
         represents = subst₂ (λ N i. Rep N after 6144 r [] [] (termOf S) (tyOf N i)) (J .numbered) (sym types) p }

@@ -9,6 +9,8 @@ use Rattle.nodes.specs.Rep.{DEPTH, Rep}
 use Rattle.expand.specs.Contract.{Top}
 use Rattle.sheet.specs.Encoding.{headingLength}
 use Rattle.sheet.specs.Reader.{numbersAt, readSheet, accepted, rejected}
+use Rattle.sheet.specs.Mark.{usesOf}
+use Rattle.sheet.specs.declared.mark.Uses.{Uses}
 use Rattle.load.specs.declared.load.Loaded.{Loaded}
 use Rattle.load.specs.declared.load.Loaded.the-variants.{Sheet, Refused}
 
@@ -17,14 +19,16 @@ pub record Expanded (t marks : List ℕ) (root : ℕ) (rows after : List ℕ) (r
   pub count : ℕ
   pub expands : Top t marks root rows after r count
 
--- the sheet is accepted with type ty and the given size, its term stands at root, and the rows u represent it at a row
-pub record Ready (s : List ℕ) (root row ty size : ℕ) (u : List ℕ) : Type 0 where
+-- the sheet is accepted with type ty and the given size and uses the given names, its term stands at root, and the rows
+-- u represent it at a row
+pub record Ready (s : List ℕ) (root row ty size : ℕ) (uses : Uses) (u : List ℕ) : Type 0 where
   pub sheet : written.Sheet
   pub accepts : readSheet s ≡ accepted sheet ty size
   pub numbered : sheet .numbers ≡ numbersAt s
   pub rooted : root ≡ headingLength sheet
+  pub used : uses ≡ usesOf sheet
   pub represents : Rep (numbersAt s) u DEPTH row [] [] (termOf sheet) (tyOf (numbersAt s) ty)
 
 unfoldable pub LoadedBy : List ℕ → Loaded → List ℕ → Type 0
-LoadedBy s (Sheet root row ty size) u = Ready s root row ty size u
+LoadedBy s (Sheet root row ty size uses) u = Ready s root row ty size uses u
 LoadedBy s (Refused x) u = readSheet s ≡ rejected (x .number) (x .place)

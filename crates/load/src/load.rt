@@ -2,34 +2,36 @@
 use expand::expand::expand_term;
 use records::edition::Edition;
 use records::refusal::Refusal;
+use records::row::TABLE;
 use sheet::judge::Judgement;
 use sheet::judge::judge_sheet;
+use sheet::mark::Uses;
 ghost use Rattle.load.specs.Loaded.{Expanded, LoadedBy};
 ghost use mathlib.Core.Path.{_≡_};
 ghost use Prim.Native.Nat.{_<_};
 ghost use lib.ListN.{length};
 
-// The words of a table of parts, how many places a sheet has, and the words of the rows of a term.
-const PARTS: usize = 36864;
-
+// How many places a sheet has, and the words of the rows of a term.
 const PLACES: usize = 4096;
 
 pub const ROWS: usize = 110592;
 
-// What loading a sheet gives: the place of its term, the row of the term, its type and the sheet's size; or the refusal.
+// What loading a sheet gives: the place of its term, the row of the term, its type, the sheet's size and which names it
+// uses; or the refusal.
 pub enum Loaded {
     Sheet {
         root: usize,
         row: usize,
         ty: u8,
         size: u32,
+        uses: Uses,
     },
     Refused(Refusal),
 }
 
 // Expands the term whose parts the table has from the root on, and gives its row.
 fn expand_root(
-    t: &[u16; PARTS],
+    t: &[u16; TABLE],
     marks: &[u16; PLACES],
     rows: &mut [u16; ROWS],
     root: usize,
@@ -46,18 +48,24 @@ pub fn load(s: &[u8], rows: &mut [u16; ROWS]) -> Loaded
     requires { ⌜ length (now rows) ≡ 110592 ⌝ }
     ensures { λ x. ⌜ LoadedBy (now (s .entry)) x (now (rows .exit)) ⌝ }
 {
-    let mut t = [0u16; PARTS];
+    let mut t = [0u16; TABLE];
     let mut marks = [0u16; PLACES];
     let x = judge_sheet(Edition::Present, s, &mut t, &mut marks);
     match x {
         Judgement::Refused(refusal) => Loaded::Refused(refusal),
-        Judgement::Sheet { root, ty, size } => {
+        Judgement::Sheet {
+            root,
+            ty,
+            size,
+            uses,
+        } => {
             let row = expand_root(&t, &marks, rows, root);
             Loaded::Sheet {
                 root,
                 row,
                 ty,
                 size,
+                uses,
             }
         }
     }

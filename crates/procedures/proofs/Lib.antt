@@ -45,3 +45,4 @@ pub mod Listing
 pub mod Renumbering
 pub mod WorkedRenumbering
 pub mod Reach
+pub mod Marking

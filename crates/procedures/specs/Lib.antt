@@ -27,4 +27,5 @@ pub mod Marks
 pub mod Width
 pub mod Hiding
 pub mod Renumber
+pub mod Uses
 pub mod Renumbering

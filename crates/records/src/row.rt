@@ -34,6 +34,12 @@ pub const PARTS: usize = 5;
 // How many they are.
 pub const WORDS: usize = 9;
 
+// After the rows of 4,096 places a table has a word for each byte that may be an id, the notes: where they begin, and
+// how many words a table has.
+pub const NOTES: usize = 36864;
+
+pub const TABLE: usize = 37120;
+
 // The kinds of rows that are no kinds of records: of every constant, and of the uses of a private variable, of a
 // parameter and of a procedure.
 const CONSTANT: u16 = 18;

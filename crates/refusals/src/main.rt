@@ -25,7 +25,7 @@ fn name(sheet: u8) {
 fn show(s: &[u8]) {
     let r = check(s);
     match r {
-        Checked::Accepted { ty, size } => {
+        Checked::Accepted { ty, size, uses: _ } => {
             io::write_all(STDOUT_FILENO, b"accepted type ");
             io::print_decimal(STDOUT_FILENO, ty as u64);
             io::write_all(STDOUT_FILENO, b" size ");

@@ -5,6 +5,7 @@ use mathlib.Core.List.{List}
 use Rattle.records.specs.declared.edition.Edition.the-variants.{Earlier}
 use Rattle.records.specs.declared.refusal.Refusal.{Refusal}
 use Rattle.sheet.specs.table.Judged.{Judged, JudgedBy}
+use Rattle.sheet.specs.declared.mark.Uses.{Uses}
 use Rattle.sheet.specs.declared.judge.Judgement.{Judgement}
 use Rattle.sheet.specs.declared.judge.Judgement.the-variants as judged
 use Rattle.renumbering.specs.Found.{EarlierRead}
@@ -15,13 +16,13 @@ pub earlier-refused : (s u M : List ℕ) {x : Judgement} {y : Refusal} → Judge
 unfolding JudgedBy EarlierRead
 earlier-refused s u M J e = rw e at J
 
-judged-of : (s u M : List ℕ) {x : Judgement} {root ty size : ℕ} → JudgedBy Earlier s x u M → x ≡ judged.Sheet root ty size →
-    Judged Earlier s root ty size u M
+judged-of : (s u M : List ℕ) {x : Judgement} {root ty size : ℕ} {uses : Uses} →
+    JudgedBy Earlier s x u M → x ≡ judged.Sheet root ty size uses → Judged Earlier s root ty size uses u M
 unfolding JudgedBy
 judged-of s u M J e = rw e at J
 
-pub earlier-accepted : (s u M : List ℕ) {x : Judgement} {root ty size : ℕ} → JudgedBy Earlier s x u M →
-    x ≡ judged.Sheet root ty size → EarlierRead s (Sheet root)
+pub earlier-accepted : (s u M : List ℕ) {x : Judgement} {root ty size : ℕ} {uses : Uses} → JudgedBy Earlier s x u M →
+    x ≡ judged.Sheet root ty size uses → EarlierRead s (Sheet root)
 unfolding EarlierRead
 earlier-accepted s u M {root = root} {ty = ty} {size = size} J e =
     let R = judged-of s u M J e in

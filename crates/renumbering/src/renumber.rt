@@ -12,6 +12,7 @@ use records::refusal::OLD;
 use records::refusal::Refusal;
 use records::refusal::of_sheet;
 use records::refusal::refuse;
+use records::row::TABLE;
 use sheet::judge::Judgement;
 use sheet::judge::judge_sheet;
 ghost use mathlib.Core.Path.{_≡_};
@@ -42,7 +43,7 @@ enum Earlier {
 fn read_earlier(s: &[u8]) -> Earlier
     ensures { λ x. ⌜ EarlierRead (now (s .entry)) x ⌝ }
 {
-    let mut t = [0u16; 36864];
+    let mut t = [0u16; TABLE];
     let mut marks = [0u16; SHEET];
     let x = judge_sheet(Edition::Earlier, s, &mut t, &mut marks);
     match x {
@@ -51,6 +52,7 @@ fn read_earlier(s: &[u8]) -> Earlier
             root,
             ty: _,
             size: _,
+            uses: _,
         } => Earlier::Sheet { root },
     }
 }

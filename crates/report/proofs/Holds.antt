@@ -1,7 +1,9 @@
--- The program's buffer holds every text that it can print: at most 510 moves of 15 bytes each, after two lines.
+-- The program's buffer holds every text that it can print: at most 510 moves of 15 bytes each, after three
+-- lines.
 use Prim.Native.Nat.{ℕ, zero, suc, _+_, _-_, _*_, _≤_, _<_}
 use native.Mathlib.Omega.{arith}
 use mathlib.Core.Path.{_≡_, refl, ap, _∙_}
+use mathlib.Core.Bool.{Bool, true, false}
 use mathlib.Core.List.{List, [], _∷_, _++_, append-assoc}
 use mathlib.Core.Option.{Option, none, some}
 use lib.ListN.{length, drop}
@@ -14,12 +16,14 @@ use Rattle.language.specs.Move.{question, answer, at, private, Move, move, Word
 use Rattle.language.specs.Weight.{size}
 use Rattle.language.proofs.NumberLaws.{modulo-below}
 use Rattle.explicit.specs.Letter.{Small}
-use Rattle.procedures.specs.Written.{Sheet}
+use Rattle.procedures.specs.Written.{Name, Sheet}
+use Rattle.procedures.specs.Uses.{isDeclared, isUsed, bit, count, usedOf, declaredIn}
 use Rattle.sheet.specs.Fine.{Accepted}
 use Rattle.procedures.specs.Meaning.{tyOf, termOf}
 use Rattle.records.specs.declared.edition.Edition.the-variants.{Present}
 use Rattle.records.specs.declared.refusal.Cause.{Cause}
 use Rattle.sheet.specs.Reader.{readSheet, accepted}
+use Rattle.sheet.specs.Mark.{usesOf}
 use Rattle.sheet.proofs.Right.{gives}
 use Rattle.explicit.specs.Letter.{AllSmall}
 use Rattle.explicit.proofs.Ranges.{sheet-small}
@@ -28,12 +32,13 @@ use Rattle.comparer.specs.Refusals.{compareRefusal}
 use Rattle.comparer.specs.Promise.{Holds, Decided, same, apart, ComparedBy}
 use Rattle.comparer.specs.declared.Comparison.{Comparison}
 use Rattle.comparer.proofs.Unique.{held-accepted}
-use Rattle.report.specs.Text.{ascii, sizesText, apartText, firstMove, width, movesText, sizeIn, textOf}
+use Rattle.report.specs.Text.{ascii, apartText, firstMove, width, movesText, sizeIn, declaredOf, sheetsText}
+use Rattle.report.specs.Text.{textOf}
 use Rattle.report.specs.Program.{BufferHolds, PrintsWhole}
 use Rattle.report.proofs.Fits.{reported-fits}
 use Rattle.report.proofs.Lent.{Bounded, bounded}
-use Rattle.report.proofs.Short.{AtMost, all, looser, both, refused-short, sizes-short, apart-short, plain-line}
-use Rattle.report.proofs.Short.{valued-line}
+use Rattle.report.proofs.Short.{AtMost, all, looser, both, refused-short, sizes-short, uses-short, apart-short}
+use Rattle.report.proofs.Short.{plain-line, valued-line}
 
 -- the line of a move's record, and what follows the record
 module _ (M N : Numbers) where
@@ -79,20 +84,48 @@ held-reckoned {s} {S} h =
     let g = gives Present s S (h .type) (h .size) (h .reads) in
     rw (h .reads) (g .3 ∙ ap (λ (t : ℕ). size (tyOf (S .numbers) t) (termOf S)) (g .2))
 
+-- no more of the records than there are
+count-most : (f : Name → Bool) (ns : List Name) → count f ns ≤ length ns
+unfolding count bit
+count-most f [] = omega arith
+count-most f (n ∷ ns) = go (f n) (count-most f ns)
+  where
+    go : (b : Bool) → count f ns ≤ length ns → bit b + count f ns ≤ suc (length ns)
+    go true h = omega arith
+    go false h = omega arith
+
+-- the names that a sheet uses and those that it declares: at most 32
+few-used : {s : List ℕ} (S : Sheet) → Holds s S → usesOf S .used ≤ 32
+unfolding usesOf usedOf
+few-used S h = omega (arith, count-most (isUsed S) (S .names), held-accepted h .ordered .few-names)
+
+few-declared : {s : List ℕ} (S : Sheet) → Holds s S → declaredOf (readSheet s) ≤ 32
+unfolding declaredOf declaredIn
+few-declared S h =
+    rw (h .reads) (omega (arith, count-most isDeclared (S .names), held-accepted h .ordered .few-names))
+
+-- the lines of two sheets
+sheets-short : {old new : List ℕ} (S T : Sheet) → Holds old S → Holds new T → sizeIn (readSheet old) < 10000 →
+    sizeIn (readSheet new) < 10000 → AtMost 45 (sheetsText old new (usesOf S) (usesOf T))
+unfolding sheetsText
+sheets-short {old} {new} S T h k l m =
+    both (sizes-short (sizeIn (readSheet old)) (sizeIn (readSheet new)) l m)
+    (uses-short (usesOf S .used) (declaredOf (readSheet old)) (usesOf T .used) (declaredOf (readSheet new))
+      (few-used S h) (few-declared S h) (few-used T k) (few-declared T k))
+
 -- the text of an accepted call
 accepted-text : {old new space : List ℕ} {S T : Sheet} {r : Comparison} {space′ : List ℕ} → Holds old S → Holds new T →
     sizeIn (readSheet old) + sizeIn (readSheet new) ≤ 511 → Decided S T space r space′ →
     AtMost 8192 (textOf old new r space′)
 unfolding textOf
-accepted-text {old} {new} h k b (same d) =
-    let p = both (sizes-short (sizeIn (readSheet old)) (sizeIn (readSheet new)) (omega arith) (omega arith))
-          (all (ascii "same\n")) in
+accepted-text {old} {new} {space} {S} {T} h k b (same d) =
+    let p = both (sheets-short S T h k (omega arith) (omega arith)) (all (ascii "same\n")) in
     rw (d .answer) (looser 8192 (omega arith) p)
 accepted-text {old} {new} {space} {S} {T} h k b (apart d) =
     let u = d .play in
     let few : length u ≤ 510 = omega (arith, d .short, held-reckoned h, held-reckoned k) in
     let a = small-of S T (held-accepted h) (held-accepted k) (d .which) u (d .first .only) in
-    let p = both (both (sizes-short (sizeIn (readSheet old)) (sizeIn (readSheet new)) (omega arith) (omega arith))
+    let p = both (both (sheets-short S T h k (omega arith) (omega arith))
             (apart-short (d .which) (length u) (omega (arith, few))))
           (lines (S .numbers) (a .0) u (a .1) (drop (length (records (S .numbers) u)) space)) in
     rw (d .answer, d .written) (looser 8192 (omega (arith, few)) p)

@@ -8,8 +8,8 @@ use borrow.Author.Tests.{lt-ltb, le-ltb, ltb-true, ltb-false}
 use Rattle.language.specs.Number.{fromByte}
 use Rattle.language.proofs.NumberLaws.{by-test}
 use Rattle.records.specs.declared.refusal.Cause.{Cause}
-use Rattle.report.specs.Text.{ascii, digits, signedDigits, sheetName, refusedText, sizesText, apartText}
-use Rattle.report.specs.Text.{valueText, moveText}
+use Rattle.report.specs.Text.{ascii, digits, signedDigits, sheetName, refusedText, sizesText, namesText}
+use Rattle.report.specs.Text.{usesText, apartText, valueText, moveText}
 use Rattle.report.specs.Changes.{changeText, changeAt, changesText, changedText}
 use Rattle.report.proofs.Decimals.{digits-one, digits-more, signed-low, signed-high}
 
@@ -95,6 +95,20 @@ unfolding sizesText
 sizes-short old new h l =
     let p = both (both (both (both (all (ascii "old ")) (four-digits old h)) (all (ascii " new ")))
           (four-digits new l)) (all (ascii "\n")) in
+    p
+
+names-short : (used declared : ℕ) → used ≤ 32 → declared ≤ 32 → AtMost 8 (namesText used declared)
+unfolding namesText
+names-short used declared h l =
+    let p = both (both (two-digits used (omega arith)) (all (ascii " of "))) (two-digits declared (omega arith)) in
+    p
+
+pub uses-short : (used declared used′ declared′ : ℕ) → used ≤ 32 → declared ≤ 32 → used′ ≤ 32 → declared′ ≤ 32 →
+    AtMost 27 (usesText used declared used′ declared′)
+unfolding usesText
+uses-short used declared used′ declared′ h l h′ l′ =
+    let p = both (both (both (both (all (ascii "uses ")) (names-short used declared h l)) (all (ascii " and ")))
+          (names-short used′ declared′ h′ l′)) (all (ascii "\n")) in
     p
 
 pub apart-short : (sheet moves : ℕ) → moves < 10000 → AtMost 19 (apartText sheet moves)

@@ -32,7 +32,7 @@ lent-changes = 4096
 
 -- no refusal that the program that compares prints has the number 14
 abbrev pub Never14 : Type 0
-Never14 = (old new : List ℕ) (x : Refusal) → compareRefusal old new lent-words lent-space ≡ some x →
+Never14 = (old new : List ℕ) (x : Cause) → compareRefusal old new lent-words lent-space ≡ some x →
   x .number ≡ space-too-short → ⊥
 
 -- every text that it can print, of whatever two sheets, has room

@@ -1,6 +1,7 @@
 -- What the program prints, as bytes. Document 01, "A program reads `old.sheet` and `new.sheet`": "Line 1: both sizes.
 -- Line 2: the sheet and the number of moves, or `same` alone. Then one move a line: kind, id, argument and, where it
--- has one, the signed value. A refusal is one line, `refused 7 old 3`: number, sheet, place."
+-- has one, the signed value. A refusal is one line, `refused 7 old 3`: number, sheet, place." Document 02 [6]: "the
+-- program prints a second line, `uses 3 of 5 and 2 of 5` (bits set, then records of kinds 1 and 3, old before new)".
 use Prim.Native.Nat.{ℕ, zero, suc, _+_, _/_, _%_}
 use Prim.Native.Char.{code}
 use Prim.Native.String.{String, [] as end, _∷_ as _then_}
@@ -11,7 +12,9 @@ use lib.IntN.{ℤ, pos, negsuc}
 use Rattle.language.specs.Choice.{pick}
 use Rattle.language.specs.Number.{fromByte}
 use Rattle.records.specs.declared.refusal.Cause.{Cause}
+use Rattle.procedures.specs.Uses.{declaredIn}
 use Rattle.sheet.specs.Reader.{Checks, accepted, rejected, readSheet}
+use Rattle.sheet.specs.declared.mark.Uses.{Uses}
 use Rattle.comparer.specs.declared.Comparison.{Comparison}
 use Rattle.comparer.specs.declared.Comparison.the-variants.{Same, Apart, Refused}
 
@@ -50,6 +53,15 @@ refusedText x =
 unfoldable pub sizesText : ℕ → ℕ → List ℕ
 sizesText old new = ascii "old " ++ digits old ++ ascii " new " ++ digits new ++ ascii "\n"
 
+-- "3 of 5"
+unfoldable pub namesText : ℕ → ℕ → List ℕ
+namesText used declared = digits used ++ ascii " of " ++ digits declared
+
+-- "uses 3 of 5 and 2 of 5"
+unfoldable pub usesText : ℕ → ℕ → ℕ → ℕ → List ℕ
+usesText used declared used′ declared′ =
+    ascii "uses " ++ namesText used declared ++ ascii " and " ++ namesText used′ declared′ ++ ascii "\n"
+
 -- "apart in old 2"
 unfoldable pub apartText : ℕ → ℕ → List ℕ
 apartText sheet moves = ascii "apart in " ++ sheetName sheet ++ ascii " " ++ digits moves ++ ascii "\n"
@@ -81,9 +93,20 @@ unfoldable pub sizeIn : Checks → ℕ
 sizeIn (accepted S ty size) = size
 sizeIn (rejected number place) = 0
 
+-- how many names a sheet that is accepted declares
+unfoldable pub declaredOf : Checks → ℕ
+declaredOf (accepted S ty size) = declaredIn S
+declaredOf (rejected number place) = 0
+
+-- the lines of two sheets: their sizes, and the names that they use of those that they declare
+unfoldable pub sheetsText : List ℕ → List ℕ → Uses → Uses → List ℕ
+sheetsText old new u v =
+    sizesText (sizeIn (readSheet old)) (sizeIn (readSheet new))
+    ++ usesText (u .used) (declaredOf (readSheet old)) (v .used) (declaredOf (readSheet new))
+
 -- the whole text for two sheets, the answer of compare and the play space after it
 unfoldable pub textOf : List ℕ → List ℕ → Comparison → List ℕ → List ℕ
-textOf old new Same space = sizesText (sizeIn (readSheet old)) (sizeIn (readSheet new)) ++ ascii "same\n"
-textOf old new (Apart sheet moves) space =
-    sizesText (sizeIn (readSheet old)) (sizeIn (readSheet new)) ++ apartText sheet moves ++ movesText moves space
+textOf old new (Same u v) space = sheetsText old new u v ++ ascii "same\n"
+textOf old new (Apart sheet moves u v) space =
+    sheetsText old new u v ++ apartText sheet moves ++ movesText moves space
 textOf old new (Refused x) space = refusedText x

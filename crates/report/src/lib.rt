@@ -20,12 +20,20 @@ fn answer(old: &[u8], new: &[u8], r: Comparison, space: &[u8], out: &mut [u8]) -
 {
     match r {
         Comparison::Refused(x) => lines::refused(out, 0, x),
-        Comparison::Same => {
-            let at = lines::sizes(out, 0, old, new);
+        Comparison::Same {
+            old: of_old,
+            new: of_new,
+        } => {
+            let at = lines::sheets(out, 0, old, new, of_old, of_new);
             write::text(out, at, b"same\n")
         }
-        Comparison::Apart { sheet, moves } => {
-            let at = lines::sizes(out, 0, old, new);
+        Comparison::Apart {
+            sheet,
+            moves,
+            old: of_old,
+            new: of_new,
+        } => {
+            let at = lines::sheets(out, 0, old, new, of_old, of_new);
             let next = lines::apart(out, at, sheet, moves);
             lines::moves(out, next, moves, space)
         }

@@ -7,14 +7,17 @@ use records::refusal::NEW;
 use records::refusal::OLD;
 use sheet::check::Checked;
 use sheet::check::check;
+use sheet::mark::Uses;
+use sheet::mark::declared_count;
 ghost use mathlib.Core.Path.{_≡_};
 ghost use Prim.Native.Nat.{_≤_};
 ghost use lib.ListN.{length, drop};
 ghost use Rattle.language.specs.Number.{fromByte};
 ghost use Rattle.sheet.specs.Reader.{readSheet};
 ghost use Rattle.report.specs.Page.{page, pushes};
-ghost use Rattle.report.specs.Text.{sheetName, refusedText, sizeIn, sizesText, apartText, signedDigits};
-ghost use Rattle.report.specs.Text.{valueText, moveText, firstMove, width, movesText};
+ghost use Rattle.report.specs.Text.{sheetName, refusedText, sizeIn, declaredOf, sizesText, namesText, usesText};
+ghost use Rattle.report.specs.Text.{sheetsText, apartText, signedDigits, valueText, moveText, firstMove, width};
+ghost use Rattle.report.specs.Text.{movesText};
 
 // The first kind of move that has a value.
 const VALUE: u8 = 5;
@@ -28,6 +31,12 @@ const BYTES: usize = 256;
 const PLAIN: usize = 3;
 
 const VALUED: usize = 4;
+
+// What is printed of a sheet beside the names that it uses: its size, and how many names it declares.
+struct Figures {
+    size: usize,
+    declared: usize,
+}
 
 // The name of a sheet; any number but those of the old and the new one stands for both of them.
 fn sheet_name(out: &mut [u8], at: usize, sheet: u8) -> usize
@@ -55,27 +64,90 @@ pub fn refused(out: &mut [u8], at: usize, x: Cause) -> usize
     text(out, f, b"\n")
 }
 
-// The size of a sheet that is accepted, else 0.
-fn size_in(s: &[u8]) -> usize
-    ensures { λ r. ⌜ r ≡ sizeIn (readSheet (now (s .entry))) ⌝ }
+// The size of a sheet and how many names it declares, where it is accepted, else 0 and 0.
+fn figures_of(s: &[u8]) -> Figures
+    ensures size { λ r. ⌜ r .size ≡ sizeIn (readSheet (now (s .entry))) ⌝ }
+    ensures declared { λ r. ⌜ r .declared ≡ declaredOf (readSheet (now (s .entry))) ⌝ }
 {
-    let Checked::Accepted { ty: _, size } = check(s) else {
-        return 0;
+    let Checked::Accepted {
+        ty: _,
+        size,
+        uses: _,
+    } = check(s)
+    else {
+        return Figures {
+            size: 0,
+            declared: 0,
+        };
     };
-    size as usize
+    Figures {
+        size: size as usize,
+        declared: declared_count(s),
+    }
 }
 
 // The sizes of two sheets.
-pub fn sizes(out: &mut [u8], at: usize, old: &[u8], new: &[u8]) -> usize
-    ensures { λ r. ⌜ page (now (out .exit)) r
-        ≡ pushes (sizesText (sizeIn (readSheet (now (old .entry)))) (sizeIn (readSheet (now (new .entry)))))
-        (page (now (out .entry)) at) ⌝ }
+fn sizes(out: &mut [u8], at: usize, old: usize, new: usize) -> usize
+    ensures { λ r. ⌜ page (now (out .exit)) r ≡ pushes (sizesText old new) (page (now (out .entry)) at) ⌝ }
 {
     let a = text(out, at, b"old ");
-    let b = decimal(out, a, size_in(old));
+    let b = decimal(out, a, old);
     let c = text(out, b, b" new ");
-    let d = decimal(out, c, size_in(new));
+    let d = decimal(out, c, new);
     text(out, d, b"\n")
+}
+
+// The names that a sheet uses, of those that it declares.
+fn names(out: &mut [u8], at: usize, used: usize, declared: usize) -> usize
+    ensures { λ r. ⌜ page (now (out .exit)) r ≡ pushes (namesText used declared) (page (now (out .entry)) at) ⌝ }
+{
+    let a = decimal(out, at, used);
+    let b = text(out, a, b" of ");
+    decimal(out, b, declared)
+}
+
+// The names that the old sheet uses, of those that it declares, and those of the new one.
+fn uses(
+    out: &mut [u8],
+    at: usize,
+    used: usize,
+    declared: usize,
+    used2: usize,
+    declared2: usize,
+) -> usize
+    ensures { λ r. ⌜ page (now (out .exit)) r
+        ≡ pushes (usesText used declared used2 declared2) (page (now (out .entry)) at) ⌝ }
+{
+    let a = text(out, at, b"uses ");
+    let b = names(out, a, used, declared);
+    let c = text(out, b, b" and ");
+    let d = names(out, c, used2, declared2);
+    text(out, d, b"\n")
+}
+
+// The lines of two sheets: their sizes, and the names that they use of those that they declare.
+pub(crate) fn sheets(
+    out: &mut [u8],
+    at: usize,
+    old: &[u8],
+    new: &[u8],
+    first: Uses,
+    second: Uses,
+) -> usize
+    ensures { λ r. ⌜ page (now (out .exit)) r
+        ≡ pushes (sheetsText (now (old .entry)) (now (new .entry)) first second) (page (now (out .entry)) at) ⌝ }
+{
+    let a = figures_of(old);
+    let b = figures_of(new);
+    let next = sizes(out, at, a.size, b.size);
+    uses(
+        out,
+        next,
+        first.used as usize,
+        a.declared,
+        second.used as usize,
+        b.declared,
+    )
 }
 
 // The sheet that has the play, and its number of moves.

@@ -35,7 +35,7 @@ use Rattle.sheet.proofs.NameBytes.{declared-past}
 use Rattle.sheet.proofs.NameList.{Extends, extends-last, extends-declare, extends-retire, matches-same}
 use Rattle.sheet.proofs.NameList.{free-standing}
 
--- the kind byte of a term is a part's
+-- the kind byte of a term is a part's, and so none of a name record's
 pub record Kind (W : Written) : Type 0 where
   pub kind : ℕ
   pub tail : List ℕ
@@ -44,25 +44,36 @@ pub record Kind (W : Written) : Type 0 where
   pub rule : Rule
   pub bytes : encode W ≡ kind ∷ tail
   pub shape : shapeOf kind ≡ Part body parts rule
+  pub high : 2 < kind
 
-kind-of : (W : Written) → Kind W
+pub kind-of : (W : Written) → Kind W
 unfolding encode shapeOf
-kind-of skip = record { kind = 16; tail = _; body = 0; parts = 0; rule = Skip; bytes = refl; shape = refl }
-kind-of (diverge ty) = record { kind = 17; tail = _; body = 1; parts = 0; rule = Diverge; bytes = refl; shape = refl }
-kind-of (truth b) = record { kind = 18; tail = _; body = 1; parts = 0; rule = Truth; bytes = refl; shape = refl }
-kind-of (number b) = record { kind = 19; tail = _; body = 1; parts = 0; rule = Number; bytes = refl; shape = refl }
-kind-of (call id ws) = record { kind = 20; tail = _; body = 1; parts = 0; rule = Use; bytes = refl; shape = refl }
-kind-of (fetch v) = record { kind = 21; tail = _; body = 0; parts = 1; rule = Fetch; bytes = refl; shape = refl }
+kind-of skip =
+    record { kind = 16; tail = _; body = 0; parts = 0; rule = Skip; bytes = refl; shape = refl; high = omega arith }
+kind-of (diverge ty) =
+    record { kind = 17; tail = _; body = 1; parts = 0; rule = Diverge; bytes = refl; shape = refl; high = omega arith }
+kind-of (truth b) =
+    record { kind = 18; tail = _; body = 1; parts = 0; rule = Truth; bytes = refl; shape = refl; high = omega arith }
+kind-of (number b) =
+    record { kind = 19; tail = _; body = 1; parts = 0; rule = Number; bytes = refl; shape = refl; high = omega arith }
+kind-of (call id ws) =
+    record { kind = 20; tail = _; body = 1; parts = 0; rule = Use; bytes = refl; shape = refl; high = omega arith }
+kind-of (fetch v) =
+    record { kind = 21; tail = _; body = 0; parts = 1; rule = Fetch; bytes = refl; shape = refl; high = omega arith }
 kind-of (operate op l r) =
-    record { kind = 22; tail = _; body = 1; parts = 2; rule = Operate; bytes = refl; shape = refl }
-kind-of (assign v e) = record { kind = 23; tail = _; body = 0; parts = 2; rule = Assign; bytes = refl; shape = refl }
+    record { kind = 22; tail = _; body = 1; parts = 2; rule = Operate; bytes = refl; shape = refl; high = omega arith }
+kind-of (assign v e) =
+    record { kind = 23; tail = _; body = 0; parts = 2; rule = Assign; bytes = refl; shape = refl; high = omega arith }
 kind-of (sequence c m) =
-    record { kind = 24; tail = _; body = 0; parts = 2; rule = Sequence; bytes = refl; shape = refl }
-kind-of (choose b m n) = record { kind = 25; tail = _; body = 0; parts = 3; rule = If; bytes = refl; shape = refl }
-kind-of (while b c) = record { kind = 26; tail = _; body = 0; parts = 2; rule = While; bytes = refl; shape = refl }
-kind-of (new id d c) = record { kind = 27; tail = _; body = 2; parts = 1; rule = New; bytes = refl; shape = refl }
+    record { kind = 24; tail = _; body = 0; parts = 2; rule = Sequence; bytes = refl; shape = refl; high = omega arith }
+kind-of (choose b m n) =
+    record { kind = 25; tail = _; body = 0; parts = 3; rule = If; bytes = refl; shape = refl; high = omega arith }
+kind-of (while b c) =
+    record { kind = 26; tail = _; body = 0; parts = 2; rule = While; bytes = refl; shape = refl; high = omega arith }
+kind-of (new id d c) =
+    record { kind = 27; tail = _; body = 2; parts = 1; rule = New; bytes = refl; shape = refl; high = omega arith }
 kind-of (procedure id ty ps x y) =
-    record { kind = 28; tail = _; body = 11; parts = 2; rule = Procedure; bytes = refl; shape = refl }
+    record { kind = 28; tail = _; body = 11; parts = 2; rule = Procedure; bytes = refl; shape = refl; high = omega arith }
 
 -- the rest of a sheet that is read: the name records ns, then the term W
 pub record RestRead (s : List ℕ) (A : Answer Whole) (ns : List Name) (W : Written) (ty end : ℕ) : Type 0 where

@@ -2,7 +2,7 @@
 use Prim.Native.Nat.{ℕ, zero, suc, _+_, _-_, _≤_}
 use native.Mathlib.Omega.{arith}
 use native.Mathlib.Numerals.{sub-one}
-use mathlib.Core.Path.{_≡_, refl, _∙_}
+use mathlib.Core.Path.{_≡_, refl, ap, _∙_}
 use mathlib.Core.List.{List}
 use lib.Dec.{eqb, eqb·suc-zero}
 use Rattle.language.specs.Choice.{pick}
@@ -20,6 +20,7 @@ use Rattle.records.proofs.HeadLaws.{head-good}
 use Rattle.sheet.specs.Reader.{Tree, node, Trees, branch, Answer, got, refused, bind, onHead, partsOf}
 use Rattle.sheet.specs.Reader.{readRecord, readPart}
 use Rattle.sheet.specs.table.Fill.{fill, fills, erase, Leaves, Reads, closedAnswer, closedTable}
+use Rattle.sheet.specs.table.Notes.{noted}
 use Rattle.sheet.specs.declared.part.Part.{Part}
 use Rattle.sheet.specs.declared.part.Part.the-variants.{Read, Refused}
 use Rattle.sheet.proofs.Answers.{HeadAll}
@@ -66,13 +67,13 @@ unfolding partsOf
 parts-step rec s r zero j prev at h = absurd (h refl)
 parts-step rec s r (suc n) j prev at h = simp sub-one
 
--- the row that is written where the answer of the parts is known
+-- the row that is written and the note that is made where the answer of the parts is known
 pub closed-table :
-    (N : Numbers) (s : List ℕ) (around : ℕ) (r : Record) (t : List ℕ) {parts : Part} {last next ty : ℕ} {u : List ℕ} →
+    (N : Numbers) (s : List ℕ) (around : ℕ) (r : Record) (t : List ℕ) {parts : Part} {last next ty : ℕ} {u v : List ℕ} →
     parts ≡ Read last next → ty ≡ partType (r .rule) s r last → u ≡ row.rowWritten N r ty around next t →
-    u ≡ closedTable N s around r parts t
+    v ≡ noted r u → v ≡ closedTable N s around r parts t
 unfolding closedTable
-closed-table N s around r t e f h = h ∙ rw (e, f)
+closed-table N s around r t e f h g = g ∙ (ap (noted r) h ∙ rw (e, f))
 
 -- a record closed after its parts
 pub closes :

@@ -26,6 +26,7 @@ use Rattle.sheet.specs.Reader.{readSheet, accepted, rejected}
 use Rattle.sheet.specs.Size.{sizeOf}
 use Rattle.sheet.specs.Check.{checkedOf}
 use Rattle.sheet.specs.table.Fill.{eraseSheet}
+use Rattle.sheet.specs.table.Masks.{usesAt}
 use Rattle.sheet.specs.table.Tabled.{Tabled, TabledBy, places}
 use Rattle.sheet.specs.table.Judged.{JudgedBy, refusalIn}
 use Rattle.sheet.specs.declared.names.Reading.{Reading}
@@ -33,6 +34,8 @@ use Rattle.sheet.specs.declared.names.Reading.the-variants.{Sheet as Rea
 use Rattle.sheet.specs.declared.judge.Judgement.{Judgement}
 use Rattle.sheet.specs.declared.judge.Judgement.the-variants.{Sheet, Refused}
 use Rattle.sheet.specs.declared.check.Checked.the-variants.{Accepted, Refused as Turned}
+use Rattle.sheet.specs.declared.mark.Uses.{Uses}
+use Rattle.sheet.proofs.Masking.{uses-right}
 
 -- weights held at 4,097
 sat-times : (k v : ℕ) → min (k * min v 4097) 4097 ≡ min (k * v) 4097
@@ -85,18 +88,20 @@ module _ (ed : Edition) (s u M : List ℕ) (root ty next : ℕ) (T : Tabled ed s
         let k : 4096 < full = omega (arith, sized) in
         T .finds ∙ rw (lt-ltb 4096 full k) refl
 
-    pub judged-accepted : n ≤ 4096 → JudgedBy ed s (Sheet root ty n) u M
+    pub judged-accepted : n ≤ 4096 → (v : Uses) → v ≡ usesAt s u → JudgedBy ed s (Sheet root ty n v) u M
     unfolding JudgedBy
-    judged-accepted l =
+    judged-accepted l v f =
         let k : full ≤ 4096 = omega (arith, sized) in
         let m : full ≡ n = omega (arith, sized) in
+        let a : readUnder ed s ≡ accepted S ty n = T .finds ∙ rw (le-ltb 4096 full k) (ap (λ i. accepted S ty i) m) in
         record {
           sheet = S;
           end = next;
-          accepts = T .finds ∙ rw (le-ltb 4096 full k) (ap (λ i. accepted S ty i) m);
+          accepts = a;
           numbered = T .numbered;
           rooted = T .rooted;
           shown = T .shown;
+          used = f ∙ uses-right ed s S ty n a u (T .notes);
           marked = W .marks (numbersAt s) (S .names) places (S .term) next (T .shown) (T .fine-term) (T .shallow) }
 
 -- a sheet that is refused while it is read
@@ -125,7 +130,8 @@ pub checked-refused : (s u M : List ℕ) {y : Judgement} {x z : Refusal} {q : Ca
 unfolding JudgedBy checkedOf refusalIn
 checked-refused s u M J e f g = let j = rw e at J in rw (g, f, e, j) refl
 
-pub checked-accepted : (s u M : List ℕ) {y : Judgement} {root ty size : ℕ} → JudgedBy Present s y u M →
-    y ≡ Sheet root ty size → Accepted ty size ≡ checkedOf (readSheet s)
+pub checked-accepted : (s u M : List ℕ) {y : Judgement} {root ty size : ℕ} {v : Uses} →
+    JudgedBy Present s y u M → y ≡ Sheet root ty size v → Accepted ty size v ≡ checkedOf (readSheet s)
 unfolding JudgedBy checkedOf
-checked-accepted s u M J e = let j = rw e at J in rw (j .accepts) refl
+checked-accepted s u M {ty = ty} {size = size} J e =
+    let j = rw e at J in rw (j .accepts) (ap (Accepted ty size) (j .used))

@@ -26,5 +26,7 @@ pub mod Rows
 pub mod Spans
 pub mod Stored
 pub mod Shows
+pub mod Noting
+pub mod Masking
 pub mod Tabling
 pub mod Judging

@@ -1,9 +1,11 @@
--- The table word by word: what a row holds after `rowWritten` and `linked`, and that all other words stay.
+-- The table word by word: what a row holds after `rowWritten` and `linked`, and that all other words stay; a note
+-- changes no row.
 use Prim.Native.Nat.{ℕ, _+_, _*_, _≤_, _<_}
 use native.Mathlib.Omega.{arith}
 use mathlib.Core.Path.{_≡_, refl, _∙_}
+use mathlib.Core.Bool.{Bool, true, false}
 use mathlib.Core.List.{List}
-use lib.ListN.{length, set, length-set}
+use lib.ListN.{length, getD, set, length-set}
 use lib.Seq.{getD-set-same, getD-set-other}
 use Rattle.language.specs.declared.Numbers.{Numbers}
 use Rattle.records.specs.Rule as rule
@@ -11,6 +13,8 @@ use Rattle.records.specs.Row as row
 use Rattle.records.specs.Row.{cell, rowKind, classOf, rowWritten, linked}
 use Rattle.records.specs.declared.head.Record.{Record}
 use Rattle.records.specs.Row.{word}
+use Rattle.language.specs.Choice.{pick}
+use Rattle.sheet.specs.table.Notes.{usesName, noted}
 
 -- one word set: that word, and what another holds
 set-same : (t : List ℕ) (p i v : ℕ) → i < 9 → 9 * p + 9 ≤ length t → word (set t (cell p i) v) p i ≡ v
@@ -100,3 +104,20 @@ pub linked-else : (q j part : ℕ) (t : List ℕ) (p i : ℕ) → j < 4 → i < 
     word (linked q j part t) p i ≡ word t p i
 unfolding linked
 linked-else q j part t p i g h n = set-else t q (5 + j) part p i _ h (omega arith) n refl
+
+-- a note stands after the rows
+pub length-noted : (r : Record) (t : List ℕ) → length (noted r t) ≡ length t
+unfolding noted
+length-noted r t = go (usesName r)
+  where
+    go : (b : Bool) → length (pick b (set t (36864 + r .a) 1) t) ≡ length t
+    go true = length-set t (36864 + r .a) 1
+    go false = refl
+
+pub noted-else : (r : Record) (t : List ℕ) (p i : ℕ) → p < 4096 → i < 9 → word (noted r t) p i ≡ word t p i
+unfolding noted word cell
+noted-else r t p i h g = go (usesName r)
+  where
+    go : (b : Bool) → getD (pick b (set t (36864 + r .a) 1) t) (9 * p + i) 0 ≡ getD t (9 * p + i) 0
+    go true = getD-set-other t (36864 + r .a) (9 * p + i) 1 0 (λ e. omega arith)
+    go false = refl

@@ -5,7 +5,7 @@ use mathlib.Core.Path.{_≡_, refl, _∙_}
 use mathlib.Core.List.{List}
 use lib.ListN.{length}
 use Rattle.language.specs.declared.Numbers.{Numbers}
-use Rattle.records.specs.Row.{linked}
+use Rattle.records.specs.Row.{rowWritten, linked}
 use Rattle.records.specs.declared.head.Record.{Record}
 use Rattle.procedures.specs.Written.{Name}
 use Rattle.procedures.specs.Meaning.{Binder}
@@ -16,7 +16,7 @@ use Rattle.records.specs.declared.edition.Edition.{Edition}
 use Rattle.sheet.proofs.Parsed.{Parsed, p-skip, p-diverge, p-truth, p-number, p-private, p-parameter, p-use}
 use Rattle.sheet.proofs.Parsed.{p-name, p-fetch, p-operate, p-assign, p-sequence, p-if, p-while, p-new}
 use Rattle.sheet.proofs.Parsed.{p-procedure, ParsedArgs, p-none, p-more}
-use Rattle.sheet.proofs.Rows.{length-written, length-linked, written-else, linked-else}
+use Rattle.sheet.proofs.Rows.{length-written, length-linked, written-else, linked-else, length-noted, noted-else}
 
 -- a part takes the places from its own up to the next; its parts, at most four, stand one after the other behind it
 mutual
@@ -125,7 +125,8 @@ module _ (N : Numbers) where
     unfolding fill fills
     pub length-fill : (x : Tree) (t : List ℕ) → length (fill N x t) ≡ length t
     length-fill (node r ty number end ts) t =
-        length-written N r ty number end (fills N ts (r .place) 0 t) ∙ length-fills ts (r .place) 0 t
+        length-noted r (rowWritten N r ty number end (fills N ts (r .place) 0 t)) ∙
+        (length-written N r ty number end (fills N ts (r .place) 0 t) ∙ length-fills ts (r .place) 0 t)
 
     pub length-fills : (xs : Trees) (p j : ℕ) (t : List ℕ) → length (fills N xs p j t) ≡ length t
     length-fills leaf p j t = refl
@@ -136,23 +137,24 @@ module _ (N : Numbers) where
   -- the rows of other places stay; and in the row of the record itself the words below those of its parts
   mutual
     unfolding fill fills
-    pub fill-else : {at next : ℕ} {x : Tree} → Span at next x → (t : List ℕ) (p i : ℕ) → i < 9 → Outside at next p →
-        word (fill N x t) p i ≡ word t p i
-    fill-else (span {at} {from} {next} {ty} {number} {end} {r} {ts} e ps lt) t p i h o =
+    pub fill-else : {at next : ℕ} {x : Tree} → Span at next x → (t : List ℕ) (p i : ℕ) → p < 4096 → i < 9 →
+        Outside at next p → word (fill N x t) p i ≡ word t p i
+    fill-else (span {at} {from} {next} {ty} {number} {end} {r} {ts} e ps lt) t p i g h o =
         let le : from ≤ next = onward ps in
-        let rest = fills-else ps t (r .place) p i h (narrow (omega arith) (omega arith) o)
+        let rest = fills-else ps t (r .place) p i g h (narrow (omega arith) (omega arith) o)
           (λ f. absurd (not-first (omega arith) o (f ∙ e))) in
-        written-else N r ty number end (fills N ts (r .place) 0 t) p i h (λ f. absurd (not-first (omega arith) o (f ∙
+        noted-else r (rowWritten N r ty number end (fills N ts (r .place) 0 t)) p i g h ∙
+        (written-else N r ty number end (fills N ts (r .place) 0 t) p i h (λ f. absurd (not-first (omega arith) o (f ∙
           e))) ∙
-          rest
+          rest)
 
-    pub fills-else : {j at next : ℕ} {xs : Trees} → Parts j at next xs → (t : List ℕ) (q p i : ℕ) → i < 9 →
+    pub fills-else : {j at next : ℕ} {xs : Trees} → Parts j at next xs → (t : List ℕ) (q p i : ℕ) → p < 4096 → i < 9 →
         Outside at next p → (p ≡ q → i < 5 + j) → word (fills N xs q j t) p i ≡ word t p i
-    fills-else stop t q p i h o n = refl
-    fills-else (part {j} {at} {mid} {next} {t = x} {ts = xs} lt sp ps) t q p i h o n =
+    fills-else stop t q p i g h o n = refl
+    fills-else (part {j} {at} {mid} {next} {t = x} {ts = xs} lt sp ps) t q p i g h o n =
         let le : at < mid = forward sp in
         let le′ : mid ≤ next = onward ps in
-        let rest = fills-else ps (fill N x (linked q j at t)) q p i h (narrow (omega arith) (omega arith) o)
+        let rest = fills-else ps (fill N x (linked q j at t)) q p i g h (narrow (omega arith) (omega arith) o)
           (λ e. let l : i < 5 + j = n e in omega arith) in
-        let own = fill-else sp (linked q j at t) p i h (narrow (omega arith) (omega arith) o) in
+        let own = fill-else sp (linked q j at t) p i g h (narrow (omega arith) (omega arith) o) in
         rest ∙ (own ∙ linked-else q j at t p i lt h (λ e f. let l : i < 5 + j = n e in omega arith))

@@ -1,4 +1,4 @@
--- The table that reading a whole sheet leaves shows the sheet's term.
+-- The table that reading a whole sheet leaves shows the sheet's term, and has notes of the names that it uses.
 use Prim.Native.Nat.{ℕ}
 use native.Mathlib.Omega.{arith}
 use mathlib.Core.Path.{_≡_, refl, sym, ap, _∙_}
@@ -11,6 +11,7 @@ use Rattle.sheet.specs.Encoding.{encodeNames, headingLength}
 use Rattle.sheet.specs.Reader.{Answer, got, refused, Whole, whole, numbersAt, wholeOf, sheetIn, sizeIn, checks}
 use Rattle.sheet.specs.Reader.{readUnder}
 use Rattle.sheet.specs.table.Fill.{eraseSheet, LeavesSheet, ReadsSheet}
+use Rattle.sheet.specs.table.Notes.{Blank}
 use Rattle.sheet.specs.table.Tabled.{places, TabledBy}
 use Rattle.sheet.specs.declared.names.Reading.{Reading}
 use Rattle.sheet.specs.declared.names.Reading.the-variants.{Refused}
@@ -19,9 +20,10 @@ use Rattle.sheet.proofs.NameList.{NamesRead, names-read, extends-first}
 use Rattle.sheet.proofs.Right.{SheetRead, sheet-all}
 use Rattle.sheet.proofs.Sound.{sound}
 use Rattle.sheet.proofs.Shows.{shows-whole}
+use Rattle.sheet.proofs.Noting.{notes-whole}
 use Rattle.sheet.proofs.Whole.{sheet-refused}
 
-module _ (ed : Edition) (s t u : List ℕ) (room : length t ≡ 36864) where
+module _ (ed : Edition) (s t u : List ℕ) (blank : Blank t) where
   tabled-whole :
       {x : Whole} {ty end : ℕ} → wholeOf ed s ≡ got x ty end → SheetRead ed s places x ty end →
       NamesRead ed (numbersAt s) s places 32 [] 2 x ty end → LeavesSheet (numbersAt s) (got x ty end) t u →
@@ -45,7 +47,8 @@ module _ (ed : Edition) (s t u : List ℕ) (room : length t ≡ 36864) where
         shallow = S .shallow;
         rooted = omega (arith, R .long, S .forward, S .inside, length-drop root s,
           sym (length-drop 2 s) ∙ ap length bytes ∙ length-append (encodeNames ns) (drop root s));
-        shown = shows-whole (numbersAt s) s ns (R .short) p t room })
+        shown = shows-whole (numbersAt s) s ns (R .short) p t (blank .long);
+        notes = λ id. notes-whole (numbersAt s) s ns (R .short) id p t blank })
 
   tabled-by : (A : Answer Whole) → wholeOf ed s ≡ A → All (SheetRead ed s places) A → LeavesSheet (numbersAt s) A t u →
       TabledBy ed s (eraseSheet A) u
@@ -53,7 +56,7 @@ module _ (ed : Edition) (s t u : List ℕ) (room : length t ≡ 36864) where
   tabled-by A e (one R) l = tabled-whole e R (R .names) l
   tabled-by A e none′ l = tt
 
-  -- THEOREM: where a sheet is read, the table shows its term
+  -- THEOREM: where a sheet is read, the table shows its term and has notes of the names that it uses
   pub tabled : {x : Reading} → ReadsSheet (numbersAt s) (wholeOf ed s) x t u → TabledBy ed s x u
   tabled R = rw (R .answer) (tabled-by (wholeOf ed s) refl (sheet-all ed s places) (R .table))
 
@@ -61,7 +64,7 @@ module _ (ed : Edition) (s t u : List ℕ) (room : length t ≡ 36864) where
 pub sheet-told :
     (ed : Edition) (s t : List ℕ) {n p : ℕ} → wholeOf ed s ≡ refused n p →
     ReadsSheet (numbersAt s) (wholeOf ed s) (Refused (refusal n p)) t t
-    × (length t ≡ 36864 → TabledBy ed s (Refused (refusal n p)) t)
+    × (Blank t → TabledBy ed s (Refused (refusal n p)) t)
 sheet-told ed s t e =
     let R = sheet-refused ed (numbersAt s) s e in
     (R, λ h. tabled ed s t t h R)

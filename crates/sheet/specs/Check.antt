@@ -7,11 +7,12 @@ use Rattle.records.specs.Refusal.{cause, old-sheet}
 use Rattle.records.specs.declared.edition.Edition.{Edition}
 use Rattle.records.specs.declared.edition.Edition.the-variants.{Earlier, Present}
 use Rattle.sheet.specs.Reader.{Checks, accepted, rejected}
+use Rattle.sheet.specs.Mark.{usesOf}
 use Rattle.sheet.specs.declared.check.Checked.{Checked}
 use Rattle.sheet.specs.declared.check.Checked.the-variants.{Accepted, Refused}
 
 unfoldable pub checkedOf : Checks → Checked
-checkedOf (accepted S ty size) = Accepted ty size
+checkedOf (accepted S ty size) = Accepted ty size (usesOf S)
 checkedOf (rejected n p) = Refused (cause n old-sheet p)
 
 -- document 01's 1 to 11, and from document 02 [3] on also 16

@@ -3,6 +3,7 @@ pub mod Fine
 pub mod Heading
 pub mod Reader
 pub mod Size
+pub mod Mark
 pub mod Agreement
 pub mod Check
 pub mod table

@@ -1,4 +1,6 @@
 -- The table of parts: cited by inner contracts only.
+pub mod Notes
+pub mod Masks
 pub mod Fill
 pub mod Tabled
 pub mod Judged

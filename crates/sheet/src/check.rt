@@ -1,6 +1,7 @@
 // The service check.
 use crate::judge::Judgement;
 use crate::judge::judge_sheet;
+use crate::mark::Uses;
 use records::edition::Edition;
 use records::refusal::Cause;
 use records::refusal::NOT_REFUSED;
@@ -8,14 +9,15 @@ use records::refusal::OLD;
 use records::refusal::Refusal;
 use records::refusal::of_sheet;
 use records::refusal::refuse;
+use records::row::TABLE;
 ghost use mathlib.Core.Path.{_≡_};
 ghost use Rattle.sheet.specs.Reader.{readSheet};
 ghost use Rattle.sheet.specs.Check.{checkedOf};
 ghost use Rattle.sheet.specs.table.Judged.{refusalIn};
 
-// The answer of check: the type and the size of the sheet, or the refusal.
+// The answer of check: the type and the size of the sheet and which names it uses, or the refusal.
 pub enum Checked {
-    Accepted { ty: u8, size: u32 },
+    Accepted { ty: u8, size: u32, uses: Uses },
     Refused(Cause),
 }
 
@@ -29,15 +31,21 @@ fn refusal_of(x: Judgement) -> Refusal
     refusal
 }
 
-// The service check: the type and the size of a sheet, or why it is refused.
+// The service check: the type and the size of a sheet and which names it uses, or why it is refused.
 pub fn check(s: &[u8]) -> Checked
     ensures { λ r. ⌜ r ≡ checkedOf (readSheet (now (s .entry))) ⌝ }
 {
-    let mut t = [0u16; 36864];
+    let mut t = [0u16; TABLE];
     let mut marks = [0u16; 4096];
     let x = judge_sheet(Edition::Present, s, &mut t, &mut marks);
-    let Judgement::Sheet { root: _, ty, size } = x else {
+    let Judgement::Sheet {
+        root: _,
+        ty,
+        size,
+        uses,
+    } = x
+    else {
         return Checked::Refused(of_sheet(refusal_of(x), OLD));
     };
-    Checked::Accepted { ty, size }
+    Checked::Accepted { ty, size, uses }
 }

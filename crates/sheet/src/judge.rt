@@ -1,4 +1,6 @@
 // A whole sheet judged: read, weighed, and held to the greatest size.
+use crate::mark::Uses;
+use crate::mark::uses_of;
 use crate::names::Reading;
 use crate::reading::numbers_of;
 use crate::reading::read_sheet;
@@ -7,26 +9,32 @@ use records::edition::Edition;
 use records::refusal::Refusal;
 use records::refusal::TOO_LARGE;
 use records::refusal::refuse;
+use records::row::TABLE;
 use records::weight::LIMIT;
 use weigh::term::weigh;
 ghost use mathlib.Core.Path.{_≡_};
-ghost use lib.ListN.{length};
+ghost use Rattle.sheet.specs.table.Notes.{Blank};
 ghost use Rattle.sheet.specs.table.Judged.{JudgedBy};
 
-// What judging a sheet gives: the place of its term, its type and its size; or the refusal.
+// What judging a sheet gives: the place of its term, its type, its size and which names it uses; or the refusal.
 pub enum Judgement {
-    Sheet { root: usize, ty: u8, size: u32 },
+    Sheet {
+        root: usize,
+        ty: u8,
+        size: u32,
+        uses: Uses,
+    },
     Refused(Refusal),
 }
 
-// Judges a whole sheet by the rule of an edition, and leaves the rows of its parts in the table and their marks.
+// Judges a whole sheet by the rule of an edition, and leaves the rows of its parts in the blank table and their marks.
 pub fn judge_sheet(
     edition: Edition,
     s: &[u8],
-    t: &mut [u16; 36864],
+    t: &mut [u16; TABLE],
     marks: &mut [u16; 4096],
 ) -> Judgement
-    requires { ⌜ length (now t) ≡ 36864 ⌝ }
+    requires { ⌜ Blank (now t) ⌝ }
     ensures { λ x. ⌜ JudgedBy edition (now (s .entry)) x (now (t .exit)) (now (marks .exit)) ⌝ }
 {
     let x = read_sheet(edition, s, t);
@@ -38,7 +46,13 @@ pub fn judge_sheet(
             if LIMIT < size {
                 return Judgement::Refused(refuse(TOO_LARGE, 0));
             }
-            Judgement::Sheet { root, ty, size }
+            let uses = uses_of(s, t);
+            Judgement::Sheet {
+                root,
+                ty,
+                size,
+                uses,
+            }
         }
     }
 }

@@ -2,7 +2,9 @@
 pub mod check;
 pub mod heading;
 pub mod judge;
+pub mod mark;
 pub mod names;
+pub mod note;
 pub mod part;
 pub mod reading;
 pub mod size;

@@ -1,6 +1,7 @@
 // The parts of a term: a cycle of eight functions, the remaining depth and bytes falling. For speed a record is handed
 // on by its place, its rule and its body bytes, and all but `read_parts` and `read_next` are called at one place each,
 // so that the cycle is compiled into few functions.
+use crate::note::note_use;
 use language::Numbers;
 use records::edition::Edition;
 use records::head::Head;
@@ -42,7 +43,8 @@ pub enum Part {
     Refused(Refusal),
 }
 
-// The answer and the row of a record that `around` binders enclose, from the answer of its parts.
+// The answer and the row of a record that `around` binders enclose, from the answer of its parts; a use of a declared
+// name is noted.
 fn close_record(s: &[u8], t: &mut [u16], n: Numbers, around: u8, r: Record, parts: Part) -> Part
     requires { ⌜ (r .place < 4096) × Ends 4096 parts ⌝ }
     ensures answer { λ x. ⌜ x ≡ closedAnswer (now (s .entry)) r parts ⌝ }
@@ -54,6 +56,7 @@ fn close_record(s: &[u8], t: &mut [u16], n: Numbers, around: u8, r: Record, part
     let rule = r.rule;
     let ty = type_of(rule, s, r, last);
     write_row(t, n, r, ty, around, next);
+    note_use(t, r);
     Part::Read { ty, next }
 }
 

@@ -13,6 +13,7 @@ ghost use mathlib.Core.Path.{_≡_};
 ghost use lib.ListN.{length};
 ghost use Rattle.sheet.specs.Reader.{wholeOf, numbersAt};
 ghost use Rattle.sheet.specs.table.Fill.{ReadsSheet, closedReading};
+ghost use Rattle.sheet.specs.table.Notes.{Blank};
 ghost use Rattle.sheet.specs.table.Tabled.{TabledBy};
 
 // The greatest length of a sheet, Z at most, the last overflow rule, and how many name records a sheet may have.
@@ -46,7 +47,7 @@ fn close_sheet(s: &[u8], x: Reading) -> Reading
 pub fn read_sheet(edition: Edition, s: &[u8], t: &mut [u16]) -> Reading
     ensures reads { λ x. ⌜ ReadsSheet (numbersAt (now (s .entry))) (wholeOf edition (now (s .entry))) x
         (now (t .entry)) (now (t .exit)) ⌝ }
-    ensures tabled { λ x. ⌜ (length (now (t .entry)) ≡ 36864 → TabledBy edition (now (s .entry)) x (now (t .exit))) ⌝ }
+    ensures tabled { λ x. ⌜ (Blank (now (t .entry)) → TabledBy edition (now (s .entry)) x (now (t .exit))) ⌝ }
 {
     if LENGTH < s.len() {
         return Reading::Refused(refuse(TOO_LONG, LENGTH));

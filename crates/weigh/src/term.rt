@@ -2,6 +2,7 @@
 use crate::part::weigh_part;
 use forms::read::constant;
 use forms::table::WORDS;
+use records::row::TABLE;
 ghost use mathlib.Core.Path.{_≡_};
 ghost use Rattle.weigh.specs.Weighed.{Weighs};
 
@@ -10,9 +11,6 @@ const DEPTH: usize = 32;
 
 // How many places a sheet has.
 const SHEET: usize = 4096;
-
-// How many words the table of parts has: nine for each place.
-pub const TABLE: usize = 36864;
 
 // The weight of the term at a place, held at 4,097, and the marks of its parts.
 pub fn weigh(t: &[u16; TABLE], root: usize, marks: &mut [u16; 4096]) -> u32

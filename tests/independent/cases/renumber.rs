@@ -155,7 +155,7 @@ fn crowding(random: &mut Random, outer: &[u8], most: usize) -> (Term, usize) {
 }
 
 /// The commands one after the other, in a term of low depth.
-fn in_sequence(commands: &[Term]) -> Term {
+pub fn in_sequence(commands: &[Term]) -> Term {
     match commands {
         [] => Term::new(Kind::Skip, vec![]),
         [only] => only.clone(),

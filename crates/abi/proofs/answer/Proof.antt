@@ -1,36 +1,64 @@
--- `answer` writes the words that it is given, and says with `status` whether there was room.
+-- `answer` writes the words that it is given, one after the other, and says with `status` whether there was room.
 use borrow.Author.Needs.{needs}
 use native.Mathlib.Omega.{arith}
-use denote.Ref.{now}
-use lib.ListN.{length-set}
-use Rattle.abi.proofs.Steps.{short, long}
+use Prim.Native.Nat.{_-_}
+use mathlib.Core.Path.{refl}
+use Rattle.abi.specs.Words.{answer-words}
+use Rattle.abi.proofs.Steps.{Written, short, written-length, written-inside, written-again, long}
 use Rattle.abi.proofs.answer.Statement.{statement}
 use Rattle.abi.proofs.answer.Tie as tie
 
-returns : tie.Need-returns
-returns c = short (now (c .before .args .out)) _ (omega arith)
+abbrev Inv-loop : tie.InvT-loop
+Inv-loop out₀ words i₀ out i = Written words out₀ out i
 
-slice-write-out : tie.Need-slice-write-out
-slice-write-out c = search needs
+abbrev μ-loop : tie.MeasureT-loop
+μ-loop out₀ words i₀ out i = answer-words - i
 
-slice-write-out-2 : tie.Need-slice-write-out-2
-slice-write-out-2 c = simp length-set (omega arith)
+returns : tie.Need-returns Inv-loop μ-loop
+returns c = short (c .before .args .out .now) _ (c .if1 .taken)
 
-slice-write-out-3 : tie.Need-slice-write-out-3
-slice-write-out-3 c = simp length-set (omega arith)
+loop-holds : tie.Need-loop-holds Inv-loop μ-loop
+loop-holds c = (omega arith, refl)
 
-slice-write-out-4 : tie.Need-slice-write-out-4
-slice-write-out-4 c = simp length-set (omega arith)
+mul-out : tie.Need-mul-out Inv-loop μ-loop
+mul-out c = omega arith
 
-slice-write-out-5 : tie.Need-slice-write-out-5
-slice-write-out-5 c = search needs
+array-read-out : tie.Need-array-read-out Inv-loop μ-loop
+array-read-out c = omega arith
 
-same-length : tie.Need-same-length
-same-length c = search needs
+mul-out-2 : tie.Need-mul-out-2 Inv-loop μ-loop
+mul-out-2 c = omega arith
 
-returns-2 : tie.Need-returns-2
-returns-2 c = long (now (c .before .args .out)) _ _ _ _ _ (omega arith)
+slice-write-out : tie.Need-slice-write-out Inv-loop μ-loop
+slice-write-out c =
+    written-inside (c .before .before .before .args .t2) (c .before .before .before .args .out .now)
+    (c .before .loop .out) (c .before .loop .i) (c .before .before .before .good .1 .0 .1 .0 .1)
+    (c .before .before .if1 .left) (c .loop-test .taken) (c .before .loop .inv)
+
+add-i : tie.Need-add-i Inv-loop μ-loop
+add-i c = omega arith
+
+loop-less : tie.Need-loop-less Inv-loop μ-loop
+loop-less c = omega arith
+
+loop-again : tie.Need-loop-again Inv-loop μ-loop
+loop-again c =
+    written-again (c .before .before .before .args .t2) (c .before .before .before .args .out .now)
+    (c .before .loop .out) (c .before .loop .i) (c .before .before .before .good .1 .0 .1 .0 .1)
+    (c .before .before .if1 .left) (c .loop-test .taken) (c .before .loop .inv)
+
+same-length : tie.Need-same-length Inv-loop μ-loop
+same-length c =
+    written-length (c .before .before .before .args .t2) (c .before .before .before .args .out .now)
+    (c .before .loop .out) (c .before .loop .i) (c .before .before .before .good .1 .0 .1 .0 .1)
+    (c .before .before .if1 .left) (c .before .loop .inv)
+
+returns-2 : tie.Need-returns-2 Inv-loop μ-loop
+returns-2 c =
+    long (c .before .before .before .args .t2) (c .before .before .before .args .out .now) (c .before .loop .out)
+    (c .before .loop .i) (c .before .before .before .good .1 .0 .1 .0 .1) (c .before .before .if1 .left)
+    (c .loop-test .left) (c .before .loop .inv)
 
 pub answer-spec : {M : Type 1} → statement M
-answer-spec = tie.close (tie.spec returns slice-write-out slice-write-out-2 slice-write-out-3 slice-write-out-4
-    slice-write-out-5 same-length returns-2)
+answer-spec = tie.close (tie.spec Inv-loop μ-loop returns loop-holds mul-out array-read-out mul-out-2 slice-write-out
+    add-i loop-less loop-again same-length returns-2)

@@ -4,17 +4,17 @@ use Rattle.abi.proofs.Returning.{returned-as, words-same, words-apart, 
 use Rattle.abi.proofs.answer_compare.Statement.{statement}
 use Rattle.abi.proofs.answer_compare.Tie as tie
 
-enum-told : tie.Need-enum-told
-enum-told c = search needs
+enum-known-r : tie.Need-enum-known-r
+enum-known-r c = search needs
 
 answer-requires : tie.Need-answer-requires
 answer-requires c κs = search needs
 
-enum-known-r : tie.Need-enum-known-r
-enum-known-r c = search needs
+enum-known-r-2 : tie.Need-enum-known-r-2
+enum-known-r-2 c = search needs
 
-cast-answer : tie.Need-cast-answer
-cast-answer c = search needs
+cast-which : tie.Need-cast-which
+cast-which c = search needs
 
 low-half-requires : tie.Need-low-half-requires
 low-half-requires c κs = search needs
@@ -25,8 +25,8 @@ high-half-requires c κs = search needs
 answer-requires-2 : tie.Need-answer-requires-2
 answer-requires-2 c κs = search needs
 
-enum-known-r-2 : tie.Need-enum-known-r-2
-enum-known-r-2 c = search needs
+enum-known-r-3 : tie.Need-enum-known-r-3
+enum-known-r-3 c = search needs
 
 refuse-requires : tie.Need-refuse-requires
 refuse-requires c κs = search needs
@@ -36,27 +36,27 @@ same-length c = search needs
 
 returns : tie.Need-returns
 returns c =
-    returned-as _ _ _ _ _ (words-same _ (c .before .before .before .before .enum-told .given .1)) (c .before .before
-        .answer .ensures .0) (c .before .before .answer .ensures .1)
+    returned-as _ _ _ _ _ (words-same _ _ _ (c .before .before .before .before .before .r .given .1))
+    (c .before .before .answer .ensures .0) (c .before .before .answer .ensures .1)
 
 same-length-2 : tie.Need-same-length-2
 same-length-2 c = search needs
 
 returns-2 : tie.Need-returns-2
 returns-2 c =
-    returned-as _ _ _ _ _ (words-apart _ _ _ _ _ (c .before .before .before .before .before .before .before .r .given
-        .1) (c .before .before .before .before .low-half .ensures) (c .before .before .before .high-half .ensures)) (c
-        .before .before .answer2 .ensures .0) (c .before .before .answer2 .ensures .1)
+    returned-as _ _ _ _ _ (words-apart _ _ _ _ _ _ _ (c .before .before .before .before .before .before .before .r2
+    .given .1) (c .before .before .before .before .before .low-half .ensures) (c .before .before .before .before
+    .high-half .ensures)) (c .before .before .answer2 .ensures .0) (c .before .before .answer2 .ensures .1)
 
 same-length-3 : tie.Need-same-length-3
 same-length-3 c = search needs
 
 returns-3 : tie.Need-returns-3
 returns-3 c =
-    returned-as _ _ _ _ _ (words-not-compared _ _ (c .before .before .before .before .before .r2 .given .1)) (c
-        .before .before .refuse .ensures .0) (c .before .before .refuse .ensures .1)
+    returned-as _ _ _ _ _ (words-not-compared _ _ (c .before .before .before .before .before .r3 .given .1))
+    (c .before .before .refuse .ensures .0) (c .before .before .refuse .ensures .1)
 
 pub answer-compare-spec : {M : Type 1} → statement M
-answer-compare-spec = tie.close (tie.spec enum-told answer-requires enum-known-r cast-answer low-half-requires
-    high-half-requires answer-requires-2 enum-known-r-2 refuse-requires same-length returns same-length-2 returns-2
+answer-compare-spec = tie.close (tie.spec enum-known-r answer-requires enum-known-r-2 cast-which low-half-requires
+    high-half-requires answer-requires-2 enum-known-r-3 refuse-requires same-length returns same-length-2 returns-2
     same-length-3 returns-3)

@@ -22,15 +22,9 @@ same-length c = search needs
 returns : tie.Need-returns
 returns c =
     returned-as _ _ _ _ _ (words-complete _ _ _ _ _ (c .before .before .before .before .before .before .before .before
-        .r .given .1) (c .before .before .before .before .before .before .if1 .taken) (c .before .before .before
-        .before .low-half .ensures) (c .before .before .before .high-half .ensures)) (c .before .before .answer
-        .ensures .0) (c .before .before .answer .ensures .1)
-
-low-half-requires-2 : tie.Need-low-half-requires-2
-low-half-requires-2 c κs = search needs
-
-high-half-requires-2 : tie.Need-high-half-requires-2
-high-half-requires-2 c κs = search needs
+    .r .given .1) (c .before .before .before .before .if1 .taken) (c .before .before .before .before .before .before
+    .low-half .ensures) (c .before .before .before .before .before .high-half .ensures))
+    (c .before .before .answer .ensures .0) (c .before .before .answer .ensures .1)
 
 answer-requires-2 : tie.Need-answer-requires-2
 answer-requires-2 c κs = search needs
@@ -47,19 +41,18 @@ same-length-2 c = search needs
 returns-2 : tie.Need-returns-2
 returns-2 c =
     returned-as _ _ _ _ _ (words-begun _ _ _ _ _ (c .before .before .before .before .before .before .before .before .r
-        .given .1) (c .before .before .before .before .before .before .if1 .left) (c .before .before .before .before
-        .low-half2 .ensures) (c .before .before .before .high-half2 .ensures)) (c .before .before .answer2 .ensures
-        .0) (c .before .before .answer2 .ensures .1)
+    .given .1) (c .before .before .before .before .if1 .left) (c .before .before .before .before .before .before
+    .low-half .ensures) (c .before .before .before .before .before .high-half .ensures))
+    (c .before .before .answer2 .ensures .0) (c .before .before .answer2 .ensures .1)
 
 same-length-3 : tie.Need-same-length-3
 same-length-3 c = search needs
 
 returns-3 : tie.Need-returns-3
 returns-3 c =
-    returned-as _ _ _ _ _ (words-not-followed _ _ (c .before .before .before .before .before .r2 .given .1)) (c
-        .before .before .refuse .ensures .0) (c .before .before .refuse .ensures .1)
+    returned-as _ _ _ _ _ (words-not-followed _ _ (c .before .before .before .before .before .r2 .given .1))
+    (c .before .before .refuse .ensures .0) (c .before .before .refuse .ensures .1)
 
 pub answer-follow-spec : {M : Type 1} → statement M
 answer-follow-spec = tie.close (tie.spec enum-known-r low-half-requires high-half-requires answer-requires same-length
-    returns low-half-requires-2 high-half-requires-2 answer-requires-2 enum-known-r-2 refuse-requires same-length-2
-    returns-2 same-length-3 returns-3)
+    returns answer-requires-2 enum-known-r-2 refuse-requires same-length-2 returns-2 same-length-3 returns-3)

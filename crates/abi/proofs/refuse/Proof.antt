@@ -4,11 +4,11 @@ use Rattle.abi.proofs.Returning.{returned-as, words-refused}
 use Rattle.abi.proofs.refuse.Statement.{statement}
 use Rattle.abi.proofs.refuse.Tie as tie
 
-cast-answer : tie.Need-cast-answer
-cast-answer c = search needs
+cast-number : tie.Need-cast-number
+cast-number c = search needs
 
-cast-answer-2 : tie.Need-cast-answer-2
-cast-answer-2 c = search needs
+cast-sheet : tie.Need-cast-sheet
+cast-sheet c = search needs
 
 low-half-requires : tie.Need-low-half-requires
 low-half-requires c κs = search needs
@@ -24,10 +24,10 @@ same-length c = search needs
 
 returns : tie.Need-returns
 returns c =
-    returned-as _ _ _ _ _ (words-refused _ _ _ (c .before .before .before .before .low-half .ensures) (c .before
-        .before .before .high-half .ensures)) (c .before .before .answer .ensures .0) (c .before .before .answer
-        .ensures .1)
+    returned-as _ _ _ _ _ (words-refused _ _ _ (c .before .before .before .before .before .low-half .ensures) (c .before
+    .before .before .before .high-half .ensures)) (c .before .before .answer .ensures .0)
+    (c .before .before .answer .ensures .1)
 
 pub refuse-spec : {M : Type 1} → statement M
-refuse-spec = tie.close (tie.spec cast-answer cast-answer-2 low-half-requires high-half-requires answer-requires
+refuse-spec = tie.close (tie.spec cast-number cast-sheet low-half-requires high-half-requires answer-requires
     same-length returns)

@@ -12,7 +12,7 @@ use Rattle.comparer.specs.declared.play.Parsed.the-variants.{Moves, Bad}
 
 -- of a sheet: its number and place, and the sheet
 unfoldable pub causeOf : Loaded → ℕ → Cause
-causeOf (Sheet root row ty size) sheet = cause not-refused sheet 0
+causeOf (Sheet root row ty size uses) sheet = cause not-refused sheet 0
 causeOf (Refused x) sheet = cause (x .number) sheet (x .place)
 
 -- of a play

@@ -20,8 +20,11 @@ use Rattle.machine.specs.Range.{TyIn, InRange}
 use Rattle.records.specs.Limits.{greatest-z, greatest-size}
 use Rattle.comparer.specs.Refusals.{words-asked, bytes-asked}
 use Rattle.comparer.specs.inner.Built.{TwoBuilt}
+use Rattle.sheet.specs.declared.mark.Uses.{Uses}
+use Rattle.comparer.specs.declared.Decision.{Decision}
+use Rattle.comparer.specs.declared.Decision.the-variants.{Same, Apart}
 use Rattle.comparer.specs.declared.Comparison.{Comparison}
-use Rattle.comparer.specs.declared.Comparison.the-variants.{Same, Apart}
+use Rattle.comparer.specs.declared.Comparison.the-variants as compared
 
 -- two terms of one type, of sizes `all` and `more`, in range, their automata in the words, and room for the play
 pub record Deciding (ws space : List ℕ) (all more : ℕ) : Type 0 where
@@ -50,7 +53,7 @@ OnlyTerm (suc zero) T M M′ u = Complete T M′ u × (Complete T M u → ⊥)
 OnlyTerm (suc (suc k)) T M M′ u = ⊥
 
 -- the same plays, the space untouched; or the first play of exactly one, and its records
-pub data Verdicts (N : Numbers) (T : Ty) (M M′ : Term) (space : List ℕ) (r : Comparison) (space′ : List ℕ) :
+pub data Verdicts (N : Numbers) (T : Ty) (M M′ : Term) (space : List ℕ) (r : Decision) (space′ : List ℕ) :
     Type 0 where
   alike : r ≡ Same → ((u : Word) → Complete T M u ↔ Complete T M′ u) → space′ ≡ space →
     Verdicts N T M M′ space r space′
@@ -59,8 +62,13 @@ pub data Verdicts (N : Numbers) (T : Ty) (M M′ : Term) (space : List ℕ) (r :
     space′ ≡ records N play ++ drop (length (records N play)) space → Verdicts N T M M′ space r space′
 
 -- the play of entry k is written: its letters' records, its number of moves, and the sheet by where it ends
-pub record Shown (n k f : ℕ) (ws space : List ℕ) (r : Comparison) (space′ : List ℕ) : Type 0 where
+pub record Shown (n k f : ℕ) (ws space : List ℕ) (r : Decision) (space′ : List ℕ) : Type 0 where
   pub letters : List ℕ
   pub spelled : Spelled n (take (5 * n) ws) k (reversed letters)
   pub answer : r ≡ Apart (pick (eqb (getD ws (n + 4 * k) 0) f) 0 1) (length letters)
   pub written : space′ ≡ withRecords space 0 letters
+
+-- the answer of compare, from what is decided and the names that the old and the new sheet use
+unfoldable pub answerOf : Decision → Uses → Uses → Comparison
+answerOf Same old new = compared.Same old new
+answerOf (Apart which moves) old new = compared.Apart which moves old new

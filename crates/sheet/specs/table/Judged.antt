@@ -12,26 +12,29 @@ use Rattle.procedures.specs.Table.{Shown}
 use Rattle.procedures.specs.Marks.{Marked}
 use Rattle.sheet.specs.Encoding.{headingLength}
 use Rattle.sheet.specs.Reader.{numbersAt, readUnder, accepted, rejected}
+use Rattle.sheet.specs.Mark.{usesOf}
 use Rattle.sheet.specs.table.Tabled.{places}
+use Rattle.sheet.specs.declared.mark.Uses.{Uses}
 use Rattle.sheet.specs.declared.judge.Judgement.{Judgement}
 use Rattle.sheet.specs.declared.judge.Judgement.the-variants.{Sheet, Refused}
 
--- the sheet is accepted with type ty and the given size; the table u shows its term from root on, the marks M are its
--- marks
-pub record Judged (ed : Edition) (s : List ℕ) (root ty size : ℕ) (u M : List ℕ) : Type 0 where
+-- the sheet is accepted with type ty and the given size, and uses the given names; the table u shows its term from
+-- root on, the marks M are its marks
+pub record Judged (ed : Edition) (s : List ℕ) (root ty size : ℕ) (uses : Uses) (u M : List ℕ) : Type 0 where
   pub sheet : written.Sheet
   pub end : ℕ
   pub accepts : readUnder ed s ≡ accepted sheet ty size
   pub numbered : sheet .numbers ≡ numbersAt s
   pub rooted : root ≡ headingLength sheet
   pub shown : Shown (numbersAt s) (sheet .names) u whole places root end (sheet .term)
+  pub used : uses ≡ usesOf sheet
   pub marked : Marked (numbersAt s) (sheet .names) u M whole root (sheet .term)
 
 unfoldable pub JudgedBy : Edition → List ℕ → Judgement → List ℕ → List ℕ → Type 0
-JudgedBy ed s (Sheet root ty size) u M = Judged ed s root ty size u M
+JudgedBy ed s (Sheet root ty size uses) u M = Judged ed s root ty size uses u M
 JudgedBy ed s (Refused x) u M = readUnder ed s ≡ rejected (x .number) (x .place)
 
 -- the refusal of a sheet that is judged; its number is 0 where the sheet is not refused
 unfoldable pub refusalIn : Judgement → Refusal
-refusalIn (Sheet root ty size) = refusal not-refused 0
+refusalIn (Sheet root ty size uses) = refusal not-refused 0
 refusalIn (Refused x) = x

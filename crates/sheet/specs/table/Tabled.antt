@@ -1,5 +1,5 @@
--- What reading a sheet leaves for the passes over its parts: the sheet is in order but for its size, and the table
--- shows its term. Only inner contracts cite it.
+-- What reading a sheet leaves for the passes over its parts: the sheet is in order but for its size, the table shows
+-- its term, and the uses of its names are noted. Only inner contracts cite it.
 use Prim.Native.Nat.{ℕ, _≤_, _<_}
 use mathlib.Core.Path.{_≡_}
 use mathlib.Core.List.{List, []}
@@ -14,8 +14,10 @@ use Rattle.procedures.specs.Meaning.{tyOf, termOf, typeOf}
 use Rattle.procedures.specs.Fine.{Fine, FineNames, depth}
 use Rattle.procedures.specs.Context.{whole}
 use Rattle.procedures.specs.Table.{Shown}
+use Rattle.procedures.specs.Uses.{uses}
 use Rattle.sheet.specs.Encoding.{headingLength}
 use Rattle.sheet.specs.Reader.{numbersAt, readUnder, accepted, rejected}
+use Rattle.sheet.specs.table.Notes.{isNoted}
 use Rattle.sheet.specs.declared.names.Reading.{Reading}
 use Rattle.sheet.specs.declared.names.Reading.the-variants.{Sheet, Refused}
 
@@ -23,7 +25,8 @@ use Rattle.sheet.specs.declared.names.Reading.the-variants.{Sheet, Refus
 abbrev pub places : ℕ → ℕ
 places k = 0
 
--- the sheet is read with type ty and accepted by its size; the table u shows its term from root up to next
+-- the sheet is read with type ty and accepted by its size; the table u shows its term from root up to next and has the
+-- notes of its uses
 pub record Tabled (ed : Edition) (s : List ℕ) (root ty next : ℕ) (u : List ℕ) : Type 0 where
   pub sheet : written.Sheet
   pub finds :
@@ -42,6 +45,7 @@ pub record Tabled (ed : Edition) (s : List ℕ) (root ty next : ℕ) (u : List �
   pub shallow : depth (sheet .term) ≤ 32
   pub rooted : root ≡ headingLength sheet
   pub shown : Shown (numbersAt s) (sheet .names) u whole places root next (sheet .term)
+  pub notes : (id : ℕ) → isNoted u id ≡ uses (sheet .names) id [] (sheet .term)
 
 unfoldable pub TabledBy : Edition → List ℕ → Reading → List ℕ → Type 0
 TabledBy ed s (Sheet root ty next) u = Tabled ed s root ty next u

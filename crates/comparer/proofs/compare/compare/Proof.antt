@@ -76,15 +76,15 @@ both-cause-requires c κs = search needs
 
 returns-3 : tie.Need-returns-3
 returns-3 c =
-    let A = taken _ _ (c .before .before .before .before .before .before .before .before .before .before .before
-        .before .load .ensures) (c .before .before .before .before .before .before .before .before .before .before .x
+    let A = taken _ _ (c .before .before .before .before .before .before .before .before .before .before .before .before
+        .load .ensures) (c .before .before .before .before .before .before .before .before .before .before .x
         .given .1) in
     let B = taken _ _ (c .before .before .before .before .before .before .before .load2 .ensures) (c .before .before
         .before .before .before .y .given .1) in
-    refused-pair _ _ (c .before .before .before .before .before .before .before .before .before .before .before
-        .before .before .before .before .before .before .before .args .words .now) (c .before .before .before .before
-        .before .before .before .before .before .before .before .before .before .before .before .before .before
-        .before .args .space .now) A B (c .before .before .before .alike .ensures) (c .before .before .pair-number
+    refused-pair _ _ (c .before .before .before .before .before .before .before .before .before .before .before .before
+        .before .before .before .before .before .before .args .words .now) (c .before .before .before .before .before
+        .before .before .before .before .before .before .before .before .before .before .before .before .before .args
+        .space .now) A B (c .before .before .before .alike .ensures) (c .before .before .pair-number
         .ensures) (c .before .if1 .taken) (c .both-cause .ensures)
 
 numbers-of-requires : tie.Need-numbers-of-requires
@@ -92,16 +92,16 @@ numbers-of-requires c κs = search needs
 
 two-from-rows-requires : tie.Need-two-from-rows-requires
 two-from-rows-requires c κs =
-    let A = taken _ _ (c .before .before .before .before .before .before .before .before .before .before .before
-        .before .before .before .before .load .ensures) (c .before .before .before .before .before .before .before
-        .before .before .before .before .before .before .x .given .1) in
+    let A = taken _ _ (c .before .before .before .before .before .before .before .before .before .before .before .before
+        .before .before .before .load .ensures) (c .before .before .before .before .before .before .before .before
+        .before .before .before .before .before .x .given .1) in
     let B = taken _ _ (c .before .before .before .before .before .before .before .before .before .before .load2
         .ensures) (c .before .before .before .before .before .before .before .before .y .given .1) in
     let P = passed _ _ (c .before .before .before .before .before .before .before .before .before .before .before
         .before .before .before .before .before .before .before .before .before .before .args .words .now) (c .before
-        .before .before .before .before .before .before .before .before .before .before .before .before .before
-        .before .before .before .before .before .before .before .args .space .now) A B (c .before .before .before
-        .before .before .before .alike .ensures) (c .before .before .before .before .before .pair-number .ensures)
+        .before .before .before .before .before .before .before .before .before .before .before .before .before .before
+        .before .before .before .before .before .before .args .space .now) A B (c .before .before .before .before
+        .before .before .alike .ensures) (c .before .before .before .before .before .pair-number .ensures)
           (c .before .before .before .before .if1 .left) in
     two-ready (both A B (c .before .before .before .before .before .before .alike .ensures) (P .matched) (c .before
         .numbers-of .ensures)) (c .before .before .before .before .before .before .before .before .before .before
@@ -110,25 +110,25 @@ two-from-rows-requires c κs =
 
 decide-requires : tie.Need-decide-requires
 decide-requires c κs =
-    let A = taken _ _ (c .before .before .before .before .before .before .before .before .before .before .before
-        .before .before .before .before .before .before .before .before .before .load .ensures) (c .before .before
-        .before .before .before .before .before .before .before .before .before .before .before .before .before
-        .before .before .before .x .given .1) in
-    let B = taken _ _ (c .before .before .before .before .before .before .before .before .before .before .before
-        .before .before .before .before .load2 .ensures) (c .before .before .before .before .before .before .before
-        .before .before .before .before .before .before .y .given .1) in
+    let A = taken _ _ (c .before .before .before .before .before .before .before .before .before .before .before .before
+        .before .before .before .before .before .before .before .before .load .ensures) (c .before .before .before
+        .before .before .before .before .before .before .before .before .before .before .before .before .before .before
+        .before .x .given .1) in
+    let B = taken _ _ (c .before .before .before .before .before .before .before .before .before .before .before .before
+        .before .before .before .load2 .ensures) (c .before .before .before .before .before .before .before .before
+        .before .before .before .before .before .y .given .1) in
     let P = passed _ _ (c .before .before .before .before .before .before .before .before .before .before .before
-        .before .before .before .before .before .before .before .before .before .before .before .before .before
-        .before .before .args .words .now) (c .before .before .before .before .before .before .before .before .before
-        .before .before .before .before .before .before .before .before .before .before .before .before .before
-        .before .before .before .before .args .space .now) A B (c .before .before .before .before .before .before
-        .before .before .before .before .before .alike .ensures) (c .before .before .before .before .before .before
-        .before .before .before .before .pair-number .ensures)
+        .before .before .before .before .before .before .before .before .before .before .before .before .before .before
+        .before .args .words .now) (c .before .before .before .before .before .before .before .before .before .before
+        .before .before .before .before .before .before .before .before .before .before .before .before .before .before
+        .before .before .args .space .now) A B (c .before .before .before .before .before .before .before .before
+        .before .before .before .alike .ensures) (c .before .before .before .before .before .before .before .before
+        .before .before .pair-number .ensures)
           (c .before .before .before .before .before .before .before .before .before .if1 .left) in
-    deciding (both A B (c .before .before .before .before .before .before .before .before .before .before .before
-        .alike .ensures) (P .matched) (c .before .before .before .before .before .before .numbers-of .ensures)) (c
-        .before .before .before .before .before .before .before .before .before .before .before .before .before
-        .before .before .before .before .before .before .before .before .before .before .before .before .before .args
+    deciding (both A B (c .before .before .before .before .before .before .before .before .before .before .before .alike
+        .ensures) (P .matched) (c .before .before .before .before .before .before .numbers-of .ensures)) (c .before
+        .before .before .before .before .before .before .before .before .before .before .before .before .before .before
+        .before .before .before .before .before .before .before .before .before .before .before .args
         .words .now) _ _ (P .words-enough)
       (c .before .before .before .before .two-from-rows .kept .1 .1 .1 .1 .1 .1 .1 .0) (P .space-enough) (c .before
           .before .before .before .two-from-rows .ensures)
@@ -142,53 +142,59 @@ same-length c = search needs
 same-length-2 : tie.Need-same-length-2
 same-length-2 c = search needs
 
+answer-requires : tie.Need-answer-requires
+answer-requires c κs = search needs
+
 returns-4 : tie.Need-returns-4
 returns-4 c =
-    let A = taken _ _ (c .before .before .before .before .before .before .before .before .before .before .before
-        .before .before .before .before .before .before .before .before .before .before .before .before .before
-        .before .before .before .before .before .load .ensures) (c .before .before .before .before .before .before
-        .before .before .before .before .before .before .before .before .before .before .before .before .before
-        .before .before .before .before .before .before .before .before .x .given .1) in
-    let B = taken _ _ (c .before .before .before .before .before .before .before .before .before .before .before
-        .before .before .before .before .before .before .before .before .before .before .before .before .before
-        .load2 .ensures) (c .before .before .before .before .before .before .before .before .before .before .before
+    let A = taken _ _ (c .before .before .before .before .before .before .before .before .before .before .before .before
+        .before .before .before .before .before .before .before .before .before .before .before .before .before .before
+        .before .before .before .before .load .ensures) (c .before .before .before .before .before .before .before
+        .before .before .before .before .before .before .before .before .before .before .before .before .before .before
+        .before .before .before .before .before .before .before .x .given .1) in
+    let B = taken _ _ (c .before .before .before .before .before .before .before .before .before .before .before .before
+        .before .before .before .before .before .before .before .before .before .before .before .before .before .load2
+        .ensures) (c .before .before .before .before .before .before .before .before .before .before .before .before
         .before .before .before .before .before .before .before .before .before .before .before .y .given .1) in
     let P = passed _ _ (c .before .before .before .before .before .before .before .before .before .before .before
-        .before .before .before .before .before .before .before .before .before .before .before .before .before
+        .before .before .before .before .before .before .before .before .before .before .before .before .before .before
         .before .before .before .before .before .before .before .before .before .before .before .args .words .now) (c
-        .before .before .before .before .before .before .before .before .before .before .before .before .before
-        .before .before .before .before .before .before .before .before .before .before .before .before .before
-        .before .before .before .before .before .before .before .before .before .args .space .now) A B (c .before
-        .before .before .before .before .before .before .before .before .before .before .before .before .before
-        .before .before .before .before .before .before .alike .ensures) (c .before .before .before .before .before
-        .before .before .before .before .before .before .before .before .before .before .before .before .before
-        .before .pair-number .ensures)
+        .before .before .before .before .before .before .before .before .before .before .before .before .before .before
+        .before .before .before .before .before .before .before .before .before .before .before .before .before .before
+        .before .before .before .before .before .before .before .before .args .space .now) A B (c .before .before
+        .before .before .before .before .before .before .before .before .before .before .before .before .before .before
+        .before .before .before .before .before .alike .ensures) (c .before .before .before .before .before .before
+        .before .before .before .before .before .before .before .before .before .before .before .before .before .before
+        .pair-number .ensures)
           (c .before .before .before .before .before .before .before .before .before .before .before .before .before
-          .before .before .before .before .before .if1 .left) in
+              .before .before .before .before .before .before .if1 .left) in
     compared (both A B (c .before .before .before .before .before .before .before .before .before .before .before
-        .before .before .before .before .before .before .before .before .before .alike .ensures) (P .matched) (c
-        .before .before .before .before .before .before .before .before .before .before .before .before .before
+        .before .before .before .before .before .before .before .before .before .before .alike .ensures) (P .matched) (c
+        .before .before .before .before .before .before .before .before .before .before .before .before .before .before
         .before .before .numbers-of .ensures)) (c .before .before .before .before .before .before .before .before
-        .before .before .before .before .before .before .before .before .before .before .before .before .before
-        .before .before .before .before .before .before .before .before .before .before .before .before .before
-        .before .args .words .now) _ (c .before .before .before .before .before .before .before .before .decide .last
-        .0) _ _ _ _
-      (P .words-enough) (c .before .before .before .before .before .before .before .before .before .before .before
-          .before .before .two-from-rows .kept .1 .1 .1 .1 .1 .1 .1 .0) (P .space-enough) (c .before .before .before
-          .before .before .before .before .before .before .before .before .before .before .two-from-rows .ensures)
-      (c .before .before .before .before .before .before .before .before .decide .ensures) (c .before .before .before
-          .before .before .before .before .before .decide .kept .0) (c .before .before .clear .ensures)
+        .before .before .before .before .before .before .before .before .before .before .before .before .before .before
+        .before .before .before .before .before .before .before .before .before .before .before .before .before .before
+        .args .words .now) _ (c .before .before .before .before .before .before .before .before .before .decide .last
+        .0) _ _ _ _ _ (P .words-enough) (c .before .before .before .before .before .before .before .before .before
+            .before .before .before .before .before .two-from-rows .kept .1 .1 .1 .1 .1 .1 .1 .0) (P .space-enough) (c
+            .before .before .before .before .before .before .before .before .before .before .before .before .before
+            .before .two-from-rows .ensures)
+      (c .before .before .before .before .before .before .before .before .before .decide .ensures) (c .answer .ensures)
+          (c .before .before .before .before .before .before .before .before .before .decide .kept .0) (c .before
+          .before .before .clear .ensures)
       (accepted-call _ _ (c .before .before .before .before .before .before .before .before .before .before .before
           .before .before .before .before .before .before .before .before .before .before .before .before .before
-          .before .before .before .before .before .before .before .before .before .before .before .args .words .now)
+          .before .before .before .before .before .before .before .before .before .before .before .before .args .words
+          .now)
           (c .before .before .before .before .before .before .before .before .before .before .before .before .before
-          .before .before .before .before .before .before .before .before .before .before .before .before .before
-          .before .before .before .before .before .before .before .before .before .args .space .now) A B (c .before
-          .before .before .before .before .before .before .before .before .before .before .before .before .before
-          .before .before .before .before .before .before .alike .ensures) (c .before .before .before .before .before
-          .before .before .before .before .before .before .before .before .before .before .before .before .before
-          .before .pair-number .ensures) (c .before .before .before .before .before .before .before .before .before
-          .before .before .before .before .before .before .before .before .before .if1 .left))
+              .before .before .before .before .before .before .before .before .before .before .before .before .before
+              .before .before .before .before .before .before .before .before .before .before .args .space .now) A B (c
+              .before .before .before .before .before .before .before .before .before .before .before .before .before
+              .before .before .before .before .before .before .before .before .alike .ensures) (c .before .before
+              .before .before .before .before .before .before .before .before .before .before .before .before .before
+              .before .before .before .before .before .pair-number .ensures) (c .before .before .before .before .before
+              .before .before .before .before .before .before .before .before .before .before .before .before .before
+              .before .if1 .left))
 
 pub compare-spec : {M : Type 1} → statement M
 compare-spec =
@@ -215,6 +221,7 @@ compare-spec =
     two-from-rows-requires
     decide-requires
     clear-requires
+    answer-requires
     same-length
     same-length-2
     returns-4)

@@ -1,12 +1,14 @@
 -- A sheet that is judged, and its term expanded.
 use borrow.Author.Needs.{needs}
+use mathlib.Core.Path.{refl}
+use Rattle.sheet.proofs.Noting.{blank-made}
 use native.Mathlib.Omega.{arith}
 use Rattle.load.proofs.Loading.{judged-of, load-refused, root-small, load-sheet}
 use Rattle.load.proofs.load.load.Statement.{statement}
 use Rattle.load.proofs.load.load.Tie as tie
 
 judge-sheet-requires : tie.Need-judge-sheet-requires
-judge-sheet-requires c κs = search needs
+judge-sheet-requires c κs = blank-made 37120 refl
 
 enum-known-x : tie.Need-enum-known-x
 enum-known-x c = search needs

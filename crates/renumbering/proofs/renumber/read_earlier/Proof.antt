@@ -1,11 +1,13 @@
 -- What judging the sheet says.
 use Rattle.renumbering.proofs.Reading.{earlier-refused, earlier-accepted}
 use borrow.Author.Needs.{needs}
+use mathlib.Core.Path.{refl}
+use Rattle.sheet.proofs.Noting.{blank-made}
 use Rattle.renumbering.proofs.renumber.read_earlier.Statement.{statement}
 use Rattle.renumbering.proofs.renumber.read_earlier.Tie as tie
 
 judge-sheet-requires : tie.Need-judge-sheet-requires
-judge-sheet-requires c κs = search needs
+judge-sheet-requires c κs = blank-made 37120 refl
 
 enum-known-x : tie.Need-enum-known-x
 enum-known-x c = search needs

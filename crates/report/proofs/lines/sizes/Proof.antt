@@ -2,7 +2,6 @@
 use borrow.Author.Needs.{needs}
 use Rattle.report.specs.Text.{sizesText}
 use Rattle.report.proofs.Pages.{after}
-use Rattle.report.proofs.Answers.{sizes-line}
 use Rattle.report.proofs.lines.sizes.Statement.{statement}
 use Rattle.report.proofs.lines.sizes.Tie as tie
 
@@ -12,9 +11,6 @@ slice-aggregate-text c = search needs
 text-requires : tie.Need-text-requires
 text-requires c κs = search needs
 
-size-in-requires : tie.Need-size-in-requires
-size-in-requires c κs = search needs
-
 decimal-requires : tie.Need-decimal-requires
 decimal-requires c κs = search needs
 
@@ -23,9 +19,6 @@ slice-aggregate-text-2 c = search needs
 
 text-requires-2 : tie.Need-text-requires-2
 text-requires-2 c κs = search needs
-
-size-in-requires-2 : tie.Need-size-in-requires-2
-size-in-requires-2 c κs = search needs
 
 decimal-requires-2 : tie.Need-decimal-requires-2
 decimal-requires-2 c κs = search needs
@@ -42,17 +35,14 @@ same-length c = search needs
 returns : tie.Need-returns
 unfolding sizesText
 returns c =
-    sizes-line _ _ _ _ _ (c .before .before .before .before .before .before .before .before .before .before .before
-        .before .before .before .before .before .before .before .size-in .ensures) (c .before .before .before .before
-        .before .before .before .before .size-in2 .ensures) (after _ _ _ (after _ _ _ (after _ _ _ (after _ _ _ (c
-        .before .before .before .before .before .before .before .before .before .before .before .before .before
-        .before .before .before .before .before .before .before .before .before .text .ensures) (c .before .before
-        .before .before .before .before .before .before .before .before .before .before .before .before .before
-        .before .before .decimal .ensures)) (c .before .before .before .before .before .before .before .before .before
-        .before .before .before .text2 .ensures)) (c .before .before .before .before .before .before .before .decimal2
-        .ensures)) (c .before .before .text3 .ensures))
+    after _ _ _ (after _ _ _ (after _ _ _ (after _ _ _ (c .before .before .before .before .before .before .before
+        .before .before .before .before .before .before .before .before .before .before .before .before .before .text
+        .ensures) (c .before .before .before .before .before .before .before .before .before .before .before .before
+        .before .before .before .before .decimal .ensures)) (c .before .before .before .before .before .before .before
+        .before .before .before .before .text2 .ensures)) (c .before .before .before .before .before .before .before
+        .decimal2 .ensures)) (c .before .before .text3 .ensures)
 
 pub sizes-spec : {M : Type 1} → statement M
 sizes-spec = tie.close
-    (tie.spec slice-aggregate-text text-requires size-in-requires decimal-requires slice-aggregate-text-2
-    text-requires-2 size-in-requires-2 decimal-requires-2 slice-aggregate-text-3 text-requires-3 same-length returns)
+    (tie.spec slice-aggregate-text text-requires decimal-requires slice-aggregate-text-2 text-requires-2
+    decimal-requires-2 slice-aggregate-text-3 text-requires-3 same-length returns)

@@ -1,11 +1,13 @@
 -- The judgement of the sheet, as the service answers it.
 use borrow.Author.Needs.{needs}
+use mathlib.Core.Path.{refl}
+use Rattle.sheet.proofs.Noting.{blank-made}
 use Rattle.sheet.proofs.Judging.{checked-refused, checked-accepted}
 use Rattle.sheet.proofs.check.check.Statement.{statement}
 use Rattle.sheet.proofs.check.check.Tie as tie
 
 judge-sheet-requires : tie.Need-judge-sheet-requires
-judge-sheet-requires c κs = search needs
+judge-sheet-requires c κs = blank-made 37120 refl
 
 enum-known-x : tie.Need-enum-known-x
 enum-known-x c = search needs

@@ -1,4 +1,4 @@
--- The type and the row of a record, from the answer of its parts.
+-- The type and the row of a record, from the answer of its parts; and the note of its use.
 use borrow.Author.Needs.{needs}
 use native.Mathlib.Omega.{arith}
 use Rattle.sheet.specs.table.Fill.{closedAnswer, closedTable}
@@ -22,9 +22,11 @@ type-of-requires c κs = search needs
 
 write-row-requires : tie.Need-write-row-requires
 write-row-requires c κs =
-    let e = ends-within 4096 (c .before .before .before .before .before .before .before .pre .1) (c .before .before
-      .before .parts .given .1) in
+    let e = ends-within 4096 (c .before .before .before .before .before .before .before .pre .1) (c .before .before .before .parts .given .1) in
     (omega (arith, c .before .before .before .before .before .before .before .pre .0), omega (arith, e))
+
+note-use-requires : tie.Need-note-use-requires
+note-use-requires c κs = search needs
 
 same-length : tie.Need-same-length
 same-length c = search needs
@@ -32,11 +34,10 @@ same-length c = search needs
 returns-2 : tie.Need-returns-2
 unfolding closedAnswer
 returns-2 c =
-    (simp (c .before .before .before .before .before .before .parts .given .1, ← c .before .before .before .before
-      .type-of .ensures),
-    closed-table _ _ _ _ _ (c .before .before .before .before .before .before .parts .given .1) (c .before .before
-      .before .before .type-of .ensures) (c .before .before .write-row .ensures))
+    (simp (c .before .before .before .before .before .before .before .before .before .before .parts .given .1, ← c .before .before .before .before .before .before .before .before .type-of .ensures),
+    closed-table _ _ _ _ _ (c .before .before .before .before .before .before .before .before .before .before .parts .given .1) (c .before .before .before .before .before .before .before .before .type-of .ensures) (c .before .before .before .before .before .before .write-row .ensures) (c .before .before .note-use .ensures))
 
 pub close-record-spec : {M : Type 1} → statement M
 close-record-spec =
-    tie.close (tie.spec enum-known-parts enum-told returns type-of-requires write-row-requires same-length returns-2)
+    tie.close (tie.spec enum-known-parts enum-told returns type-of-requires write-row-requires note-use-requires
+    same-length returns-2)
