@@ -34,11 +34,6 @@ module _ (ed : Edition) (left : ℕ) (N : Numbers) (s st : List ℕ) (around at 
   unfolding onHead erase Leaves
   part-bad e = rw part-step (rw e (record { answer = refl; table = tt }))
 
-  pub part-deep : {r : Record} {t : List ℕ} → headOf ed s st N left at ≡ Good r → left ≡ 0 →
-      Reads (fill N) (readPart ed left N s st around at) (Refused (refusal 8 at)) t t
-  unfolding onHead erase Leaves
-  part-deep e z = rw part-step (rw (e, eq-eqb left 0 z) (record { answer = refl; table = tt }))
-
   pub part-good : {r : Record} {x : Part} {t u : List ℕ} → headOf ed s st N left at ≡ Good r → (left ≡ 0 → ⊥) →
       Reads (fill N) (readRecord (readPart ed (left - 1) N s) s st around r) x t u →
       Reads (fill N) (readPart ed left N s st around at) x t u

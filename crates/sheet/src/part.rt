@@ -10,7 +10,6 @@ use records::head::bare_record;
 use records::head::head_at;
 use records::kind::Rule;
 use records::refusal::Refusal;
-use records::refusal::TOO_DEEP;
 use records::refusal::WRONG_TYPE;
 use records::refusal::refuse;
 use records::row::link;
@@ -60,7 +59,8 @@ fn close_record(s: &[u8], t: &mut [u16], n: Numbers, around: u8, r: Record, part
     Part::Read { ty, next }
 }
 
-// Reads the part at a place, with `left` levels of depth left, inside `around` binders.
+// Reads the part at a place, with `left` levels of depth left, inside `around` binders. Where no level is left its head
+// is refused.
 fn read_part(
     edition: Edition,
     s: &[u8],
@@ -79,12 +79,7 @@ fn read_part(
     let h = head_at(edition, s, st, n, left, at);
     match h {
         Head::Refused(refusal) => Part::Refused(refusal),
-        Head::Good { record } => {
-            if left == 0 {
-                return Part::Refused(refuse(TOO_DEEP, at));
-            }
-            read_record(edition, s, st, t, n, around, left - 1, record)
-        }
+        Head::Good { record } => read_record(edition, s, st, t, n, around, left - 1, record),
     }
 }
 

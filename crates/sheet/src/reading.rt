@@ -52,7 +52,7 @@ pub fn read_sheet(edition: Edition, s: &[u8], t: &mut [u16]) -> Reading
     if LENGTH < s.len() {
         return Reading::Refused(refuse(TOO_LONG, LENGTH));
     }
-    if s.len() <= 0 {
+    if s.len() == 0 {
         return Reading::Refused(refuse(CUT_SHORT, s.len()));
     }
     let z = s[0];

@@ -8,7 +8,7 @@ use Rattle.records.specs.Bare.{bare}
 use Rattle.records.proofs.HeadLaws.{head-good}
 use Rattle.sheet.specs.Reader.{readPart}
 use Rattle.sheet.proofs.Core.{block-small, routine-small}
-use Rattle.sheet.proofs.Steps.{part-bad, part-deep, part-good, scope-nothing, scope-block, scope-routine}
+use Rattle.sheet.proofs.Steps.{part-bad, part-good, scope-nothing, scope-block, scope-routine}
 use Rattle.sheet.proofs.Steps.{block-read, routine-refused, routine-more, usable-read, record-closes, parts-none}
 use Rattle.sheet.proofs.Steps.{parts-linked, next-refused, next-wrong, next-more}
 use Rattle.sheet.proofs.Bounds.{part-beyond, beyond-within, scope-ends, parts-end, ends-within, ends-further}
@@ -135,8 +135,7 @@ read-next-calls t =
 
 abbrev read-part-calls : ℕ → part-lts.Claims
 read-part-calls t =
-    (head-at-reads.Asked, head-at-reads.Learnt, refuse-reads.Asked, refuse-reads.Learnt,
-      read-record-below t, read-record.Post)
+    (head-at-reads.Asked, head-at-reads.Learnt, read-record-below t, read-record.Post)
 
 abbrev read-parts-calls : ℕ → parts-lts.Claims
 read-parts-calls t =
@@ -283,45 +282,37 @@ module _ (t : ℕ) where
   read-part-enum-known-h-2 : part-lts.Need-enum-known-h-2 (read-part-calls t) (read-part-at t) read-part.Post
   read-part-enum-known-h-2 c = search needs
 
-  read-part-refuse-requires : part-lts.Need-refuse-requires (read-part-calls t) (read-part-at t) read-part.Post
-  read-part-refuse-requires c κs = search needs
-
-  read-part-returns : part-lts.Need-returns (read-part-calls t) (read-part-at t) read-part.Post
-  read-part-returns c =
-      rw (c .refuse .ensures)
-      (let R = part-deep _ _ _ _ _ _ _ (sym (c .before .before .before .before .before .head-at .ensures) ∙ c .before
-        .before .before .h2 .given .1) (c .before .if1 .taken) in
-      (R, part-beyond _ _ _ _ _ _ _ (R .answer)))
-
   read-part-sub-read-record : part-lts.Need-sub-read-record (read-part-calls t) (read-part-at t) read-part.Post
-  read-part-sub-read-record c = search needs
+  read-part-sub-read-record c =
+      let e = sym (c .before .before .before .before .head-at .ensures) ∙ c .before .before .h2 .given .1 in
+      let d = head-good _ _ _ _ _ _ _ e .depth in
+      omega arith
 
   read-part-read-record-requires : part-lts.Need-read-record-requires (read-part-calls t) (read-part-at t)
     read-part.Post
   read-part-read-record-requires c κs =
-      let e = sym (c .before .before .before .before .before .head-at .ensures) ∙ c .before .before .before .h2
-        .given .1 in
+      let e = sym (c .before .before .before .before .head-at .ensures) ∙ c .before .before .h2 .given .1 in
       let g = head-good _ _ _ _ _ _ _ e in
+      let d = g .depth in
       let i = g .inside in
       let p = g .place in
       let n = g .next-inside in
       (omega (arith, p, i, n), (omega (arith, p, i, n), omega (arith, p, i, n), omega (arith, p, i, n), n,
         block-small _ _ _ _ _ _ _ e, routine-small _ _ _ _ _ _ _ e))
 
-  read-part-returns-2 : part-lts.Need-returns-2 (read-part-calls t) (read-part-at t) read-part.Post
-  read-part-returns-2 c =
+  read-part-returns : part-lts.Need-returns (read-part-calls t) (read-part-at t) read-part.Post
+  read-part-returns c =
       let R = part-bad _ _ _ _ _ _ _ (sym (c .before .before .before .head-at .ensures) ∙ c .before .h .given .1) in
       (R, part-beyond _ _ _ _ _ _ _ (R .answer))
 
   read-part-same-length : part-lts.Need-same-length (read-part-calls t) (read-part-at t) read-part.Post
   read-part-same-length c = search needs
 
-  read-part-returns-3 : part-lts.Need-returns-3 (read-part-calls t) (read-part-at t) read-part.Post
-  read-part-returns-3 c =
-      let R = part-good _ _ _ _ _ _ _ (sym (c .before .before .before .before .before .before .before .before .head-at
-        .ensures) ∙ c .before .before .before .before .before .before .h2 .given .1) (c .before .before .before
-        .before .if1 .left)
-        (c .before .before .read-record .ensures) in
+  read-part-returns-2 : part-lts.Need-returns-2 (read-part-calls t) (read-part-at t) read-part.Post
+  read-part-returns-2 c =
+      let e = sym (c .before .before .before .before .before .before .before .head-at .ensures)
+        ∙ c .before .before .before .before .before .h2 .given .1 in
+      let R = part-good _ _ _ _ _ _ _ e (head-good _ _ _ _ _ _ _ e .depth) (c .before .before .read-record .ensures) in
       (R, part-beyond _ _ _ _ _ _ _ (R .answer))
 
 -- read_parts
@@ -527,9 +518,8 @@ pub +read-block+read-next+read-part+read-parts+read-record+read-routine+read-sco
       (read-next-same-length-2 t) (read-next-returns-2 t) (read-next-sub-read-parts t) (read-next-add-read-parts t)
       (read-next-read-parts-requires t) (read-next-same-length-3 t) (read-next-returns-3 t))
     (λ t. part-lts.spec (read-part-calls t) (read-part-at t) read-part.Post (read-part-head-at-requires t)
-      (read-part-enum-known-h t) (read-part-enum-known-h-2 t) (read-part-refuse-requires t) (read-part-returns t)
-      (read-part-sub-read-record t) (read-part-read-record-requires t) (read-part-returns-2 t)
-      (read-part-same-length t) (read-part-returns-3 t))
+      (read-part-enum-known-h t) (read-part-enum-known-h-2 t) (read-part-sub-read-record t)
+      (read-part-read-record-requires t) (read-part-returns t) (read-part-same-length t) (read-part-returns-2 t))
     (λ t. parts-lts.spec (read-parts-calls t) (read-parts-at t) read-parts.Post (read-parts-returns t)
       (read-parts-link-requires t) (read-parts-read-next-requires t) (read-parts-same-length t)
       (read-parts-returns-2 t))

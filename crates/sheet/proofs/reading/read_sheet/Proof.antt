@@ -1,10 +1,20 @@
 -- The first two bytes judged, then the names and the term, then the end.
+use Prim.Native.Nat.{ℕ, _≤_, _<_}
+use native.Mathlib.Omega.{arith}
+use mathlib.Core.Path.{_≡_}
 use borrow.Author.Needs.{needs}
 use Rattle.sheet.proofs.Tabling.{tabled, sheet-told}
 use Rattle.sheet.proofs.Whole.{sheet-closed, closes-sheet, too-long, empty, z-zero, z-large}
 use Rattle.sheet.proofs.Whole.{no-rule, rule-large, opened}
 use Rattle.sheet.proofs.reading.read_sheet.Statement.{statement}
 use Rattle.sheet.proofs.reading.read_sheet.Tie as tie
+
+-- a length that is 0, and one that is not
+none : {n : ℕ} → n ≡ 0 → n ≤ 0
+none e = omega arith
+
+some : {n : ℕ} → (n ≡ 0 → ⊥) → 0 < n
+some h = omega arith
 
 refuse-requires : tie.Need-refuse-requires
 refuse-requires c κs = search needs
@@ -17,7 +27,7 @@ refuse-requires-2 c κs = search needs
 
 returns-2 : tie.Need-returns-2
 returns-2 c =
-    rw (c .refuse2 .ensures) (sheet-told _ _ _ (empty _ _ (c .before .before .if1 .left) (c .before .if2 .taken)))
+    rw (c .refuse2 .ensures) (sheet-told _ _ _ (empty _ _ (c .before .before .if1 .left) (none (c .before .if2 .taken))))
 
 shared-slice-read-z : tie.Need-shared-slice-read-z
 shared-slice-read-z c = search needs
@@ -27,16 +37,16 @@ refuse-requires-3 c κs = search needs
 
 returns-3 : tie.Need-returns-3
 returns-3 c =
-    rw (c .refuse3 .ensures) (sheet-told _ _ _ (z-zero _ _ (c .before .before .before .before .if1 .left) (c .before
-      .before .before .if2 .left) (c .before .if3 .taken)))
+    rw (c .refuse3 .ensures) (sheet-told _ _ _ (z-zero _ _ (c .before .before .before .before .if1 .left) (some (c .before
+      .before .before .if2 .left)) (c .before .if3 .taken)))
 
 refuse-requires-4 : tie.Need-refuse-requires-4
 refuse-requires-4 c κs = search needs
 
 returns-4 : tie.Need-returns-4
 returns-4 c =
-    rw (c .refuse4 .ensures) (sheet-told _ _ _ (z-large _ _ (c .before .before .before .before .before .if1 .left) (c
-      .before .before .before .before .if2 .left) (c .before .before .if3 .left) (c .before .if4 .taken)))
+    rw (c .refuse4 .ensures) (sheet-told _ _ _ (z-large _ _ (c .before .before .before .before .before .if1 .left) (some (c
+      .before .before .before .before .if2 .left)) (c .before .before .if3 .left) (c .before .if4 .taken)))
 
 refuse-requires-5 : tie.Need-refuse-requires-5
 refuse-requires-5 c κs = search needs
@@ -44,7 +54,7 @@ refuse-requires-5 c κs = search needs
 returns-5 : tie.Need-returns-5
 returns-5 c =
     rw (c .refuse5 .ensures) (sheet-told _ _ _ (no-rule _ _ (c .before .before .before .before .before .before .if1
-      .left) (c .before .before .before .before .before .if2 .left) (c .before .before .before .if3 .left) (c
+      .left) (some (c .before .before .before .before .before .if2 .left)) (c .before .before .before .if3 .left) (c
       .before .before .if4 .left) (c .before .if5 .taken)))
 
 shared-slice-read-rule : tie.Need-shared-slice-read-rule
@@ -56,7 +66,7 @@ refuse-requires-6 c κs = search needs
 returns-6 : tie.Need-returns-6
 returns-6 c =
     rw (c .refuse6 .ensures) (sheet-told _ _ _ (rule-large _ _ (c .before .before .before .before .before .before
-      .before .before .if1 .left) (c .before .before .before .before .before .before .before .if2 .left) (c .before
+      .before .before .if1 .left) (some (c .before .before .before .before .before .before .before .if2 .left)) (c .before
       .before .before .before .before .if3 .left) (c .before .before .before .before .if4 .left) (c .before .before
       .before .if5 .left) (c .before .if6 .taken)))
 
@@ -73,8 +83,8 @@ returns-7 : tie.Need-returns-7
 returns-7 c =
     let R =
         sheet-closed _ _ _ _ (opened _ _ (c .before .before .before .before .before .before .before .before .before
-          .before .before .before .before .if1 .left) (c .before .before .before .before .before .before .before
-          .before .before .before .before .before .if2 .left) (c .before .before .before .before .before .before
+          .before .before .before .before .if1 .left) (some (c .before .before .before .before .before .before .before
+          .before .before .before .before .before .if2 .left)) (c .before .before .before .before .before .before
           .before .before .before .before .if3 .left) (c .before .before .before .before .before .before .before
           .before .before .if4
         .left) (c .before .before .before .before .before .before .before .before .if5 .left) (c .before .before
