@@ -6,9 +6,9 @@ use mathlib.Core.List.{List, [], _∷_, _++_}
 use lib.ListN.{length}
 use borrow.Author.Tests.{le-ltb}
 use Rattle.records.specs.declared.refusal.Cause.{Cause}
-use Rattle.sheet.specs.declared.mark.Uses.{Uses}
-use Rattle.sheet.specs.declared.check.Checked.{Checked}
-use Rattle.sheet.specs.declared.check.Checked.the-variants.{Accepted, Refused}
+use Rattle.judge.specs.declared.mark.Uses.{Uses}
+use Rattle.judge.specs.declared.check.Checked.{Checked}
+use Rattle.judge.specs.declared.check.Checked.the-variants.{Accepted, Refused}
 use Rattle.comparer.specs.Promise.{FollowPromise, ComparePromise}
 use Rattle.comparer.specs.declared.Following.{Following}
 use Rattle.comparer.specs.declared.Following.the-variants.{Follows, Refused as NotFollowed}

@@ -11,9 +11,9 @@ use lib.ListN.{length, drop}
 use lib.Dec.{ltb}
 use Rattle.language.specs.Choice.{pick}
 use Rattle.records.specs.declared.refusal.Cause.{Cause}
-use Rattle.sheet.specs.declared.mark.Uses.{Uses}
-use Rattle.sheet.specs.declared.check.Checked.{Checked}
-use Rattle.sheet.specs.declared.check.Checked.the-variants.{Accepted, Refused}
+use Rattle.judge.specs.declared.mark.Uses.{Uses}
+use Rattle.judge.specs.declared.check.Checked.{Checked}
+use Rattle.judge.specs.declared.check.Checked.the-variants.{Accepted, Refused}
 use Rattle.comparer.specs.declared.Following.{Following}
 use Rattle.comparer.specs.declared.Following.the-variants.{Follows, Refused as NotFollowed}
 use Rattle.comparer.specs.declared.Comparison.{Comparison}

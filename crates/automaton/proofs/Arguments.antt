@@ -25,7 +25,7 @@ use Rattle.machine.specs.Numbering.{alone, numbered-questions, numbered-answers
 use Rattle.machine.specs.Numbering.{numbered-name, positions, weight-args, numbered-use, numbered, numberedArgs}
 use Rattle.machine.specs.Step.{later, step, stepArgs}
 use Rattle.machine.proofs.Unique.{Answers-prop}
-use Rattle.records.specs.Row.{word}
+use Rattle.part_rows.specs.Row.{word}
 use Rattle.nodes.specs.Rep.{count, RepArgs, r-none, r-arg}
 use Rattle.automaton.specs.declared.Move.{Move as Record}
 use Rattle.automaton.specs.declared.Frame.{Frame}

@@ -6,8 +6,8 @@ use mathlib.Core.Option.{Option, none, some}
 use lib.ListN.{length, List·getD-eq-default}
 use Rattle.language.specs.Operator.{outcome}
 use Rattle.language.specs.declared.operator.Outcome.the-variants.{Is, Nothing}
-use Rattle.records.specs.Row.{cell}
-use Rattle.records.specs.Row.{word}
+use Rattle.part_rows.specs.Row.{cell}
+use Rattle.part_rows.specs.Row.{word}
 use Rattle.automaton.specs.declared.Out.the-variants.{Exit, Stuck}
 use Rattle.automaton.specs.walk.Up.{exitResult}
 

@@ -16,8 +16,8 @@ use Rattle.machine.specs.Position.{Context, Store, types, start, wait, within, 
 use Rattle.machine.specs.Numbered.{single, values, sum, sum-code, product, product-code}
 use Rattle.machine.specs.Numbering.{replies, positions, weight-args, numbered}
 use Rattle.machine.specs.Step.{step}
-use Rattle.records.specs.Row.{cell}
-use Rattle.records.specs.Row.{word}
+use Rattle.part_rows.specs.Row.{cell}
+use Rattle.part_rows.specs.Row.{word}
 use Rattle.nodes.specs.Rep.{TyRow, count, Rep, r-skip, r-diverge, r-const, r-private, r-name, r-fetch}
 use Rattle.nodes.specs.Rep.{r-operate, r-assign, r-seq, r-cond, r-while, r-new, RepArgs, r-none, r-arg}
 use Rattle.automaton.specs.declared.Move.{Move as Record}

@@ -27,7 +27,7 @@ use Rattle.machine.specs.Numbering.{numbered-answers, numbered-questions, numbe
 use Rattle.machine.specs.Numbering.{numberedArgs}
 use Rattle.machine.specs.Step.{enter, listen}
 use Rattle.machine.proofs.Unique.{FitsAt-prop}
-use Rattle.records.specs.Row.{word}
+use Rattle.part_rows.specs.Row.{word}
 use Rattle.nodes.specs.Rep.{count, Rep, RepArgs, r-none, r-arg}
 use Rattle.automaton.specs.declared.Move.{Move as Record}
 use Rattle.automaton.specs.declared.Out.{Out as Did}

@@ -10,7 +10,7 @@ use Rattle.language.specs.declared.Numbers.{Numbers}
 use Rattle.machine.specs.Position.{entry}
 use Rattle.machine.specs.Numbered.{values}
 use Rattle.machine.specs.Numbering.{numbered}
-use Rattle.records.specs.Row.{word}
+use Rattle.part_rows.specs.Row.{word}
 use Rattle.nodes.specs.Rep.{Represented, Rep, r-skip, r-diverge, r-const, r-private, r-name, r-fetch, r-operate}
 use Rattle.nodes.specs.Rep.{r-assign, r-seq, r-cond, r-while, r-new}
 use Rattle.automaton.specs.walk.Row.{partWeight, partClass, partValues}

@@ -6,7 +6,7 @@ use lib.Dec.{leb}
 use native.Mathlib.Numerals.{sub-one}
 use Rattle.language.specs.Choice.{pick}
 use Rattle.language.specs.declared.Numbers.{Numbers}
-use Rattle.records.specs.Row.{word}
+use Rattle.part_rows.specs.Row.{word}
 use Rattle.automaton.specs.declared.Move.{Move}
 use Rattle.automaton.specs.walk.Row.{partWeight, partClass, partValues, sumOf}
 use Rattle.automaton.specs.walk.Types.{answersOf}

@@ -15,7 +15,7 @@ use Rattle.machine.specs.Decide.{fits?, fits-of}
 use Rattle.machine.specs.Position.{QuestionOf}
 use Rattle.machine.specs.Numbered.{single, values, iso, sum, sum-code}
 use Rattle.machine.specs.Numbering.{alone, numbered-questions, numbered-answers}
-use Rattle.records.specs.Row.{word}
+use Rattle.part_rows.specs.Row.{word}
 use Rattle.nodes.specs.Rep.{TyRow}
 use Rattle.automaton.specs.walk.Row.{sumOf}
 use Rattle.automaton.specs.walk.Types.{questionsOf, answersOf, questionKind, questionValue, questionNumber}

@@ -22,7 +22,7 @@ use Rattle.machine.specs.Position.{Context, Store, Position, State, Exit as Exi
 use Rattle.machine.specs.Numbered.{values, product, product-code}
 use Rattle.machine.specs.Numbering.{numbered}
 use Rattle.machine.specs.Step.{askVariable, access}
-use Rattle.records.specs.Row.{word}
+use Rattle.part_rows.specs.Row.{word}
 use Rattle.nodes.specs.Rep.{Fresh}
 use Rattle.automaton.specs.declared.Move.{Move as Record}
 use Rattle.automaton.specs.declared.Frame.{Frame}

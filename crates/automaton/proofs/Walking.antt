@@ -17,7 +17,7 @@ use Rattle.machine.specs.Position.{State, Exit as ExitOf}
 use Rattle.machine.specs.Numbered.{single, iso, sum, sum-code}
 use Rattle.machine.specs.Numbering.{numbered-replies, numbered-name, positions, weight-args, numbered, numberedArgs}
 use Rattle.machine.specs.Step.{listen, step, stepArgs}
-use Rattle.records.specs.Row.{word}
+use Rattle.part_rows.specs.Row.{word}
 use Rattle.nodes.specs.Rep.{count, RepArgs}
 use Rattle.automaton.specs.declared.Move.{Move as Record}
 use Rattle.automaton.specs.declared.Frame.{Frame}

@@ -33,13 +33,13 @@ use crate::row::part_at;
 use crate::row::part_values;
 use crate::row::part_weight;
 use crate::row::sum;
-use records::row::DETAIL;
-use records::row::KIND;
+use part_rows::row::DETAIL;
+use part_rows::row::KIND;
 ghost use mathlib.Core.Path.{_≡_};
 ghost use Rattle.automaton.specs.walk.Down.{leavesOf, inFetch, inSeq, inWhile, condIn, inCond, operateIn};
 ghost use Rattle.automaton.specs.walk.Down.{inOperate, assignIn, inAssign, inNew, downOf};
 ghost use Rattle.automaton.specs.walk.Name.{noMove};
-ghost use Rattle.records.specs.Row.{word};
+ghost use Rattle.part_rows.specs.Row.{word};
 ghost use mathlib.Core.List.{List};
 ghost use Prim.Native.Nat.{ℕ};
 

@@ -1,13 +1,13 @@
 // Reading the table of parts, and sums and products that may be too large.
-use records::row::CLASS;
-use records::row::DETAIL;
-use records::row::PARTS;
-use records::row::VALUES;
-use records::row::WEIGHT;
-use records::row::WORDS;
+use part_rows::row::CLASS;
+use part_rows::row::DETAIL;
+use part_rows::row::PARTS;
+use part_rows::row::VALUES;
+use part_rows::row::WEIGHT;
+use part_rows::row::WORDS;
 ghost use mathlib.Core.Path.{_≡_};
 ghost use Prim.Native.Nat.{_+_};
-ghost use Rattle.records.specs.Row.{word};
+ghost use Rattle.part_rows.specs.Row.{word};
 ghost use Rattle.automaton.specs.walk.Row.{partWeight, partClass, partValues, nameId, nameCount, sumOf, mulAddOf};
 
 // The detail of a name is its id and this many times the number of its arguments.

@@ -30,11 +30,11 @@ use Rattle.comparer.specs.Plays.{Alike, Only}
 use Rattle.comparer.specs.Refusals.{refusing, sameFirst, matching, onRead, pairRefusal}
 use Rattle.comparer.specs.Refusals.{compareRefusal}
 use Rattle.comparer.specs.Promise.{Decided, same, apart, ComparedBy, ComparePromise}
-use Rattle.comparer.specs.inner.Built.{TwoReady, TwoBuilt}
+use Rattle.build.specs.Built.{TwoReady, TwoBuilt}
 use Rattle.comparer.specs.inner.Deciding.{Deciding, OnlyTerm, Verdicts, alike, differ, answerOf}
 use Rattle.comparer.specs.inner.Causes.{causeOf, numberOf}
-use Rattle.sheet.specs.Mark.{usesOf}
-use Rattle.sheet.specs.declared.mark.Uses.{Uses}
+use Rattle.judge.specs.Mark.{usesOf}
+use Rattle.judge.specs.declared.mark.Uses.{Uses}
 use Rattle.comparer.specs.declared.Decision.{Decision}
 use Rattle.comparer.specs.declared.Comparison.{Comparison}
 use Rattle.comparer.specs.declared.Comparison.the-variants.{Refused}

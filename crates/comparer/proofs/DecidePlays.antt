@@ -27,13 +27,13 @@ use Rattle.dfa.proofs.laws.Reading.{reversed-reversed, walk-reversed, first-wor
 use Rattle.silent.proofs.laws.Settled.{settled-graph}
 use Rattle.explicit.specs.Explicit.{Explicit}
 use Rattle.explicit.specs.Letter.{AllSmall}
-use Rattle.comparer.specs.inner.Built.{TwoBuilt}
+use Rattle.build.specs.Built.{TwoBuilt}
 use Rattle.comparer.specs.inner.Deciding.{Deciding, OnlyTerm, Verdicts, alike, differ, Shown}
 use Rattle.comparer.specs.declared.Decision.{Decision}
 use Rattle.comparer.specs.declared.Decision.the-variants.{Same}
 use Rattle.comparer.proofs.OnePlay.{plays-small}
 use Rattle.comparer.proofs.TwoPlays.{FoundPlay, ends, same-plays, first-play}
-use Rattle.comparer.proofs.WritingPlays.{records-written}
+use Rattle.play.proofs.WritingPlays.{records-written}
 
 -- the comparison of the first states of two automata of `all` and `more` states with their ends
 abbrev pub task : ℕ → ℕ → Task

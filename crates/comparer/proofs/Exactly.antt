@@ -14,7 +14,7 @@ use Rattle.comparer.specs.Refusals.{compareRefusal}
 use Rattle.comparer.specs.Promise.{SamePlays, ApartPlays, Decided, same, apart, Compared, ComparedBy}
 use Rattle.comparer.specs.Promise.{ComparePromise}
 use Rattle.comparer.specs.Demands.{Shown, Exact, ExactAnswer}
-use Rattle.sheet.specs.Mark.{usesOf}
+use Rattle.judge.specs.Mark.{usesOf}
 use Rattle.comparer.specs.declared.Comparison.{Comparison}
 use Rattle.comparer.specs.declared.Comparison.the-variants.{Same, Apart, Refused}
 

@@ -23,21 +23,21 @@ use Rattle.procedures.specs.Meaning.{tyOf, termOf, typeOf}
 use Rattle.sheet.specs.Reader.{readSheet, rejected}
 use Rattle.load.specs.declared.load.Loaded.{Loaded}
 use Rattle.load.specs.declared.load.Loaded.the-variants as loaded
-use Rattle.comparer.specs.Records.{Given, moves, bad, parse}
+use Rattle.play.specs.Records.{Given, moves, bad, parse}
 use Rattle.comparer.specs.Refusals.{refusing, onRead, onGiven, followRefusal}
 use Rattle.comparer.specs.Promise.{FollowedBy, FollowPromise}
 use Rattle.comparer.specs.declared.Following.{Following}
 use Rattle.comparer.specs.declared.Following.the-variants.{Follows, Refused}
 use Rattle.comparer.specs.declared.follow.Reach.{Reach}
-use Rattle.comparer.specs.declared.play.Parsed.{Parsed}
-use Rattle.comparer.specs.declared.play.Parsed.the-variants.{Moves, Bad}
-use Rattle.comparer.specs.inner.Built.{OneReady, OneBuilt}
-use Rattle.comparer.specs.inner.Bytes.{counted}
+use Rattle.play.specs.declared.play.Parsed.{Parsed}
+use Rattle.play.specs.declared.play.Parsed.the-variants.{Moves, Bad}
+use Rattle.build.specs.Built.{OneReady, OneBuilt}
+use Rattle.play.specs.Bytes.{counted}
 use Rattle.comparer.specs.inner.Causes.{causeOf, playCause}
 use Rattle.comparer.specs.inner.Walk.{AtLeast, Marked, Reached}
 use Rattle.comparer.proofs.ReadSheets.{Fit, fit-held, fit-fine, fit-type, fit-ready}
 use Rattle.comparer.proofs.FollowPlays.{built-single, counts}
-use Rattle.comparer.proofs.WritingPlays.{good-moves}
+use Rattle.play.proofs.WritingPlays.{good-moves}
 
 -- a refusal that is promised
 refuses : (s play ws ws′ : List ℕ) {x q : Cause} → followRefusal s play (length ws) ≡ some x → q ≡ x → ws′ ≡ ws →

@@ -29,15 +29,15 @@ use Rattle.sheet.specs.Fine.{Accepted}
 use Rattle.sheet.proofs.WellTyped.{accepted-typed}
 use Rattle.comparer.specs.Plays.{CompletePlay}
 use Rattle.comparer.specs.Promise.{Begins, Greatest, NoPlay, Counted}
-use Rattle.comparer.specs.inner.Built.{OneBuilt}
-use Rattle.comparer.specs.inner.Bytes.{firstLetter}
-use Rattle.comparer.specs.inner.Spell.{letters}
+use Rattle.build.specs.Built.{OneBuilt}
+use Rattle.play.specs.Bytes.{firstLetter}
+use Rattle.play.specs.Spell.{letters}
 use Rattle.comparer.specs.inner.Walk.{stateAfter, Longest}
 use Rattle.comparer.proofs.OnePlay.{plays-small, play-walks, walk-plays}
 use Rattle.comparer.proofs.Lengths.{play-or-none}
 use Rattle.comparer.proofs.LivePlay.{live-begins, single-end}
-use Rattle.comparer.proofs.PlayRecords.{letters-records, records-letters, same-records, same-letters}
-use Rattle.comparer.proofs.WritingPlays.{Good}
+use Rattle.play.proofs.PlayRecords.{letters-records, records-letters, same-records, same-letters}
+use Rattle.play.proofs.WritingPlays.{Good}
 
 -- the state to which a transition leads is one of the n states
 packed-below : (n : ℕ) {K : ℕ} → K + 1 < n → (x : Next (Index K) (Unit {0})) → packed 0 n x < n

@@ -12,7 +12,7 @@ use Rattle.explicit.proofs.LetterLaws.{letter-order}
 use Rattle.dfa.specs.Reading as reading
 use Rattle.dfa.specs.Reading.{walk, Lex}
 use Rattle.explicit.specs.Letter.{along, AllSmall}
-use Rattle.comparer.specs.inner.Spell.{letters}
+use Rattle.play.specs.Spell.{letters}
 
 -- the state after a word of moves is the state after its letters
 pub walk-letters : (d : ℕ → ℕ → ℕ) (N : Numbers) (p : ℕ) (u : Word) → walk d p (letters N u) ≡ along d N p u

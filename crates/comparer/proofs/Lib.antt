@@ -6,11 +6,7 @@ pub mod Letters
 pub mod OnePlay
 pub mod TwoPlays
 pub mod LivePlay
-pub mod Parsing
-pub mod Counting
-pub mod WritingPlays
-pub mod Written
-pub mod Building
+pub mod Headings
 pub mod ReadSheets
 pub mod ShowPlay
 pub mod DecidePlays
@@ -21,10 +17,8 @@ pub mod Listing
 pub mod Search
 pub mod Worked
 pub mod Table
-pub mod ParsingSteps
 pub mod WalkingPlays
 pub mod SearchingPlays
-pub mod PlayRecords
 pub mod FollowPlays
 pub mod FollowAnswers
 pub mod Numbers

@@ -22,7 +22,7 @@ use Rattle.silent.specs.Silent.{Silent, Settling}
 use Rattle.dfa.proofs.laws.Edges.{live-walk}
 use Rattle.silent.proofs.laws.Settled.{settled-graph}
 use Rattle.explicit.specs.Explicit.{Explicit}
-use Rattle.comparer.specs.inner.Spell.{letters}
+use Rattle.play.specs.Spell.{letters}
 use Rattle.comparer.proofs.OnePlay.{play-walks, walk-plays}
 
 -- a word after a word

@@ -12,8 +12,8 @@ use Rattle.records.specs.declared.edition.Edition.the-variants.{Present}
 use Rattle.records.specs.declared.refusal.Cause.{Cause}
 use Rattle.sheet.specs.Encoding.{headingLength}
 use Rattle.sheet.specs.Reader.{Checks, accepted, rejected, readSheet}
-use Rattle.sheet.proofs.Places.{check-refused}
-use Rattle.comparer.specs.Records.{Given, moves, bad, parse}
+use Rattle.judge.proofs.Places.{check-refused}
+use Rattle.play.specs.Records.{Given, moves, bad, parse}
 use Rattle.comparer.specs.Refusals.{refusing, matching, onRead, onGiven, followRefusal}
 use Rattle.comparer.specs.Refusals.{compareRefusal}
 use Rattle.comparer.specs.Demands.{CheckNumber, FollowNumber, CompareNumber, NumbersOnly}

@@ -26,7 +26,7 @@ use Rattle.explicit.proofs.Language.{from-start, explicit-language}
 use Rattle.explicit.specs.Letter.{AllSmall}
 use Rattle.explicit.proofs.Settling.{settles, leads, transition, runs}
 use Rattle.explicit.proofs.Spelling.{complete-small}
-use Rattle.comparer.specs.inner.Spell.{letters}
+use Rattle.play.specs.Spell.{letters}
 use Rattle.comparer.proofs.Unletter.{Unletter, of, none, unletter}
 use Rattle.comparer.proofs.Letters.{walk-letters}
 

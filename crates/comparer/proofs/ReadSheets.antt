@@ -17,8 +17,8 @@ use Rattle.sheet.specs.Encoding.{headingLength}
 use Rattle.sheet.specs.Fine.{Accepted}
 use Rattle.records.specs.declared.edition.Edition.the-variants.{Present}
 use Rattle.sheet.specs.Reader.{numbersAt, readSheet, accepted, rejected}
-use Rattle.sheet.specs.Mark.{usesOf}
-use Rattle.sheet.specs.declared.mark.Uses.{Uses}
+use Rattle.judge.specs.Mark.{usesOf}
+use Rattle.judge.specs.declared.mark.Uses.{Uses}
 use Rattle.sheet.proofs.Right.{gives}
 use Rattle.sheet.proofs.WellTyped.{accepted-typed}
 use Rattle.automaton.specs.walk.Shows.{Words}

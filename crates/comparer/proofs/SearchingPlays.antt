@@ -12,8 +12,8 @@ use Rattle.dfa.specs.Live.{Live}
 use Rattle.dfa.specs.Reading.{walk}
 use Rattle.dfa.proofs.laws.Look.{δ-lt}
 use Rattle.dfa.proofs.laws.SameEdges.{same-walk}
-use Rattle.comparer.specs.Records.{moves, parse}
-use Rattle.comparer.specs.inner.Bytes.{firstLetter}
+use Rattle.play.specs.Records.{moves, parse}
+use Rattle.play.specs.Bytes.{firstLetter}
 use Rattle.comparer.specs.inner.Walk.{AtLeast, stateAfter, Marked, Reached}
 use Rattle.comparer.proofs.WalkingPlays.{Walked, walked-first, walked-state}
 

@@ -14,7 +14,7 @@ use Rattle.dfa.proofs.laws.Reading.{reversed-length, reversed-reversed}
 use Rattle.difference.proofs.laws.Spell.{written-take, spelled-length}
 use Rattle.dfa.proofs.laws.Rest.{rest-is, rest-length}
 use Rattle.difference.proofs.laws.Trace.{trail-spelled}
-use Rattle.comparer.specs.inner.Bytes.{withRecords}
+use Rattle.play.specs.Bytes.{withRecords}
 use Rattle.comparer.specs.inner.Deciding.{Shown}
 use Rattle.comparer.specs.declared.Decision.the-variants.{Apart}
 

@@ -12,14 +12,14 @@ use Rattle.language.specs.Weight.{weight, size}
 use Rattle.records.specs.Kind.{shapeOf}
 use Rattle.records.specs.Standing.{standingOf, isNamed, isHeld, variableStanding, declaredStanding, resultOf, countOf}
 use Rattle.records.specs.Standing.{argumentOf}
-use Rattle.records.specs.Judge.{andThen, unused, hides}
-use Rattle.records.specs.Judge as judge
-use Rattle.records.specs.Head as head
-use Rattle.records.specs.Head.{byteOf, onByte, withBody, limited, constant, used, useOf, dataByte, newOf, bodyOf}
-use Rattle.records.specs.Head.{blank, headOf}
-use Rattle.records.specs.Rule.{values, operandType, resultType, acceptsPart, partType}
-use Rattle.records.specs.Scope as scope
-use Rattle.records.specs.Scope.{entered}
+use Rattle.heads.specs.Judge.{andThen, unused, hides}
+use Rattle.heads.specs.Judge as judge
+use Rattle.heads.specs.Head as head
+use Rattle.heads.specs.Head.{byteOf, onByte, withBody, limited, constant, used, useOf, dataByte, newOf, bodyOf}
+use Rattle.heads.specs.Head.{blank, headOf}
+use Rattle.parts.specs.Rule.{values, operandType, resultType, acceptsPart, partType}
+use Rattle.parts.specs.Scope as scope
+use Rattle.parts.specs.Scope.{entered}
 use Rattle.sheet.specs.Heading.{fresh, argument, declareOf, declareAt}
 use Rattle.procedures.specs.Environment.{beyond}
 use Rattle.procedures.specs.Meaning as meaning

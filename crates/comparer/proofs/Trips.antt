@@ -16,7 +16,7 @@ use Rattle.dfa.specs.Reading.{walk, reversed}
 use Rattle.dfa.proofs.laws.Live.{no-true}
 use Rattle.dfa.proofs.laws.Reading.{reversed-length, walk-reversed, reversed-reversed}
 use Rattle.difference.proofs.laws.Short.{compared}
-use Rattle.comparer.specs.inner.Spell.{letters}
+use Rattle.play.specs.Spell.{letters}
 use Rattle.comparer.proofs.Unletter.{Unletter, of, none, unletter, letter-below}
 
 -- the state after a word, where σ p m is the one after the move m in the state p

@@ -22,7 +22,7 @@ use Rattle.silent.specs.Silent.{Settling}
 use Rattle.dfa.specs.Word.{accepting}
 use Rattle.explicit.specs.Explicit.{Explicit}
 use Rattle.explicit.specs.Letter.{AllSmall}
-use Rattle.comparer.specs.inner.Spell.{letters}
+use Rattle.play.specs.Spell.{letters}
 use Rattle.comparer.proofs.Letters.{letters-length, letters-before}
 use Rattle.comparer.proofs.OnePlay.{plays-small, plays-walk, walk-plays, stays-in}
 

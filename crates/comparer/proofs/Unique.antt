@@ -23,7 +23,7 @@ use Rattle.records.specs.Refusal.{too-large}
 use Rattle.sheet.proofs.Right.{gives}
 use Rattle.records.specs.declared.refusal.Cause.{Cause}
 use Rattle.comparer.specs.Plays.{Alike, Only, FirstPlay}
-use Rattle.comparer.specs.Records.{moves}
+use Rattle.play.specs.Records.{moves}
 use Rattle.comparer.specs.Refusals.{matching, onRead, followRefusal, pairRefusal, compareRefusal}
 use Rattle.comparer.specs.Promise.{Holds, Begins, Greatest, NoPlay, Counted, FollowedBy}
 use Rattle.comparer.specs.Promise.{Decided, same, apart, ComparedBy}

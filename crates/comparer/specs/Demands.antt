@@ -13,8 +13,8 @@ use Rattle.procedures.specs.Written.{Sheet}
 use Rattle.procedures.specs.Meaning.{typeOf}
 use Rattle.sheet.specs.Fine.{Accepted}
 use Rattle.sheet.specs.Reader.{readSheet, rejected}
-use Rattle.sheet.specs.Check.{NumberOf}
-use Rattle.sheet.specs.Mark.{usesOf}
+use Rattle.judge.specs.Check.{NumberOf}
+use Rattle.judge.specs.Mark.{usesOf}
 use Rattle.comparer.specs.Plays.{CompletePlay, reckoned, Alike, Only, FirstPlay}
 use Rattle.comparer.specs.Refusals.{headings-differ, too-few-words, space-too-short, bad-play}
 use Rattle.comparer.specs.Refusals.{followRefusal, compareRefusal}

@@ -1,5 +1,4 @@
 pub mod Plays
-pub mod Records
 pub mod Refusals
 pub mod Promise
 pub mod Demands

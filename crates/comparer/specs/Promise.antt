@@ -10,9 +10,9 @@ use Rattle.language.specs.Move.{Word, Before, record-of, records}
 use Rattle.records.specs.declared.refusal.Cause.{Cause}
 use Rattle.procedures.specs.Written.{Sheet}
 use Rattle.sheet.specs.Reader.{readSheet, accepted}
-use Rattle.sheet.specs.Mark.{usesOf}
+use Rattle.judge.specs.Mark.{usesOf}
 use Rattle.comparer.specs.Plays.{CompletePlay, reckoned, Alike, FirstPlay}
-use Rattle.comparer.specs.Records.{moves, parse}
+use Rattle.play.specs.Records.{moves, parse}
 use Rattle.comparer.specs.Refusals.{followRefusal, compareRefusal}
 use Rattle.comparer.specs.declared.Following.{Following}
 use Rattle.comparer.specs.declared.Following.the-variants.{Follows, Refused as NotFollowed}

@@ -1,7 +1,7 @@
 -- The refusals of follow and compare: number, sheet and place. Document 01, "Three services": "Compare finishes the
 -- old sheet before the new one, then 12, 13, 14. Follow: the sheet, 13, 15. A service on one sheet names it "old"; 13
 -- and 14 are always "both"." SHEETS 9.1 and 9.3.
-use Prim.Native.Nat.{ℕ, zero, suc, _+_, _*_, _-_}
+use Prim.Native.Nat.{ℕ, zero, suc, _+_, _-_}
 use mathlib.Core.Bool.{Bool, true, false}
 use mathlib.Core.List.{List}
 use mathlib.Core.Option.{Option, none, some}
@@ -12,7 +12,8 @@ use Rattle.records.specs.Refusal.{cause, old-sheet, new-sheet, both-sheets}
 use Rattle.records.specs.declared.refusal.Cause.{Cause}
 use Rattle.sheet.specs.Encoding.{headingLength}
 use Rattle.sheet.specs.Reader.{Checks, accepted, rejected, readSheet}
-use Rattle.comparer.specs.Records.{Given, moves, bad, parse}
+use Rattle.play.specs.Records.{Given, moves, bad, parse}
+use Rattle.build.specs.Lent.{words-asked, bytes-asked}
 
 -- the refusal with a number, a sheet and a place
 abbrev pub refusing : ℕ → ℕ → ℕ → Option Cause
@@ -49,20 +50,6 @@ onRead (rejected number place) sheet k = refusing number sheet place
 unfoldable pub onGiven : Given → Option Cause
 onGiven (moves rs) = none
 onGiven (bad place) = refusing bad-play old-sheet place
-
--- how many words are asked for each state, and how many bytes of play space for each move
-abbrev pub words-a-state : ℕ
-words-a-state = 32
-
-abbrev pub bytes-a-move : ℕ
-bytes-a-move = 4
-
--- words that are asked for, for sizes that add up to n, and bytes of play space
-abbrev pub words-asked : ℕ → ℕ
-words-asked n = words-a-state * (n + 1)
-
-abbrev pub bytes-asked : ℕ → ℕ
-bytes-asked n = bytes-a-move * (n - 1)
 
 -- follow on a sheet, a play and so many words
 unfoldable pub followRefusal : List ℕ → List ℕ → ℕ → Option Cause

@@ -1,7 +1,7 @@
 // The refusals of a sheet and of a play, taken out of the answers that hold them.
 use crate::BAD_PLAY;
-use crate::play::Parsed;
 use load::load::Loaded;
+use play::play::Parsed;
 use records::refusal::BOTH;
 use records::refusal::Cause;
 use records::refusal::NOT_REFUSED;

@@ -1,15 +1,11 @@
-// The services: check (crate sheet), follow and compare.
+// The services: check (crate judge), follow and compare.
+use judge::mark::Uses;
 use records::refusal::Cause;
-use sheet::mark::Uses;
 
-// The records of a play.
-pub mod play;
 // Whether two headings are the same.
 pub mod heading;
 // Refusals, handed on.
 pub mod causes;
-// The automata of sheets in the working words.
-pub mod build;
 // The service follow.
 pub mod follow;
 // The service compare.

@@ -5,7 +5,7 @@ use mathlib.Core.Path.{_≡_, refl, _∙_}
 use mathlib.Core.List.{List, [], _∷_}
 use lib.ListN.{length, set, length-set}
 use Rattle.language.specs.declared.Numbers.{Numbers}
-use Rattle.records.specs.Rule.{values}
+use Rattle.parts.specs.Rule.{values}
 use Rattle.procedures.specs.Written.{Written, new, none, more, Name}
 use Rattle.procedures.specs.Fine.{Fine, depth}
 use Rattle.procedures.specs.Made.{made}
@@ -14,7 +14,7 @@ use Rattle.procedures.specs.Context.{Context, in-block, binders, forms, makes}
 use Rattle.procedures.specs.Shared as s
 use Rattle.procedures.specs.Expand.{Slots, with-block, of-new}
 use Rattle.procedures.specs.PartKind.{NEW, KIND, DETAIL, PARTS}
-use Rattle.records.specs.Row.{word}
+use Rattle.part_rows.specs.Row.{word}
 use Rattle.procedures.specs.Table.{PartRow, Shown, shown-none, shown-more, Known, Few, FewIn}
 use Rattle.procedures.specs.Marks.{Marked, MarkedArgs, MarkedIn}
 use Rattle.expand.specs.Rows.{WEIGHT, ROWS, WORDS, rowWeight}

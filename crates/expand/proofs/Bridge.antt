@@ -21,7 +21,7 @@ use Rattle.procedures.specs.Shared.{Parts, no-part, part, Row, Rep, Reps, rep-s
 use Rattle.procedures.specs.Shared.{rep-name, rep-fetch, rep-operate, rep-assign, rep-seq, rep-while, rep-cond, rep-new}
 use Rattle.procedures.specs.Shared.{rep-none, rep-part, Fresh}
 use Rattle.nodes.specs.Rep as n
-use Rattle.records.specs.Row.{word}
+use Rattle.part_rows.specs.Row.{word}
 use Rattle.nodes.specs.Rep.{TyRow, count, r-skip, r-diverge, r-const, r-private, r-name, r-fetch, r-operate}
 use Rattle.nodes.specs.Rep.{r-assign, r-seq, r-cond, r-while, r-new, RepArgs, r-none, r-arg}
 use Rattle.expand.specs.Words.{counted, argumentWeights, Arguments, RowWords, Worded, of-skip, of-diverge, of-const}

@@ -10,7 +10,7 @@ use Rattle.procedures.specs.Context.{Context}
 use Rattle.procedures.specs.Expand.{Slots, Expands}
 use Rattle.procedures.specs.Shared.{Row}
 use Rattle.procedures.specs.PartKind.{KIND, CLASS, VALUES, DETAIL}
-use Rattle.records.specs.Row.{word}
+use Rattle.part_rows.specs.Row.{word}
 use Rattle.procedures.specs.Table.{PartRow, ShownArgs}
 use Rattle.procedures.specs.Marks.{MarkedArgs}
 use Rattle.expand.specs.Rows.{WEIGHT, ROWS, WORDS, decode, rowWeight}

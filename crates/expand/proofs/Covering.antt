@@ -15,8 +15,8 @@ use Rattle.language.specs.Ty.{Ty, command, expression, variable, questions, ans
 use Rattle.language.specs.Term.{Operation}
 use Rattle.language.specs.Typing.{operands, results}
 use Rattle.language.specs.declared.Numbers.{Numbers}
-use Rattle.records.specs.Rule.{values, operandType, resultType}
-use Rattle.records.specs.Row.{classOf}
+use Rattle.parts.specs.Rule.{values, operandType, resultType}
+use Rattle.part_rows.specs.Row.{classOf}
 use Rattle.procedures.specs.Environment.{beyond}
 use Rattle.procedures.specs.Written.{Written, skip, diverge, truth, number, call, fetch, operate, assign, sequence}
 use Rattle.procedures.specs.Written.{while, choose, new, procedure, Parameter, Writtens, more, Name}
@@ -35,7 +35,7 @@ use Rattle.procedures.specs.Expand.{of-diverge, of-truth, of-number, of-private
 use Rattle.procedures.specs.Expand.{of-assign, of-sequence, of-choose, of-while, of-new, ExpandsArgs, no-args, one-arg}
 use Rattle.procedures.specs.Expand.{Passes, no-more, one-used, one-unused}
 use Rattle.procedures.specs.PartKind.{CLASS, VALUES, DETAIL, PARTS}
-use Rattle.records.specs.Row.{word}
+use Rattle.part_rows.specs.Row.{word}
 use Rattle.procedures.specs.Table.{nameDetail}
 use Rattle.procedures.proofs.Numbering.{Below, beyond-below, beyond-above, beyond-at, all-declared, one-more-binder}
 use Rattle.procedures.proofs.Contexts.{all-inside, sees-below, sees-form, sees-count, sees-parameter}

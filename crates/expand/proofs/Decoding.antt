@@ -10,8 +10,8 @@ use borrow.Author.Tests.{lt-ltb, le-ltb, ne-eqb}
 use Rattle.language.specs.Ty.{questions, answers}
 use Rattle.language.specs.Typing.{operands}
 use Rattle.language.specs.declared.Numbers.{Numbers}
-use Rattle.records.specs.Rule.{values}
-use Rattle.records.specs.Row.{classOf}
+use Rattle.parts.specs.Rule.{values}
+use Rattle.part_rows.specs.Row.{classOf}
 use Rattle.procedures.specs.Written.{Name}
 use Rattle.procedures.specs.Meaning.{Binder, private, named, declared, meant, a-block, a-parameter, a-procedure}
 use Rattle.procedures.specs.Meaning.{meaning, tyOf, idOf}
@@ -19,7 +19,7 @@ use Rattle.procedures.specs.Shared as s
 use Rattle.procedures.specs.Expand.{operation}
 use Rattle.procedures.specs.PartKind.{SKIP, DIVERGE, CONSTANT, NAME, FETCH, OPERATE, ASSIGN, SEQUENCE, IF, WHILE, NEW}
 use Rattle.procedures.specs.PartKind.{PRIVATE, KIND, DETAIL, PARTS}
-use Rattle.records.specs.Row.{word}
+use Rattle.part_rows.specs.Row.{word}
 use Rattle.procedures.proofs.Tests.{by-test}
 use Rattle.procedures.proofs.Types.{Class, a-command, an-expression, a-variable, class, ty-expression, ty-variable}
 use Rattle.procedures.proofs.Types.{ty-command}

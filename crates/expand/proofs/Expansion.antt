@@ -17,7 +17,7 @@ use Rattle.procedures.specs.Occurs.{IsParameter}
 use Rattle.procedures.specs.Context.{Context, whole, in-procedure, in-scope, binders, forms, makes, downs}
 use Rattle.procedures.specs.Expand.{Slots, no-slots, of-slot, of-scope}
 use Rattle.procedures.specs.PartKind.{PROCEDURE, USE, NEW, KIND, DETAIL, PARTS}
-use Rattle.records.specs.Row.{word}
+use Rattle.part_rows.specs.Row.{word}
 use Rattle.procedures.specs.Table.{PartRow, Shown, shown-skip, shown-diverge, shown-truth, shown-number}
 use Rattle.procedures.specs.Table.{shown-private, shown-parameter, shown-use, shown-name, shown-fetch, shown-operate}
 use Rattle.procedures.specs.Table.{shown-assign, shown-sequence, shown-choose, shown-while, shown-new}

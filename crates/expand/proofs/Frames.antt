@@ -9,9 +9,9 @@ use lib.ListN.{length, getD, set, length-set, List·getD-eq-default}
 use lib.Seq.{getD-set-same, getD-set-other}
 use lib.Dec.{ltb}
 use borrow.Author.Tests.{ltb-true, ltb-false}
-use Rattle.records.specs.Row.{cell}
+use Rattle.part_rows.specs.Row.{cell}
 use Rattle.procedures.specs.PartKind.{KIND, CLASS, VALUES}
-use Rattle.records.specs.Row.{word}
+use Rattle.part_rows.specs.Row.{word}
 use Rattle.procedures.proofs.Tests.{by-test}
 use Rattle.expand.specs.Rows.{WEIGHT, ROWS, WORDS}
 use Rattle.expand.specs.Close.{bitOf, weightOf, detailOf, headPut, partsPut, closedRow}

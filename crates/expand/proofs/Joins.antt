@@ -6,7 +6,7 @@ use mathlib.Core.Bool.{Bool, true, false, false≢true}
 use mathlib.Core.List.{List}
 use lib.ListN.{set, getD}
 use Rattle.procedures.specs.PartKind.{PROCEDURE, USE, NEW, KIND, DETAIL, PARTS}
-use Rattle.records.specs.Row.{word}
+use Rattle.part_rows.specs.Row.{word}
 use Rattle.expand.specs.Rows.{ROWS}
 use Rattle.expand.specs.Close.{usedOf, staysOf, bitOf, moreOf, partsOf, closedRow, passedSlots}
 use Rattle.expand.specs.Contract.{Expanding, Piece, Pieces, Closed, Used, Entered, Recorded, ByKind}

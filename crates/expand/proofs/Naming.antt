@@ -7,8 +7,8 @@ use lib.ListN.{length}
 use borrow.Author.Tests.{lt-ltb, le-ltb}
 use Rattle.language.specs.Ty.{questions, answers}
 use Rattle.language.specs.declared.Numbers.{Numbers}
-use Rattle.records.specs.Rule.{values}
-use Rattle.records.specs.Row.{classOf}
+use Rattle.parts.specs.Rule.{values}
+use Rattle.part_rows.specs.Row.{classOf}
 use Rattle.procedures.specs.Written.{call, Writtens, none, more, Name}
 use Rattle.procedures.specs.Meaning.{named, meaning, tyOf, byMeaning}
 use Rattle.procedures.specs.Fine.{Fine, FineUse, FineArgs, depth, depths}
@@ -17,7 +17,7 @@ use Rattle.procedures.specs.Context.{Context, binders, forms, makes}
 use Rattle.procedures.specs.Shared as s
 use Rattle.procedures.specs.Expand.{Slots, ExpandsArgs, no-args, one-arg, of-name}
 use Rattle.procedures.specs.PartKind.{NAME, KIND, CLASS, VALUES, DETAIL, PARTS}
-use Rattle.records.specs.Row.{word}
+use Rattle.part_rows.specs.Row.{word}
 use Rattle.procedures.specs.Table.{nameDetail, PartRow, ShownArgs, shown-none, shown-more, Few}
 use Rattle.procedures.specs.Marks.{Marked}
 use Rattle.expand.specs.Rows.{WEIGHT, ROWS, WORDS, partsFrom, decode, partsWeight, rowWeight}

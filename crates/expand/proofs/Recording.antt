@@ -7,7 +7,7 @@ use lib.ListN.{length, getD}
 use Rattle.language.specs.Number.{code, fromByte}
 use Rattle.language.specs.Typing.{operands}
 use Rattle.language.specs.declared.Numbers.{Numbers}
-use Rattle.records.specs.Rule.{values}
+use Rattle.parts.specs.Rule.{values}
 use Rattle.procedures.specs.Written.{Written, skip, diverge, truth, number, call, fetch, operate, assign, sequence}
 use Rattle.procedures.specs.Written.{while, choose, Writtens, none, more, Name}
 use Rattle.procedures.specs.Meaning.{private, meaning, typed}
@@ -19,7 +19,7 @@ use Rattle.procedures.specs.Expand.{Slots, operation, of-skip, of-diverge, of-t
 use Rattle.procedures.specs.Expand.{of-operate, of-assign, of-sequence, of-choose, of-while}
 use Rattle.procedures.specs.PartKind.{SKIP, DIVERGE, CONSTANT, FETCH, OPERATE, ASSIGN, SEQUENCE, IF, WHILE, NEW}
 use Rattle.procedures.specs.PartKind.{PRIVATE, KIND, DETAIL, PARTS}
-use Rattle.records.specs.Row.{word}
+use Rattle.part_rows.specs.Row.{word}
 use Rattle.procedures.specs.Table.{PartRow, Shown, shown-none, shown-more, Few}
 use Rattle.procedures.specs.Marks.{Marked, MarkedArgs}
 use Rattle.procedures.proofs.Types.{operands-values}

@@ -14,7 +14,7 @@ use Rattle.procedures.specs.Occurs.{IsParameter}
 use Rattle.procedures.specs.Context.{Context, binders, forms, makes}
 use Rattle.procedures.specs.Expand.{Slots}
 use Rattle.procedures.specs.PartKind.{PARTS}
-use Rattle.records.specs.Row.{word}
+use Rattle.part_rows.specs.Row.{word}
 use Rattle.procedures.specs.Table.{Shown, ShownArgs, shown-none, shown-more, Known, Few, FewIn}
 use Rattle.procedures.specs.Marks.{Marked, MarkedArgs, MarkedIn}
 use lib.Dec.{ltb}

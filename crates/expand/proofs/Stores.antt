@@ -4,9 +4,9 @@ use native.Mathlib.Omega.{arith}
 use mathlib.Core.Path.{_≡_, _∙_}
 use mathlib.Core.List.{List}
 use lib.ListN.{set}
-use Rattle.records.specs.Row.{cell}
+use Rattle.part_rows.specs.Row.{cell}
 use Rattle.procedures.specs.PartKind.{KIND, CLASS, VALUES}
-use Rattle.records.specs.Row.{word}
+use Rattle.part_rows.specs.Row.{word}
 use Rattle.expand.specs.Close.{weightOf, detailOf, headPut, partsPut, closedRow, passedSlots, fiveAt, fourAt}
 
 -- the five words, one after another

@@ -5,7 +5,7 @@ use mathlib.Core.Path.{_≡_}
 use mathlib.Core.List.{List}
 use lib.ListN.{getD}
 use Rattle.procedures.specs.PartKind.{PROCEDURE, USE, KIND, PARTS}
-use Rattle.records.specs.Row.{word}
+use Rattle.part_rows.specs.Row.{word}
 use Rattle.expand.specs.Rows.{ROWS}
 use Rattle.expand.specs.Close.{comeOf, moreOf}
 use Rattle.expand.specs.Contract.{Expanding, Entered, Recorded}

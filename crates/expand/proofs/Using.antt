@@ -19,7 +19,7 @@ use Rattle.procedures.specs.Occurs.{IsParameter}
 use Rattle.procedures.specs.Context.{Context, in-procedure, binders, forms, makes, uses, Sees}
 use Rattle.procedures.specs.Expand.{Slots, with-rows, of-use, Passes, no-more, one-used, one-unused}
 use Rattle.procedures.specs.PartKind.{DETAIL, PARTS}
-use Rattle.records.specs.Row.{word}
+use Rattle.part_rows.specs.Row.{word}
 use Rattle.procedures.specs.Table.{useDetail, ShownArgs, Known, Few, FewIn}
 use Rattle.procedures.specs.Marks.{bits, usedBits, Marked, MarkedArgs, MarkedIn}
 use Rattle.procedures.proofs.Tests.{by-test}

@@ -7,10 +7,10 @@ use lib.ListN.{getD, set}
 use lib.Dec.{eqb, ltb}
 use Rattle.language.specs.Choice.{pick}
 use Rattle.records.specs.Limits.{held-at}
-use Rattle.records.specs.Row.{cell}
+use Rattle.part_rows.specs.Row.{cell}
 use Rattle.procedures.specs.PartKind.{NAME, FETCH, OPERATE, ASSIGN, SEQUENCE, IF, WHILE, NEW, PRIVATE, KIND, CLASS}
 use Rattle.procedures.specs.PartKind.{VALUES, DETAIL, PARTS, IDS, PLACES, PROCEDURE, USE}
-use Rattle.records.specs.Row.{word}
+use Rattle.part_rows.specs.Row.{word}
 use Rattle.procedures.specs.Marks.{COMES}
 use Rattle.expand.specs.Rows.{WEIGHT}
 

@@ -13,7 +13,7 @@ use Rattle.procedures.specs.Context.{Context, whole, in-block, in-procedure, in
 use Rattle.procedures.specs.Expand.{Slots, no-slots, Expands}
 use Rattle.procedures.specs.PartKind.{PROCEDURE, USE, NEW, KIND, DETAIL, PARTS, PLACES}
 use Rattle.records.specs.Limits.{most-bytes, greatest-depth}
-use Rattle.records.specs.Row.{word}
+use Rattle.part_rows.specs.Row.{word}
 use Rattle.procedures.specs.Table.{Shown, Known, BINDERS, Few, FewIn}
 use Rattle.procedures.specs.Marks.{Marked, MarkedIn}
 use Rattle.expand.specs.Rows.{WEIGHT, ROWS, WORDS, decode}

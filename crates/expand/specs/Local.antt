@@ -8,8 +8,8 @@ use Rattle.language.specs.Number.{code, fromByte}
 use Rattle.language.specs.Typing.{operands}
 use Rattle.language.specs.declared.Numbers.{Numbers}
 use Rattle.records.specs.Limits.{held-at}
-use Rattle.records.specs.Rule.{values}
-use Rattle.records.specs.Row.{classOf}
+use Rattle.parts.specs.Rule.{values}
+use Rattle.part_rows.specs.Row.{classOf}
 use Rattle.procedures.specs.Written.{Written, skip, diverge, truth, number, call, fetch, operate, assign, sequence}
 use Rattle.procedures.specs.Written.{while, choose, new, Parameter, Writtens, Name}
 use Rattle.procedures.specs.Meaning.{typed, tyOf}
@@ -21,7 +21,7 @@ use Rattle.procedures.specs.Expand.{of-truth, of-number, of-private, of-name, o
 use Rattle.procedures.specs.Expand.{of-sequence, of-choose, of-while, of-new, ExpandsArgs, no-args, one-arg, Passes}
 use Rattle.procedures.specs.Expand.{no-more, one-used, one-unused}
 use Rattle.procedures.specs.PartKind.{CLASS, VALUES, DETAIL}
-use Rattle.records.specs.Row.{word}
+use Rattle.part_rows.specs.Row.{word}
 use Rattle.procedures.specs.Table.{nameDetail}
 use Rattle.expand.specs.Rows.{WEIGHT, decode, rowWeight}
 

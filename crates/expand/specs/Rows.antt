@@ -21,7 +21,7 @@ use Rattle.procedures.specs.Expand.{operation}
 use Rattle.procedures.specs.PartKind.{SKIP, DIVERGE, CONSTANT, NAME, FETCH, OPERATE, ASSIGN, SEQUENCE, IF, WHILE, NEW}
 use Rattle.procedures.specs.PartKind.{PRIVATE, KIND, DETAIL, PARTS}
 use Rattle.nodes.specs.Rep as nodes
-use Rattle.records.specs.Row.{word}
+use Rattle.part_rows.specs.Row.{word}
 
 -- the word of a row that has its weight
 abbrev pub WEIGHT : ℕ

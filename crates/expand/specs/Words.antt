@@ -10,7 +10,7 @@ use Rattle.language.specs.declared.Numbers.{Numbers}
 use Rattle.procedures.specs.Held.{held}
 use Rattle.procedures.specs.Shared.{Parts, no-part, part, Row, skip, diverge, const, private, name, fetch, operate}
 use Rattle.procedures.specs.Shared.{assign, seq, while, cond, new}
-use Rattle.records.specs.Row.{word}
+use Rattle.part_rows.specs.Row.{word}
 use Rattle.nodes.specs.Rep.{TyRow, ROWS}
 
 -- how many parts there are

@@ -21,11 +21,11 @@ use crate::words::put_slot;
 use crate::words::slot_at;
 use crate::words::used_at;
 use crate::words::word_at;
-use records::row::TABLE;
+use part_rows::row::TABLE;
 ghost use mathlib.Core.Path.{_≡_};
 ghost use Prim.Native.Nat.{_+_, _≤_, _<_};
 ghost use lib.ListN.{length, getD, set};
-ghost use Rattle.records.specs.Row.{word};
+ghost use Rattle.part_rows.specs.Row.{word};
 ghost use Rattle.expand.specs.Close.{comeOf, moreOf};
 ghost use Rattle.expand.specs.Contract.{Expanding, Piece, Pieces, Closed, Entered, Recorded, Top};
 

@@ -1,11 +1,11 @@
 // Words of tables, of slots and of marks.
+use part_rows::row::WORDS;
+use part_rows::row::put;
 use records::read::short_at;
-use records::row::WORDS;
-use records::row::put;
 ghost use mathlib.Core.Path.{_≡_};
 ghost use Prim.Native.Nat.{_+_, _%_, _/_, _<_};
 ghost use lib.ListN.{getD, set};
-ghost use Rattle.records.specs.Row.{cell, word};
+ghost use Rattle.part_rows.specs.Row.{cell, word};
 ghost use Rattle.expand.specs.Close.{comeOf, usedOf, moreOf, firstBits, passedSlots};
 
 // The words of a row: the kind of a part, its weight (of a row of the expansion), the class of its type, the number of

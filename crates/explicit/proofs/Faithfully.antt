@@ -26,7 +26,7 @@ use Rattle.machine.specs.Settle.{Index}
 use Rattle.machine.specs.Sheet.{Spot, start, within, reply, opens as opening-of, sheet, spots, numbered-sheet}
 use Rattle.machine.specs.Sheet.{numbered-spots, index, numbered-step, steps}
 use Rattle.machine.proofs.Unique.{Fits-prop, Answers-prop}
-use Rattle.records.specs.Row.{word}
+use Rattle.part_rows.specs.Row.{word}
 use Rattle.nodes.specs.Rep.{Rep}
 use Rattle.automaton.specs.declared.Move.{Move as Record}
 use Rattle.automaton.specs.declared.Frame.{Frame}

@@ -16,7 +16,7 @@ use Rattle.language.specs.Term.{Args, arg, name}
 use Rattle.machine.specs.Action.{Heard, asked, answered, opened, Listen, calling, opening, who, heard, FitsAt, Hears}
 use Rattle.machine.specs.Position.{types}
 use Rattle.machine.specs.Degree.{answersTo, asks, hearings}
-use Rattle.records.specs.Row.{word}
+use Rattle.part_rows.specs.Row.{word}
 use Rattle.nodes.specs.Rep.{count, Rep, RepArgs, r-none, r-arg, r-name, TyRow}
 use Rattle.automaton.specs.walk.Row.{partClass, partValues, nameId, nameCount}
 use Rattle.automaton.specs.walk.Shows.{kindQ, valueQ, kindA, valueA, moveOf}

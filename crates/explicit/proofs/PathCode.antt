@@ -9,7 +9,7 @@ use lib.ListN.{getD, set, length, List·getD-eq-default}
 use borrow.Author.Tests.{eq-eqb, ne-eqb}
 use Rattle.language.specs.Choice.{pick}
 use Rattle.language.specs.declared.Numbers.{Numbers}
-use Rattle.records.specs.Row.{word}
+use Rattle.part_rows.specs.Row.{word}
 use Rattle.automaton.specs.declared.Move.{Move}
 use Rattle.automaton.specs.declared.Frame.{Frame}
 use Rattle.automaton.specs.declared.Out.{Out}

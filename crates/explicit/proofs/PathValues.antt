@@ -3,7 +3,7 @@ use mathlib.Core.Path.{_≡_, refl, sym}
 use mathlib.Core.List.{List, [], _∷_}
 use Prim.Native.Nat.{ℕ, suc}
 use borrow.Author.Tests.{eq-eqb, ne-eqb}
-use Rattle.records.specs.Row.{word}
+use Rattle.part_rows.specs.Row.{word}
 use Rattle.automaton.specs.declared.Move.{Move}
 use Rattle.automaton.specs.declared.Frame.{Frame}
 use Rattle.automaton.specs.declared.Spot.the-variants.{Here}

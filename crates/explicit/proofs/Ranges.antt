@@ -14,7 +14,7 @@ use Rattle.language.specs.Ty.{Ty, command, expression, variable}
 use Rattle.language.specs.Move.{Word}
 use Rattle.language.specs.Play.{Complete}
 use Rattle.language.specs.Term as t
-use Rattle.records.specs.Rule.{values}
+use Rattle.parts.specs.Rule.{values}
 use Rattle.procedures.specs.Written.{Written, skip, diverge, truth, number, call, fetch, operate, assign, sequence}
 use Rattle.procedures.specs.Written.{while, choose, new, procedure, Writtens, none, more, Name, declare, retire, Sheet}
 use Rattle.procedures.specs.Meaning.{Binder, a-block, a-parameter, a-procedure, Meaning, private, argument, routine}

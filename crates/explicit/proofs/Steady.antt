@@ -10,8 +10,8 @@ use native.Mathlib.Nat.{div-add-mod', mod-lt, mul-le-mul-right, mul-zero}
 use lib.Dec.{eqb, ltb, leb}
 use borrow.Author.Tests.{lt-ltb, le-ltb, lt-leb, le-leb, eq-eqb, ne-eqb}
 use Rattle.language.specs.Choice.{pick}
-use Rattle.records.specs.Row.{cell}
-use Rattle.records.specs.Row.{word}
+use Rattle.part_rows.specs.Row.{cell}
+use Rattle.part_rows.specs.Row.{word}
 use Rattle.automaton.specs.declared.Move.{Move}
 use Rattle.automaton.specs.declared.Frame.{Frame}
 use Rattle.automaton.specs.declared.Out.{Out}

@@ -22,7 +22,7 @@ use automaton::row::part_values;
 use automaton::row::sum;
 use automaton::types::question_limit;
 use language::Numbers;
-use records::row::CLASS;
+use part_rows::row::CLASS;
 ghost use mathlib.Core.Path.{_≡_};
 ghost use Prim.Native.Nat.{_-_, _≤_};
 ghost use Rattle.language.specs.Number.{numbers};

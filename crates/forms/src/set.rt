@@ -4,7 +4,7 @@ use crate::table::WORDS;
 use crate::words::clear;
 use crate::words::copy;
 use crate::words::put;
-use records::weight::sat_add;
+use parts::weight::sat_add;
 ghost use mathlib.Core.Path.{_≡_};
 ghost use Prim.Native.Nat.{_<_, _≤_, min};
 ghost use Rattle.forms.specs.Contract.{ConstantSet, UnitSet, LowerSet};

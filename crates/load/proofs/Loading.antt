@@ -22,10 +22,10 @@ use Rattle.expand.proofs.Places.{shown-row}
 use Rattle.expand.proofs.Automaton.{rows-represent}
 use Rattle.sheet.specs.Reader.{numbersAt}
 use Rattle.sheet.specs.table.Tabled.{places}
-use Rattle.sheet.specs.table.Judged.{Judged, JudgedBy}
-use Rattle.sheet.specs.declared.mark.Uses.{Uses}
-use Rattle.sheet.specs.declared.judge.Judgement.{Judgement}
-use Rattle.sheet.specs.declared.judge.Judgement.the-variants as judged
+use Rattle.judge.specs.Judged.{Judged, JudgedBy}
+use Rattle.judge.specs.declared.mark.Uses.{Uses}
+use Rattle.judge.specs.declared.judge.Judgement.{Judgement}
+use Rattle.judge.specs.declared.judge.Judgement.the-variants as judged
 use Rattle.sheet.proofs.Right.{gives}
 use Rattle.load.specs.Loaded.{Expanded, Ready, LoadedBy}
 use Rattle.load.specs.declared.load.Loaded.the-variants.{Sheet, Refused}

@@ -9,8 +9,8 @@ use Rattle.nodes.specs.Rep.{DEPTH, Rep}
 use Rattle.expand.specs.Contract.{Top}
 use Rattle.sheet.specs.Encoding.{headingLength}
 use Rattle.sheet.specs.Reader.{numbersAt, readSheet, accepted, rejected}
-use Rattle.sheet.specs.Mark.{usesOf}
-use Rattle.sheet.specs.declared.mark.Uses.{Uses}
+use Rattle.judge.specs.Mark.{usesOf}
+use Rattle.judge.specs.declared.mark.Uses.{Uses}
 use Rattle.load.specs.declared.load.Loaded.{Loaded}
 use Rattle.load.specs.declared.load.Loaded.the-variants.{Sheet, Refused}
 

@@ -1,11 +1,11 @@
 // Loading a sheet: it is judged, and its term is expanded to rows.
 use expand::expand::expand_term;
+use judge::judge::Judgement;
+use judge::judge::judge_sheet;
+use judge::mark::Uses;
+use part_rows::row::TABLE;
 use records::edition::Edition;
 use records::refusal::Refusal;
-use records::row::TABLE;
-use sheet::judge::Judgement;
-use sheet::judge::judge_sheet;
-use sheet::mark::Uses;
 ghost use Rattle.load.specs.Loaded.{Expanded, LoadedBy};
 ghost use mathlib.Core.Path.{_≡_};
 ghost use Prim.Native.Nat.{_<_};

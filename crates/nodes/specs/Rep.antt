@@ -11,7 +11,7 @@ use Rattle.language.specs.Typing.{Scope, operands, results}
 use Rattle.language.specs.Weight.{weight}
 use Rattle.language.specs.declared.Numbers.{Numbers}
 use Rattle.records.specs.Limits.{greatest-size}
-use Rattle.records.specs.Row.{word}
+use Rattle.part_rows.specs.Row.{word}
 
 -- how many rows there may be
 abbrev pub ROWS : ℕ

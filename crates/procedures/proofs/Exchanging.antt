@@ -8,7 +8,7 @@ use Rattle.language.specs.Ty.{questions, answers}
 use Rattle.language.specs.Term.{Operation}
 use Rattle.language.specs.Typing.{operands}
 use Rattle.language.specs.declared.Numbers.{Numbers}
-use Rattle.records.specs.Rule.{values}
+use Rattle.parts.specs.Rule.{values}
 use Rattle.procedures.specs.Written.{Written, Writtens, Name}
 use Rattle.procedures.specs.Meaning.{Binder, a-block, meaning}
 use Rattle.procedures.specs.Meaning.{inside, after, typed, tyOf, some-value, Terms, with-level, with-body}

@@ -13,7 +13,7 @@ use Rattle.language.specs.Term as t
 use Rattle.language.specs.Term.{Term, Operation}
 use Rattle.language.specs.Typing.{operands}
 use Rattle.language.specs.declared.Numbers.{Numbers}
-use Rattle.records.specs.Rule.{values}
+use Rattle.parts.specs.Rule.{values}
 use Rattle.procedures.specs.Environment.{beyond}
 use Rattle.procedures.specs.Written.{Written, Parameter, Writtens, Name}
 use Rattle.procedures.specs.Meaning.{Binder, private, routine, named, meaning, inside, after, typed, tyOf}

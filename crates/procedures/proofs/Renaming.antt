@@ -8,7 +8,7 @@ use lib.ListN.{length}
 use Rattle.language.specs.Term as t
 use Rattle.language.specs.Term.{Term}
 use Rattle.language.specs.declared.Numbers.{Numbers}
-use Rattle.records.specs.Rule.{values}
+use Rattle.parts.specs.Rule.{values}
 use Rattle.procedures.specs.Written.{Written, diverge}
 use Rattle.procedures.specs.Written.{new, Parameter, Writtens, Name, Sheet}
 use Rattle.procedures.specs.Meaning.{Binder, a-block, a-parameter, Meaning, private, argument, routine}

@@ -13,7 +13,7 @@ use Rattle.language.specs.Typing.{operands, Scope, here, there, Typed, a-skip, 
 use Rattle.language.specs.Typing.{a-fetch, an-operate, an-assign, a-seq, a-while, a-cond, a-new, TypedArgs, no-more}
 use Rattle.language.specs.Typing.{one-more}
 use Rattle.language.specs.declared.Numbers.{Numbers}
-use Rattle.records.specs.Rule.{values, operandType, resultType}
+use Rattle.parts.specs.Rule.{values, operandType, resultType}
 use Rattle.procedures.specs.Written.{Written, Writtens, none, more, skip, diverge, truth, number, call, fetch}
 use Rattle.procedures.specs.Written.{operate, assign, sequence, while, choose, new, procedure, Parameter}
 use Rattle.procedures.specs.Written.{Name, declare, retire, Sheet}

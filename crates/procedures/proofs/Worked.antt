@@ -6,7 +6,7 @@ use Rattle.language.specs.Number.{numbers}
 use Rattle.language.specs.Term as t
 use Rattle.language.specs.Term.{Term}
 use Rattle.language.specs.declared.Numbers.{Numbers}
-use Rattle.records.specs.Rule.{values}
+use Rattle.parts.specs.Rule.{values}
 use Rattle.procedures.specs.Environment.{beyond}
 use Rattle.procedures.specs.Written.{Written, skip, diverge, truth, call, assign, sequence, new, procedure}
 use Rattle.procedures.specs.Written.{Parameter, none, more, Sheet}

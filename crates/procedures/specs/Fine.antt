@@ -10,8 +10,8 @@ use Rattle.language.specs.Weight.{size}
 use Rattle.language.specs.declared.Numbers.{Numbers}
 use Rattle.records.specs.Limits.{greatest-z, greatest-rule, most-names, greatest-depth, greatest-size, bytes, ids, types}
 use Rattle.records.specs.Limits.{counts, truths, operators, data-types}
-use Rattle.records.specs.Types as a-type
-use Rattle.records.specs.Rule.{operandType}
+use Rattle.parts.specs.Types as a-type
+use Rattle.parts.specs.Rule.{operandType}
 use Rattle.procedures.specs.Written.{Written, skip, diverge, truth, number, call, fetch, operate, assign}
 use Rattle.procedures.specs.Written.{sequence, while, choose, new, procedure, Parameter, Writtens, none, more}
 use Rattle.procedures.specs.Written.{Name, declare, retire, Sheet}

@@ -2,10 +2,3 @@ pub mod Limits
 pub mod Kind
 pub mod Standing
 pub mod Refusal
-pub mod Judge
-pub mod Head
-pub mod Bare
-pub mod Types
-pub mod Rule
-pub mod Scope
-pub mod Row

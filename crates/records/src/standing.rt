@@ -52,7 +52,7 @@ pub fn declared_standing(place: usize) -> u32
 }
 
 // The variable of a new that `number` binders enclose; it holds truths, 1, or numbers, 2.
-pub(crate) fn variable_standing(number: u8, holds: u32) -> u32
+pub fn variable_standing(number: u8, holds: u32) -> u32
     requires { ⌜ holds ≤ 2 ⌝ }
     ensures { λ r. ⌜ r ≡ variableStanding number holds ⌝ }
 {
@@ -60,14 +60,14 @@ pub(crate) fn variable_standing(number: u8, holds: u32) -> u32
 }
 
 // The parameter with a number and a type.
-pub(crate) fn parameter_standing(number: u8, ty: u8) -> u32
+pub fn parameter_standing(number: u8, ty: u8) -> u32
     ensures { λ r. ⌜ r ≡ parameterStanding number ty ⌝ }
 {
     PARAMETERS + PARAMETER_STEP * (number as u32) + ty as u32
 }
 
 // The procedure at a place that `number` binders enclose.
-pub(crate) fn procedure_standing(number: u8, place: usize) -> u32
+pub fn procedure_standing(number: u8, place: usize) -> u32
     requires { ⌜ place < 65536 ⌝ }
     ensures { λ r. ⌜ r ≡ procedureStanding number place ⌝ }
 {
@@ -114,7 +114,7 @@ pub fn meaning_of(c: u32) -> Standing
 }
 
 // Whether a name record holds the id whose standing is `c`: no binder may take it.
-pub(crate) fn is_named(c: u32) -> bool
+pub fn is_named(c: u32) -> bool
     ensures { λ r. ⌜ r ≡ isNamed (standingOf c) ⌝ }
 {
     let standing = meaning_of(c);
@@ -135,7 +135,7 @@ pub(crate) fn is_named(c: u32) -> bool
 }
 
 // Whether an enclosing binder holds the id whose standing is `c`: a variable, a parameter or a procedure.
-pub(crate) fn is_held(c: u32) -> bool
+pub fn is_held(c: u32) -> bool
     ensures { λ r. ⌜ r ≡ isHeld (standingOf c) ⌝ }
 {
     if VARIABLES <= c {
@@ -145,7 +145,7 @@ pub(crate) fn is_held(c: u32) -> bool
 }
 
 // The type of a use of an id whose standing is `c`.
-pub(crate) fn result_of(s: &[u8], c: u32) -> u8
+pub fn result_of(s: &[u8], c: u32) -> u8
     ensures { λ r. ⌜ r ≡ resultOf (now (s .entry)) (standingOf c) ⌝ }
 {
     let standing = meaning_of(c);
@@ -160,7 +160,7 @@ pub(crate) fn result_of(s: &[u8], c: u32) -> u8
 }
 
 // How many arguments it has.
-pub(crate) fn count_of(s: &[u8], c: u32) -> u8
+pub fn count_of(s: &[u8], c: u32) -> u8
     ensures { λ r. ⌜ r ≡ countOf (now (s .entry)) (standingOf c) ⌝ }
 {
     let standing = meaning_of(c);
@@ -178,7 +178,7 @@ pub(crate) fn count_of(s: &[u8], c: u32) -> u8
 }
 
 // The type of its argument j: one byte for each in a name's record, an id and a type for each in a procedure's.
-pub(crate) fn argument_of(s: &[u8], c: u32, j: u8) -> u8
+pub fn argument_of(s: &[u8], c: u32, j: u8) -> u8
     ensures { λ r. ⌜ r ≡ argumentOf (now (s .entry)) (standingOf c) j ⌝ }
 {
     let standing = meaning_of(c);

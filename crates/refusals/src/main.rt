@@ -1,10 +1,10 @@
 // Document 01's examples of what check refuses, sheets at the ends of Z, sheets with procedures, and ids that enclosing
 // binders hold, through the service check.
+use judge::check::Checked;
+use judge::check::check;
 use libc::STDOUT_FILENO;
 use records::refusal::NEW;
 use records::refusal::OLD;
-use sheet::check::Checked;
-use sheet::check::check;
 
 // Writes the name of the sheet that a refusal names; any other number stands for both.
 fn name(sheet: u8) {

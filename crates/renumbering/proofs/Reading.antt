@@ -4,10 +4,10 @@ use mathlib.Core.Path.{_≡_}
 use mathlib.Core.List.{List}
 use Rattle.records.specs.declared.edition.Edition.the-variants.{Earlier}
 use Rattle.records.specs.declared.refusal.Refusal.{Refusal}
-use Rattle.sheet.specs.table.Judged.{Judged, JudgedBy}
-use Rattle.sheet.specs.declared.mark.Uses.{Uses}
-use Rattle.sheet.specs.declared.judge.Judgement.{Judgement}
-use Rattle.sheet.specs.declared.judge.Judgement.the-variants as judged
+use Rattle.judge.specs.Judged.{Judged, JudgedBy}
+use Rattle.judge.specs.declared.mark.Uses.{Uses}
+use Rattle.judge.specs.declared.judge.Judgement.{Judgement}
+use Rattle.judge.specs.declared.judge.Judgement.the-variants as judged
 use Rattle.renumbering.specs.Found.{EarlierRead}
 use Rattle.renumbering.specs.declared.renumber.Earlier.the-variants.{Sheet, Refused}
 

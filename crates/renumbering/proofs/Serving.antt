@@ -24,9 +24,9 @@ use Rattle.procedures.proofs.Renumbering.{renumber-rule, unaltered-rule}
 use Rattle.sheet.specs.Encoding.{encode, encodeNames, encodeSheet}
 use Rattle.sheet.specs.Fine as fine
 use Rattle.sheet.specs.Reader.{Checks, accepted, rejected, readUnder}
-use Rattle.sheet.specs.Check.{NumberOf}
+use Rattle.judge.specs.Check.{NumberOf}
 use Rattle.sheet.proofs.Right.{gives, accepts}
-use Rattle.sheet.proofs.Places.{check-refused}
+use Rattle.judge.proofs.Places.{check-refused}
 use Rattle.renumbering.specs.Outcome.{readEarlier, listed, Outcome, done, refused, written, checked, outcome}
 use Rattle.renumbering.specs.Outcome.{RenumberedBy}
 use Rattle.renumbering.specs.Service.{WrittenRule, Accepted, AcceptedRule, UnalteredService, RenumberNumber}

@@ -34,7 +34,7 @@ pub(crate) fn put_word(t: &mut [u16], i: usize, v: usize)
     requires { ⌜ v < 65536 ⌝ }
     ensures { λ r. ⌜ now (t .exit) ≡ set (now (t .entry)) i v ⌝ }
 {
-    records::row::put(t, i, v as u16);
+    part_rows::row::put(t, i, v as u16);
 }
 
 // The first n bytes of one slice become those of another.

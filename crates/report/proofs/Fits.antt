@@ -10,10 +10,10 @@ use lib.ListN.{length, drop, set, length-set}
 use lib.Seq.{sets, sets-eq, length-take-le}
 use borrow.Author.Tests.{ltb-true}
 use Rattle.language.proofs.NumberLaws.{by-test}
-use Rattle.report.specs.Page.{Page, page, pushed, pushes, Counts}
-use Rattle.report.specs.Text.{textOf}
+use Rattle.text.specs.Page.{Page, page, pushed, pushes, Counts}
+use Rattle.text.specs.Text.{textOf}
 use Rattle.report.specs.Reported.{Reported}
-use Rattle.report.proofs.Pages.{pushed-room}
+use Rattle.text.proofs.Pages.{pushed-room}
 
 -- the cursor stays within
 pushed-within : (v : ℕ) (p : Page) → p .at ≤ length (p .out) → pushed v p .at ≤ length (pushed v p .out)

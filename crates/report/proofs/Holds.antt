@@ -23,7 +23,7 @@ use Rattle.procedures.specs.Meaning.{tyOf, termOf}
 use Rattle.records.specs.declared.edition.Edition.the-variants.{Present}
 use Rattle.records.specs.declared.refusal.Cause.{Cause}
 use Rattle.sheet.specs.Reader.{readSheet, accepted}
-use Rattle.sheet.specs.Mark.{usesOf}
+use Rattle.judge.specs.Mark.{usesOf}
 use Rattle.sheet.proofs.Right.{gives}
 use Rattle.explicit.specs.Letter.{AllSmall}
 use Rattle.explicit.proofs.Ranges.{sheet-small}
@@ -32,8 +32,8 @@ use Rattle.comparer.specs.Refusals.{compareRefusal}
 use Rattle.comparer.specs.Promise.{Holds, Decided, same, apart, ComparedBy}
 use Rattle.comparer.specs.declared.Comparison.{Comparison}
 use Rattle.comparer.proofs.Unique.{held-accepted}
-use Rattle.report.specs.Text.{ascii, apartText, firstMove, width, movesText, sizeIn, declaredOf, sheetsText}
-use Rattle.report.specs.Text.{textOf}
+use Rattle.text.specs.Text.{ascii, apartText, firstMove, width, movesText, sizeIn, declaredOf, sheetsText}
+use Rattle.text.specs.Text.{textOf}
 use Rattle.report.specs.Program.{BufferHolds, PrintsWhole}
 use Rattle.report.proofs.Fits.{reported-fits}
 use Rattle.report.proofs.Lent.{Bounded, bounded}

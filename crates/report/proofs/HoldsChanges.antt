@@ -9,7 +9,7 @@ use lib.Seq.{take-append-seam}
 use Rattle.procedures.specs.Renumber.{Change}
 use Rattle.renumbering.specs.Outcome.{Outcome, done, refused, outcome, listed, RenumberedBy}
 use Rattle.renumbering.specs.declared.renumber.Renumbered.{Renumbered}
-use Rattle.report.specs.Page.{Page}
+use Rattle.text.specs.Page.{Page}
 use Rattle.report.specs.Changes.{renumberText, Representable}
 use Rattle.report.specs.Program.{RenumberBufferHolds, RenumberPrintsWhole}
 use Rattle.report.proofs.Fits.{at-start}

@@ -14,11 +14,11 @@ use Rattle.sheet.specs.Encoding.{headingLength}
 use Rattle.records.specs.declared.edition.Edition.the-variants.{Present}
 use Rattle.records.specs.declared.refusal.Cause.{Cause}
 use Rattle.sheet.specs.Reader.{Checks, accepted, rejected, readSheet}
-use Rattle.sheet.specs.Check.{NumberOf}
-use Rattle.sheet.proofs.Places.{check-refused}
+use Rattle.judge.specs.Check.{NumberOf}
+use Rattle.judge.proofs.Places.{check-refused}
 use Rattle.comparer.specs.Refusals.{refusing, matching, onRead, pairRefusal, compareRefusal}
 use Rattle.report.specs.Program.{Never14}
-use Rattle.report.specs.Text.{sizeIn}
+use Rattle.text.specs.Text.{sizeIn}
 
 -- sizes that add up to 511 at most; or a refusal by a number up to 16 but not 14, at a place up to 4,096
 unfoldable pub Bounded : ℕ → Option Cause → Type 0

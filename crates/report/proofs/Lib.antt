@@ -1,11 +1,6 @@
-pub mod Pages
-pub mod Decimals
-pub mod Printed
-pub mod Answers
 pub mod Listed
 pub mod Fits
 pub mod Lent
 pub mod Short
 pub mod Holds
 pub mod HoldsChanges
-pub mod Sample

@@ -8,11 +8,11 @@ use lib.ListN.{getD}
 use Rattle.records.specs.declared.refusal.Cause.{Cause}
 use Rattle.renumbering.specs.declared.renumber.Renumbered.{Renumbered}
 use Rattle.renumbering.specs.declared.renumber.Renumbered.the-variants.{Changed, Refused}
-use Rattle.report.specs.Page.{Page, pushes}
-use Rattle.report.specs.Text.{refusedText}
+use Rattle.text.specs.Page.{Page, pushes}
+use Rattle.text.specs.Text.{refusedText}
 use Rattle.report.specs.Changes.{changeText, changeAt, changesText, changedText, renumberText, isRenumbered}
 use Rattle.report.specs.Changes.{Representable}
-use Rattle.report.proofs.Pages.{pushes-append}
+use Rattle.text.proofs.Pages.{pushes-append}
 
 -- a change, by the bytes that are read
 pub change-found : {q : Page} (p : Page) (list : List ℕ) (i low high old given : ℕ) → low ≡ getD list (4 * i) 0 →

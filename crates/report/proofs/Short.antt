@@ -8,10 +8,10 @@ use borrow.Author.Tests.{lt-ltb, le-ltb, ltb-true, ltb-false}
 use Rattle.language.specs.Number.{fromByte}
 use Rattle.language.proofs.NumberLaws.{by-test}
 use Rattle.records.specs.declared.refusal.Cause.{Cause}
-use Rattle.report.specs.Text.{ascii, digits, signedDigits, sheetName, refusedText, sizesText, namesText}
-use Rattle.report.specs.Text.{usesText, apartText, valueText, moveText}
+use Rattle.text.specs.Text.{ascii, digits, signedDigits, sheetName, refusedText, sizesText, namesText}
+use Rattle.text.specs.Text.{usesText, apartText, valueText, moveText}
 use Rattle.report.specs.Changes.{changeText, changeAt, changesText, changedText}
-use Rattle.report.proofs.Decimals.{digits-one, digits-more, signed-low, signed-high}
+use Rattle.text.proofs.Decimals.{digits-one, digits-more, signed-low, signed-high}
 
 pub record AtMost (n : ℕ) (xs : List ℕ) : Type 0 where
   pub holds : length xs ≤ n

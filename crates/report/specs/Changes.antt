@@ -10,8 +10,8 @@ use Rattle.renumbering.specs.Outcome.{RenumberPromise}
 use Rattle.renumbering.specs.declared.renumber.Renumbered.{Renumbered}
 use Rattle.renumbering.specs.declared.renumber.Renumbered.the-variants.{Changed, Refused}
 use Rattle.report.specs.declared.changes.Told.{Told}
-use Rattle.report.specs.Page.{page, pushes}
-use Rattle.report.specs.Text.{ascii, digits, refusedText}
+use Rattle.text.specs.Page.{page, pushes}
+use Rattle.text.specs.Text.{ascii, digits, refusedText}
 
 -- "30 4 1"
 unfoldable pub changeText : ℕ → ℕ → ℕ → List ℕ

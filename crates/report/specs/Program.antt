@@ -9,7 +9,7 @@ use Rattle.records.specs.declared.refusal.Cause.{Cause}
 use Rattle.comparer.specs.Promise.{ComparePromise}
 use Rattle.comparer.specs.Refusals.{space-too-short, compareRefusal}
 use Rattle.comparer.specs.declared.Comparison.{Comparison}
-use Rattle.report.specs.Text.{textOf}
+use Rattle.text.specs.Text.{textOf}
 use Rattle.report.specs.Reported.{Reported}
 use Rattle.renumbering.specs.Outcome.{listSpace, RenumberPromise}
 use Rattle.renumbering.specs.declared.renumber.Renumbered.{Renumbered}

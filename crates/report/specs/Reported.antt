@@ -4,8 +4,8 @@ use mathlib.Core.List.{List}
 use Prim.Native.Nat.{ℕ}
 use Rattle.comparer.specs.Promise.{ComparePromise}
 use Rattle.comparer.specs.declared.Comparison.{Comparison}
-use Rattle.report.specs.Page.{page, pushes}
-use Rattle.report.specs.Text.{textOf}
+use Rattle.text.specs.Page.{page, pushes}
+use Rattle.text.specs.Text.{textOf}
 
 -- an answer of compare, and its text at the start of out, as much as there is room for
 pub record Reported (old new ws space out : List ℕ) (count : ℕ) (ws′ space′ out′ : List ℕ) : Type 0 where

@@ -1,12 +1,12 @@
 // What the program renumber prints: the answer of renumber as text.
-use crate::lines::refused;
-use crate::write::decimal;
-use crate::write::text;
 use records::read::byte_at;
 use renumbering::renumber::Renumbered;
 use renumbering::renumber::renumber;
+use text::lines::refused;
+use text::write::decimal;
+use text::write::text;
 ghost use mathlib.Core.Path.{_≡_};
-ghost use Rattle.report.specs.Page.{page, pushes, Counts};
+ghost use Rattle.text.specs.Page.{page, pushes, Counts};
 ghost use Rattle.report.specs.Changes.{changeText, changeAt, changesText, changedText, renumberText};
 ghost use Rattle.report.specs.Changes.{isRenumbered, Representable, RenumberReported};
 

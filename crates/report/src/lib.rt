@@ -2,14 +2,10 @@
 use comparer::Comparison;
 use comparer::compare::compare;
 ghost use mathlib.Core.Path.{_≡_};
-ghost use Rattle.report.specs.Page.{page, pushes, Counts};
-ghost use Rattle.report.specs.Text.{textOf};
+ghost use Rattle.text.specs.Page.{page, pushes, Counts};
+ghost use Rattle.text.specs.Text.{textOf};
 ghost use Rattle.report.specs.Reported.{Reported};
 
-// Bytes and numbers, written at a cursor.
-pub mod write;
-// The lines.
-pub mod lines;
 // The text of the program renumber.
 pub mod changes;
 
@@ -19,13 +15,13 @@ fn answer(old: &[u8], new: &[u8], r: Comparison, space: &[u8], out: &mut [u8]) -
         ≡ pushes (textOf (now (old .entry)) (now (new .entry)) r (now (space .entry))) (page (now (out .entry)) 0) ⌝ }
 {
     match r {
-        Comparison::Refused(x) => lines::refused(out, 0, x),
+        Comparison::Refused(x) => text::lines::refused(out, 0, x),
         Comparison::Same {
             old: of_old,
             new: of_new,
         } => {
-            let at = lines::sheets(out, 0, old, new, of_old, of_new);
-            write::text(out, at, b"same\n")
+            let at = text::lines::sheets(out, 0, old, new, of_old, of_new);
+            text::write::text(out, at, b"same\n")
         }
         Comparison::Apart {
             sheet,
@@ -33,9 +29,9 @@ fn answer(old: &[u8], new: &[u8], r: Comparison, space: &[u8], out: &mut [u8]) -
             old: of_old,
             new: of_new,
         } => {
-            let at = lines::sheets(out, 0, old, new, of_old, of_new);
-            let next = lines::apart(out, at, sheet, moves);
-            lines::moves(out, next, moves, space)
+            let at = text::lines::sheets(out, 0, old, new, of_old, of_new);
+            let next = text::lines::apart(out, at, sheet, moves);
+            text::lines::moves(out, next, moves, space)
         }
     }
 }

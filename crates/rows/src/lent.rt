@@ -6,8 +6,8 @@ use crate::show::title;
 use comparer::Following;
 use comparer::follow::follow;
 use records::refusal::Cause;
-use report::lines;
-ghost use Rattle.report.specs.Page.{Counts};
+use text::lines;
+ghost use Rattle.text.specs.Page.{Counts};
 
 const SKIP: [u8; 3] = [1, 0, 16];
 

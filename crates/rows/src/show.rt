@@ -1,9 +1,9 @@
 // Titles, sheets and reports.
 use libc::STDOUT_FILENO;
 use report::report;
-use report::write::push;
-use report::write::text;
-ghost use Rattle.report.specs.Page.{Counts};
+use text::write::push;
+use text::write::text;
+ghost use Rattle.text.specs.Page.{Counts};
 
 pub fn say(s: &[u8]) {
     io::write_all(STDOUT_FILENO, s);

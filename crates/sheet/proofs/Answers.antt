@@ -4,11 +4,11 @@ use mathlib.Core.Path.{_≡_, refl, subst}
 use mathlib.Core.Bool.{Bool, true, false}
 use mathlib.Core.List.{List}
 use Rattle.language.specs.Choice.{pick}
-use Rattle.records.specs.Rule.{acceptsPart, partType}
-use Rattle.records.specs.Scope.{opens}
-use Rattle.records.specs.declared.head.Record.{Record}
-use Rattle.records.specs.declared.head.Head.{Head}
-use Rattle.records.specs.declared.head.Head.the-variants.{Good as Headed, Refused as Unheaded}
+use Rattle.parts.specs.Rule.{acceptsPart, partType}
+use Rattle.parts.specs.Scope.{opens}
+use Rattle.heads.specs.declared.head.Record.{Record}
+use Rattle.heads.specs.declared.head.Head.{Head}
+use Rattle.heads.specs.declared.head.Head.the-variants.{Good as Headed, Refused as Unheaded}
 use Rattle.sheet.specs.Reader.{Tree, node, Trees, branch, Answer, got, refused, bind, onHead, partsOf, scopeParts}
 use Rattle.sheet.specs.Reader.{readRecord}
 

@@ -2,12 +2,12 @@
 use Prim.Native.Nat.{ℕ, zero, suc, _+_}
 use mathlib.Core.Path.{_≡_, refl}
 use mathlib.Core.List.{List}
-use Rattle.records.specs.Bare.{bare}
-use Rattle.records.specs.Rule.{acceptsPart}
+use Rattle.heads.specs.Bare.{bare}
+use Rattle.parts.specs.Rule.{acceptsPart}
 use Rattle.records.specs.declared.kind.Rule.{Rule}
 use Rattle.records.specs.declared.kind.Rule.the-variants.{Skip, Diverge, Truth, Number, Use, Fetch, Operate, Assign}
 use Rattle.records.specs.declared.kind.Rule.the-variants.{Sequence, If, While, New, Procedure}
-use Rattle.records.specs.declared.head.Record.{Record}
+use Rattle.heads.specs.declared.head.Record.{Record}
 use Rattle.sheet.specs.Reader.{Tree, Answer, got, refused, bind, partsOf}
 
 -- what of a record its parts are judged by

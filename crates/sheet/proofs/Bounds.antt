@@ -7,16 +7,16 @@ use mathlib.Core.List.{List}
 use lib.ListN.{length}
 use Rattle.language.specs.Choice.{pick}
 use Rattle.language.specs.declared.Numbers.{Numbers}
-use Rattle.records.specs.Head.{headOf}
-use Rattle.records.specs.Rule.{acceptsPart}
-use Rattle.records.specs.Scope.{opens, entered, passed, usable}
+use Rattle.heads.specs.Head.{headOf}
+use Rattle.parts.specs.Rule.{acceptsPart}
+use Rattle.parts.specs.Scope.{opens, entered, passed, usable}
 use Rattle.records.specs.declared.edition.Edition.{Edition}
-use Rattle.records.specs.declared.scope.Opens.{Opens}
-use Rattle.records.specs.declared.scope.Opens.the-variants.{Nothing, Block, Routine}
-use Rattle.records.specs.declared.head.Record.{Record}
-use Rattle.records.specs.declared.head.Head.{Head}
-use Rattle.records.specs.declared.head.Head.the-variants.{Good, Refused as Unheaded}
-use Rattle.records.proofs.HeadLaws.{head-good}
+use Rattle.parts.specs.declared.scope.Opens.{Opens}
+use Rattle.parts.specs.declared.scope.Opens.the-variants.{Nothing, Block, Routine}
+use Rattle.heads.specs.declared.head.Record.{Record}
+use Rattle.heads.specs.declared.head.Head.{Head}
+use Rattle.heads.specs.declared.head.Head.the-variants.{Good, Refused as Unheaded}
+use Rattle.heads.proofs.HeadLaws.{head-good}
 use Rattle.sheet.specs.Reader.{Tree, Answer, got, refused, bind, onHead, partsOf, scopeParts}
 use Rattle.sheet.specs.Reader.{readRecord, readPart}
 use Rattle.sheet.specs.table.Fill.{erase, Beyond, Ends}

@@ -11,14 +11,14 @@ use borrow.Author.Tests.{eq-eqb, le-leb}
 use Rattle.language.specs.Number.{inRange}
 use Rattle.language.specs.declared.Numbers.{Numbers}
 use Rattle.records.specs.Standing.{standingOf, countOf, resultOf, argumentOf}
-use Rattle.records.specs.Scope.{opens, entered, passed, usable}
-use Rattle.records.specs.Rule.{operandType, acceptsPart, partType}
+use Rattle.parts.specs.Scope.{opens, entered, passed, usable}
+use Rattle.parts.specs.Rule.{operandType, acceptsPart, partType}
 use Rattle.records.specs.declared.edition.Edition.{Edition}
 use Rattle.records.specs.declared.edition.Edition.the-variants.{Present}
 use Rattle.records.specs.declared.kind.Rule.the-variants.{Use, Fetch, Operate, Assign, Sequence, If, While, New}
 use Rattle.records.specs.declared.kind.Rule.the-variants.{Procedure}
-use Rattle.records.specs.declared.scope.Opens.the-variants.{Routine as Terms}
-use Rattle.records.specs.declared.head.Record.{Record}
+use Rattle.parts.specs.declared.scope.Opens.the-variants.{Routine as Terms}
+use Rattle.heads.specs.declared.head.Record.{Record}
 use Rattle.procedures.specs.Environment.{beyond}
 use Rattle.procedures.specs.Written.{Written, Writtens, none, more, skip, diverge, truth, number, call, fetch, operate}
 use Rattle.procedures.specs.Written.{assign, sequence, while, choose, new, procedure, Parameter, Name}

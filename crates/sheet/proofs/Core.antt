@@ -8,15 +8,15 @@ use lib.Dec.{eqb, eqb·suc-zero}
 use Rattle.language.specs.Choice.{pick}
 use Rattle.language.specs.declared.Numbers.{Numbers}
 use Rattle.records.specs.declared.refusal.Refusal.{Refusal}
-use Rattle.records.specs.Head.{headOf}
-use Rattle.records.specs.Rule.{acceptsPart, partType}
-use Rattle.records.specs.Row as row
-use Rattle.records.specs.Scope.{opens}
+use Rattle.heads.specs.Head.{headOf}
+use Rattle.parts.specs.Rule.{acceptsPart, partType}
+use Rattle.part_rows.specs.Row as row
+use Rattle.parts.specs.Scope.{opens}
 use Rattle.records.specs.declared.edition.Edition.{Edition}
-use Rattle.records.specs.declared.scope.Opens.the-variants.{Block, Routine}
-use Rattle.records.specs.declared.head.Record.{Record}
-use Rattle.records.specs.declared.head.Head.the-variants.{Good}
-use Rattle.records.proofs.HeadLaws.{head-good}
+use Rattle.parts.specs.declared.scope.Opens.the-variants.{Block, Routine}
+use Rattle.heads.specs.declared.head.Record.{Record}
+use Rattle.heads.specs.declared.head.Head.the-variants.{Good}
+use Rattle.heads.proofs.HeadLaws.{head-good}
 use Rattle.sheet.specs.Reader.{Tree, node, Trees, branch, Answer, got, refused, bind, onHead, partsOf}
 use Rattle.sheet.specs.Reader.{readRecord, readPart}
 use Rattle.sheet.specs.table.Fill.{fill, fills, erase, Leaves, Reads, closedAnswer, closedTable}

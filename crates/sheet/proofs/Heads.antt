@@ -12,20 +12,20 @@ use Rattle.language.specs.Number.{inRange}
 use Rattle.language.specs.declared.Numbers.{Numbers}
 use Rattle.records.specs.Kind.{shapeOf}
 use Rattle.records.specs.Standing.{standingOf, isNamed, countOf}
-use Rattle.records.specs.Judge.{hides, procedureOf}
+use Rattle.heads.specs.Judge.{hides, procedureOf}
 use Rattle.records.specs.declared.edition.Edition.{Edition}
-use Rattle.records.specs.Head.{byteOf, onByte, withBody, limited, constant, used, useOf, dataByte, newOf, onJudged}
-use Rattle.records.specs.Head.{procedureHead, bodyOf, blank, headOfShape, headOf}
+use Rattle.heads.specs.Head.{byteOf, onByte, withBody, limited, constant, used, useOf, dataByte, newOf, onJudged}
+use Rattle.heads.specs.Head.{procedureHead, bodyOf, blank, headOfShape, headOf}
 use Rattle.records.specs.declared.kind.Rule.{Rule}
 use Rattle.records.specs.declared.kind.Rule.the-variants.{Skip, Diverge, Truth, Number, Use, Fetch, Operate, Assign}
 use Rattle.records.specs.declared.kind.Rule.the-variants.{Sequence, If, While, New, Procedure}
 use Rattle.records.specs.declared.kind.Shape.{Shape}
 use Rattle.records.specs.declared.kind.Shape.the-variants.{Part, Declare, Retire, Unknown}
-use Rattle.records.specs.declared.head.Record.{Record}
-use Rattle.records.specs.declared.head.Head.{Head}
-use Rattle.records.specs.declared.head.Head.the-variants.{Good}
-use Rattle.records.specs.declared.head.Byte.the-variants.{Is}
-use Rattle.records.specs.declared.judge.Judged.{Judged}
+use Rattle.heads.specs.declared.head.Record.{Record}
+use Rattle.heads.specs.declared.head.Head.{Head}
+use Rattle.heads.specs.declared.head.Head.the-variants.{Good}
+use Rattle.heads.specs.declared.head.Byte.the-variants.{Is}
+use Rattle.heads.specs.declared.judge.Judged.{Judged}
 use Rattle.sheet.proofs.Parsed.{Byte}
 use Rattle.sheet.proofs.Answers.{HeadAll, pick-all}
 use Rattle.sheet.proofs.Judgement.{JudgedAll, good, bad}

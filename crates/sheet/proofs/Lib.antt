@@ -21,12 +21,9 @@ pub mod NameList
 pub mod CompleteNames
 pub mod Right
 pub mod WellTyped
-pub mod Places
 pub mod Rows
 pub mod Spans
 pub mod Stored
 pub mod Shows
 pub mod Noting
-pub mod Masking
 pub mod Tabling
-pub mod Judging

@@ -11,10 +11,10 @@ use borrow.Author.Tests.{eqb-true, eqb-false, eq-eqb, ne-eqb}
 use Rattle.language.specs.Choice.{pick}
 use Rattle.language.specs.declared.Numbers.{Numbers}
 use Rattle.records.specs.Standing.{standingOf}
-use Rattle.records.specs.Row.{cell, rowKind, classOf, detail, rowWritten, linked}
-use Rattle.records.specs.Rule.{values}
+use Rattle.part_rows.specs.Row.{cell, rowKind, classOf, detail, rowWritten, linked}
+use Rattle.parts.specs.Rule.{values}
 use Rattle.records.specs.declared.edition.Edition.{Edition}
-use Rattle.records.specs.declared.head.Record.{Record}
+use Rattle.heads.specs.declared.head.Record.{Record}
 use Rattle.records.proofs.StandingLaws.{declared-again, variable-again, parameter-again, procedure-again}
 use Rattle.records.specs.declared.standing.Standing.{Standing}
 use Rattle.records.specs.declared.standing.Standing.the-variants.{Declared, Variable, Parameter, Procedure}

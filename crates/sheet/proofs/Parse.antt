@@ -11,15 +11,15 @@ use borrow.Author.Tests.{eqb-true, leb-true}
 use Rattle.language.specs.Number.{inRange}
 use Rattle.language.specs.declared.Numbers.{Numbers}
 use Rattle.records.specs.Standing.{standingOf, countOf, resultOf, argumentOf}
-use Rattle.records.specs.Rule.{operandType, acceptsPart, partType}
-use Rattle.records.specs.Head.{headOf}
-use Rattle.records.specs.Scope.{opens, entered, passed, usable}
+use Rattle.parts.specs.Rule.{operandType, acceptsPart, partType}
+use Rattle.heads.specs.Head.{headOf}
+use Rattle.parts.specs.Scope.{opens, entered, passed, usable}
 use Rattle.records.specs.declared.edition.Edition.{Edition}
 use Rattle.records.specs.declared.edition.Edition.the-variants.{Present}
 use Rattle.records.specs.declared.kind.Rule.{Rule}
 use Rattle.records.specs.declared.kind.Rule.the-variants.{Skip, Diverge, Truth, Number, Use, Fetch, Operate, Assign}
 use Rattle.records.specs.declared.kind.Rule.the-variants.{Sequence, If, While, New, Procedure}
-use Rattle.records.specs.declared.head.Record.{Record}
+use Rattle.heads.specs.declared.head.Record.{Record}
 use Rattle.procedures.specs.Environment.{beyond}
 use Rattle.procedures.specs.Written.{Name, Parameter}
 use Rattle.procedures.specs.Meaning.{Binder, a-block, Meaning, private, argument, routine, named, free, declared}

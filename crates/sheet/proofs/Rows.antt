@@ -8,11 +8,11 @@ use mathlib.Core.List.{List}
 use lib.ListN.{length, getD, set, length-set}
 use lib.Seq.{getD-set-same, getD-set-other}
 use Rattle.language.specs.declared.Numbers.{Numbers}
-use Rattle.records.specs.Rule as rule
-use Rattle.records.specs.Row as row
-use Rattle.records.specs.Row.{cell, rowKind, classOf, rowWritten, linked}
-use Rattle.records.specs.declared.head.Record.{Record}
-use Rattle.records.specs.Row.{word}
+use Rattle.parts.specs.Rule as rule
+use Rattle.part_rows.specs.Row as row
+use Rattle.part_rows.specs.Row.{cell, rowKind, classOf, rowWritten, linked}
+use Rattle.heads.specs.declared.head.Record.{Record}
+use Rattle.part_rows.specs.Row.{word}
 use Rattle.language.specs.Choice.{pick}
 use Rattle.sheet.specs.table.Notes.{usesName, noted}
 

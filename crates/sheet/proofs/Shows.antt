@@ -6,18 +6,18 @@ use mathlib.Core.List.{List, [], _∷_}
 use lib.ListN.{length}
 use Rattle.language.specs.declared.Numbers.{Numbers}
 use Rattle.records.specs.Standing.{standingOf}
-use Rattle.records.specs.Row.{rowKind, useKind, detail, classOf}
-use Rattle.records.specs.Row as row
-use Rattle.records.specs.Rule.{values}
+use Rattle.part_rows.specs.Row.{rowKind, useKind, detail, classOf}
+use Rattle.part_rows.specs.Row as row
+use Rattle.parts.specs.Rule.{values}
 use Rattle.records.specs.declared.kind.Rule.{Rule}
-use Rattle.records.specs.declared.head.Record.{Record}
+use Rattle.heads.specs.declared.head.Record.{Record}
 use Rattle.records.proofs.StandingLaws.{declared-again, variable-again, parameter-again, procedure-again}
 use Rattle.procedures.specs.Environment.{beyond}
 use Rattle.procedures.specs.Written as w
 use Rattle.procedures.specs.Written.{Written, Name}
 use Rattle.procedures.specs.Meaning.{Binder, a-block, meaning, typed, useType, inside, after}
 use Rattle.procedures.specs.Context.{Context, whole, in-block, in-procedure, in-scope, binders}
-use Rattle.records.specs.Row.{word}
+use Rattle.part_rows.specs.Row.{word}
 use Rattle.procedures.specs.Table.{useDetail, nameDetail, PartRow, Shown, shown-skip, shown-diverge, shown-truth}
 use Rattle.procedures.specs.Table.{shown-number, shown-private, shown-parameter, shown-use, shown-name, shown-fetch}
 use Rattle.procedures.specs.Table.{shown-operate, shown-assign, shown-sequence, shown-choose, shown-while, shown-new}

@@ -12,11 +12,11 @@ use borrow.Author.Tests.{eqb-true, eqb-false, eq-eqb, lt-ltb, le-ltb}
 use Rattle.language.specs.Choice.{pick}
 use Rattle.records.specs.Standing.{declaredStanding, variableStanding, parameterStanding, procedureStanding, standingOf}
 use Rattle.records.specs.Standing.{isNamed, isHeld as isTaken}
-use Rattle.records.specs.Scope.{entered, passed, usable}
-use Rattle.records.specs.Judge.{hides}
+use Rattle.parts.specs.Scope.{entered, passed, usable}
+use Rattle.heads.specs.Judge.{hides}
 use Rattle.records.specs.declared.edition.Edition.{Edition}
 use Rattle.records.specs.declared.edition.Edition.the-variants.{Earlier, Present}
-use Rattle.records.specs.declared.head.Record.{Record}
+use Rattle.heads.specs.declared.head.Record.{Record}
 use Rattle.records.specs.declared.standing.Standing.the-variants.{Declared, Variable as Holding}
 use Rattle.records.specs.declared.standing.Standing.the-variants.{Parameter as Parametric, Procedure as Procedural}
 use Rattle.records.proofs.StandingLaws.{is-free, is-retired, declared-again, variable-again, parameter-again}

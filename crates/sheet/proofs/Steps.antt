@@ -9,16 +9,16 @@ use Rattle.language.specs.Choice.{pick}
 use Rattle.language.specs.declared.Numbers.{Numbers}
 use Rattle.records.specs.Refusal.{refusal}
 use Rattle.records.specs.declared.refusal.Refusal.{Refusal}
-use Rattle.records.specs.Head.{headOf}
-use Rattle.records.specs.Bare.{bare}
-use Rattle.records.specs.Rule.{acceptsPart}
-use Rattle.records.specs.Row.{linked}
-use Rattle.records.specs.Scope.{opens, entered, passed, usable}
+use Rattle.heads.specs.Head.{headOf}
+use Rattle.heads.specs.Bare.{bare}
+use Rattle.parts.specs.Rule.{acceptsPart}
+use Rattle.part_rows.specs.Row.{linked}
+use Rattle.parts.specs.Scope.{opens, entered, passed, usable}
 use Rattle.records.specs.declared.edition.Edition.{Edition}
 use Rattle.records.specs.declared.kind.Rule.the-variants.{Sequence}
-use Rattle.records.specs.declared.scope.Opens.the-variants.{Nothing, Block, Routine}
-use Rattle.records.specs.declared.head.Record.{Record}
-use Rattle.records.specs.declared.head.Head.the-variants.{Good, Refused as Unheaded}
+use Rattle.parts.specs.declared.scope.Opens.the-variants.{Nothing, Block, Routine}
+use Rattle.heads.specs.declared.head.Record.{Record}
+use Rattle.heads.specs.declared.head.Head.the-variants.{Good, Refused as Unheaded}
 use Rattle.sheet.specs.Reader.{Tree, Trees, leaf, branch, Answer, got, refused, bind, onHead, partsOf, joined}
 use Rattle.sheet.specs.Reader.{scopeParts, readRecord, readPart}
 use Rattle.sheet.specs.table.Fill.{fill, fills, fillsNext, erase, Leaves, Reads, closedAnswer, closedTable}

@@ -5,11 +5,11 @@ use mathlib.Core.Path.{_≡_, subst, _∙_}
 use mathlib.Core.List.{List}
 use lib.ListN.{length}
 use Rattle.language.specs.declared.Numbers.{Numbers}
-use Rattle.records.specs.Row.{rowWritten, linked}
-use Rattle.records.specs.declared.head.Record.{Record}
+use Rattle.part_rows.specs.Row.{rowWritten, linked}
+use Rattle.heads.specs.declared.head.Record.{Record}
 use Rattle.sheet.specs.Reader.{Tree, node, Trees, leaf, branch}
 use Rattle.sheet.specs.table.Fill.{fill, fills}
-use Rattle.records.specs.Row.{word}
+use Rattle.part_rows.specs.Row.{word}
 use Rattle.sheet.proofs.Rows.{Holds, length-linked, written-row, written-else, linked-same, noted-else}
 use Rattle.sheet.proofs.Spans.{Span, span, Parts, stop, part, forward, onward, before}
 use Rattle.sheet.proofs.Spans.{length-fill, length-fills, fill-else, fills-else}

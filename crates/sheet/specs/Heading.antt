@@ -7,11 +7,11 @@ use lib.Dec.{eqb, ltb}
 use Rattle.language.specs.Choice.{pick}
 use Rattle.records.specs.Limits.{ids, types, counts}
 use Rattle.records.specs.Refusal.{refusal, id-taken}
-use Rattle.records.specs.Judge.{andThen, below, unused}
+use Rattle.heads.specs.Judge.{andThen, below, unused}
 use Rattle.records.specs.Standing.{free}
 use Rattle.procedures.specs.Written.{Name, declare, retire}
-use Rattle.records.specs.declared.judge.Judged.{Judged}
-use Rattle.records.specs.declared.judge.Judged.the-variants.{Good, Refused}
+use Rattle.heads.specs.declared.judge.Judged.{Judged}
+use Rattle.heads.specs.declared.judge.Judged.the-variants.{Good, Refused}
 
 -- an id that is neither declared nor retired
 unfoldable pub fresh : List ℕ → List ℕ → ℕ → Judged

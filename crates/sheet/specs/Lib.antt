@@ -2,8 +2,5 @@ pub mod Encoding
 pub mod Fine
 pub mod Heading
 pub mod Reader
-pub mod Size
-pub mod Mark
 pub mod Agreement
-pub mod Check
 pub mod table

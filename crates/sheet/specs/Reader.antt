@@ -13,9 +13,9 @@ use Rattle.records.specs.Refusal.{too-long, cut-short, out-of-range, wrong-type
 use Rattle.records.specs.Refusal.{left-over, too-large}
 use Rattle.records.specs.Kind.{shapeOf}
 use Rattle.records.specs.Standing.{retired, declaredStanding}
-use Rattle.records.specs.Head.{headOf}
-use Rattle.records.specs.Rule.{acceptsPart, partType}
-use Rattle.records.specs.Scope.{opens, entered, passed, usable}
+use Rattle.heads.specs.Head.{headOf}
+use Rattle.parts.specs.Rule.{acceptsPart, partType}
+use Rattle.parts.specs.Scope.{opens, entered, passed, usable}
 use Rattle.records.specs.declared.edition.Edition.{Edition}
 use Rattle.records.specs.declared.edition.Edition.the-variants.{Present}
 use Rattle.records.specs.declared.kind.Rule.{Rule}
@@ -23,13 +23,13 @@ use Rattle.records.specs.declared.kind.Rule.the-variants.{Skip, Diverge, Truth,
 use Rattle.records.specs.declared.kind.Rule.the-variants.{Sequence, If, While, New, Procedure}
 use Rattle.records.specs.declared.kind.Shape.{Shape}
 use Rattle.records.specs.declared.kind.Shape.the-variants.{Part, Declare, Retire, Unknown}
-use Rattle.records.specs.declared.scope.Opens.{Opens}
-use Rattle.records.specs.declared.scope.Opens.the-variants.{Nothing, Block, Routine}
-use Rattle.records.specs.declared.head.Record.{Record}
-use Rattle.records.specs.declared.head.Head.{Head}
-use Rattle.records.specs.declared.head.Head.the-variants.{Good as Headed, Refused as Unheaded}
-use Rattle.records.specs.declared.judge.Judged.{Judged}
-use Rattle.records.specs.declared.judge.Judged.the-variants.{Good, Refused}
+use Rattle.parts.specs.declared.scope.Opens.{Opens}
+use Rattle.parts.specs.declared.scope.Opens.the-variants.{Nothing, Block, Routine}
+use Rattle.heads.specs.declared.head.Record.{Record}
+use Rattle.heads.specs.declared.head.Head.{Head}
+use Rattle.heads.specs.declared.head.Head.the-variants.{Good as Headed, Refused as Unheaded}
+use Rattle.heads.specs.declared.judge.Judged.{Judged}
+use Rattle.heads.specs.declared.judge.Judged.the-variants.{Good, Refused}
 use Rattle.procedures.specs.Written.{Written, skip, diverge, truth, number, call, fetch, operate, assign, sequence}
 use Rattle.procedures.specs.Written.{while, choose, new, procedure, Parameter, Writtens, none, more, Name, Sheet}
 use Rattle.procedures.specs.Meaning.{tyOf, termOf}

@@ -1,6 +1,4 @@
 -- The table of parts: cited by inner contracts only.
 pub mod Notes
-pub mod Masks
 pub mod Fill
 pub mod Tabled
-pub mod Judged

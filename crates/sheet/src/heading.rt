@@ -1,13 +1,13 @@
 // The judgement of name records.
-use records::judge::Judged;
-use records::judge::judge_below;
-use records::judge::judge_both;
-use records::judge::judge_unused;
+use heads::judge::Judged;
+use heads::judge::judge_below;
+use heads::judge::judge_both;
+use heads::judge::judge_unused;
+use parts::scope::with_standing;
 use records::read::byte_at;
 use records::read::standing_of;
 use records::refusal::ID_TAKEN;
 use records::refusal::refuse;
-use records::scope::with_standing;
 use records::standing::FREE;
 ghost use mathlib.Core.Path.{_≡_};
 ghost use Prim.Native.Nat.{_+_, _≤_, _<_};

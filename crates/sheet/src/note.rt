@@ -1,9 +1,9 @@
 // The notes in a table of parts: after the rows a word for each byte, which says whether a use of the declared name
 // with that id was read.
-use records::head::Record;
+use heads::head::Record;
+use part_rows::row::NOTES;
+use part_rows::row::put;
 use records::kind::USE;
-use records::row::NOTES;
-use records::row::put;
 use records::standing::RETIRED;
 use records::standing::VARIABLES;
 ghost use mathlib.Core.Path.{_≡_};
@@ -35,7 +35,7 @@ pub(crate) fn note_use(t: &mut [u16], r: Record)
 }
 
 // Whether a use of the name with an id is noted.
-pub(crate) fn is_noted(t: &[u16], id: u8) -> bool
+pub fn is_noted(t: &[u16], id: u8) -> bool
     ensures { λ x. ⌜ x ≡ isNoted (now (t .entry)) id ⌝ }
 {
     let at = NOTES + id as usize;

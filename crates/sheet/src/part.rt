@@ -2,31 +2,31 @@
 // on by its place, its rule and its body bytes, and all but `read_parts` and `read_next` are called at one place each,
 // so that the cycle is compiled into few functions.
 use crate::note::note_use;
+use heads::head::Head;
+use heads::head::Record;
+use heads::head::bare_record;
+use heads::head::head_at;
 use language::Numbers;
+use part_rows::row::link;
+use part_rows::row::write_row;
+use parts::scope::Opens;
+use parts::scope::enter;
+use parts::scope::enter_parameters;
+use parts::scope::enter_procedure;
+use parts::scope::opens_of;
+use parts::typing::accepts_part;
+use parts::typing::type_of;
 use records::edition::Edition;
-use records::head::Head;
-use records::head::Record;
-use records::head::bare_record;
-use records::head::head_at;
 use records::kind::Rule;
 use records::refusal::Refusal;
 use records::refusal::WRONG_TYPE;
 use records::refusal::refuse;
-use records::row::link;
-use records::row::write_row;
-use records::scope::Opens;
-use records::scope::enter;
-use records::scope::enter_parameters;
-use records::scope::enter_procedure;
-use records::scope::opens_of;
-use records::typing::accepts_part;
-use records::typing::type_of;
 ghost use mathlib.Core.Path.{_≡_};
 ghost use Prim.Native.Nat.{_+_, _*_, _≤_, _<_};
 ghost use lib.ListN.{length};
-ghost use Rattle.records.specs.Bare.{bare};
-ghost use Rattle.records.specs.Scope.{opens, usable};
-ghost use Rattle.records.specs.declared.scope.Opens.the-variants.{Block, Routine};
+ghost use Rattle.heads.specs.Bare.{bare};
+ghost use Rattle.parts.specs.Scope.{opens, usable};
+ghost use Rattle.parts.specs.declared.scope.Opens.the-variants.{Block, Routine};
 ghost use Rattle.sheet.specs.Reader.{partsOf, scopeParts, readRecord, readPart};
 ghost use Rattle.sheet.specs.table.Fill.{fill, fills, fillsNext, Reads, Beyond, Ends, closedAnswer, closedTable};
 

@@ -9,8 +9,8 @@ use borrow.Author.Tests.{lt-ltb, le-ltb, ne-eqb, ltb-true, ltb-false}
 use Rattle.language.specs.Choice.{pick}
 use Rattle.language.specs.Ty.{questions, answers}
 use Rattle.language.specs.declared.Numbers.{Numbers}
-use Rattle.records.specs.Rule.{values}
-use Rattle.records.specs.Row.{classOf}
+use Rattle.parts.specs.Rule.{values}
+use Rattle.part_rows.specs.Row.{classOf}
 use Rattle.procedures.specs.Environment.{beyond}
 use Rattle.procedures.specs.Written.{Written, call, Parameter, Writtens, none, more, Name}
 use Rattle.procedures.specs.Meaning.{Binder, meaning, routine, named, typed, typesOf, tyOf, byMeaning, inside}
@@ -20,7 +20,7 @@ use Rattle.procedures.specs.Come.{come, comes, through}
 use Rattle.procedures.specs.Held.{held, SameForm}
 use Rattle.procedures.specs.Context.{Context, binders, forms, downs}
 use Rattle.procedures.specs.PartKind.{NAME, USE, PARAMETER, CLASS, VALUES, DETAIL, PARTS}
-use Rattle.records.specs.Row.{word}
+use Rattle.part_rows.specs.Row.{word}
 use Rattle.procedures.specs.Table.{Shown, ShownArgs, shown-none, shown-more, useDetail, nameDetail}
 use Rattle.procedures.specs.Marks.{Marked, MarkedArgs}
 use Rattle.procedures.proofs.Tests.{by-test}

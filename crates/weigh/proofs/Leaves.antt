@@ -9,7 +9,7 @@ use borrow.Author.Tests.{lt-ltb, le-ltb, eq-eqb, ne-eqb}
 use Rattle.procedures.specs.PartKind.{NAME, OPERATE, ASSIGN, NEW, PARAMETER, USE, CLASS, VALUES, DETAIL, PARTS}
 use Rattle.procedures.specs.Made.{sign}
 use Rattle.procedures.specs.Marks.{bits}
-use Rattle.records.specs.Row.{cell, word}
+use Rattle.part_rows.specs.Row.{cell, word}
 use Rattle.forms.specs.Shows.{wordOf}
 use Rattle.weigh.specs.Plan.{procedureRow, numberOf, questionsBy, factorOf, comeAt, argumentOf, throughOf}
 use Rattle.weigh.specs.Plan.{comeOf, usedOf}

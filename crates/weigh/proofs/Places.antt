@@ -5,8 +5,8 @@ use mathlib.Core.List.{List}
 use mathlib.Core.Path.{_≡_, sym, ap, _∙_}
 use lib.ListN.{length, getD}
 use Rattle.language.specs.declared.Numbers.{Numbers}
-use Rattle.records.specs.Rule.{values}
-use Rattle.records.specs.Row.{classOf}
+use Rattle.parts.specs.Rule.{values}
+use Rattle.part_rows.specs.Row.{classOf}
 use Rattle.procedures.specs.Written.{Written, skip, diverge, truth, number, call, fetch, operate, assign}
 use Rattle.procedures.specs.Written.{sequence, while, choose, new, procedure, Parameter, Name}
 use Rattle.procedures.specs.Meaning.{typed}
@@ -14,7 +14,7 @@ use Rattle.procedures.specs.Fine.{depth}
 use Rattle.procedures.specs.Come.{come}
 use Rattle.procedures.specs.Context.{Context, binders, downs}
 use Rattle.procedures.specs.PartKind.{KIND, CLASS, VALUES, PROCEDURE}
-use Rattle.records.specs.Row.{word}
+use Rattle.part_rows.specs.Row.{word}
 use Rattle.procedures.specs.Table.{PartRow, Shown, shown-skip, shown-diverge, shown-truth, shown-number}
 use Rattle.procedures.specs.Table.{shown-private, shown-parameter, shown-use, shown-name, shown-fetch, shown-operate}
 use Rattle.procedures.specs.Table.{shown-assign, shown-sequence, shown-choose, shown-while, shown-new, shown-procedure}

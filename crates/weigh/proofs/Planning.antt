@@ -5,13 +5,13 @@ use mathlib.Core.List.{List}
 use mathlib.Core.Path.{_≡_, sym, ap, _∙_}
 use lib.ListN.{length}
 use Rattle.language.specs.declared.Numbers.{Numbers}
-use Rattle.records.specs.Rule.{values}
+use Rattle.parts.specs.Rule.{values}
 use Rattle.procedures.specs.Written.{Written, call, none, Writtens, Name}
 use Rattle.procedures.specs.Meaning.{Meaning, meaning, routine, named}
 use Rattle.procedures.specs.Fine.{Fine, FineUse, FineArgs, depth, depths}
 use Rattle.procedures.specs.Context.{Context, in-block, binders}
 use Rattle.procedures.specs.PartKind.{KIND, DETAIL, PROCEDURE}
-use Rattle.records.specs.Row.{word}
+use Rattle.part_rows.specs.Row.{word}
 use Rattle.procedures.specs.Table.{PartRow, Shown, shown-skip, shown-diverge, shown-truth, shown-number}
 use Rattle.procedures.specs.Table.{shown-private, shown-parameter, shown-use, shown-name, shown-fetch, shown-operate}
 use Rattle.procedures.specs.Table.{shown-assign, shown-sequence, shown-choose, shown-while, shown-new, shown-procedure}

@@ -6,7 +6,7 @@ use mathlib.Core.Path.{_≡_, refl, sym, ap, _∙_}
 use lib.ListN.{length, getD}
 use Rattle.language.specs.Typing.{operands}
 use Rattle.language.specs.declared.Numbers.{Numbers}
-use Rattle.records.specs.Rule.{values}
+use Rattle.parts.specs.Rule.{values}
 use Rattle.procedures.specs.Written.{Written, skip, diverge, truth, number, call, fetch, operate, assign}
 use Rattle.procedures.specs.Written.{sequence, while, choose, new, procedure, Parameter, Writtens, none, more, Name}
 use Rattle.procedures.specs.Meaning.{meaning, private, argument, typed, byMeaning}
@@ -17,7 +17,7 @@ use Rattle.procedures.specs.Held.{held}
 use Rattle.procedures.specs.Context.{Context, in-block, binders, forms, downs}
 use Rattle.procedures.specs.PartKind.{SKIP, DIVERGE, CONSTANT, FETCH, OPERATE, ASSIGN, SEQUENCE, IF, WHILE, NEW}
 use Rattle.procedures.specs.PartKind.{PRIVATE, PARAMETER, USE, KIND, VALUES, DETAIL, PARTS, PROCEDURE}
-use Rattle.records.specs.Row.{word}
+use Rattle.part_rows.specs.Row.{word}
 use Rattle.procedures.specs.Table.{PartRow, Shown, shown-skip, shown-diverge, shown-truth, shown-number}
 use Rattle.procedures.specs.Table.{shown-private, shown-parameter, shown-use, shown-name, shown-fetch, shown-operate}
 use Rattle.procedures.specs.Table.{shown-assign, shown-sequence, shown-choose, shown-while, shown-new, shown-procedure}

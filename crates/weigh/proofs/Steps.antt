@@ -19,7 +19,7 @@ use Rattle.procedures.specs.Held.{held}
 use Rattle.procedures.specs.Made.{sign}
 use Rattle.procedures.specs.Context.{Context, whole, in-procedure, in-scope, binders, forms, downs, uses, Sees}
 use Rattle.procedures.specs.PartKind.{KIND, DETAIL, PARTS, PROCEDURE}
-use Rattle.records.specs.Row.{word}
+use Rattle.part_rows.specs.Row.{word}
 use Rattle.procedures.specs.Table.{Shown, shown-procedure}
 use Rattle.procedures.specs.Marks.{bits, usedBits, Marked, MarkedArgs}
 use Rattle.procedures.proofs.Renaming.{length-inside}

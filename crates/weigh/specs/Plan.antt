@@ -7,7 +7,7 @@ use lib.Dec.{eqb, ltb}
 use Rattle.language.specs.Choice.{pick}
 use Rattle.procedures.specs.PartKind.{NAME, FETCH, OPERATE, ASSIGN, IF, NEW, PRIVATE, PARAMETER, USE}
 use Rattle.procedures.specs.PartKind.{CLASS, VALUES, DETAIL, PARTS, IDS, PLACES}
-use Rattle.records.specs.Row.{word}
+use Rattle.part_rows.specs.Row.{word}
 use Rattle.procedures.specs.Marks.{COMES, bits}
 use Rattle.forms.specs.Shows.{wordOf}
 

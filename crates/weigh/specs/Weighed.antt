@@ -14,7 +14,7 @@ use Rattle.procedures.specs.Held.{held, SameForm}
 use Rattle.procedures.specs.Context.{Context, whole, binders, forms, downs, Sees}
 use Rattle.procedures.specs.PartKind.{DETAIL, PARTS}
 use Rattle.records.specs.Limits.{most-bytes, greatest-depth}
-use Rattle.records.specs.Row.{word}
+use Rattle.part_rows.specs.Row.{word}
 use Rattle.procedures.specs.Table.{BINDERS, Shown}
 use Rattle.procedures.specs.Marks.{Marked, MarkedArgs}
 use Rattle.forms.specs.Shows.{formWidth, wordOf, Shows}

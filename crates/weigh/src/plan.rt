@@ -21,7 +21,7 @@ use forms::set::set_constant;
 use forms::set::set_lower;
 use forms::set::set_unit;
 use forms::table::WORDS;
-use records::row::PARTS;
+use part_rows::row::PARTS;
 ghost use mathlib.Core.Path.{_≡_};
 ghost use Prim.Native.Nat.{_≤_, _<_};
 ghost use Rattle.weigh.specs.Plan.{partsOf, ownOf, factorOf, extraOf};

@@ -1,14 +1,14 @@
 // Rows of the table of parts, and what a use's row says of the procedure.
 use forms::set::least;
+use part_rows::row::CLASS;
+use part_rows::row::DETAIL;
+use part_rows::row::VALUES;
+use part_rows::row::WORDS;
 use records::read::short_at;
-use records::row::CLASS;
-use records::row::DETAIL;
-use records::row::VALUES;
-use records::row::WORDS;
 ghost use mathlib.Core.Path.{_≡_};
 ghost use Prim.Native.Nat.{_≤_, _<_};
 ghost use Rattle.procedures.specs.PartKind.{CLASS, VALUES};
-ghost use Rattle.records.specs.Row.{word};
+ghost use Rattle.part_rows.specs.Row.{word};
 ghost use Rattle.weigh.specs.Plan.{numberOf, questionsBy, answersBy};
 
 // The detail of a use is the place of the procedure's record and this many times the number of its arguments.

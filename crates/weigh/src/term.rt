@@ -2,7 +2,7 @@
 use crate::part::weigh_part;
 use forms::read::constant;
 use forms::table::WORDS;
-use records::row::TABLE;
+use part_rows::row::TABLE;
 ghost use mathlib.Core.Path.{_≡_};
 ghost use Rattle.weigh.specs.Weighed.{Weighs};
 

@@ -3,7 +3,7 @@ use Prim.Native.Nat.{ℕ, _+_, _*_, _/_, _%_}
 use mathlib.Core.List.{List}
 use lib.Dec.{ltb}
 use Rattle.language.specs.Choice.{pick}
-use Rattle.records.specs.Row.{word}
+use Rattle.part_rows.specs.Row.{word}
 use Rattle.automaton.specs.walk.Column.{WEIGHT, CLASS, VALUES, DETAIL, PARTS}
 
 -- the place of part j

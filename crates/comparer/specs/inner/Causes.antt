@@ -7,8 +7,8 @@ use Rattle.records.specs.declared.refusal.Cause.{Cause}
 use Rattle.load.specs.declared.load.Loaded.{Loaded}
 use Rattle.load.specs.declared.load.Loaded.the-variants.{Sheet, Refused}
 use Rattle.comparer.specs.Refusals.{bad-play}
-use Rattle.comparer.specs.declared.play.Parsed.{Parsed}
-use Rattle.comparer.specs.declared.play.Parsed.the-variants.{Moves, Bad}
+use Rattle.play.specs.declared.play.Parsed.{Parsed}
+use Rattle.play.specs.declared.play.Parsed.the-variants.{Moves, Bad}
 
 -- of a sheet: its number and place, and the sheet
 unfoldable pub causeOf : Loaded → ℕ → Cause

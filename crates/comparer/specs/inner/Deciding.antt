@@ -8,7 +8,7 @@ use lib.Dec.{eqb}
 use Rattle.language.specs.Choice.{pick}
 use Rattle.difference.specs.Spelled.{Spelled}
 use Rattle.dfa.specs.Reading.{reversed}
-use Rattle.comparer.specs.inner.Bytes.{withRecords}
+use Rattle.play.specs.Bytes.{withRecords}
 use Rattle.language.specs.declared.Numbers.{Numbers}
 use Rattle.language.specs.Ty.{Ty}
 use Rattle.language.specs.Term.{Term}
@@ -18,9 +18,9 @@ use Rattle.language.specs.Play.{Complete}
 use Rattle.language.specs.Weight.{size}
 use Rattle.machine.specs.Range.{TyIn, InRange}
 use Rattle.records.specs.Limits.{greatest-z, greatest-size}
-use Rattle.comparer.specs.Refusals.{words-asked, bytes-asked}
-use Rattle.comparer.specs.inner.Built.{TwoBuilt}
-use Rattle.sheet.specs.declared.mark.Uses.{Uses}
+use Rattle.build.specs.Lent.{words-asked, bytes-asked}
+use Rattle.build.specs.Built.{TwoBuilt}
+use Rattle.judge.specs.declared.mark.Uses.{Uses}
 use Rattle.comparer.specs.declared.Decision.{Decision}
 use Rattle.comparer.specs.declared.Decision.the-variants.{Same, Apart}
 use Rattle.comparer.specs.declared.Comparison.{Comparison}

@@ -8,9 +8,9 @@ use Rattle.dfa.specs.Graph.{δ, rest, Graph, SameEdges}
 use Rattle.dfa.specs.Live.{Live}
 use Rattle.live.specs.Marks.{Marks}
 use Rattle.dfa.specs.Reading.{walk}
-use Rattle.comparer.specs.Records.{moves, parse}
+use Rattle.play.specs.Records.{moves, parse}
 use Rattle.comparer.specs.declared.follow.Reach.{Reach}
-use Rattle.comparer.specs.inner.Bytes.{firstLetter}
+use Rattle.play.specs.Bytes.{firstLetter}
 
 -- the play has at least k records
 pub record AtLeast (play : List ℕ) (k : ℕ) : Type 0 where

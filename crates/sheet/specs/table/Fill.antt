@@ -7,11 +7,11 @@ use lib.Dec.{ltb}
 use Rattle.language.specs.Choice.{pick}
 use Rattle.language.specs.declared.Numbers.{Numbers}
 use Rattle.records.specs.Refusal.{refusal, left-over}
-use Rattle.records.specs.Rule.{partType}
-use Rattle.records.specs.Row as row
-use Rattle.records.specs.Row.{linked}
+use Rattle.parts.specs.Rule.{partType}
+use Rattle.part_rows.specs.Row as row
+use Rattle.part_rows.specs.Row.{linked}
 use Rattle.records.specs.declared.edition.Edition.{Edition}
-use Rattle.records.specs.declared.head.Record.{Record}
+use Rattle.heads.specs.declared.head.Record.{Record}
 use Rattle.sheet.specs.Reader.{Tree, node, Trees, leaf, branch, Answer, got, refused, bind, readPart, Whole}
 use Rattle.sheet.specs.Reader.{whole}
 use Rattle.sheet.specs.table.Notes.{noted}

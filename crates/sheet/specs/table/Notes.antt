@@ -8,7 +8,7 @@ use lib.ListN.{length, getD, set}
 use lib.Dec.{eqb}
 use Rattle.language.specs.Choice.{pick}
 use Rattle.records.specs.Standing.{standingOf}
-use Rattle.records.specs.declared.head.Record.{Record}
+use Rattle.heads.specs.declared.head.Record.{Record}
 use Rattle.records.specs.declared.standing.Standing.{Standing}
 use Rattle.records.specs.declared.standing.Standing.the-variants.{Free, Retired, Declared, Variable, Parameter}
 use Rattle.records.specs.declared.standing.Standing.the-variants.{Procedure}

@@ -5,8 +5,8 @@ use native.Mathlib.Omega.{arith}
 use denote.Ref.{now}
 use Rattle.automaton.proofs.Facts.{past}
 use mathlib.Core.Path.{refl}
-use Rattle.records.specs.Row.{cell}
-use Rattle.records.specs.Row.{word}
+use Rattle.part_rows.specs.Row.{cell}
+use Rattle.part_rows.specs.Row.{word}
 use Rattle.automaton.proofs.row.cell.Statement.{statement}
 use Rattle.automaton.proofs.row.cell.Tie as tie
 

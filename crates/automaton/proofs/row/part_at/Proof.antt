@@ -4,7 +4,7 @@ use borrow.Author.Needs.{needs}
 use native.Mathlib.Omega.{arith}
 use denote.Ref.{now}
 use Rattle.automaton.proofs.Facts.{past}
-use Rattle.records.specs.Row.{cell}
+use Rattle.part_rows.specs.Row.{cell}
 use Rattle.automaton.proofs.row.part_at.Statement.{statement}
 use Rattle.automaton.proofs.row.part_at.Tie as tie
 

@@ -2,7 +2,7 @@
 use borrow.Author.Needs.{needs}
 use mathlib.Core.Path.{_≡_, refl}
 use Rattle.comparer.specs.Refusals.{sameFirst}
-use Rattle.comparer.proofs.Counting.{same-differ, same-again, same-last}
+use Rattle.comparer.proofs.Headings.{same-differ, same-again, same-last}
 use Rattle.comparer.proofs.heading.same_first.Statement.{statement}
 use Rattle.comparer.proofs.heading.same_first.Tie as tie
 

@@ -1,5 +1,5 @@
 -- Nine words a row.
-use Rattle.records.specs.Row.{cell}
+use Rattle.part_rows.specs.Row.{cell}
 use native.Mathlib.Omega.{arith}
 use borrow.Author.Needs.{needs}
 use Rattle.expand.proofs.words.place_of.Statement.{statement}

@@ -1,5 +1,5 @@
 -- The word at the place of the row.
-use Rattle.records.specs.Row.{word}
+use Rattle.part_rows.specs.Row.{word}
 use borrow.Author.Needs.{needs}
 use Rattle.expand.proofs.words.word_at.Statement.{statement}
 use Rattle.expand.proofs.words.word_at.Tie as tie

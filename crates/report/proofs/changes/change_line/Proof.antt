@@ -1,7 +1,7 @@
 -- What `change_line` writes is the text `changeText`.
 use borrow.Author.Needs.{needs}
 use Rattle.report.specs.Changes.{changeText}
-use Rattle.report.proofs.Pages.{after}
+use Rattle.text.proofs.Pages.{after}
 use Rattle.report.proofs.changes.change_line.Statement.{statement}
 use Rattle.report.proofs.changes.change_line.Tie as tie
 

@@ -1,7 +1,7 @@
 -- What `changed` writes is the text `changedText`.
 use borrow.Author.Needs.{needs}
 use Rattle.report.specs.Changes.{changedText}
-use Rattle.report.proofs.Pages.{after}
+use Rattle.text.proofs.Pages.{after}
 use Rattle.report.proofs.changes.changed.Statement.{statement}
 use Rattle.report.proofs.changes.changed.Tie as tie
 

@@ -3,7 +3,7 @@ use borrow.Author.Needs.{needs}
 use Prim.Native.Nat.{_-_, _≤_}
 use mathlib.Core.Path.{_≡_, refl}
 use lib.ListN.{length}
-use Rattle.report.specs.Page.{page, pushes}
+use Rattle.text.specs.Page.{page, pushes}
 use Rattle.report.specs.Changes.{changesText}
 use Rattle.report.proofs.Listed.{changes-start, changes-again, changes-end}
 use Rattle.report.proofs.changes.changes.Statement.{statement}

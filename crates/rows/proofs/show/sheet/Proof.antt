@@ -1,6 +1,6 @@
 -- `sheet` keeps what `Counts` says.
 use borrow.Author.Needs.{needs}
-use Rattle.report.proofs.Pages.{one, after}
+use Rattle.text.proofs.Pages.{one, after}
 use Rattle.report.proofs.Fits.{counts}
 use Rattle.rows.proofs.show.sheet.Statement.{statement}
 use Rattle.rows.proofs.show.sheet.Tie as tie

@@ -4,8 +4,8 @@ use borrow.Author.Needs.{needs}
 use borrow.Author.Tests.{not-true, not-false}
 use native.Mathlib.Omega.{arith}
 use mathlib.Core.Path.{sym, _∙_}
-use Rattle.records.specs.Bare.{bare}
-use Rattle.records.proofs.HeadLaws.{head-good}
+use Rattle.heads.specs.Bare.{bare}
+use Rattle.heads.proofs.HeadLaws.{head-good}
 use Rattle.sheet.specs.Reader.{readPart}
 use Rattle.sheet.proofs.Core.{block-small, routine-small}
 use Rattle.sheet.proofs.Steps.{part-bad, part-good, scope-nothing, scope-block, scope-routine}
@@ -38,16 +38,16 @@ use Rattle.sheet.proofs.part.+read_block+read_next+read_part+read_parts
 use Rattle.sheet.proofs.part.read_usable.Reads as read-usable
 use Rattle.sheet.proofs.part.read_usable.Kinds as read-usable-kinds
 use Rattle.sheet.proofs.part.+read_block+read_next+read_part+read_parts+read_record+read_routine+read_scope+read_usable.Lts-read_usable as usable-lts
-use Rattle.records.proofs.scope.enter.Reads as enter-reads
-use Rattle.records.proofs.head.bare_record.Reads as bare-record-reads
-use Rattle.records.proofs.typing.accepts_part.Reads as accepts-part-reads
+use Rattle.parts.proofs.scope.enter.Reads as enter-reads
+use Rattle.heads.proofs.head.bare_record.Reads as bare-record-reads
+use Rattle.parts.proofs.typing.accepts_part.Reads as accepts-part-reads
 use Rattle.records.proofs.refusal.refuse.Reads as refuse-reads
-use Rattle.records.proofs.head.head_at.Reads as head-at-reads
-use Rattle.records.proofs.row.link.Reads as link-reads
+use Rattle.heads.proofs.head.head_at.Reads as head-at-reads
+use Rattle.part_rows.proofs.row.link.Reads as link-reads
 use Rattle.sheet.proofs.part.close_record.Reads as close-record-reads
-use Rattle.records.proofs.scope.enter_parameters.Reads as enter-parameters-reads
-use Rattle.records.proofs.scope.opens_of.Reads as opens-of-reads
-use Rattle.records.proofs.scope.enter_procedure.Reads as enter-procedure-reads
+use Rattle.parts.proofs.scope.enter_parameters.Reads as enter-parameters-reads
+use Rattle.parts.proofs.scope.opens_of.Reads as opens-of-reads
+use Rattle.parts.proofs.scope.enter_procedure.Reads as enter-procedure-reads
 use Rattle.sheet.proofs.part.+read_block+read_next+read_part+read_parts+read_record+read_routine+read_scope+read_usable.{statement}
 use Rattle.sheet.proofs.part.+read_block+read_next+read_part+read_parts+read_record+read_routine+read_scope+read_usable.Tie.{close}
 

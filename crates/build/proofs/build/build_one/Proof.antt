@@ -1,0 +1,40 @@
+-- `build_one` keeps what `OneBuilt` says.
+use borrow.Author.Needs.{needs}
+use native.Mathlib.Omega.{arith}
+use mathlib.Core.Path.{refl}
+use Rattle.build.proofs.Building.{one-fits, one-settles, one-built}
+use Rattle.build.proofs.build.build_one.Statement.{statement}
+use Rattle.build.proofs.build.build_one.Tie as tie
+
+add-states : tie.Need-add-states
+add-states c = search needs
+
+fill-requires : tie.Need-fill-requires
+fill-requires c κs = (one-fits (c .before .before .before .before .pre) (λ i. omega (arith, c .before .before .before
+    .shared-slice-known .given i)), refl)
+
+close-requires : tie.Need-close-requires
+close-requires c κs = search needs
+
+settle-requires : tie.Need-settle-requires
+settle-requires c κs =
+    one-settles (c .before .before .before .before .before .before .before .before .before .before .before .before
+        .pre) (λ i.
+    omega (arith, c .before .before .before .before .before .before .before .before .before .before .before
+        .shared-slice-known .given i)) (c .before .before .before .before .before .before .before .fill .ensures .1
+        .0) (c .before .before .before .before .before .before .before .fill .ensures .0)
+    (c .before .before .before .close .ensures)
+
+same-length : tie.Need-same-length
+same-length c = search needs
+
+returns : tie.Need-returns
+returns c = λ R.
+    one-built R (λ i. omega (arith, c .before .before .before .before .before .before .before .before .before .before
+        .before .before .before .before .shared-slice-known .given i)) (c .before .before .before .before .before
+        .before .before .before .before .before .fill .ensures .1 .0) (c .before .before .before .before .before
+        .before .before .before .before .before .fill .ensures .0)
+    (c .before .before .before .before .before .before .close .ensures) (c .before .before .settle .ensures)
+
+pub build-one-spec : {M : Type 1} → statement M
+build-one-spec = tie.close (tie.spec add-states fill-requires close-requires settle-requires same-length returns)

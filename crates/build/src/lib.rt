@@ -1,0 +1,2 @@
+// The automata of one or two sheets in the working words.
+pub mod build;

@@ -1,0 +1,71 @@
+-- A byte that is below its limit.
+use Prim.Native.Nat.{ℕ, _<_}
+use native.Mathlib.Omega.{arith}
+use mathlib.Core.Path.{_≡_, refl, sym}
+use mathlib.Core.Bool.{Bool, true, false}
+use mathlib.Core.List.{List}
+use lib.ListN.{length, getD}
+use lib.Dec.{leb}
+use borrow.Author.Tests.{leb-false, lt-leb}
+use Rattle.language.specs.Choice.{pick}
+use Rattle.heads.specs.Head.{byteOf, onByte}
+use Rattle.records.specs.Refusal.{refusal}
+use Rattle.records.specs.declared.refusal.Refusal.{Refusal}
+use Rattle.heads.specs.declared.head.Record.{Record}
+use Rattle.heads.specs.declared.head.Head.{Head}
+use Rattle.heads.specs.declared.head.Head.the-variants.{Good, Refused}
+use Rattle.heads.specs.declared.head.Byte.the-variants.{Is, Refused as Unread}
+
+-- a test whose one answer is no result
+pub pick-false : {A : Type 0} (t : Bool) {x y z : A} → (x ≡ z → ⊥) → pick t x y ≡ z → (t ≡ false) × (y ≡ z)
+pick-false true n h = absurd (n h)
+pick-false false n h = (refl, h)
+
+pub pick-true : {A : Type 0} (t : Bool) {x y z : A} → (y ≡ z → ⊥) → pick t x y ≡ z → (t ≡ true) × (x ≡ z)
+pick-true true n h = (refl, h)
+pick-true false n h = absurd (n h)
+
+pub bad-good : {x : Refusal} {r : Record} → Refused x ≡ Good r → ⊥
+bad-good h = let z : _≡_ {A = ℕ} 0 1 = cc in omega arith
+
+pub not-is : {x : Refusal} {b : ℕ} → Unread x ≡ Is b → ⊥
+not-is h = let z : _≡_ {A = ℕ} 0 1 = cc in omega arith
+
+pub good-same : {r r′ : Record} → Good r ≡ Good r′ → r ≡ r′
+good-same h = cc
+
+-- a byte that is accepted stands in the list, below the limit
+pub byte-in :
+    (s : List ℕ) (at limit : ℕ) {b : ℕ} → byteOf s at limit ≡ Is b →
+    (at < length s) × (b < limit) × (b ≡ getD s at 0)
+unfolding byteOf
+byte-in s at limit {b} h =
+    let o = pick-false (leb (length s) at) not-is h in
+    let i = pick-false (leb limit (getD s at 0)) not-is (o .1) in
+    let e : getD s at 0 ≡ b = cc (i .1) in
+    (leb-false (length s) at (o .0), omega (arith, leb-false limit (getD s at 0) (i .0)), sym e)
+
+pub byte-is :
+    (s : List ℕ) (at limit : ℕ) → at < length s → getD s at 0 < limit → byteOf s at limit ≡ Is (getD s at 0)
+unfolding byteOf
+byte-is s at limit h l = rw (lt-leb (length s) at h, lt-leb limit (getD s at 0) l)
+
+-- what is made of an accepted byte
+pub byte-good :
+    (s : List ℕ) (at limit : ℕ) (k : ℕ → Head) (r : Record) → onByte (byteOf s at limit) k ≡ Good r →
+    (at < length s) × (getD s at 0 < limit) × (k (getD s at 0) ≡ Good r)
+unfolding byteOf onByte
+byte-good s at limit k r = go (leb (length s) at) (leb limit (getD s at 0)) refl refl
+  where
+    go : (t u : Bool) → leb (length s) at ≡ t → leb limit (getD s at 0) ≡ u →
+        onByte (pick t (Unread (refusal 2 (length s))) (pick u (Unread (refusal 3 at)) (Is (getD s at 0)))) k ≡ Good r →
+        (at < length s) × (getD s at 0 < limit) × (k (getD s at 0) ≡ Good r)
+    go true u e f h = absurd (bad-good h)
+    go false true e f h = absurd (bad-good h)
+    go false false e f h = (leb-false (length s) at e, leb-false limit (getD s at 0) f, h)
+
+pub byte-made :
+    (s : List ℕ) (at limit : ℕ) (k : ℕ → Head) → at < length s → getD s at 0 < limit →
+    onByte (byteOf s at limit) k ≡ k (getD s at 0)
+unfolding onByte
+byte-made s at limit k h l = rw (byte-is s at limit h l)

@@ -1,0 +1,4 @@
+pub mod ByteLaws
+pub mod JudgeLaws
+pub mod BodyLaws
+pub mod HeadLaws

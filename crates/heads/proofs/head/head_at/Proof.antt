@@ -1,0 +1,94 @@
+-- The kind is judged before the depth, and both before the body.
+use borrow.Author.Needs.{needs}
+use borrow.Author.Tests.{le-leb, lt-leb, ne-eqb}
+use native.Mathlib.Omega.{arith}
+use mathlib.Core.Path.{_∙_, sym}
+use Rattle.heads.specs.Head.{blank, headOf, headOfShape}
+use Rattle.heads.proofs.head.head_at.Statement.{statement}
+use Rattle.heads.proofs.head.head_at.Tie as tie
+
+too-deep-requires : tie.Need-too-deep-requires
+too-deep-requires c κs = search needs
+
+returns : tie.Need-returns
+returns c = rw (c .before .if1 .taken) (c .too-deep .ensures _ _ _)
+
+refuse-requires : tie.Need-refuse-requires
+refuse-requires c κs = search needs
+
+returns-2 : tie.Need-returns-2
+unfolding headOf headOfShape
+returns-2 c = simp (← c .refuse .ensures, le-leb _ _ (c .before .if2 .taken))
+
+shared-slice-read-kind : tie.Need-shared-slice-read-kind
+shared-slice-read-kind c = search needs
+
+shape-of-requires : tie.Need-shape-of-requires
+shape-of-requires c κs = search needs
+
+enum-told : tie.Need-enum-told
+enum-told c = search needs
+
+refuse-requires-2 : tie.Need-refuse-requires-2
+refuse-requires-2 c κs = search needs
+
+enum-told-2 : tie.Need-enum-told-2
+enum-told-2 c = search needs
+
+refuse-requires-3 : tie.Need-refuse-requires-3
+refuse-requires-3 c κs = search needs
+
+enum-told-3 : tie.Need-enum-told-3
+enum-told-3 c = search needs
+
+refuse-requires-4 : tie.Need-refuse-requires-4
+refuse-requires-4 c κs = search needs
+
+enum-known-shape : tie.Need-enum-known-shape
+enum-known-shape c = search needs
+
+blank-record-requires : tie.Need-blank-record-requires
+blank-record-requires c κs = search needs
+
+body-at-requires : tie.Need-body-at-requires
+unfolding blank
+body-at-requires c κs = rw (c .blank-record .ensures) (omega arith)
+
+returns-3 : tie.Need-returns-3
+unfolding headOf headOfShape
+returns-3 c =
+    simp (← c .refuse2 .ensures, lt-leb _ _ (c .before .before .before .before .before .if2 .left),
+      sym (c .before .before .before .shape-of .ensures) ∙ c .before .enum-told .given .1,
+    )
+
+returns-4 : tie.Need-returns-4
+unfolding headOf headOfShape
+returns-4 c =
+    simp (← c .refuse3 .ensures, lt-leb _ _ (c .before .before .before .before .before .if2 .left),
+      sym (c .before .before .before .shape-of .ensures) ∙ c .before .enum-told2 .given .1,
+    )
+
+returns-5 : tie.Need-returns-5
+unfolding headOf headOfShape
+returns-5 c =
+    simp (← c .refuse4 .ensures, lt-leb _ _ (c .before .before .before .before .before .if2 .left),
+      sym (c .before .before .before .shape-of .ensures) ∙ c .before .enum-told3 .given .1,
+    )
+
+returns-6 : tie.Need-returns-6
+unfolding headOf headOfShape
+returns-6 c =
+    simp (
+      lt-leb _ _ (c .before .before .before .before .before .before .before .if2 .left),
+      sym (c .before .before .before .before .before .shape-of .ensures) ∙ c .before .before .before .shape .given .1,
+      ne-eqb _ _ (c .before .before .before .before .before .before .before .before .if1 .left),
+      ← c .before .blank-record .ensures,
+      ← c .body-at .ensures,
+    )
+
+pub head-at-spec : {M : Type 1} → statement M
+head-at-spec =
+    tie.close (tie.spec
+    too-deep-requires returns refuse-requires returns-2 shared-slice-read-kind shape-of-requires enum-told
+    refuse-requires-2 enum-told-2 refuse-requires-3 enum-told-3 refuse-requires-4 enum-known-shape
+    blank-record-requires body-at-requires returns-3 returns-4 returns-5 returns-6)

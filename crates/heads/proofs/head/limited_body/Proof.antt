@@ -1,0 +1,39 @@
+-- One byte below the limit.
+use borrow.Author.Needs.{needs}
+use mathlib.Core.Path.{_∙_, sym}
+use Rattle.heads.specs.Head.{limited, onByte}
+use Rattle.heads.proofs.head.limited_body.Statement.{statement}
+use Rattle.heads.proofs.head.limited_body.Tie as tie
+
+add-at : tie.Need-add-at
+add-at c = search needs
+
+byte-below-requires : tie.Need-byte-below-requires
+byte-below-requires c κs = search needs
+
+enum-known-found : tie.Need-enum-known-found
+enum-known-found c = search needs
+
+enum-known-found-2 : tie.Need-enum-known-found-2
+enum-known-found-2 c = search needs
+
+with-body-requires : tie.Need-with-body-requires
+with-body-requires c κs = search needs
+
+returns : tie.Need-returns
+unfolding limited onByte
+returns c =
+    simp (sym (c .before .before .before .byte-below .ensures) ∙ c .before .found .given .1)
+
+returns-2 : tie.Need-returns-2
+unfolding limited onByte
+returns-2 c =
+    simp (
+      sym (c .before .before .before .before .byte-below .ensures) ∙ c .before .before .found2 .given .1,
+      ← c .with-body .ensures,
+    )
+
+pub limited-body-spec : {M : Type 1} → statement M
+limited-body-spec =
+    tie.close (tie.spec
+    add-at byte-below-requires enum-known-found enum-known-found-2 with-body-requires returns returns-2)

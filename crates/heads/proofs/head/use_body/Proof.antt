@@ -1,0 +1,77 @@
+-- One byte, then the standing of the id.
+use borrow.Author.Needs.{needs}
+use borrow.Author.Tests.{eq-eqb, ne-eqb}
+use mathlib.Core.Path.{_∙_, sym}
+use Rattle.heads.specs.Head.{onByte, useOf}
+use Rattle.heads.proofs.head.use_body.Statement.{statement}
+use Rattle.heads.proofs.head.use_body.Tie as tie
+
+add-at : tie.Need-add-at
+add-at c = search needs
+
+byte-below-requires : tie.Need-byte-below-requires
+byte-below-requires c κs = search needs
+
+enum-known-found : tie.Need-enum-known-found
+enum-known-found c = search needs
+
+enum-known-found-2 : tie.Need-enum-known-found-2
+enum-known-found-2 c = search needs
+
+standing-of-requires : tie.Need-standing-of-requires
+standing-of-requires c κs = search needs
+
+refuse-requires : tie.Need-refuse-requires
+refuse-requires c κs = search needs
+
+returns : tie.Need-returns
+unfolding useOf onByte
+returns c =
+    simp (
+      ← c .refuse .ensures,
+      sym (c .before .before .before .before .before .before .byte-below .ensures)
+        ∙ c .before .before .before .before .found2 .given .1,
+      ← c .before .before .standing-of .ensures,
+      eq-eqb _ _ (c .before .if1 .taken),
+    )
+
+refuse-requires-2 : tie.Need-refuse-requires-2
+refuse-requires-2 c κs = search needs
+
+returns-2 : tie.Need-returns-2
+unfolding useOf onByte
+returns-2 c =
+    simp (
+      ← c .refuse2 .ensures,
+      sym (c .before .before .before .before .before .before .before .byte-below .ensures)
+        ∙ c .before .before .before .before .before .found2 .given .1,
+      ← c .before .before .before .standing-of .ensures,
+      ne-eqb _ _ (c .before .before .if1 .left),
+      eq-eqb _ _ (c .before .if2 .taken),
+    )
+
+used-record-requires : tie.Need-used-record-requires
+used-record-requires c κs = search needs
+
+returns-3 : tie.Need-returns-3
+unfolding useOf onByte
+returns-3 c =
+    simp (sym (c .before .before .before .byte-below .ensures) ∙ c .before .found .given .1)
+
+returns-4 : tie.Need-returns-4
+unfolding useOf onByte
+returns-4 c =
+    simp (
+      sym (c .before .before .before .before .before .before .before .byte-below .ensures)
+        ∙ c .before .before .before .before .before .found2 .given .1,
+      ← c .before .before .before .standing-of .ensures,
+      ne-eqb _ _ (c .before .before .if1 .left),
+      ne-eqb _ _ (c .before .if2 .left),
+      ← c .used-record .ensures,
+    )
+
+pub use-body-spec : {M : Type 1} → statement M
+use-body-spec =
+    tie.close (tie.spec
+    add-at byte-below-requires enum-known-found enum-known-found-2 standing-of-requires refuse-requires returns
+    refuse-requires-2 returns-2 used-record-requires returns-3 returns-4)

@@ -1,0 +1,12 @@
+-- The record of the definition.
+use borrow.Author.Needs.{needs}
+use Rattle.heads.specs.Head.{withBody}
+use Rattle.heads.proofs.head.with_body.Statement.{statement}
+use Rattle.heads.proofs.head.with_body.Tie as tie
+
+returns : tie.Need-returns
+unfolding withBody
+returns c = search needs
+
+pub with-body-spec : {M : Type 1} → statement M
+with-body-spec = tie.close (tie.spec returns)

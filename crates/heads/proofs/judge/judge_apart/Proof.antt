@@ -1,0 +1,33 @@
+-- The standing of the id decides.
+use borrow.Author.Needs.{needs}
+use Rattle.heads.specs.Judge.{apart}
+use Rattle.heads.proofs.judge.judge_apart.Statement.{statement}
+use Rattle.heads.proofs.judge.judge_apart.Tie as tie
+
+byte-at-requires : tie.Need-byte-at-requires
+byte-at-requires c κs = search needs
+
+standing-of-requires : tie.Need-standing-of-requires
+standing-of-requires c κs = search needs
+
+is-hiding-requires : tie.Need-is-hiding-requires
+is-hiding-requires c κs = search needs
+
+refuse-requires : tie.Need-refuse-requires
+refuse-requires c κs = search needs
+
+returns : tie.Need-returns
+unfolding apart
+returns c =
+    simp (← c .refuse .ensures, ← c .before .before .before .before .byte-at .ensures, ← c .before .before .before
+      .standing-of .ensures, ← c .before .before .is-hiding .ensures, c .before .if1 .taken)
+
+returns-2 : tie.Need-returns-2
+unfolding apart
+returns-2 c =
+    simp (← c .before .before .before .byte-at .ensures, ← c .before .before .standing-of .ensures, ← c .before
+      .is-hiding .ensures, c .if1 .left)
+
+pub judge-apart-spec : {M : Type 1} → statement M
+judge-apart-spec =
+    tie.close (tie.spec byte-at-requires standing-of-requires is-hiding-requires refuse-requires returns returns-2)

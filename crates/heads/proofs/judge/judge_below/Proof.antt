@@ -1,0 +1,33 @@
+-- A byte must be there before its range is judged.
+use borrow.Author.Needs.{needs}
+use borrow.Author.Tests.{le-leb, lt-leb}
+use Rattle.heads.specs.Judge.{below}
+use Rattle.heads.proofs.judge.judge_below.Statement.{statement}
+use Rattle.heads.proofs.judge.judge_below.Tie as tie
+
+refuse-requires : tie.Need-refuse-requires
+refuse-requires c κs = search needs
+
+returns : tie.Need-returns
+unfolding below
+returns c = simp (← c .refuse .ensures, le-leb _ _ (c .before .if1 .taken))
+
+shared-slice-read-if2 : tie.Need-shared-slice-read-if2
+shared-slice-read-if2 c = search needs
+
+refuse-requires-2 : tie.Need-refuse-requires-2
+refuse-requires-2 c κs = search needs
+
+returns-2 : tie.Need-returns-2
+unfolding below
+returns-2 c =
+    simp (← c .refuse2 .ensures, lt-leb _ _ (c .before .before .before .if1 .left), le-leb _ _ (c .before .if2
+      .taken))
+
+returns-3 : tie.Need-returns-3
+unfolding below
+returns-3 c = simp (lt-leb _ _ (c .before .before .if1 .left), lt-leb _ _ (c .if2 .left))
+
+pub judge-below-spec : {M : Type 1} → statement M
+judge-below-spec =
+    tie.close (tie.spec refuse-requires returns shared-slice-read-if2 refuse-requires-2 returns-2 returns-3)

@@ -1,0 +1,34 @@
+-- The judgement of the sheet, as the service answers it.
+use borrow.Author.Needs.{needs}
+use mathlib.Core.Path.{refl}
+use Rattle.sheet.proofs.Noting.{blank-made}
+use Rattle.judge.proofs.Judging.{checked-refused, checked-accepted}
+use Rattle.judge.proofs.check.check.Statement.{statement}
+use Rattle.judge.proofs.check.check.Tie as tie
+
+judge-sheet-requires : tie.Need-judge-sheet-requires
+judge-sheet-requires c κs = blank-made 37120 refl
+
+enum-known-x : tie.Need-enum-known-x
+enum-known-x c = search needs
+
+enum-told : tie.Need-enum-told
+enum-told c = search needs
+
+refusal-of-requires : tie.Need-refusal-of-requires
+refusal-of-requires c κs = search needs
+
+of-sheet-requires : tie.Need-of-sheet-requires
+of-sheet-requires c κs = search needs
+
+returns : tie.Need-returns
+returns c =
+    checked-refused _ _ _ (c .before .before .before .before .judge-sheet .ensures) (c .before .before .enum-told
+        .given .1) (c .before .refusal-of .ensures) (c .of-sheet .ensures)
+
+returns-2 : tie.Need-returns-2
+returns-2 c = checked-accepted _ _ _ (c .before .before .before .judge-sheet .ensures) (c .before .x .given .1)
+
+pub check-spec : {M : Type 1} → statement M
+check-spec = tie.close
+    (tie.spec judge-sheet-requires enum-known-x enum-told refusal-of-requires of-sheet-requires returns returns-2)

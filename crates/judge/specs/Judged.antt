@@ -1,0 +1,40 @@
+-- What judging a sheet leaves for the passes over its parts: the sheet is accepted, the table shows its term, and the
+-- marks are those of its parts; or why it is refused. Only inner contracts cite it.
+use Prim.Native.Nat.{ℕ}
+use mathlib.Core.Path.{_≡_}
+use mathlib.Core.List.{List}
+use Rattle.records.specs.Refusal.{refusal, not-refused}
+use Rattle.records.specs.declared.edition.Edition.{Edition}
+use Rattle.records.specs.declared.refusal.Refusal.{Refusal}
+use Rattle.procedures.specs.Written as written
+use Rattle.procedures.specs.Context.{whole}
+use Rattle.procedures.specs.Table.{Shown}
+use Rattle.procedures.specs.Marks.{Marked}
+use Rattle.sheet.specs.Encoding.{headingLength}
+use Rattle.sheet.specs.Reader.{numbersAt, readUnder, accepted, rejected}
+use Rattle.judge.specs.Mark.{usesOf}
+use Rattle.sheet.specs.table.Tabled.{places}
+use Rattle.judge.specs.declared.mark.Uses.{Uses}
+use Rattle.judge.specs.declared.judge.Judgement.{Judgement}
+use Rattle.judge.specs.declared.judge.Judgement.the-variants.{Sheet, Refused}
+
+-- the sheet is accepted with type ty and the given size, and uses the given names; the table u shows its term from
+-- root on, the marks M are its marks
+pub record Judged (ed : Edition) (s : List ℕ) (root ty size : ℕ) (uses : Uses) (u M : List ℕ) : Type 0 where
+  pub sheet : written.Sheet
+  pub end : ℕ
+  pub accepts : readUnder ed s ≡ accepted sheet ty size
+  pub numbered : sheet .numbers ≡ numbersAt s
+  pub rooted : root ≡ headingLength sheet
+  pub shown : Shown (numbersAt s) (sheet .names) u whole places root end (sheet .term)
+  pub used : uses ≡ usesOf sheet
+  pub marked : Marked (numbersAt s) (sheet .names) u M whole root (sheet .term)
+
+unfoldable pub JudgedBy : Edition → List ℕ → Judgement → List ℕ → List ℕ → Type 0
+JudgedBy ed s (Sheet root ty size uses) u M = Judged ed s root ty size uses u M
+JudgedBy ed s (Refused x) u M = readUnder ed s ≡ rejected (x .number) (x .place)
+
+-- the refusal of a sheet that is judged; its number is 0 where the sheet is not refused
+unfoldable pub refusalIn : Judgement → Refusal
+refusalIn (Sheet root ty size uses) = refusal not-refused 0
+refusalIn (Refused x) = x

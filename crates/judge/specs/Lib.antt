@@ -1,0 +1,5 @@
+pub mod Size
+pub mod Mark
+pub mod Check
+pub mod Masks
+pub mod Judged

@@ -1,0 +1,58 @@
+// A whole sheet judged: read, weighed, and held to the greatest size.
+use crate::mark::Uses;
+use crate::mark::uses_of;
+use crate::size::size_of;
+use part_rows::row::TABLE;
+use parts::weight::LIMIT;
+use records::edition::Edition;
+use records::refusal::Refusal;
+use records::refusal::TOO_LARGE;
+use records::refusal::refuse;
+use sheet::names::Reading;
+use sheet::reading::numbers_of;
+use sheet::reading::read_sheet;
+use weigh::term::weigh;
+ghost use mathlib.Core.Path.{_≡_};
+ghost use Rattle.sheet.specs.table.Notes.{Blank};
+ghost use Rattle.judge.specs.Judged.{JudgedBy};
+
+// What judging a sheet gives: the place of its term, its type, its size and which names it uses; or the refusal.
+pub enum Judgement {
+    Sheet {
+        root: usize,
+        ty: u8,
+        size: u32,
+        uses: Uses,
+    },
+    Refused(Refusal),
+}
+
+// Judges a whole sheet by the rule of an edition, and leaves the rows of its parts in the blank table and their marks.
+pub fn judge_sheet(
+    edition: Edition,
+    s: &[u8],
+    t: &mut [u16; TABLE],
+    marks: &mut [u16; 4096],
+) -> Judgement
+    requires { ⌜ Blank (now t) ⌝ }
+    ensures { λ x. ⌜ JudgedBy edition (now (s .entry)) x (now (t .exit)) (now (marks .exit)) ⌝ }
+{
+    let x = read_sheet(edition, s, t);
+    match x {
+        Reading::Refused(refusal) => Judgement::Refused(refusal),
+        Reading::Sheet { root, ty, next: _ } => {
+            let weight = weigh(t, root, marks);
+            let size = size_of(numbers_of(s), ty, weight);
+            if LIMIT < size {
+                return Judgement::Refused(refuse(TOO_LARGE, 0));
+            }
+            let uses = uses_of(s, t);
+            Judgement::Sheet {
+                root,
+                ty,
+                size,
+                uses,
+            }
+        }
+    }
+}

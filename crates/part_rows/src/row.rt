@@ -1,0 +1,253 @@
+// The table of parts: nine words for each place of a sheet.
+use heads::head::Record;
+use language::Numbers;
+use parts::typing::COMMAND;
+use parts::typing::TRUTH_VARIABLE;
+use parts::weight::values_of;
+use records::kind::Rule;
+use records::standing::Standing;
+use records::standing::meaning_of;
+ghost use mathlib.Core.Path.{_≡_};
+ghost use Prim.Native.Nat.{_+_, _*_, _≤_, _<_};
+ghost use lib.ListN.{set, length};
+ghost use Rattle.part_rows.specs.Row.{cell, useKind, rowKind, classOf, useDetail, detail};
+ghost use Rattle.part_rows.specs.Row.{fiveFrom, five, rowWritten, linked};
+ghost use Rattle.records.specs.Standing.{standingOf};
+
+// The words of a row: the kind of the part, the place after it, the class of its type and the number of values of its
+// data, a detail by its kind, and the places of its parts.
+pub const KIND: usize = 0;
+
+pub const END: usize = 1;
+
+// In the rows of a term, which the automaton is made from, the weight of the part stands there.
+pub const WEIGHT: usize = 1;
+
+pub const CLASS: usize = 2;
+
+pub const VALUES: usize = 3;
+
+pub const DETAIL: usize = 4;
+
+pub const PARTS: usize = 5;
+
+// How many they are.
+pub const WORDS: usize = 9;
+
+// After the rows of 4,096 places a table has a word for each byte that may be an id, the notes: where they begin, and
+// how many words a table has.
+pub const NOTES: usize = 36864;
+
+pub const TABLE: usize = 37120;
+
+// The kinds of rows that are no kinds of records: of every constant, and of the uses of a private variable, of a
+// parameter and of a procedure.
+const CONSTANT: u16 = 18;
+
+const PRIVATE: u16 = 128;
+
+const PARAMETER: u16 = 129;
+
+const USED: u16 = 130;
+
+// The classes of types.
+const COMMANDS: u16 = 0;
+
+const EXPRESSIONS: u16 = 1;
+
+const VARIABLES: u16 = 2;
+
+// Where ids end in the detail of a use of a name, and where places and counts end in that of a use of a procedure.
+const IDS: u16 = 256;
+
+const PLACES: u16 = 4096;
+
+const COUNTS: u8 = 8;
+
+// Stores v at i, if the table reaches that far.
+pub fn put(t: &mut [u16], i: usize, v: u16)
+    ensures { λ r. ⌜ now (t .exit) ≡ set (now (t .entry)) i v ⌝ }
+{
+    if i < t.len() {
+        t[i] = v;
+    }
+}
+
+// Word i of the row at a place.
+pub(crate) fn cell_at(place: usize, i: usize) -> usize
+    requires { ⌜ (place < 65536) × (i < 65536) ⌝ }
+    ensures { λ r. ⌜ r ≡ cell place i ⌝ }
+{
+    WORDS * place + i
+}
+
+// Stores v in word i of the row at a place, if the table reaches that far.
+pub(crate) fn put_cell(t: &mut [u16], place: usize, i: usize, v: u16)
+    requires { ⌜ (place < 65536) × (i < 65536) ⌝ }
+    ensures { λ r. ⌜ now (t .exit) ≡ set (now (t .entry)) (cell place i) v ⌝ }
+{
+    let at = cell_at(place, i);
+    put(t, at, v);
+}
+
+// The kind in the row of a use, of an id whose standing is `c`.
+pub(crate) fn use_kind(kind: u16, c: u32) -> u16
+    ensures { λ r. ⌜ r ≡ useKind kind (standingOf c) ⌝ }
+{
+    let standing = meaning_of(c);
+    match standing {
+        Standing::Free => kind,
+        Standing::Retired => kind,
+        Standing::Declared { place: _ } => kind,
+        Standing::Variable {
+            number: _,
+            holds: _,
+        } => PRIVATE,
+        Standing::Parameter { number: _, ty: _ } => PARAMETER,
+        Standing::Procedure {
+            number: _,
+            place: _,
+        } => USED,
+    }
+}
+
+// The kind in a record's row.
+pub(crate) fn row_kind(rule: Rule, r: Record) -> u16
+    ensures { λ x. ⌜ x ≡ rowKind rule r ⌝ }
+{
+    let kind = r.kind as u16;
+    match rule {
+        Rule::Skip => kind,
+        Rule::Diverge => kind,
+        Rule::Truth => kind,
+        Rule::Number => CONSTANT,
+        Rule::Use => use_kind(kind, r.b),
+        Rule::Fetch => kind,
+        Rule::Operate => kind,
+        Rule::Assign => kind,
+        Rule::Sequence => kind,
+        Rule::If => kind,
+        Rule::While => kind,
+        Rule::New => kind,
+        Rule::Procedure => kind,
+    }
+}
+
+// The class of a type.
+pub(crate) fn class_of(ty: u8) -> u16
+    ensures { λ r. ⌜ r ≡ classOf ty ⌝ }
+{
+    if ty == COMMAND {
+        return COMMANDS;
+    }
+    if ty < TRUTH_VARIABLE {
+        EXPRESSIONS
+    } else {
+        VARIABLES
+    }
+}
+
+// The detail of a use of a name: its id and 256 times the number of its arguments.
+fn name_detail(id: u8, count: u8) -> u16
+    ensures { λ r. ⌜ r ≡ id + 256 * count ⌝ }
+{
+    id as u16 + IDS * (count as u16)
+}
+
+// The detail of a use: of a name its id and 256 times the number of its arguments, of a variable or a parameter its
+// number, of a procedure the place of its record and 4,096 times the number of its arguments.
+pub(crate) fn use_detail(r: Record) -> u16
+    ensures { λ x. ⌜ x ≡ useDetail (r .a) (r .parts) (standingOf (r .b)) ⌝ }
+{
+    let standing = meaning_of(r.b);
+    match standing {
+        Standing::Free => name_detail(r.a, r.parts),
+        Standing::Retired => name_detail(r.a, r.parts),
+        Standing::Declared { place: _ } => name_detail(r.a, r.parts),
+        Standing::Variable { number, holds: _ } => number,
+        Standing::Parameter { number, ty: _ } => number,
+        Standing::Procedure { number: _, place } => {
+            (place % PLACES as u32) as u16 + PLACES * ((r.parts % COUNTS) as u16)
+        }
+    }
+}
+
+// The detail in the row of a record that `number` binders enclose.
+pub(crate) fn detail_of(rule: Rule, n: Numbers, r: Record, number: u8) -> u16
+    ensures { λ x. ⌜ x ≡ detail rule n r number ⌝ }
+{
+    match rule {
+        Rule::Skip => 0,
+        Rule::Diverge => 0,
+        Rule::Truth => r.a as u16,
+        Rule::Number => language::number::code_of_byte(n, r.a),
+        Rule::Use => use_detail(r),
+        Rule::Fetch => 0,
+        Rule::Operate => r.a as u16,
+        Rule::Assign => 0,
+        Rule::Sequence => 0,
+        Rule::If => 0,
+        Rule::While => 0,
+        Rule::New => values_of(n, r.b),
+        Rule::Procedure => number as u16,
+    }
+}
+
+// Stores five words from `at` on.
+fn put_words(t: &mut [u16], at: usize, kind: u16, end: u16, class: u16, values: u16, detail: u16)
+    requires { ⌜ at + 4 < length (now t) ⌝ }
+    ensures { λ x. ⌜ now (t .exit) ≡ fiveFrom at kind end class values detail (now (t .entry)) ⌝ }
+{
+    t[at] = kind;
+    t[at + END] = end;
+    t[at + CLASS] = class;
+    t[at + VALUES] = values;
+    t[at + DETAIL] = detail;
+}
+
+// Stores those of the five words that the table reaches.
+fn put_each(t: &mut [u16], place: usize, kind: u16, end: u16, class: u16, values: u16, detail: u16)
+    requires { ⌜ place < 65536 ⌝ }
+    ensures { λ x. ⌜ now (t .exit) ≡ five place kind end class values detail (now (t .entry)) ⌝ }
+{
+    put_cell(t, place, KIND, kind);
+    put_cell(t, place, END, end);
+    put_cell(t, place, CLASS, class);
+    put_cell(t, place, VALUES, values);
+    put_cell(t, place, DETAIL, detail);
+}
+
+// Stores the first five words of the row at a place: with one test where the table has them all.
+fn put_five(t: &mut [u16], place: usize, kind: u16, end: u16, class: u16, values: u16, detail: u16)
+    requires { ⌜ place < 65536 ⌝ }
+    ensures { λ x. ⌜ now (t .exit) ≡ five place kind end class values detail (now (t .entry)) ⌝ }
+{
+    if cell_at(place, DETAIL) < t.len() {
+        put_words(t, cell_at(place, KIND), kind, end, class, values, detail);
+        return;
+    }
+    put_each(t, place, kind, end, class, values, detail);
+}
+
+// Writes the row of a record of type ty that `number` binders enclose and that ends before a place, but for the places
+// of its parts.
+pub fn write_row(t: &mut [u16], n: Numbers, r: Record, ty: u8, number: u8, end: usize)
+    requires { ⌜ (r .place < 65536) × (end < 65536) ⌝ }
+    ensures { λ x. ⌜ now (t .exit) ≡ rowWritten n r ty number end (now (t .entry)) ⌝ }
+{
+    let rule = r.rule;
+    let place = r.place;
+    let kind = row_kind(rule, r);
+    let class = class_of(ty);
+    let values = values_of(n, ty as u32);
+    let detail = detail_of(rule, n, r, number);
+    put_five(t, place, kind, end as u16, class, values, detail);
+}
+
+// Writes the place of part j into the row at a place.
+pub fn link(t: &mut [u16], place: usize, j: u8, part: usize)
+    requires { ⌜ (place < 65536) × (part < 65536) ⌝ }
+    ensures { λ x. ⌜ now (t .exit) ≡ linked place j part (now (t .entry)) ⌝ }
+{
+    put_cell(t, place, PARTS + j as usize, part as u16);
+}

@@ -1,0 +1,26 @@
+-- A store past the end changes nothing.
+use borrow.Author.Needs.{needs}
+use mathlib.Core.Path.{sym, refl}
+use denote.Ref.{now}
+use lib.Seq.{set-out}
+use Rattle.parts.proofs.scope.put_standing.Statement.{statement}
+use Rattle.parts.proofs.scope.put_standing.Tie as tie
+
+mul-st : tie.Need-mul-st
+mul-st c = search needs
+
+slice-write-st : tie.Need-slice-write-st
+slice-write-st c = search needs
+
+same-length : tie.Need-same-length
+same-length c = search needs
+
+returns : tie.Need-returns
+returns c = refl
+
+returns-2 : tie.Need-returns-2
+returns-2 c =
+    sym (set-out (now (c .before .args .st)) (c .before .args .id) (c .before .args .standing) (c .if1 .left))
+
+pub put-standing-spec : {M : Type 1} → statement M
+put-standing-spec = tie.close (tie.spec mul-st slice-write-st same-length returns returns-2)

@@ -1,0 +1,148 @@
+-- Each rule has its own test.
+use borrow.Author.Needs.{needs}
+use borrow.Author.Tests.{eq-eqb, ne-eqb}
+use Rattle.parts.specs.Rule.{acceptsPart}
+use Rattle.parts.proofs.typing.accepts_part.Statement.{statement}
+use Rattle.parts.proofs.typing.accepts_part.Tie as tie
+
+enum-told : tie.Need-enum-told
+enum-told c = search needs
+
+enum-told-2 : tie.Need-enum-told-2
+enum-told-2 c = search needs
+
+enum-told-3 : tie.Need-enum-told-3
+enum-told-3 c = search needs
+
+enum-told-4 : tie.Need-enum-told-4
+enum-told-4 c = search needs
+
+enum-told-5 : tie.Need-enum-told-5
+enum-told-5 c = search needs
+
+argument-of-requires : tie.Need-argument-of-requires
+argument-of-requires c κs = search needs
+
+enum-told-6 : tie.Need-enum-told-6
+enum-told-6 c = search needs
+
+enum-told-7 : tie.Need-enum-told-7
+enum-told-7 c = search needs
+
+operand-type-requires : tie.Need-operand-type-requires
+operand-type-requires c κs = search needs
+
+enum-told-8 : tie.Need-enum-told-8
+enum-told-8 c = search needs
+
+add-result : tie.Need-add-result
+add-result c = search needs
+
+enum-told-9 : tie.Need-enum-told-9
+enum-told-9 c = search needs
+
+enum-told-10 : tie.Need-enum-told-10
+enum-told-10 c = search needs
+
+returns : tie.Need-returns
+unfolding acceptsPart
+returns c = simp (c .before .enum-told10 .given .1, eq-eqb _ _ (c .if3 .taken))
+
+returns-2 : tie.Need-returns-2
+unfolding acceptsPart
+returns-2 c =
+    simp (c .before .before .enum-told10 .given .1, ne-eqb _ _ (c .before .if3 .left), eq-eqb _ _ (c .if4 .taken))
+
+enum-told-11 : tie.Need-enum-told-11
+enum-told-11 c = search needs
+
+enum-told-12 : tie.Need-enum-told-12
+enum-told-12 c = search needs
+
+enum-told-13 : tie.Need-enum-told-13
+enum-told-13 c = search needs
+
+add-byte-at : tie.Need-add-byte-at
+add-byte-at c = search needs
+
+byte-at-requires : tie.Need-byte-at-requires
+byte-at-requires c κs = search needs
+
+returns-3 : tie.Need-returns-3
+unfolding acceptsPart
+returns-3 c = simp (c .enum-told .given .1)
+
+returns-4 : tie.Need-returns-4
+unfolding acceptsPart
+returns-4 c = simp (c .enum-told2 .given .1)
+
+returns-5 : tie.Need-returns-5
+unfolding acceptsPart
+returns-5 c = simp (c .enum-told3 .given .1)
+
+returns-6 : tie.Need-returns-6
+unfolding acceptsPart
+returns-6 c = simp (c .enum-told4 .given .1)
+
+returns-7 : tie.Need-returns-7
+unfolding acceptsPart
+returns-7 c = simp (c .before .enum-told5 .given .1, ← c .argument-of .ensures)
+
+returns-8 : tie.Need-returns-8
+unfolding acceptsPart
+returns-8 c = simp (c .enum-told6 .given .1)
+
+returns-9 : tie.Need-returns-9
+unfolding acceptsPart
+returns-9 c = simp (c .before .enum-told7 .given .1, ← c .operand-type .ensures)
+
+returns-10 : tie.Need-returns-10
+unfolding acceptsPart
+returns-10 c = simp (c .before .enum-told8 .given .1, eq-eqb _ _ (c .if1 .taken))
+
+returns-11 : tie.Need-returns-11
+unfolding acceptsPart
+returns-11 c = simp (c .before .enum-told8 .given .1, ne-eqb _ _ (c .if1 .left))
+
+returns-12 : tie.Need-returns-12
+unfolding acceptsPart
+returns-12 c = simp (c .before .enum-told9 .given .1, eq-eqb _ _ (c .if2 .taken))
+
+returns-13 : tie.Need-returns-13
+unfolding acceptsPart
+returns-13 c = simp (c .before .enum-told9 .given .1, ne-eqb _ _ (c .if2 .left))
+
+returns-14 : tie.Need-returns-14
+unfolding acceptsPart
+returns-14 c =
+    simp (c .before .before .enum-told10 .given .1, ne-eqb _ _ (c .before .if3 .left), ne-eqb _ _ (c .if4 .left))
+
+returns-15 : tie.Need-returns-15
+unfolding acceptsPart
+returns-15 c = simp (c .before .enum-told11 .given .1, eq-eqb _ _ (c .if5 .taken))
+
+returns-16 : tie.Need-returns-16
+unfolding acceptsPart
+returns-16 c = simp (c .before .enum-told11 .given .1, ne-eqb _ _ (c .if5 .left))
+
+returns-17 : tie.Need-returns-17
+unfolding acceptsPart
+returns-17 c = simp (c .enum-told12 .given .1)
+
+returns-18 : tie.Need-returns-18
+unfolding acceptsPart
+returns-18 c =
+    simp (c .before .before .before .enum-told13 .given .1, eq-eqb _ _ (c .before .before .if6 .taken), ← c .byte-at
+      .ensures)
+
+returns-19 : tie.Need-returns-19
+unfolding acceptsPart
+returns-19 c = simp (c .before .enum-told13 .given .1, ne-eqb _ _ (c .if6 .left))
+
+pub accepts-part-spec : {M : Type 1} → statement M
+accepts-part-spec =
+    tie.close (tie.spec enum-told enum-told-2 enum-told-3 enum-told-4 enum-told-5 argument-of-requires enum-told-6
+    enum-told-7 operand-type-requires enum-told-8 add-result enum-told-9 enum-told-10 returns returns-2 enum-told-11
+    enum-told-12 enum-told-13 add-byte-at byte-at-requires returns-3 returns-4 returns-5 returns-6 returns-7 returns-8
+    returns-9 returns-10 returns-11 returns-12 returns-13 returns-14 returns-15 returns-16 returns-17 returns-18
+    returns-19)

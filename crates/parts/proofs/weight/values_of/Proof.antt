@@ -1,0 +1,29 @@
+-- Truths have two values; numbers, at most 511.
+use borrow.Author.Needs.{needs}
+use borrow.Author.Tests.{ne-eqb}
+use native.Mathlib.Omega.{arith}
+use Rattle.language.specs.Number.{numbers}
+use Rattle.parts.specs.Rule.{values}
+use Rattle.parts.proofs.weight.values_of.Statement.{statement}
+use Rattle.parts.proofs.weight.values_of.Tie as tie
+
+numbers-requires : tie.Need-numbers-requires
+numbers-requires c κs = search needs
+
+returns : tie.Need-returns
+unfolding values numbers
+returns c = (simp (c .match .keys1), omega arith)
+
+returns-2 : tie.Need-returns-2
+unfolding values numbers
+returns-2 c = (simp (c .match .keys2), omega arith)
+
+returns-3 : tie.Need-returns-3
+unfolding values numbers
+returns-3 c = (
+  simp (ne-eqb _ _ (c .before .match .rest .1), ne-eqb _ _ (c .before .match .rest .0 .1), c .numbers .ensures),
+  omega (arith, c .numbers .ensures),
+)
+
+pub values-of-spec : {M : Type 1} → statement M
+values-of-spec = tie.close (tie.spec numbers-requires returns returns-2 returns-3)

@@ -1,0 +1,86 @@
+-- What each turn of the loop over a play's letters writes.
+use Prim.Native.Nat.{ℕ, suc, _+_, _*_, _/_, _%_, _≤_, _<_}
+use native.Mathlib.Omega.{arith}
+use native.Mathlib.Decide.{decLt}
+use native.Mathlib.Numerals.{add-one}
+use mathlib.Core.Path.{_≡_, refl, sym, ap, _∙_}
+use mathlib.Core.List.{List, _∷_}
+use lib.ListN.{length, getD, take, drop, set, length-take, length-drop, drop-of-length-le}
+use lib.Seq.{drop-cons, getD-take, getD-drop}
+use borrow.Author.Tests.{lt-ltb, le-ltb}
+use Rattle.play.specs.Bytes.{withRecord, afterRecord, withRecords}
+use Rattle.play.proofs.WritingPlays.{record-length}
+
+-- a record, byte by byte
+module _ (s s₁ s₂ s₃ : List ℕ) (from l : ℕ) (a : s₁ ≡ set s from (l / 16777216 % 256))
+    (b : s₂ ≡ set s₁ (from + 1) (l / 65536 % 256)) (c : s₃ ≡ set s₂ (from + 2) (l / 256 % 256)) where
+  -- three bytes are put
+  pub put-three : l / 16777216 < 5 → (from + 3 ≡ afterRecord from l) × (s₃ ≡ withRecord s from l)
+  unfolding afterRecord withRecord
+  put-three h = rw (lt-ltb (l / 16777216) 5 h, ← a, ← b, ← c) (refl, refl)
+
+  -- four bytes are put
+  pub put-four : (s₄ : List ℕ) → 5 ≤ l / 16777216 → s₄ ≡ set s₃ (from + 3) ((l % 256 + 128) % 256) →
+      (from + 4 ≡ afterRecord from l) × (s₄ ≡ withRecord s from l)
+  unfolding afterRecord withRecord
+  put-four s₄ h d = rw (le-ltb (l / 16777216) 5 h, ← a, ← b, ← c) (refl, d)
+
+-- the letters in the words
+abbrev lettersIn : List ℕ → ℕ → ℕ → List ℕ
+lettersIn words base len = take len (drop base words)
+
+-- i letters are written, and those after them are still to be written from a place on
+pub record Writing (words : List ℕ) (base len : ℕ) (space : List ℕ) (from i : ℕ) (s : List ℕ) : Type 0 where
+  pub within : i ≤ len
+  pub few : from ≤ 4 * i
+  pub same-length : length s ≡ length space
+  pub same : withRecords space 0 (lettersIn words base len) ≡ withRecords s from (drop i (lettersIn words base len))
+
+-- before the first letter
+pub writing-first : (words : List ℕ) (base len : ℕ) (space : List ℕ) → Writing words base len space 0 0 space
+writing-first words base len space =
+    record { within = omega arith; few = omega arith; same-length = refl; same = refl }
+
+-- a record is at most four bytes
+after-few : (from l : ℕ) → afterRecord from l ≤ from + 4
+unfolding afterRecord
+after-few from l = by (decLt (l / 16777216) 5)
+  where
+    by : Dec (l / 16777216 < 5) → afterRecord from l ≤ from + 4
+    by (yes h) = rw (lt-ltb (l / 16777216) 5 h) (omega arith)
+    by (no h) = rw (le-ltb (l / 16777216) 5 (omega arith)) (omega arith)
+
+-- one letter's record, then the rest
+rest-same : (s s′ xs : List ℕ) (from from′ l x : ℕ) → l ≡ x → from′ ≡ afterRecord from l → s′ ≡ withRecord s from l →
+    withRecords s from (x ∷ xs) ≡ withRecords s′ from′ xs
+unfolding withRecords
+rest-same s s′ xs from from′ l x e f g = rw (g, f, e)
+
+module _ {words : List ℕ} {base len : ℕ} {space : List ℕ} {from i : ℕ} {s : List ℕ}
+    (W : Writing words base len space from i s) where
+  -- the next letter
+  letters-step : i < len → base + len ≤ length words →
+      drop i (lettersIn words base len) ≡ getD words (base + i) 0 ∷ drop (i + 1) (lettersIn words base len)
+  letters-step h room =
+      let L = lettersIn words base len in
+      let l : i < length L = simp (length-take, length-drop) (omega arith) in
+      let v : getD L i 0 ≡ getD words (base + i) 0 =
+            getD-take len (drop base words) i 0 h ∙ getD-drop base words i 0 in
+      rw (add-one i) (drop-cons L i 0 l ∙ ap (λ (x : ℕ). x ∷ drop (suc i) L) v)
+
+  -- one letter more
+  pub writing-again : (from′ l : ℕ) (s′ : List ℕ) → i < len → base + len ≤ length words →
+      l ≡ getD words (base + i) 0 → from′ ≡ afterRecord from l → s′ ≡ withRecord s from l →
+      Writing words base len space from′ (i + 1) s′
+  writing-again from′ l s′ h room e f g = record
+    { within = omega arith
+    ; few = omega (arith, after-few from l, W .few)
+    ; same-length = ap length g ∙ record-length s from l ∙ W .same-length
+    ; same = W .same ∙ ap (withRecords s from) (letters-step h room) ∙ rest-same s s′ _ from from′ l _ e f g }
+
+  -- all letters are written
+  pub writing-last : len ≤ i → s ≡ withRecords space 0 (lettersIn words base len)
+  unfolding withRecords
+  writing-last h =
+      let l : length (lettersIn words base len) ≤ i = simp length-take (omega arith) in
+      sym (W .same ∙ ap (withRecords s from) (drop-of-length-le (lettersIn words base len) l))

@@ -1,0 +1,46 @@
+-- What the code computes on the records of plays, case by case.
+use Prim.Native.Nat.{ℕ, zero, suc, _+_, _*_, _/_, _%_}
+use mathlib.Core.List.{List, [], _∷_}
+use lib.ListN.{length, getD, set}
+use lib.Dec.{ltb}
+use Rattle.language.specs.Choice.{pick}
+use Rattle.records.specs.Limits.{bytes}
+use Rattle.explicit.specs.Letter.{RANK-ZERO, KIND-UNIT, ID-UNIT, ARGUMENT-UNIT}
+use Rattle.play.specs.Records.{Given, moves, bad, valued, kinds, width}
+use Rattle.play.specs.declared.play.Parsed.{Parsed}
+use Rattle.play.specs.declared.play.Parsed.the-variants.{Moves, Bad}
+
+-- how many bytes a record of a kind has, 0 where there is no such kind
+unfoldable pub widthOf : ℕ → ℕ
+widthOf kind = pick (ltb kind kinds) (width kind) 0
+
+-- how many records there are, where c come before; or the place of the first bad one
+unfoldable pub counted : ℕ → Given → Parsed
+counted c (moves rs) = Moves (c + length rs)
+counted c (bad place) = Bad place
+
+-- the letter of a record: kind, id, argument, and the rank of its value where it has one
+unfoldable pub letterFrom : ℕ → ℕ → ℕ → ℕ → ℕ
+letterFrom kind id arg value =
+    pick (ltb kind valued) (kind * KIND-UNIT + id * ID-UNIT + arg * ARGUMENT-UNIT)
+    (kind * KIND-UNIT + id * ID-UNIT + arg * ARGUMENT-UNIT + (value + RANK-ZERO) % bytes)
+
+-- the letter of the record with which the bytes begin
+unfoldable pub firstLetter : List ℕ → ℕ
+firstLetter s = letterFrom (getD s 0 0) (getD s 1 0) (getD s 2 0) (getD s 3 0)
+
+-- the record of a letter, written from a place on; bytes past the end are left out
+unfoldable pub withRecord : List ℕ → ℕ → ℕ → List ℕ
+withRecord s at l =
+    let three = set (set (set s at (l / KIND-UNIT % bytes)) (at + 1) (l / ID-UNIT % bytes)) (at + 2)
+      (l / ARGUMENT-UNIT % bytes) in
+    pick (ltb (l / KIND-UNIT) valued) three (set three (at + 3) ((l % bytes + RANK-ZERO) % bytes))
+
+-- the place after it
+unfoldable pub afterRecord : ℕ → ℕ → ℕ
+afterRecord at l = at + width (l / KIND-UNIT)
+
+-- the records of letters, one after the other
+unfoldable pub withRecords : List ℕ → ℕ → List ℕ → List ℕ
+withRecords s at [] = s
+withRecords s at (l ∷ ls) = withRecords (withRecord s at l) (afterRecord at l) ls

@@ -1,0 +1,2 @@
+// The records of a play: how they are read and written.
+pub mod play;

@@ -1,0 +1,130 @@
+// The records of a play, and the letters of their moves.
+use records::read::byte_at;
+use records::store::put_byte;
+ghost use mathlib.Core.Path.{_≡_};
+ghost use Prim.Native.Nat.{_+_, _≤_, _%_};
+ghost use lib.ListN.{length, set, take, drop};
+ghost use Rattle.play.specs.Records.{parse};
+ghost use Rattle.play.specs.Bytes.{widthOf, counted, letterFrom, firstLetter, withRecord, afterRecord};
+ghost use Rattle.play.specs.Bytes.{withRecords};
+
+// The first kind of move with a value.
+const VALUED: usize = 5;
+
+// The first number that is no kind of move.
+const KINDS: usize = 7;
+
+// Bytes of a record without a value.
+const SHORT: usize = 3;
+
+// Bytes of a record with a value.
+const LONG: usize = 4;
+
+// A letter has kind, id, argument and value in a byte each: the kind's place.
+const OF_KIND: usize = 16777216;
+
+// The id's place.
+const OF_ID: usize = 65536;
+
+// The argument's place.
+const OF_ARGUMENT: usize = 256;
+
+// What is added to a signed value.
+const SHIFT: usize = 128;
+
+// How many values a byte has.
+const BYTE: usize = 256;
+
+// What a play's bytes are: so many records, or the place of the first bad one.
+pub enum Parsed {
+    Moves(usize),
+    Bad(usize),
+}
+
+// How many bytes a record of a kind has, 0 where there is no such kind.
+pub fn width_of(kind: usize) -> usize
+    ensures { λ r. ⌜ r ≡ widthOf kind ⌝ }
+{
+    if kind < VALUED {
+        return SHORT;
+    }
+    if kind < KINDS {
+        return LONG;
+    }
+    0
+}
+
+// How many records a play has.
+pub fn count_moves(play: &[u8]) -> Parsed
+    ensures { λ r. ⌜ r ≡ counted 0 (parse 0 (now (play .entry))) ⌝ }
+{
+    let mut at = 0;
+    let mut count = 0;
+    while at < play.len() {
+        let w = width_of(byte_at(play, at) as usize);
+        if w == 0 {
+            return Parsed::Bad(at);
+        }
+        if play.len() - at < w {
+            return Parsed::Bad(at);
+        }
+        at += w;
+        count += 1;
+    }
+    Parsed::Moves(count)
+}
+
+// The letter of a record's bytes.
+pub(crate) fn letter_from(kind: u8, id: u8, arg: u8, value: u8) -> usize
+    ensures { λ r. ⌜ r ≡ letterFrom kind id arg value ⌝ }
+{
+    let k = kind as usize;
+    let place = k * OF_KIND + id as usize * OF_ID + arg as usize * OF_ARGUMENT;
+    if k < VALUED {
+        return place;
+    }
+    place + (value as usize + SHIFT) % BYTE
+}
+
+// The letter of the record with which the bytes begin.
+pub fn first_letter(s: &[u8]) -> usize
+    ensures { λ r. ⌜ r ≡ firstLetter (now (s .entry)) ⌝ }
+{
+    letter_from(byte_at(s, 0), byte_at(s, 1), byte_at(s, 2), byte_at(s, 3))
+}
+
+// Byte i becomes v, where there is such a byte.
+fn put(s: &mut [u8], i: usize, v: usize)
+    ensures { λ r. ⌜ now (s .exit) ≡ set (now (s .entry)) i (v % 256) ⌝ }
+{
+    put_byte(s, i, (v % BYTE) as u8);
+}
+
+// Writes the record of a letter from a place on: the place after it.
+pub(crate) fn write_record(s: &mut [u8], at: usize, l: usize) -> usize
+    requires { ⌜ at ≤ 32772 ⌝ }
+    ensures returned { λ r. ⌜ r ≡ afterRecord at l ⌝ }
+    ensures written { λ r. ⌜ now (s .exit) ≡ withRecord (now (s .entry)) at l ⌝ }
+{
+    put(s, at, l / OF_KIND);
+    put(s, at + 1, l / OF_ID);
+    put(s, at + 2, l / OF_ARGUMENT);
+    if l / OF_KIND < VALUED {
+        return at + SHORT;
+    }
+    put(s, at + 3, l % BYTE + SHIFT);
+    at + LONG
+}
+
+// Writes the records of the letters in the words from base on, len of them, from the start.
+pub fn write_play(words: &[u32], base: usize, len: usize, s: &mut [u8])
+    requires { ⌜ (len ≤ 8193) × (base + len ≤ length (now words)) ⌝ }
+    ensures { λ r. ⌜ now (s .exit) ≡ withRecords (now (s .entry)) 0 (take len (drop base (now (words .entry)))) ⌝ }
+{
+    let mut at = 0;
+    let mut i = 0;
+    while i < len {
+        at = write_record(s, at, words[base + i] as usize);
+        i += 1;
+    }
+}
