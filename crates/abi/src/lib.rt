@@ -7,14 +7,16 @@ use comparer::compare::compare;
 use comparer::follow::follow;
 use judge::check::Checked;
 use judge::check::check;
+use judge::mark::Uses;
 use records::refusal::Cause;
 use renumbering::renumber::Renumbered;
 use renumbering::renumber::renumber;
 ghost use mathlib.Core.Path.{_≡_};
+ghost use mathlib.Core.List.{[], _∷_, _++_};
 ghost use Rattle.sheet.specs.Reader.{readSheet};
 ghost use Rattle.judge.specs.Check.{checkedOf};
-ghost use Rattle.abi.specs.Words.{lowHalf, highHalf, refusalWords, checkWords, followWords, compareWords};
-ghost use Rattle.abi.specs.Words.{renumberWords, answered, status};
+ghost use Rattle.abi.specs.Words.{lowHalf, highHalf, usesWords, refusalWords, checkWords, followWords};
+ghost use Rattle.abi.specs.Words.{compareWords, renumberWords, answered, status};
 ghost use Rattle.abi.specs.Returned.{FollowReturned, CompareReturned, RenumberReturned};
 
 // How many words an answer has.
@@ -101,28 +103,37 @@ fn answer_follow(out: &mut [u32], r: Following) -> u32
     }
 }
 
+// Writes an answer that tells of the names of two sheets.
+fn answer_names(out: &mut [u32], kind: u32, a: u32, b: u32, c: u32, old: Uses, new: Uses) -> u32
+    ensures returned { λ x. ⌜ x ≡ status (now (out .entry)) ⌝ }
+    ensures written { λ x. ⌜ now (out .exit)
+        ≡ answered ((kind ∷ a ∷ b ∷ c ∷ 0 ∷ []) ++ usesWords old ++ usesWords new) (now (out .entry)) ⌝ }
+{
+    answer(
+        out,
+        [
+            kind,
+            a,
+            b,
+            c,
+            0,
+            old.mark,
+            old.used,
+            old.unused,
+            new.mark,
+            new.used,
+            new.unused,
+        ],
+    )
+}
+
 // Writes the answer of compare.
 fn answer_compare(out: &mut [u32], r: Comparison) -> u32
     ensures returned { λ x. ⌜ x ≡ status (now (out .entry)) ⌝ }
     ensures written { λ x. ⌜ now (out .exit) ≡ answered (compareWords r) (now (out .entry)) ⌝ }
 {
     match r {
-        Comparison::Same { old, new } => answer(
-            out,
-            [
-                SAME,
-                0,
-                0,
-                0,
-                0,
-                old.mark,
-                old.used,
-                old.unused,
-                new.mark,
-                new.used,
-                new.unused,
-            ],
-        ),
+        Comparison::Same { old, new } => answer_names(out, SAME, 0, 0, 0, old, new),
         Comparison::Apart {
             sheet,
             moves,
@@ -132,22 +143,7 @@ fn answer_compare(out: &mut [u32], r: Comparison) -> u32
             let which = sheet as u32;
             let low = low_half(moves);
             let high = high_half(moves);
-            answer(
-                out,
-                [
-                    APART,
-                    which,
-                    low,
-                    high,
-                    0,
-                    old.mark,
-                    old.used,
-                    old.unused,
-                    new.mark,
-                    new.used,
-                    new.unused,
-                ],
-            )
+            answer_names(out, APART, which, low, high, old, new)
         }
         Comparison::Refused(x) => refuse(out, x),
     }

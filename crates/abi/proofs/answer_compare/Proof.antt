@@ -7,8 +7,8 @@ use Rattle.abi.proofs.answer_compare.Tie as tie
 enum-known-r : tie.Need-enum-known-r
 enum-known-r c = search needs
 
-answer-requires : tie.Need-answer-requires
-answer-requires c κs = search needs
+answer-names-requires : tie.Need-answer-names-requires
+answer-names-requires c κs = search needs
 
 enum-known-r-2 : tie.Need-enum-known-r-2
 enum-known-r-2 c = search needs
@@ -22,8 +22,8 @@ low-half-requires c κs = search needs
 high-half-requires : tie.Need-high-half-requires
 high-half-requires c κs = search needs
 
-answer-requires-2 : tie.Need-answer-requires-2
-answer-requires-2 c κs = search needs
+answer-names-requires-2 : tie.Need-answer-names-requires-2
+answer-names-requires-2 c κs = search needs
 
 enum-known-r-3 : tie.Need-enum-known-r-3
 enum-known-r-3 c = search needs
@@ -37,7 +37,7 @@ same-length c = search needs
 returns : tie.Need-returns
 returns c =
     returned-as _ _ _ _ _ (words-same _ _ _ (c .before .before .before .before .before .r .given .1))
-    (c .before .before .answer .ensures .0) (c .before .before .answer .ensures .1)
+    (c .before .before .answer-names .ensures .0) (c .before .before .answer-names .ensures .1)
 
 same-length-2 : tie.Need-same-length-2
 same-length-2 c = search needs
@@ -46,7 +46,7 @@ returns-2 : tie.Need-returns-2
 returns-2 c =
     returned-as _ _ _ _ _ (words-apart _ _ _ _ _ _ _ (c .before .before .before .before .before .before .before .r2
     .given .1) (c .before .before .before .before .before .low-half .ensures) (c .before .before .before .before
-    .high-half .ensures)) (c .before .before .answer2 .ensures .0) (c .before .before .answer2 .ensures .1)
+    .high-half .ensures)) (c .before .before .answer-names2 .ensures .0) (c .before .before .answer-names2 .ensures .1)
 
 same-length-3 : tie.Need-same-length-3
 same-length-3 c = search needs
@@ -57,6 +57,6 @@ returns-3 c =
     (c .before .before .refuse .ensures .0) (c .before .before .refuse .ensures .1)
 
 pub answer-compare-spec : {M : Type 1} → statement M
-answer-compare-spec = tie.close (tie.spec enum-known-r answer-requires enum-known-r-2 cast-which low-half-requires
-    high-half-requires answer-requires-2 enum-known-r-3 refuse-requires same-length returns same-length-2 returns-2
+answer-compare-spec = tie.close (tie.spec enum-known-r answer-names-requires enum-known-r-2 cast-which low-half-requires
+    high-half-requires answer-names-requires-2 enum-known-r-3 refuse-requires same-length returns same-length-2 returns-2
     same-length-3 returns-3)
