@@ -39,7 +39,8 @@ fn mark_from(s: &[u8], t: &[u16], left: u8, at: usize) -> u32
     let kind = byte_at(s, at);
     if kind == DECLARE {
         let rest = mark_from(s, t, left - 1, at + DECLARATION);
-        if is_noted(t, byte_at(s, at + ID)) {
+        let id = byte_at(s, at + ID);
+        if is_noted(t, id) {
             return 1 + 2 * rest;
         }
         return 2 * rest;
