@@ -21,7 +21,8 @@ abbrev declared-from-at : ℕ → In 1 declared-from-kinds.ps
 declared-from-at t = and 1 declared-from-kinds.ps (is 1 declared-from-kinds.ps μ-declared-from t) declared-from.Pre
 
 abbrev declared-from-below : ℕ → In 1 declared-from-kinds.ps
-declared-from-below t = and 1 declared-from-kinds.ps (falls 1 declared-from-kinds.ps _<_ μ-declared-from t) declared-from.Pre
+declared-from-below t = and 1 declared-from-kinds.ps
+    (falls 1 declared-from-kinds.ps _<_ μ-declared-from t) declared-from.Pre
 
 abbrev declared-from-calls : ℕ → declared-from-lts.Claims
 declared-from-calls t = (byte-at-reads.Asked, byte-at-reads.Learnt, declared-from-below t, declared-from.Post)
@@ -30,47 +31,67 @@ module _ (t : ℕ) where
   declared-from-returns : declared-from-lts.Need-returns (declared-from-calls t) (declared-from-at t) declared-from.Post
   declared-from-returns c = mask-none _ _ _ (c .if1 .taken)
 
-  declared-from-byte-at-requires : declared-from-lts.Need-byte-at-requires (declared-from-calls t) (declared-from-at t) declared-from.Post
+  declared-from-byte-at-requires : declared-from-lts.Need-byte-at-requires (declared-from-calls t)
+      (declared-from-at t) declared-from.Post
   declared-from-byte-at-requires c κs = search needs
 
-  declared-from-sub-declared-from : declared-from-lts.Need-sub-declared-from (declared-from-calls t) (declared-from-at t) declared-from.Post
+  declared-from-sub-declared-from : declared-from-lts.Need-sub-declared-from (declared-from-calls t)
+      (declared-from-at t) declared-from.Post
   declared-from-sub-declared-from c = search needs
 
-  declared-from-add-declared-from : declared-from-lts.Need-add-declared-from (declared-from-calls t) (declared-from-at t) declared-from.Post
+  declared-from-add-declared-from : declared-from-lts.Need-add-declared-from (declared-from-calls t)
+      (declared-from-at t) declared-from.Post
   declared-from-add-declared-from c = search needs
 
-  declared-from-declared-from-requires : declared-from-lts.Need-declared-from-requires (declared-from-calls t) (declared-from-at t) declared-from.Post
+  declared-from-declared-from-requires : declared-from-lts.Need-declared-from-requires (declared-from-calls t)
+      (declared-from-at t) declared-from.Post
   declared-from-declared-from-requires c κs = search needs
 
-  declared-from-mul-result : declared-from-lts.Need-mul-result (declared-from-calls t) (declared-from-at t) declared-from.Post
-  declared-from-mul-result c = let h = mask-fits _ _ _ _ (c .declared-from .ensures) (c .before .before .before .before .before .pre .1 .0) in omega arith
+  declared-from-mul-result : declared-from-lts.Need-mul-result (declared-from-calls t)
+      (declared-from-at t) declared-from.Post
+  declared-from-mul-result c = let h = mask-fits _ _ _ _ (c .declared-from .ensures)
+      (c .before .before .before .before .before .pre .1 .0) in omega arith
 
-  declared-from-add-result : declared-from-lts.Need-add-result (declared-from-calls t) (declared-from-at t) declared-from.Post
-  declared-from-add-result c = let h = mask-fits _ _ _ _ (c .declared-from .ensures) (c .before .before .before .before .before .pre .1 .0) in omega arith
+  declared-from-add-result : declared-from-lts.Need-add-result (declared-from-calls t)
+      (declared-from-at t) declared-from.Post
+  declared-from-add-result c = let h = mask-fits _ _ _ _ (c .declared-from .ensures)
+      (c .before .before .before .before .before .pre .1 .0) in omega arith
 
-  declared-from-returns-2 : declared-from-lts.Need-returns-2 (declared-from-calls t) (declared-from-at t) declared-from.Post
-  declared-from-returns-2 c = mask-set _ _ _ (c .before .before .before .if1 .left) (c .before .before .byte-at .ensures) (c .before .if2 .taken) (c .declared-from .ensures) refl refl refl
+  declared-from-returns-2 : declared-from-lts.Need-returns-2 (declared-from-calls t)
+      (declared-from-at t) declared-from.Post
+  declared-from-returns-2 c = mask-set _ _ _ (c .before .before .before .if1 .left)
+      (c .before .before .byte-at .ensures) (c .before .if2 .taken) (c .declared-from .ensures) refl refl refl
 
-  declared-from-sub-declared-from-2 : declared-from-lts.Need-sub-declared-from-2 (declared-from-calls t) (declared-from-at t) declared-from.Post
+  declared-from-sub-declared-from-2 : declared-from-lts.Need-sub-declared-from-2 (declared-from-calls t)
+      (declared-from-at t) declared-from.Post
   declared-from-sub-declared-from-2 c = search needs
 
-  declared-from-add-declared-from-2 : declared-from-lts.Need-add-declared-from-2 (declared-from-calls t) (declared-from-at t) declared-from.Post
+  declared-from-add-declared-from-2 : declared-from-lts.Need-add-declared-from-2 (declared-from-calls t)
+      (declared-from-at t) declared-from.Post
   declared-from-add-declared-from-2 c = search needs
 
-  declared-from-declared-from-requires-2 : declared-from-lts.Need-declared-from-requires-2 (declared-from-calls t) (declared-from-at t) declared-from.Post
+  declared-from-declared-from-requires-2 : declared-from-lts.Need-declared-from-requires-2 (declared-from-calls t)
+      (declared-from-at t) declared-from.Post
   declared-from-declared-from-requires-2 c κs = search needs
 
-  declared-from-mul-result-2 : declared-from-lts.Need-mul-result-2 (declared-from-calls t) (declared-from-at t) declared-from.Post
-  declared-from-mul-result-2 c = let h = mask-fits _ _ _ _ (c .declared-from2 .ensures) (c .before .before .before .before .before .before .pre .1 .0) in omega arith
+  declared-from-mul-result-2 : declared-from-lts.Need-mul-result-2 (declared-from-calls t)
+      (declared-from-at t) declared-from.Post
+  declared-from-mul-result-2 c = let h = mask-fits _ _ _ _ (c .declared-from2 .ensures)
+      (c .before .before .before .before .before .before .pre .1 .0) in omega arith
 
-  declared-from-returns-3 : declared-from-lts.Need-returns-3 (declared-from-calls t) (declared-from-at t) declared-from.Post
-  declared-from-returns-3 c = mask-retired _ _ _ (c .before .before .before .before .if1 .left) (c .before .before .before .byte-at .ensures) (c .before .if3 .taken) (c .declared-from2 .ensures)
+  declared-from-returns-3 : declared-from-lts.Need-returns-3 (declared-from-calls t)
+      (declared-from-at t) declared-from.Post
+  declared-from-returns-3 c = mask-retired _ _ _ (c .before .before .before .before .if1 .left)
+      (c .before .before .before .byte-at .ensures) (c .before .if3 .taken) (c .declared-from2 .ensures)
 
-  declared-from-returns-4 : declared-from-lts.Need-returns-4 (declared-from-calls t) (declared-from-at t) declared-from.Post
-  declared-from-returns-4 c = mask-ended _ _ _ _ (c .before .before .byte-at .ensures) (c .before .if2 .left) (c .if3 .left)
+  declared-from-returns-4 : declared-from-lts.Need-returns-4 (declared-from-calls t)
+      (declared-from-at t) declared-from.Post
+  declared-from-returns-4 c = mask-ended _ _ _ _ (c .before .before .byte-at .ensures) (c .before .if2 .left)
+      (c .if3 .left)
 
 pub +declared-from-spec : {M : Type 1} → statement M
-+declared-from-spec = close μ-declared-from λ t. declared-from-lts.spec (declared-from-calls t) (declared-from-at t) declared-from.Post
++declared-from-spec = close μ-declared-from λ t. declared-from-lts.spec (declared-from-calls t)
+    (declared-from-at t) declared-from.Post
     (declared-from-returns t)
     (declared-from-byte-at-requires t)
     (declared-from-sub-declared-from t)

@@ -40,33 +40,42 @@ module _ (t : ℕ) where
   mark-from-add-mark-from : mark-from-lts.Need-add-mark-from (mark-from-calls t) (mark-from-at t) mark-from.Post
   mark-from-add-mark-from c = search needs
 
-  mark-from-mark-from-requires : mark-from-lts.Need-mark-from-requires (mark-from-calls t) (mark-from-at t) mark-from.Post
+  mark-from-mark-from-requires : mark-from-lts.Need-mark-from-requires (mark-from-calls t)
+      (mark-from-at t) mark-from.Post
   mark-from-mark-from-requires c κs = search needs
 
   mark-from-add-byte-at : mark-from-lts.Need-add-byte-at (mark-from-calls t) (mark-from-at t) mark-from.Post
   mark-from-add-byte-at c = search needs
 
-  mark-from-byte-at-requires-2 : mark-from-lts.Need-byte-at-requires-2 (mark-from-calls t) (mark-from-at t) mark-from.Post
+  mark-from-byte-at-requires-2 : mark-from-lts.Need-byte-at-requires-2 (mark-from-calls t)
+      (mark-from-at t) mark-from.Post
   mark-from-byte-at-requires-2 c κs = search needs
 
   mark-from-is-noted-requires : mark-from-lts.Need-is-noted-requires (mark-from-calls t) (mark-from-at t) mark-from.Post
   mark-from-is-noted-requires c κs = search needs
 
   mark-from-mul-result : mark-from-lts.Need-mul-result (mark-from-calls t) (mark-from-at t) mark-from.Post
-  mark-from-mul-result c = let h = mask-fits _ _ _ _ (c .before .before .before .mark-from .ensures) (c .before .before .before .before .before .before .before .before .before .pre .1 .0) in omega arith
+  mark-from-mul-result c = let h = mask-fits _ _ _ _ (c .before .before .before .mark-from .ensures)
+      (c .before .before .before .before .before .before .before .before .before .pre .1 .0) in omega arith
 
   mark-from-add-result : mark-from-lts.Need-add-result (mark-from-calls t) (mark-from-at t) mark-from.Post
-  mark-from-add-result c = let h = mask-fits _ _ _ _ (c .before .before .before .mark-from .ensures) (c .before .before .before .before .before .before .before .before .before .pre .1 .0) in omega arith
+  mark-from-add-result c = let h = mask-fits _ _ _ _ (c .before .before .before .mark-from .ensures)
+      (c .before .before .before .before .before .before .before .before .before .pre .1 .0) in omega arith
 
   mark-from-returns-2 : mark-from-lts.Need-returns-2 (mark-from-calls t) (mark-from-at t) mark-from.Post
-  mark-from-returns-2 c = mask-set _ _ _ (c .before .before .before .before .before .before .if1 .left) (c .before .before .before .before .before .byte-at .ensures) (c .before .before .before .before .if2 .taken) (c .before .before .before .mark-from .ensures) (c .before .before .byte-at2 .ensures)
+  mark-from-returns-2 c = mask-set _ _ _ (c .before .before .before .before .before .before .if1 .left)
+      (c .before .before .before .before .before .byte-at .ensures) (c .before .before .before .before .if2 .taken)
+      (c .before .before .before .mark-from .ensures) (c .before .before .byte-at2 .ensures)
       (c .before .is-noted .ensures) (c .if3 .taken)
 
   mark-from-mul-result-2 : mark-from-lts.Need-mul-result-2 (mark-from-calls t) (mark-from-at t) mark-from.Post
-  mark-from-mul-result-2 c = let h = mask-fits _ _ _ _ (c .before .before .before .mark-from .ensures) (c .before .before .before .before .before .before .before .before .before .pre .1 .0) in omega arith
+  mark-from-mul-result-2 c = let h = mask-fits _ _ _ _ (c .before .before .before .mark-from .ensures)
+      (c .before .before .before .before .before .before .before .before .before .pre .1 .0) in omega arith
 
   mark-from-returns-3 : mark-from-lts.Need-returns-3 (mark-from-calls t) (mark-from-at t) mark-from.Post
-  mark-from-returns-3 c = mask-unset _ _ _ (c .before .before .before .before .before .before .if1 .left) (c .before .before .before .before .before .byte-at .ensures) (c .before .before .before .before .if2 .taken) (c .before .before .before .mark-from .ensures) (c .before .before .byte-at2 .ensures)
+  mark-from-returns-3 c = mask-unset _ _ _ (c .before .before .before .before .before .before .if1 .left)
+      (c .before .before .before .before .before .byte-at .ensures) (c .before .before .before .before .if2 .taken)
+      (c .before .before .before .mark-from .ensures) (c .before .before .byte-at2 .ensures)
       (c .before .is-noted .ensures) (c .if3 .left)
 
   mark-from-sub-mark-from-2 : mark-from-lts.Need-sub-mark-from-2 (mark-from-calls t) (mark-from-at t) mark-from.Post
@@ -75,14 +84,17 @@ module _ (t : ℕ) where
   mark-from-add-mark-from-2 : mark-from-lts.Need-add-mark-from-2 (mark-from-calls t) (mark-from-at t) mark-from.Post
   mark-from-add-mark-from-2 c = search needs
 
-  mark-from-mark-from-requires-2 : mark-from-lts.Need-mark-from-requires-2 (mark-from-calls t) (mark-from-at t) mark-from.Post
+  mark-from-mark-from-requires-2 : mark-from-lts.Need-mark-from-requires-2 (mark-from-calls t)
+      (mark-from-at t) mark-from.Post
   mark-from-mark-from-requires-2 c κs = search needs
 
   mark-from-mul-result-3 : mark-from-lts.Need-mul-result-3 (mark-from-calls t) (mark-from-at t) mark-from.Post
-  mark-from-mul-result-3 c = let h = mask-fits _ _ _ _ (c .mark-from2 .ensures) (c .before .before .before .before .before .before .before .pre .1 .0) in omega arith
+  mark-from-mul-result-3 c = let h = mask-fits _ _ _ _ (c .mark-from2 .ensures)
+      (c .before .before .before .before .before .before .before .pre .1 .0) in omega arith
 
   mark-from-returns-4 : mark-from-lts.Need-returns-4 (mark-from-calls t) (mark-from-at t) mark-from.Post
-  mark-from-returns-4 c = mask-retired _ _ _ (c .before .before .before .before .if1 .left) (c .before .before .before .byte-at .ensures) (c .before .if4 .taken) (c .mark-from2 .ensures)
+  mark-from-returns-4 c = mask-retired _ _ _ (c .before .before .before .before .if1 .left)
+      (c .before .before .before .byte-at .ensures) (c .before .if4 .taken) (c .mark-from2 .ensures)
 
   mark-from-returns-5 : mark-from-lts.Need-returns-5 (mark-from-calls t) (mark-from-at t) mark-from.Post
   mark-from-returns-5 c = mask-ended _ _ _ _ (c .before .before .byte-at .ensures) (c .before .if2 .left) (c .if4 .left)

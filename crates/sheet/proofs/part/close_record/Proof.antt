@@ -22,7 +22,8 @@ type-of-requires c κs = search needs
 
 write-row-requires : tie.Need-write-row-requires
 write-row-requires c κs =
-    let e = ends-within 4096 (c .before .before .before .before .before .before .before .pre .1) (c .before .before .before .parts .given .1) in
+    let e = ends-within 4096 (c .before .before .before .before .before .before .before .pre .1)
+        (c .before .before .before .parts .given .1) in
     (omega (arith, c .before .before .before .before .before .before .before .pre .0), omega (arith, e))
 
 note-use-requires : tie.Need-note-use-requires
@@ -34,8 +35,13 @@ same-length c = search needs
 returns-2 : tie.Need-returns-2
 unfolding closedAnswer
 returns-2 c =
-    (simp (c .before .before .before .before .before .before .before .before .before .before .parts .given .1, ← c .before .before .before .before .before .before .before .before .type-of .ensures),
-    closed-table _ _ _ _ _ (c .before .before .before .before .before .before .before .before .before .before .parts .given .1) (c .before .before .before .before .before .before .before .before .type-of .ensures) (c .before .before .before .before .before .before .write-row .ensures) (c .before .before .note-use .ensures))
+    (simp (c .before .before .before .before .before .before .before .before .before .before .parts .given .1, ← c
+        .before .before .before .before .before .before .before .before .type-of .ensures),
+    closed-table _ _ _ _ _
+        (c .before .before .before .before .before .before .before .before .before .before .parts .given .1)
+        (c .before .before .before .before .before .before .before .before .type-of .ensures)
+        (c .before .before .before .before .before .before .write-row .ensures)
+        (c .before .before .note-use .ensures))
 
 pub close-record-spec : {M : Type 1} → statement M
 close-record-spec =
