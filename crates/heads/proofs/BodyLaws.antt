@@ -19,8 +19,8 @@ use Rattle.records.specs.declared.kind.Rule.the-variants.{Skip, Diverge, Truth,
 use Rattle.records.specs.declared.kind.Rule.the-variants.{Operate, Assign, Sequence, If, While, New, Procedure}
 use Rattle.heads.specs.declared.head.Record.{Record}
 use Rattle.heads.specs.declared.head.Head.the-variants.{Good}
-use Rattle.heads.specs.declared.judge.Judged.{Judged}
-use Rattle.heads.specs.declared.judge.Judged.the-variants.{Good as Fine, Refused as Bad}
+use Rattle.heads.specs.declared.judgement.Judged.{Judged}
+use Rattle.heads.specs.declared.judgement.Judged.the-variants.{Good as Fine, Refused as Bad}
 use Rattle.records.proofs.KindLaws.{bytesOf}
 use Rattle.heads.proofs.JudgeLaws.{procedure-inside}
 use Rattle.heads.proofs.ByteLaws.{pick-false, pick-true, bad-good, good-same, byte-good}

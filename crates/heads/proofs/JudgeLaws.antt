@@ -12,8 +12,8 @@ use Rattle.heads.specs.Judge.{andThen, below, unused, bound, apart, earl
 use Rattle.heads.specs.Judge.{procedureOf}
 use Rattle.records.specs.declared.edition.Edition.{Edition}
 use Rattle.records.specs.declared.refusal.Refusal.{Refusal}
-use Rattle.heads.specs.declared.judge.Judged.{Judged}
-use Rattle.heads.specs.declared.judge.Judged.the-variants.{Good, Refused}
+use Rattle.heads.specs.declared.judgement.Judged.{Judged}
+use Rattle.heads.specs.declared.judgement.Judged.the-variants.{Good, Refused}
 use Rattle.heads.proofs.ByteLaws.{pick-false, pick-true}
 
 pub not-good : {x : Refusal} → Refused x ≡ Good → ⊥

@@ -24,8 +24,8 @@ use Rattle.records.specs.declared.kind.Shape.the-variants.{Part, Declare, Retir
 use Rattle.heads.specs.declared.head.Record.{Record}
 use Rattle.heads.specs.declared.head.Head.{Head}
 use Rattle.heads.specs.declared.head.Head.the-variants.{Good, Refused}
-use Rattle.heads.specs.declared.judge.Judged.{Judged}
-use Rattle.heads.specs.declared.judge.Judged.the-variants.{Good as Fine, Refused as Bad}
+use Rattle.heads.specs.declared.judgement.Judged.{Judged}
+use Rattle.heads.specs.declared.judgement.Judged.the-variants.{Good as Fine, Refused as Bad}
 use Rattle.heads.specs.declared.head.Byte.{Byte}
 use Rattle.heads.specs.declared.head.Byte.the-variants.{Is, Refused as Unread}
 

@@ -12,8 +12,8 @@ use Rattle.records.specs.Standing.{standingOf, isNamed, isHeld}
 use Rattle.records.specs.declared.standing.Standing.{Standing}
 use Rattle.records.specs.declared.edition.Edition.{Edition}
 use Rattle.records.specs.declared.edition.Edition.the-variants.{Earlier, Present}
-use Rattle.heads.specs.declared.judge.Judged.{Judged}
-use Rattle.heads.specs.declared.judge.Judged.the-variants.{Good, Refused}
+use Rattle.heads.specs.declared.judgement.Judged.{Judged}
+use Rattle.heads.specs.declared.judgement.Judged.the-variants.{Good, Refused}
 
 -- a judgement, then another
 unfoldable pub andThen : Judged → Judged → Judged

@@ -1,7 +1,7 @@
 // The kind byte and the body of a part of a term: every judgement of its bytes.
-use crate::judge::Judged;
-use crate::judge::is_hiding;
-use crate::judge::judge_procedure;
+use crate::judgement::Judged;
+use crate::judgement::is_hiding;
+use crate::judgement::judge_procedure;
 use language::Numbers;
 use records::edition::Edition;
 use records::kind::COUNT;

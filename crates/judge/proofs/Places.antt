@@ -35,8 +35,8 @@ use Rattle.heads.specs.declared.head.Record.{Record}
 use Rattle.heads.specs.declared.head.Head.{Head}
 use Rattle.heads.specs.declared.head.Head.the-variants.{Good, Refused as Bad}
 use Rattle.heads.specs.declared.head.Byte.{Byte}
-use Rattle.heads.specs.declared.judge.Judged.{Judged}
-use Rattle.heads.specs.declared.judge.Judged.the-variants.{Good as Fine, Refused as Wrong}
+use Rattle.heads.specs.declared.judgement.Judged.{Judged}
+use Rattle.heads.specs.declared.judgement.Judged.the-variants.{Good as Fine, Refused as Wrong}
 use Rattle.procedures.specs.Written.{Name}
 use Rattle.sheet.specs.Heading.{fresh, argument, declareOf, retireOf, declareAt, retireAt}
 use Rattle.sheet.specs.Reader.{Tree, Answer, got, refused, bind, onHead, onJudged, partsOf, scopeParts}

@@ -11,7 +11,7 @@ use Rattle.records.specs.Standing.{standingOf, isNamed}
 use Rattle.heads.specs.Judge.{andThen, below, bound, hides, apart, earlier, unlike, parameterId, pair}
 use Rattle.heads.specs.Judge.{procedureOf}
 use Rattle.records.specs.declared.edition.Edition.{Edition}
-use Rattle.heads.specs.declared.judge.Judged.the-variants.{Good}
+use Rattle.heads.specs.declared.judgement.Judged.the-variants.{Good}
 use Rattle.sheet.proofs.Standings.{by-test}
 use Rattle.sheet.proofs.Answers.{pick-all}
 use Rattle.sheet.proofs.Judgement.{JudgedAll, good, bad, judged-map, both-all, below-all, unused-all, four}

@@ -25,7 +25,7 @@ use Rattle.heads.specs.declared.head.Record.{Record}
 use Rattle.heads.specs.declared.head.Head.{Head}
 use Rattle.heads.specs.declared.head.Head.the-variants.{Good}
 use Rattle.heads.specs.declared.head.Byte.the-variants.{Is}
-use Rattle.heads.specs.declared.judge.Judged.{Judged}
+use Rattle.heads.specs.declared.judgement.Judged.{Judged}
 use Rattle.sheet.proofs.Parsed.{Byte}
 use Rattle.sheet.proofs.Answers.{HeadAll, pick-all}
 use Rattle.sheet.proofs.Judgement.{JudgedAll, good, bad}

@@ -8,8 +8,8 @@ use lib.Dec.{eqb, leb, ltb}
 use borrow.Author.Tests.{eqb-true, leb-false, ltb-true, ltb-false, lt-leb, eq-eqb}
 use Rattle.records.specs.declared.refusal.Refusal.{Refusal}
 use Rattle.heads.specs.Judge.{andThen, below, unused}
-use Rattle.heads.specs.declared.judge.Judged.{Judged}
-use Rattle.heads.specs.declared.judge.Judged.the-variants.{Good, Refused}
+use Rattle.heads.specs.declared.judgement.Judged.{Judged}
+use Rattle.heads.specs.declared.judgement.Judged.the-variants.{Good, Refused}
 use Rattle.sheet.specs.Heading.{fresh, argument, declareOf, retireOf}
 use Rattle.sheet.proofs.Answers.{pick-all}
 

@@ -10,8 +10,8 @@ use Rattle.records.specs.Refusal.{refusal, id-taken}
 use Rattle.heads.specs.Judge.{andThen, below, unused}
 use Rattle.records.specs.Standing.{free}
 use Rattle.procedures.specs.Written.{Name, declare, retire}
-use Rattle.heads.specs.declared.judge.Judged.{Judged}
-use Rattle.heads.specs.declared.judge.Judged.the-variants.{Good, Refused}
+use Rattle.heads.specs.declared.judgement.Judged.{Judged}
+use Rattle.heads.specs.declared.judgement.Judged.the-variants.{Good, Refused}
 
 -- an id that is neither declared nor retired
 unfoldable pub fresh : List ℕ → List ℕ → ℕ → Judged

@@ -1,8 +1,8 @@
 // The judgement of name records.
-use heads::judge::Judged;
-use heads::judge::judge_below;
-use heads::judge::judge_both;
-use heads::judge::judge_unused;
+use heads::judgement::Judged;
+use heads::judgement::judge_below;
+use heads::judgement::judge_both;
+use heads::judgement::judge_unused;
 use parts::scope::with_standing;
 use records::read::byte_at;
 use records::read::standing_of;

@@ -2,8 +2,8 @@
 use borrow.Author.Needs.{needs}
 use borrow.Author.Tests.{le-leb, lt-leb}
 use Rattle.heads.specs.Judge.{below}
-use Rattle.heads.proofs.judge.judge_below.Statement.{statement}
-use Rattle.heads.proofs.judge.judge_below.Tie as tie
+use Rattle.heads.proofs.judgement.judge_below.Statement.{statement}
+use Rattle.heads.proofs.judgement.judge_below.Tie as tie
 
 refuse-requires : tie.Need-refuse-requires
 refuse-requires c κs = search needs

@@ -2,8 +2,8 @@
 use borrow.Author.Needs.{needs}
 use borrow.Author.Tests.{lt-ltb, le-ltb}
 use Rattle.heads.specs.Judge.{pair}
-use Rattle.heads.proofs.judge.judge_pair.Statement.{statement}
-use Rattle.heads.proofs.judge.judge_pair.Tie as tie
+use Rattle.heads.proofs.judgement.judge_pair.Statement.{statement}
+use Rattle.heads.proofs.judgement.judge_pair.Tie as tie
 
 add-id-at : tie.Need-add-id-at
 add-id-at c = search needs

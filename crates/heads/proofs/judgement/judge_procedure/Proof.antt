@@ -1,8 +1,8 @@
 -- Id, result type, count and pairs, one after the other.
 use borrow.Author.Needs.{needs}
 use Rattle.heads.specs.Judge.{procedureOf}
-use Rattle.heads.proofs.judge.judge_procedure.Statement.{statement}
-use Rattle.heads.proofs.judge.judge_procedure.Tie as tie
+use Rattle.heads.proofs.judgement.judge_procedure.Statement.{statement}
+use Rattle.heads.proofs.judgement.judge_procedure.Tie as tie
 
 add-judge-below : tie.Need-add-judge-below
 add-judge-below c = search needs

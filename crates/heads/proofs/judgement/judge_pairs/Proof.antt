@@ -1,7 +1,7 @@
 -- The four pairs, one after the other.
 use borrow.Author.Needs.{needs}
-use Rattle.heads.proofs.judge.judge_pairs.Statement.{statement}
-use Rattle.heads.proofs.judge.judge_pairs.Tie as tie
+use Rattle.heads.proofs.judgement.judge_pairs.Statement.{statement}
+use Rattle.heads.proofs.judgement.judge_pairs.Tie as tie
 
 judge-pair-requires : tie.Need-judge-pair-requires
 judge-pair-requires c κs = search needs

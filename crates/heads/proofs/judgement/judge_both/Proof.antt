@@ -1,8 +1,8 @@
 -- The first refusal is the answer.
 use borrow.Author.Needs.{needs}
 use Rattle.heads.specs.Judge.{andThen}
-use Rattle.heads.proofs.judge.judge_both.Statement.{statement}
-use Rattle.heads.proofs.judge.judge_both.Tie as tie
+use Rattle.heads.proofs.judgement.judge_both.Statement.{statement}
+use Rattle.heads.proofs.judgement.judge_both.Tie as tie
 
 enum-told : tie.Need-enum-told
 enum-told c = search needs

@@ -1,8 +1,8 @@
 -- By the edition.
 use borrow.Author.Needs.{needs}
 use Rattle.heads.specs.Judge.{hides}
-use Rattle.heads.proofs.judge.is_hiding.Statement.{statement}
-use Rattle.heads.proofs.judge.is_hiding.Tie as tie
+use Rattle.heads.proofs.judgement.is_hiding.Statement.{statement}
+use Rattle.heads.proofs.judgement.is_hiding.Tie as tie
 
 enum-told : tie.Need-enum-told
 enum-told c = search needs

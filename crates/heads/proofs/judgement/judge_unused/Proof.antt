@@ -2,8 +2,8 @@
 use borrow.Author.Needs.{needs}
 use borrow.Author.Tests.{le-leb, lt-leb, eq-eqb, ne-eqb}
 use Rattle.heads.specs.Judge.{unused}
-use Rattle.heads.proofs.judge.judge_unused.Statement.{statement}
-use Rattle.heads.proofs.judge.judge_unused.Tie as tie
+use Rattle.heads.proofs.judgement.judge_unused.Statement.{statement}
+use Rattle.heads.proofs.judgement.judge_unused.Tie as tie
 
 refuse-requires : tie.Need-refuse-requires
 refuse-requires c κs = search needs

@@ -2,8 +2,8 @@
 use borrow.Author.Needs.{needs}
 use mathlib.Core.Path.{_∙_, sym}
 use Rattle.heads.specs.Judge.{andThen, bound}
-use Rattle.heads.proofs.judge.judge_bound.Statement.{statement}
-use Rattle.heads.proofs.judge.judge_bound.Tie as tie
+use Rattle.heads.proofs.judgement.judge_bound.Statement.{statement}
+use Rattle.heads.proofs.judgement.judge_bound.Tie as tie
 
 judge-below-requires : tie.Need-judge-below-requires
 judge-below-requires c κs = search needs

@@ -1,8 +1,8 @@
 -- The standing of the id decides.
 use borrow.Author.Needs.{needs}
 use Rattle.heads.specs.Judge.{apart}
-use Rattle.heads.proofs.judge.judge_apart.Statement.{statement}
-use Rattle.heads.proofs.judge.judge_apart.Tie as tie
+use Rattle.heads.proofs.judgement.judge_apart.Statement.{statement}
+use Rattle.heads.proofs.judgement.judge_apart.Tie as tie
 
 byte-at-requires : tie.Need-byte-at-requires
 byte-at-requires c κs = search needs

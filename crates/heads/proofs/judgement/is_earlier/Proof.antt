@@ -5,8 +5,8 @@ use mathlib.Core.Path.{_≡_, refl}
 use Prim.Native.Nat.{_≤_}
 use Rattle.heads.specs.Judge.{earlier}
 use Rattle.heads.proofs.JudgeLaws.{earlier-met, earlier-again, earlier-none}
-use Rattle.heads.proofs.judge.is_earlier.Statement.{statement}
-use Rattle.heads.proofs.judge.is_earlier.Tie as tie
+use Rattle.heads.proofs.judgement.is_earlier.Statement.{statement}
+use Rattle.heads.proofs.judgement.is_earlier.Tie as tie
 
 abbrev Inv-loop : tie.InvT-loop
 Inv-loop s place j id i₀ i = (i ≤ j) × (earlier s place j id ≡ earlier s place i id)

@@ -1,8 +1,8 @@
 -- The name records are judged before the earlier parameters, and these before the enclosing binders.
 use borrow.Author.Needs.{needs}
 use Rattle.heads.specs.Judge.{parameterId}
-use Rattle.heads.proofs.judge.judge_parameter_id.Statement.{statement}
-use Rattle.heads.proofs.judge.judge_parameter_id.Tie as tie
+use Rattle.heads.proofs.judgement.judge_parameter_id.Statement.{statement}
+use Rattle.heads.proofs.judgement.judge_parameter_id.Tie as tie
 
 add-at : tie.Need-add-at
 add-at c = search needs

@@ -1,8 +1,8 @@
 -- The earlier parameters decide.
 use borrow.Author.Needs.{needs}
 use Rattle.heads.specs.Judge.{unlike}
-use Rattle.heads.proofs.judge.judge_unlike.Statement.{statement}
-use Rattle.heads.proofs.judge.judge_unlike.Tie as tie
+use Rattle.heads.proofs.judgement.judge_unlike.Statement.{statement}
+use Rattle.heads.proofs.judgement.judge_unlike.Tie as tie
 
 add-at : tie.Need-add-at
 add-at c = search needs
