@@ -1,6 +1,2 @@
-pub mod Becoming
-pub mod Holds
-pub mod Rows
-pub mod Showing
-pub mod Instance
-pub mod Whole
+pub mod Steps
+pub mod Made

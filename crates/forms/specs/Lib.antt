@@ -1,3 +1,0 @@
-pub mod Shows
-pub mod Contract
-pub mod Become

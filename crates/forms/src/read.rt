@@ -1,23 +1,35 @@
-// What a row says.
-use crate::table::WIDTH;
-use crate::table::WORDS;
-use crate::words::at;
+// What a form says.
+use crate::table::COEFFICIENTS;
+use crate::table::CONSTANT;
+use crate::table::COUNT;
+use crate::words::word_at;
 ghost use mathlib.Core.Path.{_≡_};
-ghost use Prim.Native.Nat.{suc, _<_};
-ghost use Rattle.forms.specs.Shows.{parameters, formRows, wordOf};
+ghost use Prim.Native.Nat.{_<_};
+ghost use Rattle.weighing.specs.Stack.{formWord, coefficientOf};
 
-// The constant of a row.
-pub fn constant(f: &[u16; WORDS], row: usize) -> u32
-    requires { ⌜ row < formRows ⌝ }
-    ensures { λ r. ⌜ r ≡ wordOf (now (f .entry)) row 0 ⌝ }
+// How many coefficients a form has.
+pub(crate) fn width(t: &[u16], row: usize) -> usize
+    requires { ⌜ row < 65536 ⌝ }
+    ensures { λ r. ⌜ (r ≡ formWord (now (t .entry)) row 0) × (r < 65536) ⌝ }
 {
-    at(f, WIDTH * row)
+    word_at(t, row, COUNT) as usize
 }
 
-// The coefficient of the parameter s in a row.
-pub fn coefficient(f: &[u16; WORDS], row: usize, s: usize) -> u32
-    requires { ⌜ (row < formRows) × (s < parameters) ⌝ }
-    ensures { λ r. ⌜ r ≡ wordOf (now (f .entry)) row (suc s) ⌝ }
+// The constant of a form.
+pub fn constant(t: &[u16], row: usize) -> u32
+    requires { ⌜ row < 65536 ⌝ }
+    ensures { λ r. ⌜ (r ≡ formWord (now (t .entry)) row 1) × (r < 65536) ⌝ }
 {
-    at(f, WIDTH * row + 1 + s)
+    word_at(t, row, CONSTANT) as u32
+}
+
+// The coefficient of the parameter s in a form.
+pub fn coefficient(t: &[u16], row: usize, s: usize) -> u32
+    requires { ⌜ row < 65536 ⌝ }
+    ensures { λ r. ⌜ (r ≡ coefficientOf (now (t .entry)) row s) × (r < 65536) ⌝ }
+{
+    if s < width(t, row) {
+        return word_at(t, row, COEFFICIENTS + s) as u32;
+    }
+    0
 }

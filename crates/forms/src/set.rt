@@ -1,34 +1,16 @@
-// Rows that are written anew.
-use crate::table::WIDTH;
-use crate::table::WORDS;
+// Forms that are written anew.
+use crate::read::width;
+use crate::table::COEFFICIENTS;
+use crate::table::CONSTANT;
+use crate::table::COUNT;
 use crate::words::clear;
 use crate::words::copy;
-use crate::words::put;
+use crate::words::put_word;
+use crate::words::spot;
 use parts::weight::sat_add;
 ghost use mathlib.Core.Path.{_≡_};
-ghost use Prim.Native.Nat.{_<_, _≤_, min};
-ghost use Rattle.forms.specs.Contract.{ConstantSet, UnitSet, LowerSet};
-ghost use Rattle.forms.specs.Shows.{parameters, formRows};
-
-// A row becomes the constant c.
-pub fn set_constant(f: &mut [u16; WORDS], row: usize, m: usize, c: u32)
-    requires { ⌜ (row < formRows) × (m ≤ parameters) ⌝ }
-    ensures { λ r. ⌜ ConstantSet (now (f .entry)) (now (f .exit)) row m c ⌝ }
-{
-    let b = WIDTH * row;
-    let v = sat_add(c, 0);
-    put(f, b, v);
-    clear(f, b + 1, m);
-}
-
-// A row becomes the parameter s.
-pub fn set_unit(f: &mut [u16; WORDS], row: usize, m: usize, s: usize)
-    requires { ⌜ (row < formRows) × ((m ≤ parameters) × (s < m)) ⌝ }
-    ensures { λ r. ⌜ UnitSet (now (f .entry)) (now (f .exit)) row m s ⌝ }
-{
-    set_constant(f, row, m, 0);
-    put(f, WIDTH * row + 1 + s, 1);
-}
+ghost use Prim.Native.Nat.{_<_, min};
+ghost use Rattle.weighing.specs.Stack.{constantForm, unitForm, lowerForm};
 
 // The lesser of two numbers.
 pub fn least(a: usize, b: usize) -> usize
@@ -40,13 +22,35 @@ pub fn least(a: usize, b: usize) -> usize
     b
 }
 
-// A row becomes another without its coefficients from k on.
-pub fn set_lower(f: &mut [u16; WORDS], to: usize, from: usize, k: usize, m: usize)
-    requires { ⌜ (to < formRows) × ((from < formRows) × (m ≤ parameters)) ⌝ }
-    ensures { λ r. ⌜ LowerSet (now (f .entry)) (now (f .exit)) to from k m ⌝ }
+// A form becomes the constant c.
+pub fn set_constant(t: &mut [u16], row: usize, c: u32)
+    requires { ⌜ row < 65536 ⌝ }
+    ensures { λ r. ⌜ now (t .exit) ≡ constantForm row c (now (t .entry)) ⌝ }
 {
-    let n = least(k, m);
-    let b = WIDTH * to;
-    copy(f, to, from, 1 + n);
-    clear(f, b + 1 + n, m - n);
+    let v = sat_add(c, 0) as u16;
+    put_word(t, row, COUNT, 0);
+    put_word(t, row, CONSTANT, v);
+}
+
+// A form becomes the parameter s.
+pub fn set_unit(t: &mut [u16], row: usize, s: usize)
+    requires { ⌜ (row < 65536) × (s < 65535) ⌝ }
+    ensures { λ r. ⌜ now (t .exit) ≡ unitForm row s (now (t .entry)) ⌝ }
+{
+    let n = 1 + s;
+    put_word(t, row, COUNT, n as u16);
+    let at = spot(row, CONSTANT);
+    clear(t, at, n);
+    put_word(t, row, COEFFICIENTS + s, 1);
+}
+
+// A form becomes another without its coefficients from k on.
+pub fn set_lower(t: &mut [u16], to: usize, from: usize, k: usize)
+    requires { ⌜ (to < 65536) × (from < 65536) ⌝ }
+    ensures { λ r. ⌜ now (t .exit) ≡ lowerForm to from k (now (t .entry)) ⌝ }
+{
+    let w = width(t, from);
+    let n = least(k, w);
+    put_word(t, to, COUNT, n as u16);
+    copy(t, to, from, 1 + n);
 }

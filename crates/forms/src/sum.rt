@@ -1,17 +1,19 @@
-// Sums of rows.
-use crate::table::WIDTH;
-use crate::table::WORDS;
-use crate::words::at;
-use crate::words::put;
+// Sums of forms.
+use crate::read::width;
+use crate::table::COEFFICIENTS;
+use crate::table::CONSTANT;
+use crate::table::COUNT;
+use crate::words::clear;
+use crate::words::put_word;
+use crate::words::spot;
+use crate::words::word_at;
 use parts::weight::sat_add;
 use parts::weight::sat_mul;
 ghost use mathlib.Core.Path.{_≡_};
-ghost use Prim.Native.Nat.{_+_, _*_, _<_, _≤_};
-ghost use lib.ListN.{length};
+ghost use Prim.Native.Nat.{_+_, _*_, _<_};
+ghost use lib.ListN.{set};
 ghost use Rattle.procedures.specs.Held.{held};
-ghost use Rattle.forms.specs.Become.{Become, summed};
-ghost use Rattle.forms.specs.Contract.{Added, ConstantAdded, AddedWith};
-ghost use Rattle.forms.specs.Shows.{parameters, formWidth, formRows, formWords};
+ghost use Rattle.weighing.specs.Stack.{spot, formWord, widened, summed, addedForm};
 
 // x + factor * y, held at 4,097.
 fn sum_of(x: u32, factor: u32, y: u32) -> u32
@@ -20,67 +22,51 @@ fn sum_of(x: u32, factor: u32, y: u32) -> u32
     sat_add(x, sat_mul(factor, y))
 }
 
-// The first n words of a row become themselves and `factor` times those of another.
-fn add_words(s: &mut [u16], to: usize, from: usize, factor: u32, n: usize)
-    requires { ⌜ (to < formRows) × ((from < formRows) × ((n ≤ formWidth) × (formWords ≤ length (now s)))) ⌝ }
-    ensures { λ r. ⌜ Become (now (s .entry)) (now (s .exit)) (formWidth * to) n
-        (summed (now (s .entry)) to from factor) ⌝ }
+// A form gets at least n coefficients.
+fn widen(t: &mut [u16], to: usize, n: usize)
+    requires { ⌜ (to < 65536) × (n < 65536) ⌝ }
+    ensures { λ r. ⌜ now (t .exit) ≡ widened to n (now (t .entry)) ⌝ }
 {
-    let b = WIDTH * to;
-    let a = WIDTH * from;
+    let w = width(t, to);
+    if w < n {
+        let at = spot(to, COEFFICIENTS + w);
+        clear(t, at, n - w);
+        put_word(t, to, COUNT, n as u16);
+    }
+}
+
+// The n words of a form from the constant on become themselves and `factor` times those of another.
+fn add_words(t: &mut [u16], to: usize, from: usize, factor: u32, n: usize)
+    requires { ⌜ (to < 65536) × ((from < 65536) × (n < 131071)) ⌝ }
+    ensures { λ r. ⌜ now (t .exit) ≡ summed to from factor n (now (t .entry)) ⌝ }
+{
     let mut i = 0;
     while i < n {
-        let x = at(s, b + i);
-        let y = at(s, a + i);
+        let x = word_at(t, to, CONSTANT + i) as u32;
+        let y = word_at(t, from, CONSTANT + i) as u32;
         let v = sum_of(x, factor, y);
-        put(s, b + i, v);
+        put_word(t, to, CONSTANT + i, v as u16);
         i += 1;
     }
 }
 
-// A row becomes itself and `factor` times another.
-fn add(f: &mut [u16; WORDS], to: usize, from: usize, factor: u32, m: usize)
-    requires { ⌜ (to < formRows) × ((from < formRows) × (m ≤ parameters)) ⌝ }
-    ensures { λ r. ⌜ Added (now (f .entry)) (now (f .exit)) to from factor m ⌝ }
+// A form becomes itself and the constant c.
+fn add_constant(t: &mut [u16], to: usize, c: u32)
+    requires { ⌜ to < 65536 ⌝ }
+    ensures { λ r. ⌜ now (t .exit) ≡ set (now (t .entry)) (spot to 1) (held (formWord (now (t .entry)) to 1 + c)) ⌝ }
 {
-    add_words(f, to, from, factor, 1 + m);
-}
-
-// A row becomes itself and the constant c.
-fn add_constant(f: &mut [u16; WORDS], to: usize, c: u32)
-    requires { ⌜ to < formRows ⌝ }
-    ensures { λ r. ⌜ ConstantAdded (now (f .entry)) (now (f .exit)) to c ⌝ }
-{
-    let b = WIDTH * to;
-    let x = at(f, b);
+    let x = word_at(t, to, CONSTANT) as u32;
     let v = sat_add(x, c);
-    put(f, b, v);
+    put_word(t, to, CONSTANT, v as u16);
 }
 
-// The constant of a row becomes itself, `factor` times that of another, and c.
-fn add_first(f: &mut [u16; WORDS], to: usize, from: usize, factor: u32, c: u32)
-    requires { ⌜ (to < formRows) × (from < formRows) ⌝ }
-    ensures { λ r. ⌜ AddedWith (now (f .entry)) (now (f .exit)) to from factor 0 c ⌝ }
+// A form becomes itself, `factor` times another, and the constant `extra`.
+pub fn add(t: &mut [u16], to: usize, from: usize, factor: u32, extra: u32)
+    requires { ⌜ (to < 65536) × (from < 65536) ⌝ }
+    ensures { λ r. ⌜ now (t .exit) ≡ addedForm to from factor extra (now (t .entry)) ⌝ }
 {
-    let b = WIDTH * to;
-    let a = WIDTH * from;
-    let x = at(f, b);
-    let y = at(f, a);
-    let v = sum_of(x, factor, y);
-    let w = sat_add(v, c);
-    put(f, b, w);
-}
-
-// A row becomes itself, `factor` times another, and the constant c. Where no parameters are around, as in a sheet without
-// procedures, there is one word to be written, once.
-pub fn add_with(f: &mut [u16; WORDS], to: usize, from: usize, factor: u32, m: usize, c: u32)
-    requires { ⌜ (to < formRows) × ((from < formRows) × (m ≤ parameters)) ⌝ }
-    ensures { λ r. ⌜ AddedWith (now (f .entry)) (now (f .exit)) to from factor m c ⌝ }
-{
-    if m == 0 {
-        add_first(f, to, from, factor, c);
-        return;
-    }
-    add(f, to, from, factor, m);
-    add_constant(f, to, c);
+    let n = width(t, from);
+    widen(t, to, n);
+    add_words(t, to, from, factor, 1 + n);
+    add_constant(t, to, extra);
 }

@@ -1,9 +1,18 @@
-// The table of forms: `[u16; WORDS]`. A row is a form: word 0 is the constant, word 1 + s the coefficient of the parameter
-// of number s. Where the functions of this crate take a number m, they read and write the coefficients below m only.
+// The forms on the stack of the table of parts, from FORMS on. Word 0 of a form says how many coefficients it has, its
+// width; word 1 is the constant, word 2 + s the coefficient of the parameter of number s.
 
-// How many forms the table has.
-pub const ROWS: usize = 161;
 // The words of a form.
-pub const WIDTH: usize = 129;
-// All words.
-pub const WORDS: usize = 20769;
+pub(crate) const WIDTH: usize = 130;
+
+// How many forms there may be.
+pub const MOST_FORMS: usize = 100;
+
+// How many parameters may enclose a part.
+pub const MOST_PARAMETERS: usize = 128;
+
+// Where the width of a form stands, its constant, and its first coefficient.
+pub(crate) const COUNT: usize = 0;
+
+pub(crate) const CONSTANT: usize = 1;
+
+pub(crate) const COEFFICIENTS: usize = 2;

@@ -1,50 +1,61 @@
-// Words of the table: one, some cleared, some of a row copied.
+// Words of forms: one, some cleared, some copied.
+use crate::table::CONSTANT;
 use crate::table::WIDTH;
+use part_rows::row::FORMS;
+use part_rows::row::put;
+use records::read::short_at;
 ghost use mathlib.Core.Path.{_≡_};
-ghost use Prim.Native.Nat.{_+_, _*_, _<_, _≤_};
-ghost use lib.ListN.{getD, set, length};
-ghost use Rattle.forms.specs.Shows.{formWidth, formRows, formWords, wordOf};
-ghost use Rattle.forms.specs.Become.{Become};
+ghost use Prim.Native.Nat.{_<_};
+ghost use lib.ListN.{set};
+ghost use Rattle.weighing.specs.Stack.{spot, formWord, cleared, copied};
 
-// Word i.
-pub(crate) fn at(s: &[u16], i: usize) -> u32
-    requires { ⌜ i < length (now s) ⌝ }
-    ensures { λ r. ⌜ (r ≡ getD (now (s .entry)) i 0) × (r < 65536) ⌝ }
+// Where word i of a form stands.
+pub(crate) fn spot(row: usize, i: usize) -> usize
+    requires { ⌜ (row < 65536) × (i < 131072) ⌝ }
+    ensures { λ r. ⌜ r ≡ spot row i ⌝ }
 {
-    s[i] as u32
+    FORMS + WIDTH * row + i
 }
 
-// Word i becomes v.
-pub(crate) fn put(s: &mut [u16], i: usize, v: u32)
-    requires { ⌜ (i < length (now s)) × (v < 65536) ⌝ }
-    ensures { λ r. ⌜ now (s .exit) ≡ set (now (s .entry)) i v ⌝ }
+// Word i of a form, 0 past the end.
+pub(crate) fn word_at(t: &[u16], row: usize, i: usize) -> u16
+    requires { ⌜ (row < 65536) × (i < 131072) ⌝ }
+    ensures { λ r. ⌜ r ≡ formWord (now (t .entry)) row i ⌝ }
 {
-    s[i] = v as u16;
+    let at = spot(row, i);
+    short_at(t, at)
 }
 
-// The n words from b on become 0.
-pub(crate) fn clear(s: &mut [u16], b: usize, n: usize)
-    requires { ⌜ b + n ≤ length (now s) ⌝ }
-    ensures { λ r. ⌜ Become (now (s .entry)) (now (s .exit)) b n (λ i. 0) ⌝ }
+// Stores v in word i of a form, if the table reaches that far.
+pub(crate) fn put_word(t: &mut [u16], row: usize, i: usize, v: u16)
+    requires { ⌜ (row < 65536) × (i < 131072) ⌝ }
+    ensures { λ r. ⌜ now (t .exit) ≡ set (now (t .entry)) (spot row i) v ⌝ }
+{
+    let at = spot(row, i);
+    put(t, at, v);
+}
+
+// The n words from one on become 0.
+pub(crate) fn clear(t: &mut [u16], at: usize, n: usize)
+    requires { ⌜ (at < 16777216) × (n < 131072) ⌝ }
+    ensures { λ r. ⌜ now (t .exit) ≡ cleared at n (now (t .entry)) ⌝ }
 {
     let mut i = 0;
     while i < n {
-        put(s, b + i, 0);
+        put(t, at + i, 0);
         i += 1;
     }
 }
 
-// The first n words of a row become those of another.
-pub(crate) fn copy(s: &mut [u16], to: usize, from: usize, n: usize)
-    requires { ⌜ (to < formRows) × ((from < formRows) × ((n ≤ formWidth) × (formWords ≤ length (now s)))) ⌝ }
-    ensures { λ r. ⌜ Become (now (s .entry)) (now (s .exit)) (formWidth * to) n (wordOf (now (s .entry)) from) ⌝ }
+// The n words of a form from the constant on become those of another.
+pub(crate) fn copy(t: &mut [u16], to: usize, from: usize, n: usize)
+    requires { ⌜ (to < 65536) × ((from < 65536) × (n < 131071)) ⌝ }
+    ensures { λ r. ⌜ now (t .exit) ≡ copied to from n (now (t .entry)) ⌝ }
 {
-    let b = WIDTH * to;
-    let a = WIDTH * from;
     let mut i = 0;
     while i < n {
-        let v = at(s, a + i);
-        put(s, b + i, v);
+        let v = word_at(t, from, CONSTANT + i);
+        put_word(t, to, CONSTANT + i, v);
         i += 1;
     }
 }

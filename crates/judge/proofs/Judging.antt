@@ -20,14 +20,14 @@ use Rattle.procedures.specs.Form.{formOf, no-forms, formSheet}
 use Rattle.procedures.specs.Held.{held}
 use Rattle.procedures.proofs.FormLaw.{form-sheet}
 use Rattle.procedures.proofs.Types.{questions-of, answers-of}
-use Rattle.weigh.specs.Weighed.{Weighs}
+use Rattle.weighing.specs.Stack.{formWord}
 use Rattle.sheet.specs.Reader.{Answer, got, refused, Whole, whole, numbersAt, wholeOf, checks, readUnder}
 use Rattle.sheet.specs.Reader.{readSheet, accepted, rejected}
 use Rattle.judge.specs.Size.{sizeOf}
 use Rattle.judge.specs.Check.{checkedOf}
 use Rattle.sheet.specs.table.Fill.{eraseSheet}
 use Rattle.judge.specs.Masks.{usesAt}
-use Rattle.sheet.specs.table.Tabled.{Tabled, TabledBy, places}
+use Rattle.sheet.specs.table.Tabled.{Tabled, TabledBy}
 use Rattle.judge.specs.Judged.{JudgedBy, refusalIn}
 use Rattle.sheet.specs.declared.names.Reading.{Reading}
 use Rattle.sheet.specs.declared.names.Reading.the-variants.{Sheet as Read, Refused as Unread}
@@ -60,19 +60,19 @@ size-of-weight : (N : Numbers) (ty : ℕ) (S : written.Sheet) →
 unfolding size sizeOf
 size-of-weight N ty S = rw (questions-of N ty, answers-of N ty) refl
 
-module _ (ed : Edition) (s u M : List ℕ) (root ty next : ℕ) (T : Tabled ed s root ty next u) where
+module _ (ed : Edition) (s u : List ℕ) (root ty next : ℕ) (T : Tabled ed s root ty next u) where
   abbrev S : written.Sheet
   S = T .sheet
 
   -- what is weighed is the sheet's weight, held
-  weighed : {r : ℕ} → Weighs u root M r → r ≡ min (weight (termOf S)) 4097
+  weighed : {r : ℕ} → r ≡ formWord u 0 1 → r ≡ min (weight (termOf S)) 4097
   unfolding held formSheet
   weighed W =
-      W .weight (numbersAt s) (S .names) places (S .term) next (T .shown) (T .fine-term) (T .shallow)
+      W ∙ T .weighs
       ∙ ap (λ n. min n 4097)
         (sym (form-sheet S ∙ ap (λ N. formOf N (S .names) [] no-forms (S .term) .constant) (T .numbered)))
 
-  module _ {r n : ℕ} {N : Numbers} (W : Weighs u root M r) (e : N ≡ numbersAt s) (h : n ≡ min (sizeOf N ty r) 4097)
+  module _ {r n : ℕ} {N : Numbers} (W : r ≡ formWord u 0 1) (e : N ≡ numbersAt s) (h : n ≡ min (sizeOf N ty r) 4097)
     where
     abbrev full : ℕ
     full = size (tyOf (numbersAt s) ty) (termOf S)
@@ -82,13 +82,13 @@ module _ (ed : Edition) (s u M : List ℕ) (root ty next : ℕ) (T : Tabled ed s
         h ∙ rw (e, weighed W) (held-size (numbersAt s) ty (weight (termOf S))
         ∙ ap (λ k. min k 4097) (sym (size-of-weight (numbersAt s) ty S)))
 
-    pub judged-large : 4096 < n → JudgedBy ed s (Refused (refusal too-large 0)) u M
+    pub judged-large : 4096 < n → JudgedBy ed s (Refused (refusal too-large 0)) u
     unfolding JudgedBy
     judged-large l =
         let k : 4096 < full = omega (arith, sized) in
         T .finds ∙ rw (lt-ltb 4096 full k) refl
 
-    pub judged-accepted : n ≤ 4096 → (v : Uses) → v ≡ usesAt s u → JudgedBy ed s (Sheet root ty n v) u M
+    pub judged-accepted : n ≤ 4096 → (v : Uses) → v ≡ usesAt s u → JudgedBy ed s (Sheet root ty n v) u
     unfolding JudgedBy
     judged-accepted l v f =
         let k : full ≤ 4096 = omega (arith, sized) in
@@ -102,7 +102,7 @@ module _ (ed : Edition) (s u M : List ℕ) (root ty next : ℕ) (T : Tabled ed s
           rooted = T .rooted;
           shown = T .shown;
           used = f ∙ uses-right ed s S ty n a u (T .notes);
-          marked = W .marks (numbersAt s) (S .names) places (S .term) next (T .shown) (T .fine-term) (T .shallow) }
+          marked = T .marked }
 
 -- a sheet that is refused while it is read
 refused-as : (s : List ℕ) (A : Answer Whole) {x : Refusal} → Unread x ≡ eraseSheet A →
@@ -112,10 +112,10 @@ refused-as s (got (whole ns root t) ty end) e = let z : _≡_ {A = ℕ} 0 1 = cc
 refused-as s (refused n p) {x} e = let h : x ≡ refusal n p = cc in rw h refl
 
 pub judged-refused :
-    (ed : Edition) (s u M : List ℕ) {y : Reading} {x : Refusal} → y ≡ eraseSheet (wholeOf ed s) → y ≡ Unread x →
-    JudgedBy ed s (Refused x) u M
+    (ed : Edition) (s u : List ℕ) {y : Reading} {x : Refusal} → y ≡ eraseSheet (wholeOf ed s) → y ≡ Unread x →
+    JudgedBy ed s (Refused x) u
 unfolding JudgedBy readUnder
-judged-refused ed s u M e f = refused-as s (wholeOf ed s) (sym f ∙ e)
+judged-refused ed s u e f = refused-as s (wholeOf ed s) (sym f ∙ e)
 
 -- a sheet that is read
 pub tabled-read : (ed : Edition) (s u : List ℕ) {y : Reading} {root ty next : ℕ} → TabledBy ed s y u →
@@ -124,14 +124,14 @@ unfolding TabledBy
 tabled-read ed s u T e = rw e at T
 
 -- the answer of check
-pub checked-refused : (s u M : List ℕ) {y : Judgement} {x z : Refusal} {q : Cause} → JudgedBy Present s y u M →
+pub checked-refused : (s u : List ℕ) {y : Judgement} {x z : Refusal} {q : Cause} → JudgedBy Present s y u →
     y ≡ Refused x → z ≡ refusalIn y → q ≡ cause (z .number) old-sheet (z .place) →
     Turned q ≡ checkedOf (readSheet s)
 unfolding JudgedBy checkedOf refusalIn
-checked-refused s u M J e f g = let j = rw e at J in rw (g, f, e, j) refl
+checked-refused s u J e f g = let j = rw e at J in rw (g, f, e, j) refl
 
-pub checked-accepted : (s u M : List ℕ) {y : Judgement} {root ty size : ℕ} {v : Uses} →
-    JudgedBy Present s y u M → y ≡ Sheet root ty size v → Accepted ty size v ≡ checkedOf (readSheet s)
+pub checked-accepted : (s u : List ℕ) {y : Judgement} {root ty size : ℕ} {v : Uses} →
+    JudgedBy Present s y u → y ≡ Sheet root ty size v → Accepted ty size v ≡ checkedOf (readSheet s)
 unfolding JudgedBy checkedOf
-checked-accepted s u M {ty = ty} {size = size} J e =
+checked-accepted s u {ty = ty} {size = size} J e =
     let j = rw e at J in rw (j .accepts) (ap (Accepted ty size) (j .used))

@@ -15,6 +15,7 @@ use Rattle.language.specs.Choice.{pick}
 use Rattle.records.specs.declared.edition.Edition.{Edition}
 use Rattle.records.specs.declared.edition.Edition.the-variants.{Present}
 use Rattle.procedures.specs.Written.{Written, Name, declare, retire, Sheet}
+use Rattle.procedures.specs.Fine.{FineNames}
 use Rattle.procedures.specs.Uses.{uses, isDeclared, isUsed, bit, bits, count, firstFrom, markOf, usedOf, unusedOf}
 use Rattle.procedures.specs.Uses.{declaredIn}
 use Rattle.procedures.proofs.Tests.{by-test}
@@ -134,6 +135,18 @@ unfolding bits
 bits-same f g [] e = refl
 bits-same f g (n ∷ ns) e = ap₂ (λ b m. bit b + 2 * m) (e n) (bits-same f g ns e)
 
+-- the same records, where the ids of names are below the last byte
+bits-named : (f g : Name → Bool) (earlier ns : List Name) → FineNames earlier ns →
+    ((id ty : ℕ) (tys : List ℕ) → id < 256 → f (declare id ty tys) ≡ g (declare id ty tys)) →
+    ((id : ℕ) → f (retire id) ≡ g (retire id)) → bits f ns ≡ bits g ns
+unfolding bits FineNames
+bits-named f g earlier [] F e h = refl
+bits-named f g earlier (declare id ty tys ∷ ns) F e h =
+    ap₂ (λ b m. bit b + 2 * m) (e id ty tys (omega (arith, F .0)))
+      (bits-named f g (declare id ty tys ∷ earlier) ns (F .5) e h)
+bits-named f g earlier (retire id ∷ ns) F e h =
+    ap₂ (λ b m. bit b + 2 * m) (h id) (bits-named f g (retire id ∷ earlier) ns (F .2) e h)
+
 -- how many bits are set is a small number
 pub count-small : (f : ℕ → Bool) (s : List ℕ) {m : ℕ} → m ≡ mask f 32 s 2 → ones m ≤ 32
 count-small f s {m} e = ones-le 32 m (subst (λ x. x < 2 ^ 32) (sym e) (mask-below f 32 s 2))
@@ -153,6 +166,9 @@ module _ (ed : Edition) (s : List ℕ) (S : Sheet) (ty n : ℕ) (reads : readUnd
   few : length (S .names) ≤ 32
   few = gives ed s S ty n reads .1 .ordered .few-names
 
+  named : FineNames [] (S .names)
+  named = gives ed s S ty n reads .1 .ordered .fine-names
+
   declared-mask : mask every 32 s 2 ≡ bits isDeclared (S .names)
   unfolding ofIds isDeclared
   declared-mask =
@@ -166,16 +182,12 @@ module _ (ed : Edition) (s : List ℕ) (S : Sheet) (ty n : ℕ) (reads : readUnd
   unfolding declaredIn
   counted = ap ones declared-mask ∙ bits-ones isDeclared (S .names)
 
-  module _ (t : List ℕ) (notes : (id : ℕ) → isNoted t id ≡ uses (S .names) id [] (S .term)) where
+  module _ (t : List ℕ) (notes : (id : ℕ) → id < 256 → isNoted t id ≡ uses (S .names) id [] (S .term)) where
     mark-mask : mask (isNoted t) 32 s 2 ≡ markOf S
     unfolding markOf ofIds isUsed
     mark-mask =
         mask-names (isNoted t) s (S .term) (S .names) 32 2 few lies
-        ∙ bits-same (ofIds (isNoted t)) (isUsed S) (S .names) same
-      where
-        same : (m : Name) → ofIds (isNoted t) m ≡ isUsed S m
-        same (declare id ty tys) = notes id
-        same (retire id) = refl
+        ∙ bits-named (ofIds (isNoted t)) (isUsed S) [] (S .names) named (λ id ty tys h. notes id h) (λ id. refl)
 
     -- THEOREM: what is made of the masks is what the sheet uses
     pub uses-right : usesAt s t ≡ usesOf S

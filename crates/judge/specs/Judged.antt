@@ -14,13 +14,14 @@ use Rattle.sheet.specs.Encoding.{headingLength}
 use Rattle.sheet.specs.Reader.{numbersAt, readUnder, accepted, rejected}
 use Rattle.judge.specs.Mark.{usesOf}
 use Rattle.sheet.specs.table.Tabled.{places}
+use Rattle.weighing.specs.Stack.{marksIn}
 use Rattle.judge.specs.declared.mark.Uses.{Uses}
 use Rattle.judge.specs.declared.judge.Judgement.{Judgement}
 use Rattle.judge.specs.declared.judge.Judgement.the-variants.{Sheet, Refused}
 
 -- the sheet is accepted with type ty and the given size, and uses the given names; the table u shows its term from
--- root on, the marks M are its marks
-pub record Judged (ed : Edition) (s : List ℕ) (root ty size : ℕ) (uses : Uses) (u M : List ℕ) : Type 0 where
+-- root on and has its marks
+pub record Judged (ed : Edition) (s : List ℕ) (root ty size : ℕ) (uses : Uses) (u : List ℕ) : Type 0 where
   pub sheet : written.Sheet
   pub end : ℕ
   pub accepts : readUnder ed s ≡ accepted sheet ty size
@@ -28,11 +29,11 @@ pub record Judged (ed : Edition) (s : List ℕ) (root ty size : ℕ) (uses : Use
   pub rooted : root ≡ headingLength sheet
   pub shown : Shown (numbersAt s) (sheet .names) u whole places root end (sheet .term)
   pub used : uses ≡ usesOf sheet
-  pub marked : Marked (numbersAt s) (sheet .names) u M whole root (sheet .term)
+  pub marked : Marked (numbersAt s) (sheet .names) u (marksIn u) whole root (sheet .term)
 
-unfoldable pub JudgedBy : Edition → List ℕ → Judgement → List ℕ → List ℕ → Type 0
-JudgedBy ed s (Sheet root ty size uses) u M = Judged ed s root ty size uses u M
-JudgedBy ed s (Refused x) u M = readUnder ed s ≡ rejected (x .number) (x .place)
+unfoldable pub JudgedBy : Edition → List ℕ → Judgement → List ℕ → Type 0
+JudgedBy ed s (Sheet root ty size uses) u = Judged ed s root ty size uses u
+JudgedBy ed s (Refused x) u = readUnder ed s ≡ rejected (x .number) (x .place)
 
 -- the refusal of a sheet that is judged; its number is 0 where the sheet is not refused
 unfoldable pub refusalIn : Judgement → Refusal

@@ -36,8 +36,7 @@ pub fn check(s: &[u8]) -> Checked
     ensures { λ r. ⌜ r ≡ checkedOf (readSheet (now (s .entry))) ⌝ }
 {
     let mut t = [0u16; TABLE];
-    let mut marks = [0u16; 4096];
-    let x = judge_sheet(Edition::Present, s, &mut t, &mut marks);
+    let x = judge_sheet(Edition::Present, s, &mut t);
     let Judgement::Sheet {
         root: _,
         ty,

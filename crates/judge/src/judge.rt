@@ -1,4 +1,4 @@
-// A whole sheet judged: read, weighed, and held to the greatest size.
+// A whole sheet judged: read, which weighs it, and held to the greatest size.
 use crate::mark::Uses;
 use crate::mark::uses_of;
 use crate::size::size_of;
@@ -11,7 +11,7 @@ use records::refusal::refuse;
 use sheet::names::Reading;
 use sheet::reading::numbers_of;
 use sheet::reading::read_sheet;
-use weigh::term::weigh;
+use weigh::term::weight_of;
 ghost use mathlib.Core.Path.{_≡_};
 ghost use Rattle.sheet.specs.table.Notes.{Blank};
 ghost use Rattle.judge.specs.Judged.{JudgedBy};
@@ -28,20 +28,15 @@ pub enum Judgement {
 }
 
 // Judges a whole sheet by the rule of an edition, and leaves the rows of its parts in the blank table and their marks.
-pub fn judge_sheet(
-    edition: Edition,
-    s: &[u8],
-    t: &mut [u16; TABLE],
-    marks: &mut [u16; 4096],
-) -> Judgement
+pub fn judge_sheet(edition: Edition, s: &[u8], t: &mut [u16; TABLE]) -> Judgement
     requires { ⌜ Blank (now t) ⌝ }
-    ensures { λ x. ⌜ JudgedBy edition (now (s .entry)) x (now (t .exit)) (now (marks .exit)) ⌝ }
+    ensures { λ x. ⌜ JudgedBy edition (now (s .entry)) x (now (t .exit)) ⌝ }
 {
     let x = read_sheet(edition, s, t);
     match x {
         Reading::Refused(refusal) => Judgement::Refused(refusal),
         Reading::Sheet { root, ty, next: _ } => {
-            let weight = weigh(t, root, marks);
+            let weight = weight_of(t);
             let size = size_of(numbers_of(s), ty, weight);
             if LIMIT < size {
                 return Judgement::Refused(refuse(TOO_LARGE, 0));

@@ -27,22 +27,24 @@ use Rattle.judge.specs.declared.mark.Uses.{Uses}
 use Rattle.judge.specs.declared.judge.Judgement.{Judgement}
 use Rattle.judge.specs.declared.judge.Judgement.the-variants as judged
 use Rattle.sheet.proofs.Right.{gives}
-use Rattle.load.specs.Loaded.{Expanded, Ready, LoadedBy}
+use Rattle.weighing.specs.Stack.{marksIn}
+use Rattle.weighing.proofs.Same.{marked-agree}
+use Rattle.load.specs.Loaded.{MarksOf, Expanded, Ready, LoadedBy}
 use Rattle.load.specs.declared.load.Loaded.the-variants.{Sheet, Refused}
 
 -- a sheet that is judged
-pub judged-of : (s u M : List ℕ) {x : Judgement} {root ty size : ℕ} {uses : Uses} →
-    JudgedBy Present s x u M → x ≡ judged.Sheet root ty size uses → Judged Present s root ty size uses u M
+pub judged-of : (s u : List ℕ) {x : Judgement} {root ty size : ℕ} {uses : Uses} →
+    JudgedBy Present s x u → x ≡ judged.Sheet root ty size uses → Judged Present s root ty size uses u
 unfolding JudgedBy
-judged-of s u M J e = rw e at J
+judged-of s u J e = rw e at J
 
 -- one that is refused
-pub load-refused : (s u M after : List ℕ) {x : Judgement} {y : Refusal} → JudgedBy Present s x u M →
+pub load-refused : (s u after : List ℕ) {x : Judgement} {y : Refusal} → JudgedBy Present s x u →
     x ≡ judged.Refused y → LoadedBy s (Refused y) after
 unfolding JudgedBy LoadedBy
-load-refused s u M after J e = rw e at J
+load-refused s u after J e = rw e at J
 
-module _ {s u M : List ℕ} {root ty size : ℕ} {uses : Uses} (J : Judged Present s root ty size uses u M) where
+module _ {s u : List ℕ} {root ty size : ℕ} {uses : Uses} (J : Judged Present s root ty size uses u) where
   abbrev S : written.Sheet
   S = J .sheet
 
@@ -59,22 +61,24 @@ module _ {s u M : List ℕ} {root ty size : ℕ} {uses : Uses} (J : Judged Prese
       let r = shown-row (numbersAt s) (S .names) u (J .shown) .1 in
       omega (arith, r .before, r .within)
 
-  ready : expand.Ready (S .numbers) (S .names) u M places (S .term) root (J .end)
+  ready : (M : List ℕ) → MarksOf u M 4096 → expand.Ready (S .numbers) (S .names) u M places (S .term) root (J .end)
   unfolding madeSheet forms makes
-  ready = record {
+  ready M e = record {
       shown = subst (λ N. Shown N (S .names) u whole places root (J .end) (S .term)) (sym (J .numbered)) (J .shown);
-      marked = subst (λ N. Marked N (S .names) u M whole root (S .term)) (sym (J .numbered)) (J .marked);
+      marked = subst (λ N. Marked N (S .names) u M whole root (S .term)) (sym (J .numbered))
+        (marked-agree (numbersAt s) (S .names) u u (marksIn u) M (J .shown) (λ p i h g l. refl)
+          (λ p h g. e .each p (omega (arith, shown-row (numbersAt s) (S .names) u (J .shown) .1 .within))) (J .marked));
       fine = ordered .fine-term;
       shallow = ordered .shallow;
       room = omega (arith, rows-sheet S, accepted-nodes S ordered) }
 
   -- THEOREM: the rows to which it is expanded represent its term
-  pub load-sheet : {r : ℕ} {rows after : List ℕ} → Expanded u M root rows after r → length rows ≡ 110592 →
+  pub load-sheet : {r : ℕ} {rows after : List ℕ} → Expanded u root rows after r → length rows ≡ 110592 →
       LoadedBy s (Sheet root r ty size uses) after
   unfolding LoadedBy
   load-sheet {r} {rows} {after} T l =
       let n : ℕ = T .count in
-      let w = T .expands .of (S .numbers) (S .names) places (S .term) (J .end) ready l in
+      let w = T .expands .of (S .numbers) (S .names) places (S .term) (J .end) (ready (T .marks) (T .copied)) l in
       let p = rows-represent S ordered after r n (w .expands) (w .local) in
       record {
         sheet = S; accepts = J .accepts; numbered = J .numbered; rooted = J .rooted; used = J .used;

@@ -1,8 +1,11 @@
 -- What loading a sheet leaves: the sheet is accepted, and the rows represent its term; or why it is refused. Only inner
 -- contracts cite it.
-use Prim.Native.Nat.{ℕ}
+use Prim.Native.Nat.{ℕ, _<_}
 use mathlib.Core.Path.{_≡_}
 use mathlib.Core.List.{List, []}
+use lib.ListN.{getD}
+use Rattle.records.specs.Limits.{most-bytes}
+use Rattle.weighing.specs.Stack.{marksIn}
 use Rattle.procedures.specs.Written as written
 use Rattle.procedures.specs.Meaning.{tyOf, termOf}
 use Rattle.nodes.specs.Rep.{DEPTH, Rep}
@@ -14,8 +17,14 @@ use Rattle.judge.specs.declared.mark.Uses.{Uses}
 use Rattle.load.specs.declared.load.Loaded.{Loaded}
 use Rattle.load.specs.declared.load.Loaded.the-variants.{Sheet, Refused}
 
+-- the marks of the first n places of the table t
+pub record MarksOf (t marks : List ℕ) (n : ℕ) : Type 0 where
+  pub each : (i : ℕ) → i < n → getD marks i 0 ≡ getD (marksIn t) i 0
+
 -- the term whose parts the table t has from the root on becomes the row r
-pub record Expanded (t marks : List ℕ) (root : ℕ) (rows after : List ℕ) (r : ℕ) : Type 0 where
+pub record Expanded (t : List ℕ) (root : ℕ) (rows after : List ℕ) (r : ℕ) : Type 0 where
+  pub marks : List ℕ
+  pub copied : MarksOf t marks most-bytes
   pub count : ℕ
   pub expands : Top t marks root rows after r count
 

@@ -3,10 +3,13 @@ use expand::expand::expand_term;
 use judge::judge::Judgement;
 use judge::judge::judge_sheet;
 use judge::mark::Uses;
+use part_rows::row::MARKS;
 use part_rows::row::TABLE;
+use part_rows::row::put;
 use records::edition::Edition;
+use records::read::short_at;
 use records::refusal::Refusal;
-ghost use Rattle.load.specs.Loaded.{Expanded, LoadedBy};
+ghost use Rattle.load.specs.Loaded.{MarksOf, Expanded, LoadedBy};
 ghost use mathlib.Core.Path.{_≡_};
 ghost use Prim.Native.Nat.{_<_};
 ghost use lib.ListN.{length};
@@ -29,17 +32,26 @@ pub enum Loaded {
     Refused(Refusal),
 }
 
-// Expands the term whose parts the table has from the root on, and gives its row.
-fn expand_root(
-    t: &[u16; TABLE],
-    marks: &[u16; PLACES],
-    rows: &mut [u16; ROWS],
-    root: usize,
-) -> usize
-    requires { ⌜ root < 65536 ⌝ }
-    ensures { λ r. ⌜ Expanded (now (t .entry)) (now (marks .entry)) root (now (rows .entry)) (now (rows .exit)) r ⌝ }
+// The marks of a table's places.
+fn copy_marks(t: &[u16], marks: &mut [u16])
+    requires { ⌜ length (now marks) ≡ 4096 ⌝ }
+    ensures { λ r. ⌜ MarksOf (now (t .entry)) (now (marks .exit)) 4096 ⌝ }
 {
-    let made = expand_term(t, marks, rows, root as u16);
+    let mut i = 0;
+    while i < PLACES {
+        put(marks, i, short_at(t, MARKS + i));
+        i += 1;
+    }
+}
+
+// Expands the term whose parts the table has from the root on, and gives its row.
+fn expand_root(t: &[u16; TABLE], rows: &mut [u16; ROWS], root: usize) -> usize
+    requires { ⌜ root < 65536 ⌝ }
+    ensures { λ r. ⌜ Expanded (now (t .entry)) root (now (rows .entry)) (now (rows .exit)) r ⌝ }
+{
+    let mut marks = [0u16; PLACES];
+    copy_marks(t, &mut marks);
+    let made = expand_term(t, &marks, rows, root as u16);
     made.row as usize
 }
 
@@ -49,8 +61,7 @@ pub fn load(s: &[u8], rows: &mut [u16; ROWS]) -> Loaded
     ensures { λ x. ⌜ LoadedBy (now (s .entry)) x (now (rows .exit)) ⌝ }
 {
     let mut t = [0u16; TABLE];
-    let mut marks = [0u16; PLACES];
-    let x = judge_sheet(Edition::Present, s, &mut t, &mut marks);
+    let x = judge_sheet(Edition::Present, s, &mut t);
     match x {
         Judgement::Refused(refusal) => Loaded::Refused(refusal),
         Judgement::Sheet {
@@ -59,7 +70,7 @@ pub fn load(s: &[u8], rows: &mut [u16; ROWS]) -> Loaded
             size,
             uses,
         } => {
-            let row = expand_root(&t, &marks, rows, root);
+            let row = expand_root(&t, rows, root);
             Loaded::Sheet {
                 root,
                 row,

@@ -34,11 +34,19 @@ pub const PARTS: usize = 5;
 // How many they are.
 pub const WORDS: usize = 9;
 
-// After the rows of 4,096 places a table has a word for each byte that may be an id, the notes: where they begin, and
-// how many words a table has.
+// After the rows of 4,096 places a table has a word for each byte that may be an id, the notes; a mark and a slot for
+// each place; the height of the stack of forms, and the forms. Where they begin, and how many words a table has.
 pub const NOTES: usize = 36864;
 
-pub const TABLE: usize = 37120;
+pub const MARKS: usize = 37120;
+
+pub const SLOTS: usize = 41216;
+
+pub const HEIGHT: usize = 45312;
+
+pub const FORMS: usize = 45313;
+
+pub const TABLE: usize = 58313;
 
 // The kinds of rows that are no kinds of records: of every constant, and of the uses of a private variable, of a
 // parameter and of a procedure.

@@ -44,8 +44,7 @@ fn read_earlier(s: &[u8]) -> Earlier
     ensures { λ x. ⌜ EarlierRead (now (s .entry)) x ⌝ }
 {
     let mut t = [0u16; TABLE];
-    let mut marks = [0u16; SHEET];
-    let x = judge_sheet(Edition::Earlier, s, &mut t, &mut marks);
+    let x = judge_sheet(Edition::Earlier, s, &mut t);
     match x {
         Judgement::Refused(refusal) => Earlier::Refused(refusal),
         Judgement::Sheet {

@@ -5,8 +5,10 @@ use native.Mathlib.Numerals.{sub-one}
 use mathlib.Core.Path.{_≡_, refl, ap, _∙_}
 use mathlib.Core.List.{List}
 use lib.Dec.{eqb, eqb·suc-zero}
+use borrow.Author.Tests.{eq-eqb, ne-eqb}
 use Rattle.language.specs.Choice.{pick}
 use Rattle.language.specs.declared.Numbers.{Numbers}
+use Rattle.records.specs.Standing.{standingOf}
 use Rattle.records.specs.declared.refusal.Refusal.{Refusal}
 use Rattle.heads.specs.Head.{headOf}
 use Rattle.parts.specs.Rule.{acceptsPart, partType}
@@ -17,10 +19,12 @@ use Rattle.parts.specs.declared.scope.Opens.the-variants.{Block, Routine}
 use Rattle.heads.specs.declared.head.Record.{Record}
 use Rattle.heads.specs.declared.head.Head.the-variants.{Good}
 use Rattle.heads.proofs.HeadLaws.{head-good}
+use Rattle.weighing.specs.Step.{weighed}
 use Rattle.sheet.specs.Reader.{Tree, node, Trees, branch, Answer, got, refused, bind, onHead, partsOf}
 use Rattle.sheet.specs.Reader.{readRecord, readPart}
 use Rattle.sheet.specs.table.Fill.{fill, fills, erase, Leaves, Reads, closedAnswer, closedTable}
 use Rattle.sheet.specs.table.Notes.{noted}
+use Rattle.sheet.specs.table.Number.{numberIn, usedNumber}
 use Rattle.sheet.specs.declared.part.Part.{Part}
 use Rattle.sheet.specs.declared.part.Part.the-variants.{Read, Refused}
 use Rattle.sheet.proofs.Answers.{HeadAll}
@@ -67,13 +71,24 @@ unfolding partsOf
 parts-step rec s r zero j prev at h = absurd (h refl)
 parts-step rec s r (suc n) j prev at h = simp sub-one
 
--- the row that is written and the note that is made where the answer of the parts is known
+-- the row that is written, the note that is made and the record that is weighed where the answer of the parts is known
 pub closed-table :
-    (N : Numbers) (s : List ℕ) (around : ℕ) (r : Record) (t : List ℕ) {parts : Part} {last next ty : ℕ} {u v : List ℕ} →
-    parts ≡ Read last next → ty ≡ partType (r .rule) s r last → u ≡ row.rowWritten N r ty around next t →
-    v ≡ noted r u → v ≡ closedTable N s around r parts t
+    (N : Numbers) (s : List ℕ) (around : ℕ) (r : Record) (t : List ℕ) {parts : Part} {last next ty k : ℕ}
+    {u v w : List ℕ} → parts ≡ Read last next → ty ≡ partType (r .rule) s r last →
+    u ≡ row.rowWritten N r ty around next t → v ≡ noted r u → k ≡ usedNumber r → w ≡ weighed k (r .place) v →
+    w ≡ closedTable N s around r parts t
 unfolding closedTable
-closed-table N s around r t e f h g = g ∙ (ap (noted r) h ∙ rw (e, f))
+closed-table N s around r t {k = k} e f h g i l =
+    l ∙ (ap (weighed k (r .place)) (g ∙ ap (noted r) h) ∙ rw (i, e, f))
+
+-- the number of the procedure that a record uses
+pub number-used : (r : Record) {k : ℕ} → r .kind ≡ 20 → k ≡ numberIn (standingOf (r .b)) → k ≡ usedNumber r
+unfolding usedNumber
+number-used r e f = f ∙ rw (eq-eqb (r .kind) 20 e) refl
+
+pub number-none : (r : Record) → (r .kind ≡ 20 → ⊥) → 0 ≡ usedNumber r
+unfolding usedNumber
+number-none r e = rw (ne-eqb (r .kind) 20 e) refl
 
 -- a record closed after its parts
 pub closes :

@@ -26,4 +26,5 @@ pub mod Spans
 pub mod Stored
 pub mod Shows
 pub mod Noting
+pub mod weights
 pub mod Tabling

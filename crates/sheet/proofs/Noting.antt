@@ -24,12 +24,14 @@ use Rattle.procedures.specs.Meaning.{Binder, a-block, meaning, inside, after}
 use Rattle.procedures.specs.Uses.{isName, uses, someUses}
 use Rattle.procedures.proofs.Tests.{by-test}
 use Rattle.sheet.specs.Reader.{Tree, node, Trees, leaf, branch, written, writtens, build, first, rest}
+use Rattle.weighing.specs.Step.{weighed}
 use Rattle.sheet.specs.table.Fill.{fill, fills}
 use Rattle.sheet.specs.table.Notes.{Blank, isNameStanding, usesName, noted, isNoted}
+use Rattle.sheet.specs.table.Number.{usedNumber}
 use Rattle.sheet.proofs.Parsed.{Stands, Parsed, p-skip, p-diverge, p-truth, p-number, p-private, p-parameter}
 use Rattle.sheet.proofs.Parsed.{p-use, p-name, p-fetch, p-operate, p-assign, p-sequence, p-if, p-while, p-new}
 use Rattle.sheet.proofs.Parsed.{p-procedure, p-none, p-more}
-use Rattle.sheet.proofs.Rows.{length-written, length-linked}
+use Rattle.sheet.proofs.Rows.{length-written, length-linked, weighed-notes}
 use Rattle.sheet.proofs.Spans.{length-fill, length-fills}
 
 -- a table of zeros is blank
@@ -38,7 +40,7 @@ zero-there zero i = refl
 zero-there (suc n) zero = refl
 zero-there (suc n) (suc i) = zero-there n i
 
-pub blank-made : (n : ℕ) → n ≡ 37120 → Blank (replicate n 0)
+pub blank-made : (n : ℕ) → n ≡ 58313 → Blank (replicate n 0)
 blank-made n e = record { long = length-replicate n 0 ∙ e; clear = zero-there n }
 
 -- the standings of declared names
@@ -168,35 +170,39 @@ or-other : (a b c : Bool) → (b || c) ≡ (((a && false) || b) || c)
 or-other true b c = refl
 or-other false b c = refl
 
-module _ (N : Numbers) (s : List ℕ) (ns : List Name) (short : length s ≤ 4096) (k : ℕ) where
+module _ (N : Numbers) (s : List ℕ) (ns : List Name) (short : length s ≤ 4096) (k : ℕ) (byte : k < 256) where
   -- what a part of a record leaves, whose place is put into the row at p
   abbrev Notes : List Binder → Tree → Type 0
-  Notes bs x = (t : List ℕ) → length t ≡ 37120 → isNoted (fill N x t) k ≡ (uses ns k bs (written s x) || isNoted t k)
+  Notes bs x = (t : List ℕ) → length t ≡ 58313 → isNoted (fill N x t) k ≡ (uses ns k bs (written s x) || isNoted t k)
 
   part-notes : (bs : List Binder) (x : Tree) → Notes bs x → (p j at : ℕ) (t : List ℕ) → p < 4096 → j < 4 →
-      length t ≡ 37120 → isNoted (fill N x (linked p j at t)) k ≡ (uses ns k bs (written s x) || isNoted t k)
+      length t ≡ 58313 → isNoted (fill N x (linked p j at t)) k ≡ (uses ns k bs (written s x) || isNoted t k)
   part-notes bs x f p j at t h g l =
       f (linked p j at t) (length-linked p j at t ∙ l)
       ∙ ap (λ b. uses ns k bs (written s x) || b) (link-kept p j at t k h g)
 
-  part-long : (x : Tree) (p j at : ℕ) (t : List ℕ) → length t ≡ 37120 → length (fill N x (linked p j at t)) ≡ 37120
+  part-long : (x : Tree) (p j at : ℕ) (t : List ℕ) → length t ≡ 58313 → length (fill N x (linked p j at t)) ≡ 58313
   part-long x p j at t l = length-fill N x (linked p j at t) ∙ (length-linked p j at t ∙ l)
 
   -- a record that uses no name, closed
   closed-none : (r : Record) (ty number end : ℕ) (u : List ℕ) → r .place < 4096 → usesName r ≡ false →
-      isNoted (noted r (rowWritten N r ty number end u)) k ≡ isNoted u k
+      isNoted (weighed (usedNumber r) (r .place) (noted r (rowWritten N r ty number end u))) k ≡ isNoted u k
   closed-none r ty number end u h e =
-      no-note r (rowWritten N r ty number end u) k e ∙ row-kept N r ty number end u k h
+      weighed-notes (usedNumber r) (r .place) (noted r (rowWritten N r ty number end u)) k byte
+      ∙ (no-note r (rowWritten N r ty number end u) k e ∙ row-kept N r ty number end u k h)
 
   closed-name : (r : Record) (ty number end : ℕ) (u : List ℕ) → r .place < 4096 → usesName r ≡ true → r .a < 255 →
-      length u ≡ 37120 → isNoted (noted r (rowWritten N r ty number end u)) k ≡ (eqb (r .a) k || isNoted u k)
+      length u ≡ 58313 →
+      isNoted (weighed (usedNumber r) (r .place) (noted r (rowWritten N r ty number end u))) k
+      ≡ (eqb (r .a) k || isNoted u k)
   closed-name r ty number end u h e g l =
-      let long : length (rowWritten N r ty number end u) ≡ 37120 = length-written N r ty number end u ∙ l in
-      one-note r (rowWritten N r ty number end u) k e (omega (arith, long))
-      ∙ ap (λ b. eqb (r .a) k || b) (row-kept N r ty number end u k h)
+      let long : length (rowWritten N r ty number end u) ≡ 58313 = length-written N r ty number end u ∙ l in
+      weighed-notes (usedNumber r) (r .place) (noted r (rowWritten N r ty number end u)) k byte
+      ∙ (one-note r (rowWritten N r ty number end u) k e (omega (arith, long))
+      ∙ ap (λ b. eqb (r .a) k || b) (row-kept N r ty number end u k h))
 
   two-notes : (bs cs : List Binder) (x y : Tree) → Notes bs x → Notes cs y → (p a b : ℕ) (t : List ℕ) → p < 4096 →
-      length t ≡ 37120 →
+      length t ≡ 58313 →
       isNoted (fill N y (linked p 1 b (fill N x (linked p 0 a t)))) k
       ≡ ((uses ns k bs (written s x) || uses ns k cs (written s y)) || isNoted t k)
   two-notes bs cs x y f g p a b t h l =
@@ -206,12 +212,12 @@ module _ (N : Numbers) (s : List ℕ) (ns : List Name) (short : length s ≤ 409
       ∙ or-two (uses ns k bs (written s x)) (uses ns k cs (written s y)) (isNoted t k))
 
   three-notes : (bs : List Binder) (x y z : Tree) → Notes bs x → Notes bs y → Notes bs z → (p a b c : ℕ) (t : List ℕ) →
-      p < 4096 → length t ≡ 37120 →
+      p < 4096 → length t ≡ 58313 →
       isNoted (fill N z (linked p 2 c (fill N y (linked p 1 b (fill N x (linked p 0 a t)))))) k
       ≡ ((uses ns k bs (written s x) || (uses ns k bs (written s y) || uses ns k bs (written s z))) || isNoted t k)
   three-notes bs x y z f g i p a b c t h l =
       let u : List ℕ = fill N x (linked p 0 a t) in
-      let m : length u ≡ 37120 = part-long x p 0 a t l in
+      let m : length u ≡ 58313 = part-long x p 0 a t l in
       let v : List ℕ = fill N y (linked p 1 b u) in
       part-notes bs z i p 2 c v h (omega arith) (part-long y p 1 b u m)
       ∙ (ap (λ e. uses ns k bs (written s z) || e)
@@ -230,7 +236,7 @@ module _ (N : Numbers) (s : List ℕ) (ns : List Name) (short : length s ≤ 409
       ∙ (g ∙ ap (λ w. uses ns k bs w || isNoted t k) (sym e))
 
   name-notes : (bs : List Binder) (r : Record) (ty number end : ℕ) (ts : Trees) (W : Written) (t : List ℕ) →
-      r .place < 4096 → build (r .rule) s r (writtens s ts) ≡ W → usesName r ≡ true → r .a < 255 → length t ≡ 37120 →
+      r .place < 4096 → build (r .rule) s r (writtens s ts) ≡ W → usesName r ≡ true → r .a < 255 → length t ≡ 58313 →
       (eqb (r .a) k || isNoted (fills N ts (r .place) 0 t) k) ≡ (uses ns k bs W || isNoted t k) →
       isNoted (fill N (node r ty number end ts) t) k ≡ (uses ns k bs (written s (node r ty number end ts)) || isNoted t k)
   unfolding fill written
@@ -247,7 +253,7 @@ module _ (N : Numbers) (s : List ℕ) (ns : List Name) (short : length s ≤ 409
   unfolding fills written writtens build first rest uses someUses isName usesName isNameStanding
   notes-part d =
     elim d as (λ left bs π at x ty next d. Notes bs x)
-      (λ left bs π at ts tys next ds. (p j : ℕ) (t : List ℕ) → p < 4096 → j + length tys ≤ 4 → length t ≡ 37120 →
+      (λ left bs π at ts tys next ds. (p j : ℕ) (t : List ℕ) → p < 4096 → j + length tys ≤ 4 → length t ≡ 58313 →
         isNoted (fills N ts p j t) k ≡ (someUses ns k bs (writtens s ts) || isNoted t k)) [
       p-skip {bs = bs} {r = r} st ↦ λ t l.
         record-notes bs r _ _ _ leaf w.skip t (low st) (rw (st .ruled) refl) (unused-kind r (st .kinded) refl) refl

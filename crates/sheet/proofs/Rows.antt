@@ -1,11 +1,12 @@
 -- The table word by word: what a row holds after `rowWritten` and `linked`, and that all other words stay; a note
--- changes no row.
+-- changes no row, and weighing changes neither a row nor a note.
 use Prim.Native.Nat.{ℕ, _+_, _*_, _≤_, _<_}
 use native.Mathlib.Omega.{arith}
-use mathlib.Core.Path.{_≡_, refl, _∙_}
+use mathlib.Core.Path.{_≡_, refl, ap, _∙_}
 use mathlib.Core.Bool.{Bool, true, false}
 use mathlib.Core.List.{List}
 use lib.ListN.{length, getD, set, length-set}
+use lib.Dec.{eqb}
 use lib.Seq.{getD-set-same, getD-set-other}
 use Rattle.language.specs.declared.Numbers.{Numbers}
 use Rattle.parts.specs.Rule as rule
@@ -14,7 +15,9 @@ use Rattle.part_rows.specs.Row.{cell, rowKind, classOf, rowWritten, linked}
 use Rattle.heads.specs.declared.head.Record.{Record}
 use Rattle.part_rows.specs.Row.{word}
 use Rattle.language.specs.Choice.{pick}
-use Rattle.sheet.specs.table.Notes.{usesName, noted}
+use Rattle.weighing.specs.Step.{weighed}
+use Rattle.weighing.proofs.Below.{weighed-low}
+use Rattle.sheet.specs.table.Notes.{usesName, noted, isNoted}
 
 -- one word set: that word, and what another holds
 set-same : (t : List ℕ) (p i v : ℕ) → i < 9 → 9 * p + 9 ≤ length t → word (set t (cell p i) v) p i ≡ v
@@ -121,3 +124,12 @@ noted-else r t p i h g = go (usesName r)
     go : (b : Bool) → getD (pick b (set t (36864 + r .a) 1) t) (9 * p + i) 0 ≡ getD t (9 * p + i) 0
     go true = getD-set-other t (36864 + r .a) (9 * p + i) 1 0 (λ e. omega arith)
     go false = refl
+
+-- forms and marks stand after the rows and the notes
+pub weighed-else : (k at : ℕ) (t : List ℕ) (p i : ℕ) → p < 4096 → i < 9 → word (weighed k at t) p i ≡ word t p i
+unfolding word cell
+weighed-else k at t p i h g = weighed-low k at t (9 * p + i) (omega arith)
+
+pub weighed-notes : (k at : ℕ) (t : List ℕ) (id : ℕ) → id < 256 → isNoted (weighed k at t) id ≡ isNoted t id
+unfolding isNoted
+weighed-notes k at t id h = ap (λ x. eqb x 1) (weighed-low k at t (36864 + id) (omega arith))

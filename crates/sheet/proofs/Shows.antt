@@ -214,7 +214,7 @@ module _ (N : Numbers) (s : List ℕ) (ns : List Name) (U : List ℕ) (short : l
 -- the table that `fill` leaves shows the whole term
 pub shows-whole :
     {ed : Edition} (N : Numbers) (s : List ℕ) (ns : List Name) {left root ty next : ℕ} {π : ℕ → ℕ} {x : Tree} →
-    length s ≤ 4096 → Parsed ed N s ns left [] π root x ty next → (t : List ℕ) → length t ≡ 37120 →
+    length s ≤ 4096 → Parsed ed N s ns left [] π root x ty next → (t : List ℕ) → length t ≡ 58313 →
     Shown N ns (fill N x t) whole π root next (written s x)
 unfolding binders
 shows-whole N s ns {x = x} short d t room =

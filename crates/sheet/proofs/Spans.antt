@@ -11,12 +11,16 @@ use Rattle.procedures.specs.Written.{Name}
 use Rattle.procedures.specs.Meaning.{Binder}
 use Rattle.part_rows.specs.Row.{word}
 use Rattle.sheet.specs.Reader.{Tree, node, Trees, leaf, branch}
+use Rattle.weighing.proofs.Below.{length-weighed}
 use Rattle.sheet.specs.table.Fill.{fill, fills}
+use Rattle.sheet.specs.table.Notes.{noted}
+use Rattle.sheet.specs.table.Number.{usedNumber}
 use Rattle.records.specs.declared.edition.Edition.{Edition}
 use Rattle.sheet.proofs.Parsed.{Parsed, p-skip, p-diverge, p-truth, p-number, p-private, p-parameter, p-use}
 use Rattle.sheet.proofs.Parsed.{p-name, p-fetch, p-operate, p-assign, p-sequence, p-if, p-while, p-new}
 use Rattle.sheet.proofs.Parsed.{p-procedure, ParsedArgs, p-none, p-more}
 use Rattle.sheet.proofs.Rows.{length-written, length-linked, written-else, linked-else, length-noted, noted-else}
+use Rattle.sheet.proofs.Rows.{weighed-else}
 
 -- a part takes the places from its own up to the next; its parts, at most four, stand one after the other behind it
 mutual
@@ -125,8 +129,10 @@ module _ (N : Numbers) where
     unfolding fill fills
     pub length-fill : (x : Tree) (t : List ℕ) → length (fill N x t) ≡ length t
     length-fill (node r ty number end ts) t =
-        length-noted r (rowWritten N r ty number end (fills N ts (r .place) 0 t)) ∙
-        (length-written N r ty number end (fills N ts (r .place) 0 t) ∙ length-fills ts (r .place) 0 t)
+        let u : List ℕ = fills N ts (r .place) 0 t in
+        let v : List ℕ = rowWritten N r ty number end u in
+        length-weighed (usedNumber r) (r .place) (noted r v) ∙
+        (length-noted r v ∙ (length-written N r ty number end u ∙ length-fills ts (r .place) 0 t))
 
     pub length-fills : (xs : Trees) (p j : ℕ) (t : List ℕ) → length (fills N xs p j t) ≡ length t
     length-fills leaf p j t = refl
@@ -143,10 +149,11 @@ module _ (N : Numbers) where
         let le : from ≤ next = onward ps in
         let rest = fills-else ps t (r .place) p i g h (narrow (omega arith) (omega arith) o)
           (λ f. absurd (not-first (omega arith) o (f ∙ e))) in
-        noted-else r (rowWritten N r ty number end (fills N ts (r .place) 0 t)) p i g h ∙
-        (written-else N r ty number end (fills N ts (r .place) 0 t) p i h (λ f. absurd (not-first (omega arith) o (f ∙
-          e))) ∙
-          rest)
+        let u : List ℕ = fills N ts (r .place) 0 t in
+        let v : List ℕ = rowWritten N r ty number end u in
+        weighed-else (usedNumber r) (r .place) (noted r v) p i g h ∙
+        (noted-else r v p i g h ∙
+        (written-else N r ty number end u p i h (λ f. absurd (not-first (omega arith) o (f ∙ e))) ∙ rest))
 
     pub fills-else : {j at next : ℕ} {xs : Trees} → Parts j at next xs → (t : List ℕ) (q p i : ℕ) → p < 4096 → i < 9 →
         Outside at next p → (p ≡ q → i < 5 + j) → word (fills N xs q j t) p i ≡ word t p i

@@ -9,8 +9,11 @@ use Rattle.part_rows.specs.Row.{rowWritten, linked}
 use Rattle.heads.specs.declared.head.Record.{Record}
 use Rattle.sheet.specs.Reader.{Tree, node, Trees, leaf, branch}
 use Rattle.sheet.specs.table.Fill.{fill, fills}
+use Rattle.sheet.specs.table.Notes.{noted}
+use Rattle.sheet.specs.table.Number.{usedNumber}
 use Rattle.part_rows.specs.Row.{word}
 use Rattle.sheet.proofs.Rows.{Holds, length-linked, written-row, written-else, linked-same, noted-else}
+use Rattle.sheet.proofs.Rows.{weighed-else}
 use Rattle.sheet.proofs.Spans.{Span, span, Parts, stop, part, forward, onward, before}
 use Rattle.sheet.proofs.Spans.{length-fill, length-fills, fill-else, fills-else}
 
@@ -42,16 +45,18 @@ module _ (N : Numbers) (U : List ℕ) where
   -- what `fill` leaves holds every part's row, and so does every table with the same rows of its places
   mutual
     unfolding fill fills
-    pub stores : {at next : ℕ} {x : Tree} → Span at next x → (t : List ℕ) → length t ≡ 37120 → next ≤ 4096 →
+    pub stores : {at next : ℕ} {x : Tree} → Span at next x → (t : List ℕ) → length t ≡ 58313 → next ≤ 4096 →
         Agree U (fill N x t) at next → Stored at x
     stores (span {at} {from} {next} {ty} {number} {end} {r} {ts} e ps lt) t l h same =
         let le : from ≤ next = onward ps in
         let u : List ℕ = fills N ts (r .place) 0 t in
-        let long : length u ≡ 37120 = length-fills N ts (r .place) 0 t ∙ l in
+        let long : length u ≡ 58313 = length-fills N ts (r .place) 0 t ∙ l in
         let row : Holds N r ty number end (rowWritten N r ty number end u) (r .place) = written-row N r ty number end
           u (omega arith) in
         let same′ : Agree U (rowWritten N r ty number end u) at next =
-              λ p i g k m. same p i g k m ∙ noted-else r (rowWritten N r ty number end u) p i (omega arith) m in
+              λ p i g k m. same p i g k m ∙
+              (weighed-else (usedNumber r) (r .place) (noted r (rowWritten N r ty number end u)) p i (omega arith) m ∙
+              noted-else r (rowWritten N r ty number end u) p i (omega arith) m) in
         let mine : Holds N r ty number end U at =
               holds-in (subst (λ (p : ℕ). Holds N r ty number end (rowWritten N r ty number end u) p) e row)
                 (λ i g. same′ at i (omega arith) (omega arith) g) in
@@ -64,7 +69,7 @@ module _ (N : Numbers) (U : List ℕ) where
 
     -- of the record at q, whose row has the places of its parts
     pub stores-parts : {j from next : ℕ} {xs : Trees} → Parts j from next xs → (q : ℕ) (t : List ℕ) →
-        length t ≡ 37120 → next ≤ 4096 → q < from →
+        length t ≡ 58313 → next ≤ 4096 → q < from →
         ((i : ℕ) → 5 + j ≤ i → i < 9 → word U q i ≡ word (fills N xs q j t) q i) →
         Agree U (fills N xs q j t) from next → StoredParts q j xs
     stores-parts stop q t l h lt row same = stored-none
@@ -73,8 +78,8 @@ module _ (N : Numbers) (U : List ℕ) where
         let le′ : mid ≤ next = onward ps in
         let u : List ℕ = linked q j at t in
         let v : List ℕ = fill N x u in
-        let long : length u ≡ 37120 = length-linked q j at t ∙ l in
-        let long′ : length v ≡ 37120 = length-fill N x u ∙ long in
+        let long : length u ≡ 58313 = length-linked q j at t ∙ l in
+        let long′ : length v ≡ 58313 = length-fill N x u ∙ long in
         let link : word U q (5 + j) ≡ at =
               row (5 + j) (omega arith) (omega arith) ∙
               (fills-else N ps v q q (5 + j) (omega arith) (omega arith) (before (omega arith)) (λ e. omega arith) ∙

@@ -1,4 +1,5 @@
--- The table that reading a whole sheet leaves shows the sheet's term, and has notes of the names that it uses.
+-- The table that reading a whole sheet leaves shows the sheet's term, and has notes of the names that it uses, its weight
+-- and its marks.
 use Prim.Native.Nat.{ℕ}
 use native.Mathlib.Omega.{arith}
 use mathlib.Core.Path.{_≡_, refl, sym, ap, _∙_}
@@ -21,6 +22,7 @@ use Rattle.sheet.proofs.Right.{SheetRead, sheet-all}
 use Rattle.sheet.proofs.Sound.{sound}
 use Rattle.sheet.proofs.Shows.{shows-whole}
 use Rattle.sheet.proofs.Noting.{notes-whole}
+use Rattle.sheet.proofs.weights.Weights.{weights-whole}
 use Rattle.sheet.proofs.Whole.{sheet-refused}
 
 module _ (ed : Edition) (s t u : List ℕ) (blank : Blank t) where
@@ -32,6 +34,7 @@ module _ (ed : Edition) (s t u : List ℕ) (blank : Blank t) where
   tabled-whole {ty = ty} e R (names-read {ns = ns} {root = root} {t = x} few fine bytes parsed) l =
       let p = parsed ns (extends-first ns) in
       let S = sound (numbersAt s) s ns 32 p in
+      let W = weights-whole (numbersAt s) s ns (R .short) p t blank in
       rw l (record {
         sheet = sheetIn s (whole ns root x);
         finds = rw e refl;
@@ -48,7 +51,9 @@ module _ (ed : Edition) (s t u : List ℕ) (blank : Blank t) where
         rooted = omega (arith, R .long, S .forward, S .inside, length-drop root s,
           sym (length-drop 2 s) ∙ ap length bytes ∙ length-append (encodeNames ns) (drop root s));
         shown = shows-whole (numbersAt s) s ns (R .short) p t (blank .long);
-        notes = λ id. notes-whole (numbersAt s) s ns (R .short) id p t blank })
+        notes = λ id h. notes-whole (numbersAt s) s ns (R .short) id h p t blank;
+        weighs = W .0;
+        marked = W .1 })
 
   tabled-by : (A : Answer Whole) → wholeOf ed s ≡ A → All (SheetRead ed s places) A → LeavesSheet (numbersAt s) A t u →
       TabledBy ed s (eraseSheet A) u
@@ -56,7 +61,8 @@ module _ (ed : Edition) (s t u : List ℕ) (blank : Blank t) where
   tabled-by A e (one R) l = tabled-whole e R (R .names) l
   tabled-by A e none′ l = tt
 
-  -- THEOREM: where a sheet is read, the table shows its term and has notes of the names that it uses
+  -- THEOREM: where a sheet is read, the table shows its term, and has notes of the names that it uses, its weight and
+  -- its marks
   pub tabled : {x : Reading} → ReadsSheet (numbersAt s) (wholeOf ed s) x t u → TabledBy ed s x u
   tabled R = rw (R .answer) (tabled-by (wholeOf ed s) refl (sheet-all ed s places) (R .table))
 

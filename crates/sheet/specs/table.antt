@@ -1,4 +1,5 @@
 -- The table of parts: cited by inner contracts only.
 pub mod Notes
+pub mod Number
 pub mod Fill
 pub mod Tabled

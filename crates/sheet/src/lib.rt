@@ -2,5 +2,6 @@
 pub mod heading;
 pub mod names;
 pub mod note;
+pub mod number;
 pub mod part;
 pub mod reading;

@@ -2,6 +2,7 @@
 // on by its place, its rule and its body bytes, and all but `read_parts` and `read_next` are called at one place each,
 // so that the cycle is compiled into few functions.
 use crate::note::note_use;
+use crate::number::used_number;
 use heads::head::Head;
 use heads::head::Record;
 use heads::head::bare_record;
@@ -21,6 +22,7 @@ use records::kind::Rule;
 use records::refusal::Refusal;
 use records::refusal::WRONG_TYPE;
 use records::refusal::refuse;
+use weigh::record::weigh_record;
 ghost use mathlib.Core.Path.{_≡_};
 ghost use Prim.Native.Nat.{_+_, _*_, _≤_, _<_};
 ghost use lib.ListN.{length};
@@ -43,7 +45,7 @@ pub enum Part {
 }
 
 // The answer and the row of a record that `around` binders enclose, from the answer of its parts; a use of a declared
-// name is noted.
+// name is noted, and the record is weighed.
 fn close_record(s: &[u8], t: &mut [u16], n: Numbers, around: u8, r: Record, parts: Part) -> Part
     requires { ⌜ (r .place < 4096) × Ends 4096 parts ⌝ }
     ensures answer { λ x. ⌜ x ≡ closedAnswer (now (s .entry)) r parts ⌝ }
@@ -56,6 +58,8 @@ fn close_record(s: &[u8], t: &mut [u16], n: Numbers, around: u8, r: Record, part
     let ty = type_of(rule, s, r, last);
     write_row(t, n, r, ty, around, next);
     note_use(t, r);
+    let k = used_number(r);
+    weigh_record(t, r.place, k);
     Part::Read { ty, next }
 }
 

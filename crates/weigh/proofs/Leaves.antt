@@ -1,54 +1,65 @@
 -- What the leaves read is what their definitions say.
 use Prim.Native.Nat.{ℕ, zero, suc, _+_, _-_, _*_, _%_, _≤_, _<_, min}
 use native.Mathlib.Omega.{arith}
-use native.Mathlib.Nat.{mod-lt}
 use mathlib.Core.List.{List}
-use mathlib.Core.Path.{_≡_, refl, ap, ap₂, _∙_}
+use mathlib.Core.Path.{_≡_, refl, ap, sym, _∙_}
 use lib.ListN.{getD}
+use lib.Seq.{getD-drop}
 use borrow.Author.Tests.{lt-ltb, le-ltb, eq-eqb, ne-eqb}
-use Rattle.procedures.specs.PartKind.{NAME, OPERATE, ASSIGN, NEW, PARAMETER, USE, CLASS, VALUES, DETAIL, PARTS}
+use Rattle.procedures.specs.PartKind.{NAME, OPERATE, ASSIGN, NEW, PARAMETER, USE, VALUES, PARTS}
 use Rattle.procedures.specs.Made.{sign}
 use Rattle.procedures.specs.Marks.{bits}
 use Rattle.part_rows.specs.Row.{cell, word}
-use Rattle.forms.specs.Shows.{wordOf}
-use Rattle.weigh.specs.Plan.{procedureRow, numberOf, questionsBy, factorOf, comeAt, argumentOf, throughOf}
-use Rattle.weigh.specs.Plan.{comeOf, usedOf}
+use Rattle.weighing.specs.Stack.{marks-from, slots-from, height-at, marksIn, slotOf, heightOf, coefficientOf}
+use Rattle.weighing.specs.Plan.{termPlace, termForm, factorOf, comeAt, argumentOf, throughOf, comeOf, usedOf}
 
 -- words of the table
 pub word-read : (t : List ℕ) (place i : ℕ) → getD t (9 * place + i) 0 ≡ word t place i
 unfolding word cell
 word-read t place i = refl
 
-pub number-is : (t : List ℕ) (detail x r : ℕ) → x ≡ word t (detail % 4096) DETAIL → r ≡ min x 124 →
-    (r ≡ numberOf t detail) × (r ≤ 124)
-unfolding numberOf
-number-is t detail x r p e = (e ∙ ap (λ y. min y 124) p, omega arith)
+pub height-read : (t : List ℕ) → getD t height-at 0 ≡ heightOf t
+unfolding heightOf
+height-read t = refl
+
+pub slot-read : (t : List ℕ) (place : ℕ) → getD t (slots-from + place) 0 ≡ slotOf t place
+unfolding slotOf
+slot-read t place = refl
+
+pub term-read : (t : List ℕ) (detail : ℕ) → word t (detail % 4096) PARTS ≡ termPlace t detail
+unfolding termPlace
+term-read t detail = refl
+
+pub form-read : (t : List ℕ) (detail p r : ℕ) → p ≡ termPlace t detail → r ≡ slotOf t p → r ≡ termForm t detail
+unfolding termForm
+form-read t detail p r q e = e ∙ ap (slotOf t) q
 
 -- factors
-pub factor-right : (t F : List ℕ) (kind detail at place j p r : ℕ) → kind ≡ OPERATE → (j ≡ 0 → ⊥) →
-    p ≡ word t at PARTS → r ≡ word t p VALUES → r ≡ factorOf t F kind detail at place j
+pub factor-right : (t : List ℕ) (kind detail k at place j p r : ℕ) → kind ≡ OPERATE → (j ≡ 0 → ⊥) →
+    p ≡ word t at PARTS → r ≡ word t p VALUES → r ≡ factorOf t kind detail k at place j
 unfolding factorOf
-factor-right t F kind detail at place j p r k n q e =
-    rw (eq-eqb kind OPERATE k, ne-eqb j 0 n) (e ∙ ap (λ x. word t x VALUES) q)
+factor-right t kind detail k at place j p r h n q e =
+    rw (eq-eqb kind OPERATE h, ne-eqb j 0 n) (e ∙ ap (λ x. word t x VALUES) q)
 
-pub factor-target : (t F : List ℕ) (kind detail at place j r : ℕ) → (kind ≡ OPERATE → ⊥) → kind ≡ ASSIGN → j ≡ 0 →
-    r ≡ word t place VALUES → r ≡ factorOf t F kind detail at place j
+pub factor-target : (t : List ℕ) (kind detail k at place j r : ℕ) → (kind ≡ OPERATE → ⊥) → kind ≡ ASSIGN → j ≡ 0 →
+    r ≡ word t place VALUES → r ≡ factorOf t kind detail k at place j
 unfolding factorOf
-factor-target t F kind detail at place j r k l z e =
-    rw (ne-eqb kind OPERATE k, eq-eqb kind ASSIGN l, eq-eqb j 0 z) e
+factor-target t kind detail k at place j r h l z e =
+    rw (ne-eqb kind OPERATE h, eq-eqb kind ASSIGN l, eq-eqb j 0 z) e
 
-pub factor-use : (t F : List ℕ) (kind detail at place j k r : ℕ) → (kind ≡ OPERATE → ⊥) → (kind ≡ ASSIGN → ⊥) →
-    (kind ≡ NEW → ⊥) → (kind ≡ NAME → ⊥) → kind ≡ USE → k ≡ numberOf t detail →
-    r ≡ wordOf F (33 + k) (suc (k + j)) → r ≡ factorOf t F kind detail at place j
+pub factor-use : (t : List ℕ) (kind detail k at place j p r : ℕ) → (kind ≡ OPERATE → ⊥) → (kind ≡ ASSIGN → ⊥) →
+    (kind ≡ NEW → ⊥) → (kind ≡ NAME → ⊥) → kind ≡ USE → p ≡ termForm t detail →
+    r ≡ coefficientOf t p (k + j) → r ≡ factorOf t kind detail k at place j
 unfolding factorOf
-factor-use t F kind detail at place j k r a b c d u p e =
+factor-use t kind detail k at place j p r a b c d u q e =
     rw (ne-eqb kind OPERATE a, ne-eqb kind ASSIGN b, ne-eqb kind NEW c, ne-eqb kind NAME d, eq-eqb kind USE u)
-      (e ∙ ap (λ x. wordOf F (33 + x) (suc (x + j))) p)
+      (e ∙ ap (λ x. coefficientOf t x (k + j)) q)
 
 -- marks
-pub come-read : (M : List ℕ) (place : ℕ) → (getD M place 0 % 128 ≡ comeAt M place) × (getD M place 0 % 128 < 128)
+pub come-read : (t : List ℕ) (place x : ℕ) → x ≡ getD t (marks-from + place) 0 →
+    (x % 128 ≡ comeAt (marksIn t) place) × (x % 128 < 128)
 unfolding comeAt
-come-read M place = (refl, omega arith)
+come-read t place x e = (ap (λ y. y % 128) (e ∙ sym (getD-drop marks-from t place 0)), omega arith)
 
 pub argument-read : (t M : List ℕ) (at count j p r : ℕ) → j < count → p ≡ word t at (PARTS + j) → r ≡ comeAt M p →
     r ≡ argumentOf t M at count j
@@ -72,23 +83,21 @@ pub through-own : (t M : List ℕ) (at count k c r : ℕ) → (c ≡ 0 → ⊥) 
 unfolding throughOf
 through-own t M at count k c r n h e = rw (ne-eqb c 0 n, le-ltb (c - 1) k h) e
 
-pub come-parameter : (t M : List ℕ) (kind detail at count r : ℕ) → kind ≡ PARAMETER → r ≡ min detail 124 →
-    (1 + r ≡ comeOf t M kind detail at count) × (1 + r < 128)
+pub come-parameter : (t M : List ℕ) (kind detail k at count r : ℕ) → kind ≡ PARAMETER → r ≡ min detail 124 →
+    (1 + r ≡ comeOf t M kind detail k at count) × (1 + r < 128)
 unfolding comeOf
-come-parameter t M kind detail at count r h e = (rw (eq-eqb kind PARAMETER h) (ap (λ x. 1 + x) e), omega arith)
+come-parameter t M kind detail k at count r h e = (rw (eq-eqb kind PARAMETER h) (ap (λ x. 1 + x) e), omega arith)
 
-pub come-use : (t M : List ℕ) (kind detail at count k p c r : ℕ) → (kind ≡ PARAMETER → ⊥) → kind ≡ USE →
-    k ≡ numberOf t detail → p ≡ word t (detail % 4096) PARTS → c ≡ comeAt M p → r ≡ throughOf t M at count k c →
-    r ≡ comeOf t M kind detail at count
+pub come-use : (t M : List ℕ) (kind detail k at count p c r : ℕ) → (kind ≡ PARAMETER → ⊥) → kind ≡ USE →
+    p ≡ termPlace t detail → c ≡ comeAt M p → r ≡ throughOf t M at count k c → r ≡ comeOf t M kind detail k at count
 unfolding comeOf
-come-use t M kind detail at count k p c r h u q s g e =
-    rw (ne-eqb kind PARAMETER h, eq-eqb kind USE u)
-      (e ∙ ap₂ (λ x y. throughOf t M at count x y) q (g ∙ ap (comeAt M) s))
+come-use t M kind detail k at count p c r h u q g e =
+    rw (ne-eqb kind PARAMETER h, eq-eqb kind USE u) (e ∙ ap (throughOf t M at count k) (g ∙ ap (comeAt M) q))
 
-pub come-none : (t M : List ℕ) (kind detail at count : ℕ) → (kind ≡ PARAMETER → ⊥) → (kind ≡ USE → ⊥) →
-    (0 ≡ comeOf t M kind detail at count) × (0 < 128)
+pub come-none : (t M : List ℕ) (kind detail k at count : ℕ) → (kind ≡ PARAMETER → ⊥) → (kind ≡ USE → ⊥) →
+    (0 ≡ comeOf t M kind detail k at count) × (0 < 128)
 unfolding comeOf
-come-none t M kind detail at count h u = (rw (ne-eqb kind PARAMETER h, ne-eqb kind USE u), omega arith)
+come-none t M kind detail k at count h u = (rw (ne-eqb kind PARAMETER h, ne-eqb kind USE u), omega arith)
 
 -- used parameters
 pub unused-is : (n r : ℕ) → r ≡ n → r ≡ 0 → (0 ≡ sign n) × (0 ≤ 1)
@@ -101,12 +110,12 @@ unfolding sign
 used-is zero r e z = absurd (z e)
 used-is (suc n) r e z = (refl, omega arith)
 
-pub used-bits : (F : List ℕ) (k a b c d : ℕ) → a ≡ sign (wordOf F (33 + k) (suc k)) → a ≤ 1 →
-    b ≡ sign (wordOf F (33 + k) (suc (k + 1))) → b ≤ 1 → c ≡ sign (wordOf F (33 + k) (suc (k + 2))) → c ≤ 1 →
-    d ≡ sign (wordOf F (33 + k) (suc (k + 3))) → d ≤ 1 →
-    (a + 2 * b + 4 * c + 8 * d ≡ usedOf F k) × (a + 2 * b + 4 * c + 8 * d < 16)
+pub used-bits : (t : List ℕ) (row k a b c d : ℕ) → a ≡ sign (coefficientOf t row k) → a ≤ 1 →
+    b ≡ sign (coefficientOf t row (k + 1)) → b ≤ 1 → c ≡ sign (coefficientOf t row (k + 2)) → c ≤ 1 →
+    d ≡ sign (coefficientOf t row (k + 3)) → d ≤ 1 →
+    (a + 2 * b + 4 * c + 8 * d ≡ usedOf t row k) × (a + 2 * b + 4 * c + 8 * d < 16)
 unfolding usedOf bits
-used-bits F k a b c d p p′ q q′ r r′ s s′ =
-    let e : suc k ≡ suc (k + 0) = omega arith in
-    let p″ : a ≡ sign (wordOf F (33 + k) (suc (k + 0))) = p ∙ ap (λ x. sign (wordOf F (33 + k) x)) e in
+used-bits t row k a b c d p p′ q q′ r r′ s s′ =
+    let e : k ≡ k + 0 = omega arith in
+    let p″ : a ≡ sign (coefficientOf t row (k + 0)) = p ∙ ap (λ x. sign (coefficientOf t row x)) e in
     (rw (← p″, ← q, ← r, ← s), omega arith)

@@ -1,10 +1,3 @@
 pub mod Leaves
-pub mod Starting
-pub mod Sums
-pub mod Kept
-pub mod Places
-pub mod Plans
-pub mod Calls
-pub mod Planning
-pub mod Steps
 pub mod PartsFew
+pub mod Steps

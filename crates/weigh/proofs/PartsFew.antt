@@ -1,12 +1,12 @@
 -- A record has four parts at most.
-use Prim.Native.Nat.{ℕ, _/_, _≤_, min}
+use Prim.Native.Nat.{ℕ, _≤_}
 use native.Mathlib.Omega.{arith}
-use mathlib.Core.Path.{_≡_, sym}
+use mathlib.Core.Path.{_≡_}
 use mathlib.Core.Bool.{Bool, true, false}
 use lib.Dec.{eqb, ltb}
 use Rattle.language.specs.Choice.{pick}
 use Rattle.procedures.specs.PartKind.{NAME, FETCH, IF, NEW, USE}
-use Rattle.weigh.specs.Plan.{partsOf}
+use Rattle.weighing.specs.Plan.{partsOf}
 
 either-few : (b : Bool) (x y : ℕ) → x ≤ 4 → y ≤ 4 → pick b x y ≤ 4
 either-few true x y h g = h

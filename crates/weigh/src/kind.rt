@@ -9,8 +9,6 @@ pub(crate) const ASSIGN: usize = 23;
 
 pub(crate) const IF: usize = 25;
 
-pub(crate) const WHILE: usize = 26;
-
 pub(crate) const NEW: usize = 27;
 
 pub(crate) const PROCEDURE: usize = 28;

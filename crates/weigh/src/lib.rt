@@ -1,8 +1,8 @@
-// The weight of a term with procedures, document 02 [1]: one pass over the table of parts, which reckons the weight
-// without expanding the term and leaves marks of the parts for the expansion.
+// The weight of a record of a term with procedures, document 02 [1]: reckoned from the forms of its parts while the term
+// is read, without expanding it, with marks of the parts for the expansion.
 mod kind;
 mod mark;
-mod part;
 mod plan;
+pub mod record;
 mod row;
 pub mod term;

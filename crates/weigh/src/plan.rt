@@ -10,9 +10,9 @@ use crate::kind::PRIVATE;
 use crate::kind::USE;
 use crate::row::PLACES;
 use crate::row::answers_at;
-use crate::row::number_of;
 use crate::row::questions_at;
 use crate::row::short;
+use crate::row::term_form;
 use crate::row::values_at;
 use crate::row::word_of;
 use forms::read::coefficient;
@@ -20,21 +20,20 @@ use forms::set::least;
 use forms::set::set_constant;
 use forms::set::set_lower;
 use forms::set::set_unit;
-use forms::table::WORDS;
 use part_rows::row::PARTS;
 ghost use mathlib.Core.Path.{_≡_};
-ghost use Prim.Native.Nat.{_≤_, _<_};
-ghost use Rattle.weigh.specs.Plan.{partsOf, ownOf, factorOf, extraOf};
-ghost use Rattle.weigh.specs.Started.{Started, Parameter};
-
-// The first row of the forms of procedures: those before are the forms of parts, by the levels of depth left.
-pub(crate) const PROCEDURES: usize = 33;
+ghost use Prim.Native.Nat.{_<_};
+ghost use Rattle.weighing.specs.Plan.{partsOf, ownOf, factorOf, extraOf};
+ghost use Rattle.weighing.specs.Step.{started};
 
 // The detail of a name is its id and this many times the number of its arguments.
 const IDS: usize = 256;
 
 // The greatest number of arguments.
 const ARGUMENTS: usize = 4;
+
+// The greatest number of a parameter.
+const LAST_PARAMETER: usize = 127;
 
 // How many parts a record has.
 pub(crate) fn parts_of(kind: usize, detail: usize) -> usize
@@ -83,54 +82,36 @@ fn own_of(kind: usize) -> u32
     0
 }
 
-// A row becomes a parameter, as far as its coefficients below m show it.
-fn start_parameter(f: &mut [u16; WORDS], row: usize, m: usize, s: usize)
-    requires { ⌜ (row < 33) × (m ≤ 128) ⌝ }
-    ensures { λ r. ⌜ Parameter (now (f .entry)) (now (f .exit)) row m s ⌝ }
-{
-    if s < m {
-        set_unit(f, row, m, s);
-        return;
-    }
-    set_constant(f, row, m, 0);
-}
-
-// A row becomes the form of a record without its parts.
-pub(crate) fn start(
-    t: &[u16],
-    f: &mut [u16; WORDS],
-    row: usize,
-    m: usize,
-    kind: usize,
-    detail: usize,
-)
-    requires { ⌜ (row < 33) × (m ≤ 128) × (detail < 65536) ⌝ }
-    ensures { λ r. ⌜ Started (now (t .entry)) (now (f .entry)) (now (f .exit)) row m kind detail ⌝ }
+// A form becomes that of a record without its parts; k is the number of the procedure that a use means.
+pub(crate) fn start(t: &mut [u16], row: usize, kind: usize, detail: usize, k: usize)
+    requires { ⌜ (row < 65536) × (k < 65536) ⌝ }
+    ensures { λ r. ⌜ now (t .exit) ≡ started kind detail k row (now (t .entry)) ⌝ }
 {
     if kind == USE {
-        let k = number_of(t, detail);
-        set_lower(f, row, PROCEDURES + k, k, m);
+        let from = term_form(t, detail);
+        set_lower(t, row, from, k);
         return;
     }
     if kind == PARAMETER {
-        start_parameter(f, row, m, detail);
+        let s = least(detail, LAST_PARAMETER);
+        set_unit(t, row, s);
         return;
     }
-    set_constant(f, row, m, own_of(kind));
+    set_constant(t, row, own_of(kind));
 }
 
 // By what the form of part j, which is at a place, is multiplied.
 pub(crate) fn factor_of(
     t: &[u16],
-    f: &[u16; WORDS],
     kind: usize,
     detail: usize,
+    k: usize,
     at: usize,
     place: usize,
     j: usize,
 ) -> u32
-    requires { ⌜ (detail < 65536) × (at < 65536) × (place < 65536) × (j < 4) ⌝ }
-    ensures { λ r. ⌜ r ≡ factorOf (now (t .entry)) (now (f .entry)) kind detail at place j ⌝ }
+    requires { ⌜ (detail < 65536) × (k < 65536) × (at < 65536) × (place < 65536) × (j < 4) ⌝ }
+    ensures { λ r. ⌜ r ≡ factorOf (now (t .entry)) kind detail k at place j ⌝ }
 {
     if kind == OPERATE {
         if j == 0 {
@@ -151,8 +132,8 @@ pub(crate) fn factor_of(
         return questions_at(t, place);
     }
     if kind == USE {
-        let k = number_of(t, detail);
-        return coefficient(f, PROCEDURES + k, k + j);
+        let term = term_form(t, detail);
+        return coefficient(t, term, k + j);
     }
     1
 }

@@ -1,21 +1,20 @@
-// Rows of the table of parts, and what a use's row says of the procedure.
-use forms::set::least;
+// Rows of the table of parts, what a use's row says of the procedure, and the stack of forms.
 use part_rows::row::CLASS;
-use part_rows::row::DETAIL;
+use part_rows::row::HEIGHT;
+use part_rows::row::PARTS;
+use part_rows::row::SLOTS;
 use part_rows::row::VALUES;
 use part_rows::row::WORDS;
 use records::read::short_at;
 ghost use mathlib.Core.Path.{_≡_};
-ghost use Prim.Native.Nat.{_≤_, _<_};
+ghost use Prim.Native.Nat.{_<_};
 ghost use Rattle.procedures.specs.PartKind.{CLASS, VALUES};
 ghost use Rattle.part_rows.specs.Row.{word};
-ghost use Rattle.weigh.specs.Plan.{numberOf, questionsBy, answersBy};
+ghost use Rattle.weighing.specs.Plan.{questionsBy, answersBy, termPlace, termForm};
+ghost use Rattle.weighing.specs.Stack.{heightOf, slotOf};
 
 // The detail of a use is the place of the procedure's record and this many times the number of its arguments.
 pub(crate) const PLACES: usize = 4096;
-
-// The greatest number that a procedure has: it may have four parameters.
-pub(crate) const GREATEST: usize = 124;
 
 // The classes of types without and with data that can be written.
 const COMMANDS: u32 = 0;
@@ -95,10 +94,31 @@ pub(crate) fn answers_at(t: &[u16], place: usize) -> u32
     answers_by(class_at(t, place), values_at(t, place))
 }
 
-// The number of the procedure of a use with the given detail.
-pub(crate) fn number_of(t: &[u16], detail: usize) -> usize
-    requires { ⌜ detail < 65536 ⌝ }
-    ensures { λ r. ⌜ (r ≡ numberOf (now (t .entry)) detail) × (r ≤ 124) ⌝ }
+// How many forms are on the stack.
+pub(crate) fn height_of(t: &[u16]) -> usize
+    ensures { λ r. ⌜ (r ≡ heightOf (now (t .entry))) × (r < 65536) ⌝ }
 {
-    least(word_of(t, detail % PLACES, DETAIL), GREATEST)
+    short_at(t, HEIGHT) as usize
+}
+
+// Which form is that of the part at a place.
+fn slot_of(t: &[u16], place: usize) -> usize
+    requires { ⌜ place < 65536 ⌝ }
+    ensures { λ r. ⌜ (r ≡ slotOf (now (t .entry)) place) × (r < 65536) ⌝ }
+{
+    short_at(t, SLOTS + place) as usize
+}
+
+// Where the term of the procedure stands that a use with the given detail means.
+pub(crate) fn term_place(t: &[u16], detail: usize) -> usize
+    ensures { λ r. ⌜ (r ≡ termPlace (now (t .entry)) detail) × (r < 65536) ⌝ }
+{
+    word_of(t, detail % PLACES, PARTS)
+}
+
+// Which form is that of this term.
+pub(crate) fn term_form(t: &[u16], detail: usize) -> usize
+    ensures { λ r. ⌜ (r ≡ termForm (now (t .entry)) detail) × (r < 65536) ⌝ }
+{
+    slot_of(t, term_place(t, detail))
 }

@@ -14,16 +14,20 @@ use Rattle.records.specs.declared.edition.Edition.{Edition}
 use Rattle.heads.specs.declared.head.Record.{Record}
 use Rattle.sheet.specs.Reader.{Tree, node, Trees, leaf, branch, Answer, got, refused, bind, readPart, Whole}
 use Rattle.sheet.specs.Reader.{whole}
+use Rattle.weighing.specs.Step.{weighed}
 use Rattle.sheet.specs.table.Notes.{noted}
+use Rattle.sheet.specs.table.Number.{usedNumber}
 use Rattle.sheet.specs.declared.part.Part.{Part}
 use Rattle.sheet.specs.declared.part.Part.the-variants.{Read, Refused}
 use Rattle.sheet.specs.declared.names.Reading.{Reading}
 use Rattle.sheet.specs.declared.names.Reading.the-variants.{Sheet, Refused as Unread}
 
--- the rows of a part and of its parts, and of parts j, j + 1, .. of the record at p; with the notes of their uses
+-- the rows of a part and of its parts, and of parts j, j + 1, .. of the record at p; with the notes of their uses,
+-- their forms and their marks
 unfoldable mutual
   pub fill : Numbers → Tree → List ℕ → List ℕ
-  fill N (node r ty number end ts) t = noted r (row.rowWritten N r ty number end (fills N ts (r .place) 0 t))
+  fill N (node r ty number end ts) t =
+      weighed (usedNumber r) (r .place) (noted r (row.rowWritten N r ty number end (fills N ts (r .place) 0 t)))
 
   pub fills : Numbers → Trees → ℕ → ℕ → List ℕ → List ℕ
   fills N leaf p j t = t
@@ -65,7 +69,7 @@ closedAnswer s r (Refused x) = Refused x
 
 unfoldable pub closedTable : Numbers → List ℕ → ℕ → Record → Part → List ℕ → List ℕ
 closedTable N s number r (Read last next) t =
-    noted r (row.rowWritten N r (partType (r .rule) s r last) number next t)
+    weighed (usedNumber r) (r .place) (noted r (row.rowWritten N r (partType (r .rule) s r last) number next t))
 closedTable N s number r (Refused x) t = t
 
 -- the term of a sheet, without name records

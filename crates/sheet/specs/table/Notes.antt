@@ -20,7 +20,7 @@ notes = 36864
 
 -- how many words a table has
 abbrev pub table-words : ℕ
-table-words = 37120
+table-words = 58313
 
 -- a table in which nothing is written
 pub record Blank (t : List ℕ) : Type 0 where

@@ -1,5 +1,6 @@
--- What reading a sheet leaves for the passes over its parts: the sheet is in order but for its size, the table shows
--- its term, and the uses of its names are noted. Only inner contracts cite it.
+-- What reading a sheet leaves: the sheet is in order but for its size, the table shows its term, the uses of its names
+-- are noted, its weight stands in the first form, held at 4,097, and its parts are marked. Only inner contracts cite
+-- it.
 use Prim.Native.Nat.{ℕ, _≤_, _<_}
 use mathlib.Core.Path.{_≡_}
 use mathlib.Core.List.{List, []}
@@ -14,6 +15,10 @@ use Rattle.procedures.specs.Meaning.{tyOf, termOf, typeOf}
 use Rattle.procedures.specs.Fine.{Fine, FineNames, depth}
 use Rattle.procedures.specs.Context.{whole}
 use Rattle.procedures.specs.Table.{Shown}
+use Rattle.procedures.specs.Form.{formOf, no-forms}
+use Rattle.procedures.specs.Held.{held}
+use Rattle.procedures.specs.Marks.{Marked}
+use Rattle.weighing.specs.Stack.{marksIn, formWord}
 use Rattle.procedures.specs.Uses.{uses}
 use Rattle.sheet.specs.Encoding.{headingLength}
 use Rattle.sheet.specs.Reader.{numbersAt, readUnder, accepted, rejected}
@@ -45,7 +50,9 @@ pub record Tabled (ed : Edition) (s : List ℕ) (root ty next : ℕ) (u : List �
   pub shallow : depth (sheet .term) ≤ 32
   pub rooted : root ≡ headingLength sheet
   pub shown : Shown (numbersAt s) (sheet .names) u whole places root next (sheet .term)
-  pub notes : (id : ℕ) → isNoted u id ≡ uses (sheet .names) id [] (sheet .term)
+  pub notes : (id : ℕ) → id < 256 → isNoted u id ≡ uses (sheet .names) id [] (sheet .term)
+  pub weighs : formWord u 0 1 ≡ held (formOf (numbersAt s) (sheet .names) [] no-forms (sheet .term) .constant)
+  pub marked : Marked (numbersAt s) (sheet .names) u (marksIn u) whole root (sheet .term)
 
 unfoldable pub TabledBy : Edition → List ℕ → Reading → List ℕ → Type 0
 TabledBy ed s (Sheet root ty next) u = Tabled ed s root ty next u

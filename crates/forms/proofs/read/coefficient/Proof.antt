@@ -1,25 +1,30 @@
--- The word of the parameter.
+-- The word of the coefficient, if the form has it.
+use borrow.Author.Needs.{needs}
 use native.Mathlib.Omega.{arith}
-use Rattle.forms.proofs.Rows.{coefficient-word}
+use Rattle.forms.proofs.Made.{coefficient-read, coefficient-none}
 use Rattle.forms.proofs.read.coefficient.Statement.{statement}
 use Rattle.forms.proofs.read.coefficient.Tie as tie
 
-mul-at : tie.Need-mul-at
-mul-at c = omega (arith, c .before .pre)
+width-requires : tie.Need-width-requires
+width-requires c κs = search needs
 
-add-at : tie.Need-add-at
-add-at c = omega (arith, c .before .pre)
+add-word-at : tie.Need-add-word-at
+add-word-at c = search needs
 
-add-at-2 : tie.Need-add-at-2
-add-at-2 c = omega (arith, c .before .pre)
+word-at-requires : tie.Need-word-at-requires
+word-at-requires c κs = search needs
 
-at-requires : tie.Need-at-requires
-at-requires c κs = omega (arith, c .before .pre)
+cast-result : tie.Need-cast-result
+cast-result c = search needs
 
 returns : tie.Need-returns
-returns c = coefficient-word _ _ _ _ (c .at .ensures .0)
+returns c = (coefficient-read _ _ _ _ _ (c .before .before .width .ensures .0) (c .before .if1 .taken)
+    (c .word-at .ensures), omega arith)
+
+returns-2 : tie.Need-returns-2
+returns-2 c = (coefficient-none _ _ _ _ (c .before .width .ensures .0) (c .if1 .left), omega arith)
 
 pub coefficient-spec : {M : Type 1} → statement M
 coefficient-spec =
     tie.close
-    (tie.spec mul-at add-at add-at-2 at-requires returns)
+    (tie.spec width-requires add-word-at word-at-requires cast-result returns returns-2)

@@ -1,34 +1,32 @@
--- The constant is written, and the coefficients are 0.
+-- The width is 0, and the constant is held.
 use borrow.Author.Needs.{needs}
 use native.Mathlib.Omega.{arith}
-use Rattle.forms.proofs.Becoming.{become-one}
-use Rattle.forms.proofs.Holds.{held-itself}
-use Rattle.forms.proofs.Rows.{constant-set}
+use Rattle.forms.proofs.Made.{held-itself, constant-made}
 use Rattle.forms.proofs.set.set_constant.Statement.{statement}
 use Rattle.forms.proofs.set.set_constant.Tie as tie
-
-mul-b : tie.Need-mul-b
-mul-b c = omega (arith, c .pre)
 
 sat-add-requires : tie.Need-sat-add-requires
 sat-add-requires c κs = search needs
 
-put-requires : tie.Need-put-requires
-put-requires c κs = (omega (arith, c .before .before .pre), omega arith)
+cast-v : tie.Need-cast-v
+cast-v c = omega arith
 
-add-clear : tie.Need-add-clear
-add-clear c = omega (arith, c .before .before .before .before .pre)
+put-word-requires : tie.Need-put-word-requires
+put-word-requires c κs = search needs
 
-clear-requires : tie.Need-clear-requires
-clear-requires c κs = omega (arith, c .before .before .before .before .pre)
+put-word-requires-2 : tie.Need-put-word-requires-2
+put-word-requires-2 c κs = search needs
+
+same-length : tie.Need-same-length
+same-length c = search needs
 
 returns : tie.Need-returns
-returns c = constant-set _ _ _ _ _ _ _ (c .before .before .before .before .before .pre .1) (held-itself _ _
-    (c .before .before .before .before .sat-add .ensures))
-    (become-one _ _ _ _ (c .before .before .put .ensures) (omega (arith,
-    c .before .before .before .before .before .pre))) (c .clear .ensures)
+returns c =
+    constant-made _ _ _ _ _ _
+    (held-itself _ _ (c .before .before .before .before .before .before .before .before .sat-add .ensures))
+    (c .before .before .before .before .before .before .put-word .ensures) (c .before .before .put-word2 .ensures)
 
 pub set-constant-spec : {M : Type 1} → statement M
 set-constant-spec =
     tie.close
-    (tie.spec mul-b sat-add-requires put-requires add-clear clear-requires returns)
+    (tie.spec sat-add-requires cast-v put-word-requires put-word-requires-2 same-length returns)

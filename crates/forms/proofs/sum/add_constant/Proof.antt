@@ -1,30 +1,33 @@
--- The constant is written, the coefficients stay.
+-- The constant is read, added to, and written.
 use borrow.Author.Needs.{needs}
 use native.Mathlib.Omega.{arith}
-use Rattle.forms.proofs.Becoming.{become-one}
-use Rattle.forms.proofs.Holds.{held-is}
-use Rattle.forms.proofs.Rows.{constant-added, first-word}
+use Rattle.forms.proofs.Made.{held-is, constant-more}
 use Rattle.forms.proofs.sum.add_constant.Statement.{statement}
 use Rattle.forms.proofs.sum.add_constant.Tie as tie
 
-mul-b : tie.Need-mul-b
-mul-b c = omega (arith, c .pre)
+word-at-requires : tie.Need-word-at-requires
+word-at-requires c κs = search needs
 
-at-requires : tie.Need-at-requires
-at-requires c κs = omega (arith, c .before .before .pre)
+cast-x : tie.Need-cast-x
+cast-x c = search needs
 
 sat-add-requires : tie.Need-sat-add-requires
 sat-add-requires c κs = search needs
 
-put-requires : tie.Need-put-requires
-put-requires c κs = (omega (arith, c .before .before .before .before .before .pre), omega arith)
+cast-put-word : tie.Need-cast-put-word
+cast-put-word c = omega arith
+
+put-word-requires : tie.Need-put-word-requires
+put-word-requires c κs = search needs
+
+same-length : tie.Need-same-length
+same-length c = search needs
 
 returns : tie.Need-returns
-returns c = constant-added _ _ _ _ _ _ (first-word _ _ _ (c .before .before .before .at .ensures .0))
-    (held-is _ _ (c .before .before .sat-add .ensures))
-    (become-one _ _ _ _ (c .put .ensures) (omega (arith, c .before .before .before .before .before .before .pre)))
+returns c = constant-more _ _ _ _ _ _ (c .before .before .before .before .before .word-at .ensures)
+    (held-is _ _ (c .before .before .before .before .sat-add .ensures)) (c .before .before .put-word .ensures)
 
 pub add-constant-spec : {M : Type 1} → statement M
 add-constant-spec =
     tie.close
-    (tie.spec mul-b at-requires sat-add-requires put-requires returns)
+    (tie.spec word-at-requires cast-x sat-add-requires cast-put-word put-word-requires same-length returns)

@@ -1,51 +1,56 @@
 -- The words before i are the sums.
 use borrow.Author.Needs.{needs}
 use native.Mathlib.Omega.{arith}
-use Prim.Native.Nat.{_*_, _-_, _≤_}
-use Rattle.forms.specs.Become.{Become, summed}
-use Rattle.forms.proofs.Becoming.{become-none, become-more, become-all, summed-is}
-use Rattle.forms.proofs.Holds.{held-below}
+use Prim.Native.Nat.{_-_, _≤_}
+use mathlib.Core.Path.{_≡_, ap, _∙_}
+use lib.ListN.{length}
+use Rattle.weighing.specs.Stack.{summed}
+use Rattle.forms.proofs.Steps.{length-summed, summed-none, summed-more, summed-all}
+use Rattle.forms.proofs.Made.{held-below}
 use Rattle.forms.proofs.sum.add_words.Statement.{statement}
 use Rattle.forms.proofs.sum.add_words.Tie as tie
 
 abbrev Inv-loop : tie.InvT-loop
-Inv-loop s₀ to from factor n b a i₀ s i = (i ≤ n) × Become s₀ s (129 * to) i (summed s₀ to from factor)
+Inv-loop t₀ to from factor n i₀ t i = (i ≤ n) × (t ≡ summed to from factor i t₀)
 
 abbrev μ-loop : tie.MeasureT-loop
-μ-loop s₀ to from factor n b a i₀ s i = n - i
-
-mul-b : tie.Need-mul-b Inv-loop μ-loop
-mul-b c = omega (arith, c .before .pre)
-
-mul-a : tie.Need-mul-a Inv-loop μ-loop
-mul-a c = omega (arith, c .before .pre)
+μ-loop t₀ to from factor n i₀ t i = n - i
 
 loop-holds : tie.Need-loop-holds Inv-loop μ-loop
-loop-holds c = (omega arith, become-none _ _ _)
+loop-holds c = (omega arith, summed-none _ _ _ _)
 
-add-at : tie.Need-add-at Inv-loop μ-loop
-add-at c = omega (arith, c .before .before .before .before .pre)
+add-word-at : tie.Need-add-word-at Inv-loop μ-loop
+add-word-at c = omega (arith, c .before .before .before .before .pre)
 
-at-requires : tie.Need-at-requires Inv-loop μ-loop
-at-requires c κs = omega (arith, c .before .before .before .before .pre, c .before .before .loop .inv .1 .len)
+word-at-requires : tie.Need-word-at-requires Inv-loop μ-loop
+word-at-requires c κs =
+    (c .before .before .before .before .pre .0, omega (arith, c .before .before .before .before .pre))
 
-add-at-2 : tie.Need-add-at-2 Inv-loop μ-loop
-add-at-2 c = omega (arith, c .before .before .before .before .before .before .pre)
+cast-x : tie.Need-cast-x Inv-loop μ-loop
+cast-x c = search needs
 
-at-requires-2 : tie.Need-at-requires-2 Inv-loop μ-loop
-at-requires-2 c κs = omega (arith, c .before .before .before .before .before .before .pre,
-    c .before .before .before .before .loop .inv .1 .len)
+add-word-at-2 : tie.Need-add-word-at-2 Inv-loop μ-loop
+add-word-at-2 c = omega (arith, c .before .before .before .before .before .before .pre)
+
+word-at-requires-2 : tie.Need-word-at-requires-2 Inv-loop μ-loop
+word-at-requires-2 c κs = (c .before .before .before .before .before .before .pre .1 .0, omega
+    (arith, c .before .before .before .before .before .before .pre))
+
+cast-y : tie.Need-cast-y Inv-loop μ-loop
+cast-y c = search needs
 
 sum-of-requires : tie.Need-sum-of-requires Inv-loop μ-loop
 sum-of-requires c κs = search needs
 
-add-put : tie.Need-add-put Inv-loop μ-loop
-add-put c = omega (arith, c .before .before .before .before .before .before .before .before .before .pre)
+add-put-word : tie.Need-add-put-word Inv-loop μ-loop
+add-put-word c = omega (arith, c .before .before .before .before .before .before .before .before .before .pre)
 
-put-requires : tie.Need-put-requires Inv-loop μ-loop
-put-requires c κs = (omega (arith, c .before .before .before .before .before .before .before .before .before
-    .pre, c .before .before .before .before .before .before .before .loop .inv .1 .len), held-below _ _
-    (c .before .sum-of .ensures))
+cast-put-word : tie.Need-cast-put-word Inv-loop μ-loop
+cast-put-word c = omega (arith, held-below _ _ (c .before .sum-of .ensures))
+
+put-word-requires : tie.Need-put-word-requires Inv-loop μ-loop
+put-word-requires c κs = (c .before .before .before .before .before .before .before .before .before .pre .0, omega
+    (arith, c .before .before .before .before .before .before .before .before .before .pre))
 
 add-i : tie.Need-add-i Inv-loop μ-loop
 add-i c = omega (arith, c .before .before .before .before .before .before .before .before .before .before .before
@@ -55,25 +60,21 @@ loop-less : tie.Need-loop-less Inv-loop μ-loop
 loop-less c = omega arith
 
 loop-again : tie.Need-loop-again Inv-loop μ-loop
-loop-again c = (omega arith, become-more _ _ _ _ _ _ _
+loop-again c =
+    (omega arith, summed-more _ _ _ _ _ _ _ _ _ _
     (c .before .before .before .before .before .before .before .before .before .before .loop .inv .1)
-    (c .before .before .put .ensures)
-    (summed-is _ _ _ _ _ _ _ _ _ _ (c .before .before .before .before .before .before .before .before .before
-    .before .loop .inv .1) (c .before .before .before .before .before .before .before .at .ensures .0)
-    (c .before .before .before .before .before .at2 .ensures .0)
-    (c .before .before .before .before .sum-of .ensures)
-      (omega (arith, c .before .before .before .before .before .before .before .before .before .before .before
-      .before .pre))) (omega (arith, c .before .before .before .before .before .before .before .before .before
-      .before .before .before .pre)))
+    (c .before .before .before .before .before .before .before .word-at .ensures)
+    (c .before .before .before .before .before .word-at2 .ensures)
+    (c .before .before .before .before .sum-of .ensures) (c .before .before .put-word .ensures))
 
 same-length : tie.Need-same-length Inv-loop μ-loop
-same-length c = c .before .loop .inv .1 .len
+same-length c = ap length (c .before .loop .inv .1) ∙ length-summed _ _ _ _ _
 
 returns : tie.Need-returns Inv-loop μ-loop
-returns c = become-all _ _ _ _ _ _ (c .before .loop .inv .0) (c .loop-test .left) (c .before .loop .inv .1)
+returns c = summed-all _ _ _ _ _ _ _ (c .before .loop .inv .0) (c .loop-test .left) (c .before .loop .inv .1)
 
 pub add-words-spec : {M : Type 1} → statement M
 add-words-spec =
     tie.close
-    (tie.spec Inv-loop μ-loop mul-b mul-a loop-holds add-at at-requires add-at-2 at-requires-2 sum-of-requires
-    add-put put-requires add-i loop-less loop-again same-length returns)
+    (tie.spec Inv-loop μ-loop loop-holds add-word-at word-at-requires cast-x add-word-at-2 word-at-requires-2 cast-y
+    sum-of-requires add-put-word cast-put-word put-word-requires add-i loop-less loop-again same-length returns)

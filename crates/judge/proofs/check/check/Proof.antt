@@ -7,7 +7,7 @@ use Rattle.judge.proofs.check.check.Statement.{statement}
 use Rattle.judge.proofs.check.check.Tie as tie
 
 judge-sheet-requires : tie.Need-judge-sheet-requires
-judge-sheet-requires c κs = blank-made 37120 refl
+judge-sheet-requires c κs = blank-made 58313 refl
 
 enum-known-x : tie.Need-enum-known-x
 enum-known-x c = search needs
@@ -23,11 +23,11 @@ of-sheet-requires c κs = search needs
 
 returns : tie.Need-returns
 returns c =
-    checked-refused _ _ _ (c .before .before .before .before .judge-sheet .ensures) (c .before .before .enum-told
+    checked-refused _ _ (c .before .before .before .before .judge-sheet .ensures) (c .before .before .enum-told
         .given .1) (c .before .refusal-of .ensures) (c .of-sheet .ensures)
 
 returns-2 : tie.Need-returns-2
-returns-2 c = checked-accepted _ _ _ (c .before .before .before .judge-sheet .ensures) (c .before .x .given .1)
+returns-2 c = checked-accepted _ _ (c .before .before .before .judge-sheet .ensures) (c .before .x .given .1)
 
 pub check-spec : {M : Type 1} → statement M
 check-spec = tie.close

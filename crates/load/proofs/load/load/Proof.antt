@@ -8,7 +8,7 @@ use Rattle.load.proofs.load.load.Statement.{statement}
 use Rattle.load.proofs.load.load.Tie as tie
 
 judge-sheet-requires : tie.Need-judge-sheet-requires
-judge-sheet-requires c κs = blank-made 37120 refl
+judge-sheet-requires c κs = blank-made 58313 refl
 
 enum-known-x : tie.Need-enum-known-x
 enum-known-x c = search needs
@@ -18,18 +18,19 @@ enum-known-x-2 c = search needs
 
 expand-root-requires : tie.Need-expand-root-requires
 expand-root-requires c κs =
-    let J = judged-of _ _ _ (c .before .before .before .before .before .before .judge-sheet .ensures) (c .before
-      .before .before .before .x2 .given .1) in
+    let J = judged-of _ _ (c .before .before .before .before .before .judge-sheet .ensures)
+        (c .before .before .before .x2 .given .1) in
     omega (arith, root-small J)
 
 returns : tie.Need-returns
-returns c = load-refused _ _ _ _ (c .before .before .before .judge-sheet .ensures) (c .before .x .given .1)
+returns c = load-refused _ _ _ (c .before .before .before .judge-sheet .ensures) (c .before .x .given .1)
 
 returns-2 : tie.Need-returns-2
 returns-2 c =
-    let J = judged-of _ _ _ (c .before .before .before .before .before .before .before .judge-sheet .ensures) (c
-      .before .before .before .before .before .x2 .given .1) in
-    load-sheet J (c .expand-root .ensures) (c .before .before .before .before .before .before .before .before .before .before .before .pre)
+    let J = judged-of _ _ (c .before .before .before .before .before .before .judge-sheet .ensures)
+        (c .before .before .before .before .x2 .given .1) in
+    load-sheet J (c .expand-root .ensures)
+      (c .before .before .before .before .before .before .before .before .before .pre)
 
 pub load-spec : {M : Type 1} → statement M
 load-spec =

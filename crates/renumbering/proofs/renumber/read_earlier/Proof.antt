@@ -7,7 +7,7 @@ use Rattle.renumbering.proofs.renumber.read_earlier.Statement.{statemen
 use Rattle.renumbering.proofs.renumber.read_earlier.Tie as tie
 
 judge-sheet-requires : tie.Need-judge-sheet-requires
-judge-sheet-requires c κs = blank-made 37120 refl
+judge-sheet-requires c κs = blank-made 58313 refl
 
 enum-known-x : tie.Need-enum-known-x
 enum-known-x c = search needs
@@ -16,10 +16,10 @@ enum-known-x-2 : tie.Need-enum-known-x-2
 enum-known-x-2 c = search needs
 
 returns : tie.Need-returns
-returns c = earlier-refused _ _ _ (c .before .before .before .judge-sheet .ensures) (c .before .x .given .1)
+returns c = earlier-refused _ _ (c .before .before .before .judge-sheet .ensures) (c .before .x .given .1)
 
 returns-2 : tie.Need-returns-2
-returns-2 c = earlier-accepted _ _ _ (c .before .before .before .judge-sheet .ensures) (c .before .x2 .given .1)
+returns-2 c = earlier-accepted _ _ (c .before .before .before .judge-sheet .ensures) (c .before .x2 .given .1)
 
 pub read-earlier-spec : {M : Type 1} → statement M
 read-earlier-spec =

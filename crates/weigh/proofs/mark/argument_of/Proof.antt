@@ -14,8 +14,8 @@ come-at-requires : tie.Need-come-at-requires
 come-at-requires c κs = search needs
 
 returns : tie.Need-returns
-returns c = (argument-read _ _ _ _ _ _ _ (c .before .before .before .if1 .taken) (c .before .word-of .ensures .0)
-    (c .come-at .ensures .0), c .come-at .ensures .1)
+returns c = (argument-read _ _ _ _ _ _ _ (c .before .before .if1 .taken) (c .before .word-of .ensures .0) (c .come-at
+    .ensures .0), c .come-at .ensures .1)
 
 returns-2 : tie.Need-returns-2
 returns-2 c = argument-past _ _ _ _ _ (c .if1 .left)

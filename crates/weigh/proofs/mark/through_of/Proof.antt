@@ -23,17 +23,9 @@ argument-of-requires : tie.Need-argument-of-requires
 argument-of-requires c κs = search needs
 
 returns-3 : tie.Need-returns-3
-returns-3 c = (through-own _ _ _ _ _ _ _ (c .before .before .if1 .left) (c .before .if2 .left)
-    (c .argument-of .ensures .0), c .argument-of .ensures .1)
+returns-3 c = (through-own _ _ _ _ _ _ _ (c .before .before .if1 .left) (c .before .if2 .left) (c .argument-of
+    .ensures .0), c .argument-of .ensures .1)
 
 pub through-of-spec : {M : Type 1} → statement M
 through-of-spec =
-    tie.close
-    (tie.spec
-    returns
-    sub-if2
-    returns-2
-    sub-argument-of
-    sub-argument-of-2
-    argument-of-requires
-    returns-3)
+    tie.close (tie.spec returns sub-if2 returns-2 sub-argument-of sub-argument-of-2 argument-of-requires returns-3)

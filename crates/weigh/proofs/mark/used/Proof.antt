@@ -4,17 +4,14 @@ use Rattle.weigh.proofs.Leaves.{unused-is, used-is}
 use Rattle.weigh.proofs.mark.used.Statement.{statement}
 use Rattle.weigh.proofs.mark.used.Tie as tie
 
-add-coefficient : tie.Need-add-coefficient
-add-coefficient c = search needs
-
 coefficient-requires : tie.Need-coefficient-requires
 coefficient-requires c κs = search needs
 
 returns : tie.Need-returns
-returns c = unused-is _ _ (c .before .coefficient .ensures) (c .if1 .taken)
+returns c = unused-is _ _ (c .before .coefficient .ensures .0) (c .if1 .taken)
 
 returns-2 : tie.Need-returns-2
-returns-2 c = used-is _ _ (c .before .coefficient .ensures) (c .if1 .left)
+returns-2 c = used-is _ _ (c .before .coefficient .ensures .0) (c .if1 .left)
 
 pub used-spec : {M : Type 1} → statement M
-used-spec = tie.close (tie.spec add-coefficient coefficient-requires returns returns-2)
+used-spec = tie.close (tie.spec coefficient-requires returns returns-2)

@@ -44,26 +44,11 @@ add-result-3 : tie.Need-add-result-3
 add-result-3 c = search needs
 
 returns : tie.Need-returns
-returns c = used-bits _ _ _ _ _ _ (c .before .before .before .used .ensures .0)
-    (c .before .before .before .used .ensures .1) (c .before .before .used2 .ensures .0)
-    (c .before .before .used2 .ensures .1) (c .before .used3 .ensures .0) (c .before .used3 .ensures .1)
-    (c .used4 .ensures .0) (c .used4 .ensures .1)
+returns c = used-bits _ _ _ _ _ _ _ (c .before .before .before .used .ensures .0) (c .before .before .before .used
+    .ensures .1) (c .before .before .used2 .ensures .0) (c .before .before .used2 .ensures .1) (c .before .used3
+    .ensures .0) (c .before .used3 .ensures .1) (c .used4 .ensures .0) (c .used4 .ensures .1)
 
 pub used-of-spec : {M : Type 1} → statement M
 used-of-spec =
-    tie.close
-    (tie.spec
-    used-requires
-    add-used
-    used-requires-2
-    mul-result
-    add-result
-    add-used-2
-    used-requires-3
-    mul-result-2
-    add-result-2
-    add-used-3
-    used-requires-4
-    mul-result-3
-    add-result-3
-    returns)
+    tie.close (tie.spec used-requires add-used used-requires-2 mul-result add-result add-used-2 used-requires-3
+    mul-result-2 add-result-2 add-used-3 used-requires-4 mul-result-3 add-result-3 returns)

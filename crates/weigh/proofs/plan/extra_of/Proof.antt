@@ -1,7 +1,7 @@
 -- A name has the answers of its arguments.
 use borrow.Author.Needs.{needs}
-use borrow.Author.Tests.{le-leb, lt-leb, lt-ltb, le-ltb, eq-eqb, ne-eqb}
-use Rattle.weigh.specs.Plan.{extraOf}
+use borrow.Author.Tests.{eq-eqb, ne-eqb}
+use Rattle.weighing.specs.Plan.{extraOf}
 use Rattle.weigh.proofs.plan.extra_of.Statement.{statement}
 use Rattle.weigh.proofs.plan.extra_of.Tie as tie
 

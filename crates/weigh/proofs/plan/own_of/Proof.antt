@@ -1,7 +1,6 @@
 -- By the kind of the record.
-use borrow.Author.Needs.{needs}
-use borrow.Author.Tests.{le-leb, lt-leb, lt-ltb, le-ltb, eq-eqb, ne-eqb}
-use Rattle.weigh.specs.Plan.{ownOf}
+use borrow.Author.Tests.{lt-ltb, le-ltb, eq-eqb, ne-eqb}
+use Rattle.weighing.specs.Plan.{ownOf}
 use Rattle.weigh.proofs.plan.own_of.Statement.{statement}
 use Rattle.weigh.proofs.plan.own_of.Tie as tie
 

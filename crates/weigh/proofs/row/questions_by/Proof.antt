@@ -1,7 +1,7 @@
 -- By the class.
 use borrow.Author.Needs.{needs}
-use borrow.Author.Tests.{le-leb, lt-leb, lt-ltb, le-ltb, eq-eqb, ne-eqb}
-use Rattle.weigh.specs.Plan.{questionsBy}
+use borrow.Author.Tests.{eq-eqb, ne-eqb}
+use Rattle.weighing.specs.Plan.{questionsBy}
 use Rattle.weigh.proofs.row.questions_by.Statement.{statement}
 use Rattle.weigh.proofs.row.questions_by.Tie as tie
 

@@ -1,0 +1,17 @@
+-- The word that stands there.
+use borrow.Author.Needs.{needs}
+use Rattle.forms.proofs.Made.{word-read}
+use Rattle.forms.proofs.words.word_at.Statement.{statement}
+use Rattle.forms.proofs.words.word_at.Tie as tie
+
+spot-requires : tie.Need-spot-requires
+spot-requires c κs = search needs
+
+short-at-requires : tie.Need-short-at-requires
+short-at-requires c κs = search needs
+
+returns : tie.Need-returns
+returns c = word-read _ _ _ _ _ (c .before .spot .ensures) (c .short-at .ensures)
+
+pub word-at-spec : {M : Type 1} → statement M
+word-at-spec = tie.close (tie.spec spot-requires short-at-requires returns)

@@ -1,3 +1,0 @@
-pub mod Plan
-pub mod Started
-pub mod Weighed

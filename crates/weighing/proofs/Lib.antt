@@ -1,0 +1,12 @@
+pub mod Below
+pub mod Spots
+pub mod FormLaws
+pub mod Places
+pub mod Sums
+pub mod Same
+pub mod Kept
+pub mod Plans
+pub mod Calls
+pub mod Planning
+pub mod Closing
+pub mod Steps

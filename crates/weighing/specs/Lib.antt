@@ -1,0 +1,5 @@
+pub mod Stack
+pub mod Shows
+pub mod Plan
+pub mod Step
+pub mod Weighed
