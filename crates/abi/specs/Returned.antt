@@ -9,7 +9,7 @@ use Rattle.comparer.specs.declared.Following.{Following}
 use Rattle.comparer.specs.declared.Comparison.{Comparison}
 use Rattle.renumbering.specs.Outcome.{RenumberPromise}
 use Rattle.renumbering.specs.declared.renumber.Renumbered.{Renumbered}
-use Rattle.abi.specs.Words.{answer-words, followWords, compareWords, renumberWords}
+use Rattle.answers.specs.Words.{answer-words, followWords, compareWords, renumberWords}
 
 pub data FollowReturned (s play ws out : List ℕ) (r : ℕ) (ws′ out′ : List ℕ) : Type 0 where
   no-room : length out < answer-words → r ≡ 0 → ws′ ≡ ws → out′ ≡ out → FollowReturned s play ws out r ws′ out′

@@ -1,0 +1,14 @@
+-- What `high_half` gives is what `highHalf` says, case by case.
+use borrow.Author.Needs.{needs}
+use mathlib.Core.Path.{refl}
+use Rattle.answers.proofs.half.high_half.Statement.{statement}
+use Rattle.answers.proofs.half.high_half.Tie as tie
+
+cast-result : tie.Need-cast-result
+cast-result c = search needs
+
+returns : tie.Need-returns
+returns c = refl
+
+pub high-half-spec : {M : Type 1} → statement M
+high-half-spec = tie.close (tie.spec cast-result returns)
