@@ -25,9 +25,11 @@ use Rattle.sheet.specs.Reader.{Answer, got, refused, Whole, whole, numbersAt, w
 use Rattle.sheet.specs.Reader.{readSheet, accepted, rejected}
 use Rattle.judge.specs.Size.{sizeOf}
 use Rattle.judge.specs.Check.{checkedOf}
-use Rattle.sheet.specs.table.Fill.{eraseSheet}
+use Rattle.sheet.specs.table.Fill.{eraseSheet, ReadsSheet}
+use Rattle.sheet.specs.table.Notes.{Blank}
 use Rattle.judge.specs.Masks.{usesAt}
-use Rattle.sheet.specs.table.Tabled.{Tabled, TabledBy}
+use Rattle.tabled.specs.Tabled.{Tabled, TabledBy}
+use Rattle.tabled.proofs.Tabling.{tabled}
 use Rattle.judge.specs.Judged.{JudgedBy, refusalIn}
 use Rattle.sheet.specs.declared.names.Reading.{Reading}
 use Rattle.sheet.specs.declared.names.Reading.the-variants.{Sheet as Read, Refused as Unread}
@@ -118,10 +120,10 @@ unfolding JudgedBy readUnder
 judged-refused ed s u e f = refused-as s (wholeOf ed s) (sym f ∙ e)
 
 -- a sheet that is read
-pub tabled-read : (ed : Edition) (s u : List ℕ) {y : Reading} {root ty next : ℕ} → TabledBy ed s y u →
-    y ≡ Read root ty next → Tabled ed s root ty next u
+pub tabled-read : (ed : Edition) (s t u : List ℕ) {y : Reading} {root ty next : ℕ} → Blank t →
+    ReadsSheet (numbersAt s) (wholeOf ed s) y t u → y ≡ Read root ty next → Tabled ed s root ty next u
 unfolding TabledBy
-tabled-read ed s u T e = rw e at T
+tabled-read ed s t u B R e = let T = tabled ed s t u B R in rw e at T
 
 -- the answer of check
 pub checked-refused : (s u : List ℕ) {y : Judgement} {x z : Refusal} {q : Cause} → JudgedBy Present s y u →

@@ -21,7 +21,7 @@ use Rattle.expand.specs.Contract as expand
 use Rattle.expand.proofs.Places.{shown-row}
 use Rattle.expand.proofs.Automaton.{rows-represent}
 use Rattle.sheet.specs.Reader.{numbersAt}
-use Rattle.sheet.specs.table.Tabled.{places}
+use Rattle.tabled.specs.Tabled.{places}
 use Rattle.judge.specs.Judged.{Judged, JudgedBy}
 use Rattle.judge.specs.declared.mark.Uses.{Uses}
 use Rattle.judge.specs.declared.judge.Judgement.{Judgement}

@@ -21,10 +21,4 @@ pub mod NameList
 pub mod CompleteNames
 pub mod Right
 pub mod WellTyped
-pub mod Rows
-pub mod Spans
-pub mod Stored
-pub mod Shows
-pub mod Noting
-pub mod weights
-pub mod Tabling
+pub mod Notes

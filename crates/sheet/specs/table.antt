@@ -2,4 +2,3 @@
 pub mod Notes
 pub mod Number
 pub mod Fill
-pub mod Tabled

@@ -13,8 +13,6 @@ ghost use mathlib.Core.Path.{_≡_};
 ghost use lib.ListN.{length};
 ghost use Rattle.sheet.specs.Reader.{wholeOf, numbersAt};
 ghost use Rattle.sheet.specs.table.Fill.{ReadsSheet, closedReading};
-ghost use Rattle.sheet.specs.table.Notes.{Blank};
-ghost use Rattle.sheet.specs.table.Tabled.{TabledBy};
 
 // The greatest length of a sheet, Z at most, the last overflow rule, and how many name records a sheet may have.
 const LENGTH: usize = 4096;
@@ -45,9 +43,8 @@ fn close_sheet(s: &[u8], x: Reading) -> Reading
 
 // Reads a whole sheet by the rule of an edition, and leaves the rows of its parts in the table.
 pub fn read_sheet(edition: Edition, s: &[u8], t: &mut [u16]) -> Reading
-    ensures reads { λ x. ⌜ ReadsSheet (numbersAt (now (s .entry))) (wholeOf edition (now (s .entry))) x
+    ensures { λ x. ⌜ ReadsSheet (numbersAt (now (s .entry))) (wholeOf edition (now (s .entry))) x
         (now (t .entry)) (now (t .exit)) ⌝ }
-    ensures tabled { λ x. ⌜ (Blank (now (t .entry)) → TabledBy edition (now (s .entry)) x (now (t .exit))) ⌝ }
 {
     if LENGTH < s.len() {
         return Reading::Refused(refuse(TOO_LONG, LENGTH));

@@ -1,7 +1,7 @@
 -- The judgement of the sheet, as the service answers it.
 use borrow.Author.Needs.{needs}
 use mathlib.Core.Path.{refl}
-use Rattle.sheet.proofs.Noting.{blank-made}
+use Rattle.tabled.proofs.Noting.{blank-made}
 use Rattle.judge.proofs.Judging.{checked-refused, checked-accepted}
 use Rattle.judge.proofs.check.check.Statement.{statement}
 use Rattle.judge.proofs.check.check.Tie as tie

@@ -27,10 +27,10 @@ refuse-requires c κs = search needs
 
 returns : tie.Need-returns
 returns c =
-    let T = tabled-read _ _ _
-        (c .before .before .before .before .before .before .before .before .before .before .read-sheet .ensures .1
+    let T = tabled-read _ _ _ _
         (c .before .before .before .before .before .before .before .before .before .before .before .before .before
-        .pre)) (c .before .before .before .before .before .before .before .before .x2 .given .1) in
+        .pre) (c .before .before .before .before .before .before .before .before .before .before .read-sheet .ensures)
+        (c .before .before .before .before .before .before .before .before .x2 .given .1) in
     rw (c .refuse .ensures)
     (judged-large _ _ _ _ _ _ T (c .before .before .before .before .weight-of .ensures)
         (c .before .before .before .numbers-of .ensures) (c .before .before .size-of .ensures)
@@ -40,16 +40,16 @@ uses-of-requires : tie.Need-uses-of-requires
 uses-of-requires c κs = search needs
 
 returns-2 : tie.Need-returns-2
-returns-2 c = judged-refused _ _ _ (c .before .before .before .read-sheet .ensures .0 .answer)
+returns-2 c = judged-refused _ _ _ (c .before .before .before .read-sheet .ensures .answer)
     (c .before .x .given .1)
 
 returns-3 : tie.Need-returns-3
 returns-3 c =
-    let T = tabled-read _ _ _
-        (c .before .before .before .before .before .before .before .before .before .before .before .before
-        .read-sheet .ensures .1
+    let T = tabled-read _ _ _ _
         (c .before .before .before .before .before .before .before .before .before .before .before .before .before
-        .before .before .pre))
+        .before .before .pre)
+        (c .before .before .before .before .before .before .before .before .before .before .before .before
+        .read-sheet .ensures)
         (c .before .before .before .before .before .before .before .before .before .before .x2 .given .1) in
     judged-accepted _ _ _ _ _ _ T (c .before .before .before .before .before .before .weight-of .ensures)
         (c .before .before .before .before .before .numbers-of .ensures)

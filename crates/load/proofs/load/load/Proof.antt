@@ -1,7 +1,7 @@
 -- A sheet that is judged, and its term expanded.
 use borrow.Author.Needs.{needs}
 use mathlib.Core.Path.{refl}
-use Rattle.sheet.proofs.Noting.{blank-made}
+use Rattle.tabled.proofs.Noting.{blank-made}
 use native.Mathlib.Omega.{arith}
 use Rattle.load.proofs.Loading.{judged-of, load-refused, root-small, load-sheet}
 use Rattle.load.proofs.load.load.Statement.{statement}

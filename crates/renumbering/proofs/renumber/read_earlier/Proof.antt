@@ -2,7 +2,7 @@
 use Rattle.renumbering.proofs.Reading.{earlier-refused, earlier-accepted}
 use borrow.Author.Needs.{needs}
 use mathlib.Core.Path.{refl}
-use Rattle.sheet.proofs.Noting.{blank-made}
+use Rattle.tabled.proofs.Noting.{blank-made}
 use Rattle.renumbering.proofs.renumber.read_earlier.Statement.{statement}
 use Rattle.renumbering.proofs.renumber.read_earlier.Tie as tie
 

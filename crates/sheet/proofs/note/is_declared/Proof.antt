@@ -1,6 +1,6 @@
 -- Declared names have the standings between that of retired ids and those of variables.
 use borrow.Author.Needs.{needs}
-use Rattle.sheet.proofs.Noting.{standing-low, standing-high}
+use Rattle.sheet.proofs.Notes.{standing-low, standing-high}
 use Rattle.sheet.proofs.note.is_declared.Statement.{statement}
 use Rattle.sheet.proofs.note.is_declared.Tie as tie
 

@@ -1,6 +1,6 @@
 -- The word of the id, 0 past the end.
 use borrow.Author.Needs.{needs}
-use Rattle.sheet.proofs.Noting.{noted-there, noted-past}
+use Rattle.sheet.proofs.Notes.{noted-there, noted-past}
 use Rattle.sheet.proofs.note.is_noted.Statement.{statement}
 use Rattle.sheet.proofs.note.is_noted.Tie as tie
 

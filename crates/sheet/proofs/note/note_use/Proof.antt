@@ -1,6 +1,6 @@
 -- The word of the id, where the record is a use of a declared name.
 use borrow.Author.Needs.{needs}
-use Rattle.sheet.proofs.Noting.{note-made, note-other, note-kind}
+use Rattle.sheet.proofs.Notes.{note-made, note-other, note-kind}
 use Rattle.sheet.proofs.note.note_use.Statement.{statement}
 use Rattle.sheet.proofs.note.note_use.Tie as tie
 

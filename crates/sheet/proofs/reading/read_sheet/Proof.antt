@@ -3,8 +3,7 @@ use Prim.Native.Nat.{ℕ, _≤_, _<_}
 use native.Mathlib.Omega.{arith}
 use mathlib.Core.Path.{_≡_}
 use borrow.Author.Needs.{needs}
-use Rattle.sheet.proofs.Tabling.{tabled, sheet-told}
-use Rattle.sheet.proofs.Whole.{sheet-closed, closes-sheet, too-long, empty, z-zero, z-large}
+use Rattle.sheet.proofs.Whole.{sheet-refused, sheet-closed, closes-sheet, too-long, empty, z-zero, z-large}
 use Rattle.sheet.proofs.Whole.{no-rule, rule-large, opened}
 use Rattle.sheet.proofs.reading.read_sheet.Statement.{statement}
 use Rattle.sheet.proofs.reading.read_sheet.Tie as tie
@@ -20,14 +19,14 @@ refuse-requires : tie.Need-refuse-requires
 refuse-requires c κs = search needs
 
 returns : tie.Need-returns
-returns c = rw (c .refuse .ensures) (sheet-told _ _ _ (too-long _ _ (c .before .if1 .taken)))
+returns c = rw (c .refuse .ensures) (sheet-refused _ _ _ (too-long _ _ (c .before .if1 .taken)))
 
 refuse-requires-2 : tie.Need-refuse-requires-2
 refuse-requires-2 c κs = search needs
 
 returns-2 : tie.Need-returns-2
 returns-2 c =
-    rw (c .refuse2 .ensures) (sheet-told _ _ _ (empty _ _ (c .before .before .if1 .left) (none (c .before .if2 .taken))))
+    rw (c .refuse2 .ensures) (sheet-refused _ _ _ (empty _ _ (c .before .before .if1 .left) (none (c .before .if2 .taken))))
 
 shared-slice-read-z : tie.Need-shared-slice-read-z
 shared-slice-read-z c = search needs
@@ -37,7 +36,7 @@ refuse-requires-3 c κs = search needs
 
 returns-3 : tie.Need-returns-3
 returns-3 c =
-    rw (c .refuse3 .ensures) (sheet-told _ _ _ (z-zero _ _ (c .before .before .before .before .if1 .left) (some (c .before
+    rw (c .refuse3 .ensures) (sheet-refused _ _ _ (z-zero _ _ (c .before .before .before .before .if1 .left) (some (c .before
       .before .before .if2 .left)) (c .before .if3 .taken)))
 
 refuse-requires-4 : tie.Need-refuse-requires-4
@@ -45,7 +44,7 @@ refuse-requires-4 c κs = search needs
 
 returns-4 : tie.Need-returns-4
 returns-4 c =
-    rw (c .refuse4 .ensures) (sheet-told _ _ _ (z-large _ _ (c .before .before .before .before .before .if1 .left) (some (c
+    rw (c .refuse4 .ensures) (sheet-refused _ _ _ (z-large _ _ (c .before .before .before .before .before .if1 .left) (some (c
       .before .before .before .before .if2 .left)) (c .before .before .if3 .left) (c .before .if4 .taken)))
 
 refuse-requires-5 : tie.Need-refuse-requires-5
@@ -53,7 +52,7 @@ refuse-requires-5 c κs = search needs
 
 returns-5 : tie.Need-returns-5
 returns-5 c =
-    rw (c .refuse5 .ensures) (sheet-told _ _ _ (no-rule _ _ (c .before .before .before .before .before .before .if1
+    rw (c .refuse5 .ensures) (sheet-refused _ _ _ (no-rule _ _ (c .before .before .before .before .before .before .if1
       .left) (some (c .before .before .before .before .before .if2 .left)) (c .before .before .before .if3 .left) (c
       .before .before .if4 .left) (c .before .if5 .taken)))
 
@@ -65,7 +64,7 @@ refuse-requires-6 c κs = search needs
 
 returns-6 : tie.Need-returns-6
 returns-6 c =
-    rw (c .refuse6 .ensures) (sheet-told _ _ _ (rule-large _ _ (c .before .before .before .before .before .before
+    rw (c .refuse6 .ensures) (sheet-refused _ _ _ (rule-large _ _ (c .before .before .before .before .before .before
       .before .before .if1 .left) (some (c .before .before .before .before .before .before .before .if2 .left)) (c .before
       .before .before .before .before .if3 .left) (c .before .before .before .before .if4 .left) (c .before .before
       .before .if5 .left) (c .before .if6 .taken)))
@@ -81,16 +80,14 @@ same-length c = search needs
 
 returns-7 : tie.Need-returns-7
 returns-7 c =
-    let R =
-        sheet-closed _ _ _ _ (opened _ _ (c .before .before .before .before .before .before .before .before .before
+    sheet-closed _ _ _ _ (opened _ _ (c .before .before .before .before .before .before .before .before .before
           .before .before .before .before .if1 .left) (some (c .before .before .before .before .before .before .before
           .before .before .before .before .before .if2 .left)) (c .before .before .before .before .before .before
           .before .before .before .before .if3 .left) (c .before .before .before .before .before .before .before
           .before .before .if4
         .left) (c .before .before .before .before .before .before .before .before .if5 .left) (c .before .before
           .before .before .before .before .if6 .left)) (closes-sheet _ _ _ (c .before .before .before .read-names
-        .ensures) (c .close-sheet .ensures)) in
-    (R, λ h. tabled _ _ _ _ h R)
+        .ensures) (c .close-sheet .ensures))
 
 pub read-sheet-spec : {M : Type 1} → statement M
 read-sheet-spec =

@@ -20,20 +20,20 @@ use Rattle.weighing.specs.Plan.{comeAt}
 use Rattle.weighing.specs.Weighed.{many, partsIn, ReadyOne, PartsFormed}
 use Rattle.weighing.proofs.FormLaws.{shows-kept}
 use Rattle.weighing.proofs.Places.{marked-come}
 use Rattle.sheet.specs.Reader.{Tree, node, leaf, branch, written, writtens}
 use Rattle.sheet.specs.table.Fill.{fill, fills}
 use Rattle.sheet.specs.table.Notes.{usesName}
 use Rattle.sheet.specs.table.Number.{usedNumber}
 use Rattle.sheet.proofs.Parsed.{Parsed}
 use Rattle.sheet.proofs.Pairs.{inside-length}
-use Rattle.sheet.proofs.Rows.{length-linked, linked-same, linked-else}
-use Rattle.sheet.proofs.Spans.{forward, before, length-fill, fill-else}
-use Rattle.sheet.proofs.Stored.{stored-none, stored-more, place, head, tail}
-use Rattle.sheet.proofs.weights.Keeping.{Kept, kept-then, kept-less, kept-linked, height-linked}
-use Rattle.sheet.proofs.weights.ReadyAlong.{behind-later, behind-inside, behind-scope, ready-kept}
-use Rattle.sheet.proofs.weights.ReadyAlong.{ready-inside, ready-scope}
-use Rattle.sheet.proofs.weights.Parts.{Starts, Done, Part, one-done}
-use Rattle.sheet.proofs.weights.Record.{Numbered, closing}
+use Rattle.tabled.proofs.Rows.{length-linked, linked-same, linked-else}
+use Rattle.tabled.proofs.Spans.{forward, before, length-fill, fill-else}
+use Rattle.tabled.proofs.Stored.{stored-none, stored-more, place, head, tail}
+use Rattle.tabled.proofs.weights.Keeping.{Kept, kept-then, kept-less, kept-linked, height-linked}
+use Rattle.tabled.proofs.weights.ReadyAlong.{behind-later, behind-inside, behind-scope, ready-kept}
+use Rattle.tabled.proofs.weights.ReadyAlong.{ready-inside, ready-scope}
+use Rattle.tabled.proofs.weights.Parts.{Starts, Done, Part, one-done}
+use Rattle.tabled.proofs.weights.Record.{Numbered, closing}
 
 module _ (N : Numbers) (s : List ℕ) (ns : List Name) (short : length s ≤ 4096) where
   -- once its own term was read, at `from`, a procedure at a place may be used

@@ -13,8 +13,8 @@ use Rattle.heads.specs.declared.head.Record.{Record}
 use Rattle.weighing.specs.Stack.{marks-from, slots-from, height-at, form-words, marksIn, slotOf, heightOf, spot}
 use Rattle.weighing.specs.Stack.{formWord}
 use Rattle.weighing.specs.Weighed.{OnlyAt}
 use Rattle.sheet.specs.table.Notes.{usesName, noted}
-use Rattle.sheet.proofs.Rows.{linked-else, written-else, noted-else}
+use Rattle.tabled.proofs.Rows.{linked-else, written-else, noted-else}
 
 -- the rows, marks and slots of the places from lo up to hi and the forms below a height are as they were
 pub record Kept (t t′ : List ℕ) (lo hi h : ℕ) : Type 0 where

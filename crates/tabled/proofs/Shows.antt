@@ -22,15 +22,15 @@ use Rattle.procedures.specs.Table.{useDetail, nameDetail, PartRow, Shown, shown
 use Rattle.procedures.specs.Table.{shown-number, shown-private, shown-parameter, shown-use, shown-name, shown-fetch}
 use Rattle.procedures.specs.Table.{shown-operate, shown-assign, shown-sequence, shown-choose, shown-while, shown-new}
 use Rattle.procedures.specs.Table.{shown-procedure, ShownArgs, shown-none, shown-more}
 use Rattle.sheet.specs.Reader.{Tree, written, writtens, build, first, rest}
 use Rattle.sheet.specs.table.Fill.{fill}
 use Rattle.records.specs.declared.edition.Edition.{Edition}
 use Rattle.sheet.proofs.Parsed.{Stands, Parsed, p-skip, p-diverge, p-truth, p-number, p-private, p-parameter}
 use Rattle.sheet.proofs.Parsed.{p-use, p-name, p-fetch, p-operate, p-assign, p-sequence, p-if, p-while, p-new}
 use Rattle.sheet.proofs.Parsed.{p-procedure, p-none, p-more}
-use Rattle.sheet.proofs.Rows.{Holds}
-use Rattle.sheet.proofs.Spans.{forward, placed}
-use Rattle.sheet.proofs.Stored.{Stored, StoredParts, stores, own, parts, place, head, tail}
+use Rattle.tabled.proofs.Rows.{Holds}
+use Rattle.tabled.proofs.Spans.{forward, placed}
+use Rattle.tabled.proofs.Stored.{Stored, StoredParts, stores, own, parts, place, head, tail}
 
 -- the type of what was read
 module _ (N : Numbers) (s : List ℕ) (ns : List Name) where

@@ -23,16 +23,16 @@ use Rattle.procedures.specs.Written.{Written, Name}
 use Rattle.procedures.specs.Meaning.{Binder, a-block, meaning, inside, after}
 use Rattle.procedures.specs.Uses.{isName, uses, someUses}
 use Rattle.procedures.proofs.Tests.{by-test}
 use Rattle.sheet.specs.Reader.{Tree, node, Trees, leaf, branch, written, writtens, build, first, rest}
 use Rattle.weighing.specs.Step.{weighed}
 use Rattle.sheet.specs.table.Fill.{fill, fills}
 use Rattle.sheet.specs.table.Notes.{Blank, isNameStanding, usesName, noted, isNoted}
 use Rattle.sheet.specs.table.Number.{usedNumber}
 use Rattle.sheet.proofs.Parsed.{Stands, Parsed, p-skip, p-diverge, p-truth, p-number, p-private, p-parameter}
 use Rattle.sheet.proofs.Parsed.{p-use, p-name, p-fetch, p-operate, p-assign, p-sequence, p-if, p-while, p-new}
 use Rattle.sheet.proofs.Parsed.{p-procedure, p-none, p-more}
-use Rattle.sheet.proofs.Rows.{length-written, length-linked, weighed-notes}
-use Rattle.sheet.proofs.Spans.{length-fill, length-fills}
+use Rattle.tabled.proofs.Rows.{length-written, length-linked, weighed-notes}
+use Rattle.tabled.proofs.Spans.{length-fill, length-fills}
 
 -- a table of zeros is blank
 zero-there : (n i : ℕ) → _≡_ {A = ℕ} (getD (replicate n 0) i 0) 0
@@ -42,51 +42,6 @@ zero-there (suc n) (suc i) = zero-there n i
 
 pub blank-made : (n : ℕ) → n ≡ 58313 → Blank (replicate n 0)
 blank-made n e = record { long = length-replicate n 0 ∙ e; clear = zero-there n }
-
--- the standings of declared names
-pub standing-low : (c : ℕ) → c ≤ 1 → false ≡ isNameStanding (standingOf c)
-unfolding standingOf isNameStanding
-standing-low zero h = refl
-standing-low (suc zero) h = refl
-standing-low (suc (suc c)) h = absurd (omega arith)
-
-pub standing-high : (c : ℕ) → 1 < c → ltb c 8192 ≡ isNameStanding (standingOf c)
-unfolding standingOf isNameStanding
-standing-high c h =
-    rw (ne-eqb c 0 (λ e. omega arith), ne-eqb c 1 (λ e. omega arith))
-      (go (ltb c 8192) (ltb c 16384) (ltb c 32768))
-  where
-    go : (a b d : Bool) → a ≡ isNameStanding (pick a (Declared (c - 256))
-        (pick b (Variable ((c - 8192) / 4) ((c - 8192) % 4))
-        (pick d (Parameter ((c - 16384) / 8) ((c - 16384) % 8)) (Procedure ((c - 32768) % 128) ((c - 32768) / 128)))))
-    go true b d = refl
-    go false true d = refl
-    go false false true = refl
-    go false false false = refl
-
--- what the code notes of a record
-pub note-made : (r : Record) (t : List ℕ) {b : Bool} {u : List ℕ} → r .kind ≡ 20 →
-    b ≡ isNameStanding (standingOf (r .b)) → b ≡ true → u ≡ set t (36864 + r .a) 1 → u ≡ noted r t
-unfolding noted usesName
-note-made r t k e f g = g ∙ rw (eq-eqb (r .kind) 20 k, sym e ∙ f) refl
-
-pub note-other : (r : Record) (t : List ℕ) {b : Bool} → r .kind ≡ 20 → b ≡ isNameStanding (standingOf (r .b)) →
-    b ≡ false → t ≡ noted r t
-unfolding noted usesName
-note-other r t k e f = rw (eq-eqb (r .kind) 20 k, sym e ∙ f) refl
-
-pub note-kind : (r : Record) (t : List ℕ) → (r .kind ≡ 20 → ⊥) → t ≡ noted r t
-unfolding noted usesName
-note-kind r t k = rw (ne-eqb (r .kind) 20 k) refl
-
--- the word of an id
-pub noted-there : (t : List ℕ) (id : ℕ) → eqb (getD t (36864 + id) 0) 1 ≡ isNoted t id
-unfolding isNoted
-noted-there t id = refl
-
-pub noted-past : (t : List ℕ) (id : ℕ) → length t ≤ 36864 + id → false ≡ isNoted t id
-unfolding isNoted
-noted-past t id h = rw (List·getD-eq-default t 0 h) refl
 
 -- rows and the places of parts change no note
 row-kept : (N : Numbers) (r : Record) (ty number end : ℕ) (t : List ℕ) (k : ℕ) → r .place < 4096 →

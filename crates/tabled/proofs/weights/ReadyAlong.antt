@@ -17,7 +17,7 @@ use Rattle.weighing.specs.Stack.{slotOf}
 use Rattle.weighing.specs.Plan.{comeAt}
 use Rattle.weighing.specs.Weighed.{ReadyOne, Ready}
 use Rattle.weighing.proofs.FormLaws.{shows-kept}
-use Rattle.sheet.proofs.weights.Keeping.{Kept}
+use Rattle.tabled.proofs.weights.Keeping.{Kept}
 
 -- the records of the procedures that Γ sees stand before a place
 abbrev pub Behind : Context → (ℕ → ℕ) → ℕ → Type 0

@@ -18,21 +18,21 @@ use Rattle.procedures.specs.Context.{Context, whole, in-block, in-procedure, in
 use Rattle.procedures.specs.Marks.{Marked}
 use Rattle.weighing.specs.Stack.{height-at, marksIn, heightOf, formWord}
 use Rattle.weighing.specs.Weighed.{many, partsIn, Formed, PartsFormed}
 use Rattle.sheet.specs.Reader.{Tree, written, writtens, build, first, rest}
 use Rattle.sheet.specs.table.Fill.{fill}
 use Rattle.sheet.specs.table.Notes.{Blank}
 use Rattle.sheet.specs.table.Number.{usedNumber}
 use Rattle.sheet.proofs.Parsed.{Parsed, p-skip, p-diverge, p-truth, p-number, p-private, p-parameter}
 use Rattle.sheet.proofs.Parsed.{p-use, p-name, p-fetch, p-operate, p-assign, p-sequence, p-if, p-while, p-new}
 use Rattle.sheet.proofs.Parsed.{p-procedure, p-none, p-more}
-use Rattle.sheet.proofs.Spans.{placed}
+use Rattle.tabled.proofs.Spans.{placed}
 use Rattle.sheet.proofs.Sound.{sound}
-use Rattle.sheet.proofs.weights.ReadyAlong.{behind-block, behind-whole, ready-block, ready-whole}
-use Rattle.sheet.proofs.weights.Parts.{Part, PartsOf, no-part, a-part}
-use Rattle.sheet.proofs.weights.Record.{shown-in}
-use Rattle.sheet.proofs.weights.Plain.{other-kind, used-number, isCall, no-use, no-routine, the-routine, Does}
-use Rattle.sheet.proofs.weights.Plain.{other, same, called}
-use Rattle.sheet.proofs.weights.Procedure.{procedure-done}
+use Rattle.tabled.proofs.weights.ReadyAlong.{behind-block, behind-whole, ready-block, ready-whole}
+use Rattle.tabled.proofs.weights.Parts.{Part, PartsOf, no-part, a-part}
+use Rattle.tabled.proofs.weights.Record.{shown-in}
+use Rattle.tabled.proofs.weights.Plain.{other-kind, used-number, isCall, no-use, no-routine, the-routine, Does}
+use Rattle.tabled.proofs.weights.Plain.{other, same, called}
+use Rattle.tabled.proofs.weights.Procedure.{procedure-done}
 
 module _ (N : Numbers) (s : List ℕ) (ns : List Name) (short : length s ≤ 4096) where
   part-of : {ed : Edition} {left at ty next : ℕ} {bs : List Binder} {π : ℕ → ℕ} {x : Tree} →

@@ -10,17 +10,17 @@ use Rattle.heads.specs.declared.head.Record.{Record}
 use Rattle.procedures.specs.Written.{Name}
 use Rattle.procedures.specs.Meaning.{Binder}
 use Rattle.part_rows.specs.Row.{word}
 use Rattle.sheet.specs.Reader.{Tree, node, Trees, leaf, branch}
 use Rattle.weighing.proofs.Below.{length-weighed}
 use Rattle.sheet.specs.table.Fill.{fill, fills}
 use Rattle.sheet.specs.table.Notes.{noted}
 use Rattle.sheet.specs.table.Number.{usedNumber}
 use Rattle.records.specs.declared.edition.Edition.{Edition}
 use Rattle.sheet.proofs.Parsed.{Parsed, p-skip, p-diverge, p-truth, p-number, p-private, p-parameter, p-use}
 use Rattle.sheet.proofs.Parsed.{p-name, p-fetch, p-operate, p-assign, p-sequence, p-if, p-while, p-new}
 use Rattle.sheet.proofs.Parsed.{p-procedure, ParsedArgs, p-none, p-more}
-use Rattle.sheet.proofs.Rows.{length-written, length-linked, written-else, linked-else, length-noted, noted-else}
-use Rattle.sheet.proofs.Rows.{weighed-else}
+use Rattle.tabled.proofs.Rows.{length-written, length-linked, written-else, linked-else, length-noted, noted-else}
+use Rattle.tabled.proofs.Rows.{weighed-else}
 
 -- a part takes the places from its own up to the next; its parts, at most four, stand one after the other behind it
 mutual

@@ -7,15 +7,15 @@ use lib.ListN.{length}
 use Rattle.language.specs.declared.Numbers.{Numbers}
 use Rattle.part_rows.specs.Row.{rowWritten, linked}
 use Rattle.heads.specs.declared.head.Record.{Record}
 use Rattle.sheet.specs.Reader.{Tree, node, Trees, leaf, branch}
 use Rattle.sheet.specs.table.Fill.{fill, fills}
 use Rattle.sheet.specs.table.Notes.{noted}
 use Rattle.sheet.specs.table.Number.{usedNumber}
 use Rattle.part_rows.specs.Row.{word}
-use Rattle.sheet.proofs.Rows.{Holds, length-linked, written-row, written-else, linked-same, noted-else}
-use Rattle.sheet.proofs.Rows.{weighed-else}
-use Rattle.sheet.proofs.Spans.{Span, span, Parts, stop, part, forward, onward, before}
-use Rattle.sheet.proofs.Spans.{length-fill, length-fills, fill-else, fills-else}
+use Rattle.tabled.proofs.Rows.{Holds, length-linked, written-row, written-else, linked-same, noted-else}
+use Rattle.tabled.proofs.Rows.{weighed-else}
+use Rattle.tabled.proofs.Spans.{Span, span, Parts, stop, part, forward, onward, before}
+use Rattle.tabled.proofs.Spans.{length-fill, length-fills, fill-else, fills-else}
 
 -- the same rows from one place up to another
 abbrev pub Agree : List ℕ → List ℕ → ℕ → ℕ → Type 0

@@ -8,22 +8,22 @@ use lib.ListN.{length, drop, length-append, length-drop}
 use Rattle.records.specs.Refusal.{refusal}
 use Rattle.records.specs.declared.edition.Edition.{Edition}
 use Rattle.procedures.specs.Meaning.{typeOf}
 use Rattle.sheet.specs.Encoding.{encodeNames, headingLength}
 use Rattle.sheet.specs.Reader.{Answer, got, refused, Whole, whole, numbersAt, wholeOf, sheetIn, sizeIn, checks}
 use Rattle.sheet.specs.Reader.{readUnder}
 use Rattle.sheet.specs.table.Fill.{eraseSheet, LeavesSheet, ReadsSheet}
 use Rattle.sheet.specs.table.Notes.{Blank}
-use Rattle.sheet.specs.table.Tabled.{places, TabledBy}
+use Rattle.tabled.specs.Tabled.{places, TabledBy}
 use Rattle.sheet.specs.declared.names.Reading.{Reading}
 use Rattle.sheet.specs.declared.names.Reading.the-variants.{Refused}
 use Rattle.sheet.proofs.Answers.{All, one, none′}
 use Rattle.sheet.proofs.NameList.{NamesRead, names-read, extends-first}
 use Rattle.sheet.proofs.Right.{SheetRead, sheet-all}
 use Rattle.sheet.proofs.Sound.{sound}
-use Rattle.sheet.proofs.Shows.{shows-whole}
-use Rattle.sheet.proofs.Noting.{notes-whole}
-use Rattle.sheet.proofs.weights.Weights.{weights-whole}
+use Rattle.tabled.proofs.Shows.{shows-whole}
+use Rattle.tabled.proofs.Noting.{notes-whole}
+use Rattle.tabled.proofs.weights.Weights.{weights-whole}
 use Rattle.sheet.proofs.Whole.{sheet-refused}
 
 module _ (ed : Edition) (s t u : List ℕ) (blank : Blank t) where
   tabled-whole :
@@ -65,12 +65,3 @@ module _ (ed : Edition) (s t u : List ℕ) (blank : Blank t) where
   -- its marks
   pub tabled : {x : Reading} → ReadsSheet (numbersAt s) (wholeOf ed s) x t u → TabledBy ed s x u
   tabled R = rw (R .answer) (tabled-by (wholeOf ed s) refl (sheet-all ed s places) (R .table))
-
--- a sheet that is refused: nothing is said of the table
-pub sheet-told :
-    (ed : Edition) (s t : List ℕ) {n p : ℕ} → wholeOf ed s ≡ refused n p →
-    ReadsSheet (numbersAt s) (wholeOf ed s) (Refused (refusal n p)) t t
-    × (Blank t → TabledBy ed s (Refused (refusal n p)) t)
-sheet-told ed s t e =
-    let R = sheet-refused ed (numbersAt s) s e in
-    (R, λ h. tabled ed s t t h R)

@@ -18,16 +18,16 @@ use Rattle.procedures.specs.Written.{Written, Writtens, Name}
 use Rattle.procedures.specs.Meaning.{Binder, Meaning, routine, meaning}
 use Rattle.procedures.specs.Context.{Context, binders}
 use Rattle.weighing.specs.Weighed.{many, partsIn, Ready, Formed, PartsFormed}
 use Rattle.sheet.specs.Reader.{Tree, node, Trees, written, writtens, build}
 use Rattle.sheet.specs.table.Fill.{fill}
 use Rattle.sheet.specs.table.Notes.{usesName}
 use Rattle.sheet.specs.table.Number.{numberIn, usedNumber}
 use Rattle.sheet.proofs.Parsed.{Stands, Parsed}
-use Rattle.sheet.proofs.Spans.{placed, forward}
-use Rattle.sheet.proofs.weights.Keeping.{kept-less}
-use Rattle.sheet.proofs.weights.ReadyAlong.{Behind}
-use Rattle.sheet.proofs.weights.Parts.{Starts, Done, PartsOf, parts-done}
-use Rattle.sheet.proofs.weights.Record.{Numbered, closing}
+use Rattle.tabled.proofs.Spans.{placed, forward}
+use Rattle.tabled.proofs.weights.Keeping.{kept-less}
+use Rattle.tabled.proofs.weights.ReadyAlong.{Behind}
+use Rattle.tabled.proofs.weights.Parts.{Starts, Done, PartsOf, parts-done}
+use Rattle.tabled.proofs.weights.Record.{Numbered, closing}
 
 -- the kind of a record says whether it may be a use of a name
 pub other-kind : (r : Record) {kind : ℕ} → r .kind ≡ kind → eqb kind 20 ≡ false → usesName r ≡ true → r .a < 256

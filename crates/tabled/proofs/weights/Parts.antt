@@ -16,13 +16,13 @@ use Rattle.weighing.specs.Shows.{Shows}
 use Rattle.weighing.specs.Weighed.{many, Ready, Formed}
 use Rattle.weighing.proofs.FormLaws.{shows-kept}
 use Rattle.weighing.proofs.Same.{marked-agree}
 use Rattle.sheet.specs.Reader.{Tree, Trees, leaf, branch, written, writtens}
 use Rattle.sheet.specs.table.Fill.{fill, fills}
-use Rattle.sheet.proofs.Rows.{length-linked}
-use Rattle.sheet.proofs.Spans.{Placed, forward, length-fill}
-use Rattle.sheet.proofs.Stored.{StoredParts, stored-none, stored-more, place, head, tail}
-use Rattle.sheet.proofs.weights.Keeping.{Kept, kept-none, kept-then, kept-less, kept-linked, height-linked}
-use Rattle.sheet.proofs.weights.ReadyAlong.{Behind, behind-later, ready-kept}
+use Rattle.tabled.proofs.Rows.{length-linked}
+use Rattle.tabled.proofs.Spans.{Placed, forward, length-fill}
+use Rattle.tabled.proofs.Stored.{StoredParts, stored-none, stored-more, place, head, tail}
+use Rattle.tabled.proofs.weights.Keeping.{Kept, kept-none, kept-then, kept-less, kept-linked, height-linked}
+use Rattle.tabled.proofs.weights.ReadyAlong.{Behind, behind-later, ready-kept}
 
 module _ (N : Numbers) (ns : List Name) where
   -- a part of Γ at a place, of at most so many levels, may be read where the stack has h forms

@@ -18,19 +18,19 @@ use Rattle.weighing.specs.Stack.{heightOf}
 use Rattle.weighing.specs.Step.{weighed}
 use Rattle.weighing.specs.Weighed.{partsIn, PartsFormed, Given}
 use Rattle.weighing.proofs.Steps.{record-weighed}
 use Rattle.sheet.specs.Reader.{Tree, node, Trees, written}
 use Rattle.sheet.specs.table.Fill.{fill, fills}
 use Rattle.sheet.specs.table.Notes.{usesName, noted}
 use Rattle.sheet.specs.table.Number.{usedNumber}
 use Rattle.sheet.proofs.Parsed.{Parsed}
-use Rattle.sheet.proofs.Rows.{weighed-else}
-use Rattle.sheet.proofs.Spans.{placed, forward}
-use Rattle.sheet.proofs.Stored.{Stored, StoredParts, stores, parts}
-use Rattle.sheet.proofs.Shows.{shows, told}
+use Rattle.tabled.proofs.Rows.{weighed-else}
+use Rattle.tabled.proofs.Spans.{placed, forward}
+use Rattle.tabled.proofs.Stored.{Stored, StoredParts, stores, parts}
+use Rattle.tabled.proofs.Shows.{shows, told}
 use Rattle.sheet.proofs.Sound.{sound}
-use Rattle.sheet.proofs.weights.Keeping.{Kept, kept-then, kept-closed, height-closed, kept-weighed}
-use Rattle.sheet.proofs.weights.ReadyAlong.{ready-kept}
-use Rattle.sheet.proofs.weights.Parts.{Starts, Done}
+use Rattle.tabled.proofs.weights.Keeping.{Kept, kept-then, kept-closed, height-closed, kept-weighed}
+use Rattle.tabled.proofs.weights.ReadyAlong.{ready-kept}
+use Rattle.tabled.proofs.weights.Parts.{Starts, Done}
 
 module _ (N : Numbers) (s : List ℕ) (ns : List Name) where
   -- the parts of the record W of Γ were read from the table t to the table u, where the stack had h forms

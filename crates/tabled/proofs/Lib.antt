@@ -1,0 +1,7 @@
+pub mod Rows
+pub mod Spans
+pub mod Stored
+pub mod Shows
+pub mod Noting
+pub mod weights
+pub mod Tabling

@@ -1,0 +1,1 @@
+// Theory: what reading a sheet leaves in the table of its parts.
