@@ -6,8 +6,8 @@ use Rattle.language.specs.declared.Numbers.{Numbers}
 use Rattle.automaton.specs.walk.Shows.{Words}
 use Rattle.dfa.specs.Graph.{rest, Graph}
 use Rattle.silent.specs.Silent.{Silent, Settling}
-use Rattle.explicit.specs.declared.Site.{Site}
-use Rattle.explicit.specs.inner.States.{spotsOf}
+use Rattle.part_path.specs.declared.Site.{Site}
+use Rattle.part_path.specs.States.{spotsOf}
 use Rattle.explicit.specs.inner.Moves.{edgesAfter, filledOf}
 use Rattle.explicit.specs.inner.Rows.{closedOf}
 use Rattle.explicit.specs.inner.Sheets.{OneSheet, TwoSheets}

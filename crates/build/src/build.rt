@@ -1,10 +1,10 @@
 // The automata of sheets in the working words, ready to be walked and compared.
-use explicit::Site;
 use explicit::fill::close;
 use explicit::fill::fill;
-use explicit::levels::WORDS;
 use language::Numbers;
 use load::load::ROWS;
+use part_path::Site;
+use part_path::levels::WORDS;
 use silent::settle;
 ghost use Prim.Native.Nat.{_+_};
 ghost use Rattle.build.specs.Built.{OneReady, OneBuilt, TwoReady, TwoBuilt};

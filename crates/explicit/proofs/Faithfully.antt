@@ -50,7 +50,7 @@ use Rattle.automaton.proofs.Parts.{row-of, positive, some-question}
 use Rattle.automaton.proofs.Hearing.{entry-zero, stuck, kind-below}
 use Rattle.automaton.proofs.Faithful.{faithful}
 use Rattle.automaton.proofs.Variables.{outside}
-use Rattle.explicit.specs.inner.States.{openedOf, atStart, withinOf, repliedOf, afterOf, spotsOf, sheetAt}
+use Rattle.part_path.specs.States.{openedOf, atStart, withinOf, repliedOf, afterOf, spotsOf, sheetAt}
 use Rattle.explicit.specs.inner.Acts.{calls, opens, Leads, SaysMove, Listens, waits, leads, Acts}
 
 -- the numbers of the states: the start, then the positions of the copies of the term, then the answers

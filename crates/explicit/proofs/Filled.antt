@@ -15,7 +15,7 @@ use Rattle.language.specs.Term.{Term}
 use Rattle.language.specs.Weight.{size}
 use Rattle.machine.specs.Sheet.{spots}
 use Rattle.machine.proofs.Accepts.{spots-size}
-use Rattle.explicit.specs.declared.Site.{Site}
+use Rattle.part_path.specs.declared.Site.{Site}
 use Rattle.explicit.specs.inner.Rows.{StateRow, noEdges, closedOf}
 use Rattle.explicit.specs.inner.Moves.{rowOf, edgesAfter, filledOf}
 use Rattle.explicit.specs.inner.Shown.{Fine, edgesBelow, ShownRows, Room, Automaton}

@@ -18,11 +18,13 @@ use Rattle.automaton.specs.walk.Name.{hearAnswer, listenOf, atWait}
 use Rattle.automaton.specs.walk.Shows.{Words}
 use Rattle.automaton.proofs.Sums.{sum-small}
 use Rattle.explicit.specs.declared.Wait.{Wait}
-use Rattle.explicit.specs.declared.Site.{Site}
-use Rattle.explicit.specs.inner.Path.{riseAll}
-use Rattle.explicit.specs.inner.Levels.{framesOf}
-use Rattle.explicit.specs.inner.Kept.{waitAt, Listening, Calling, Answering}
-use Rattle.explicit.specs.inner.Moves.{targetOf, answerLimit, answerKind, limitOf}
+use Rattle.part_path.specs.declared.Site.{Site}
+use Rattle.part_path.specs.Path.{riseAll}
+use Rattle.part_path.specs.Levels.{framesOf}
+use Rattle.part_path.specs.Kept.{waitAt}
+use Rattle.explicit.specs.inner.Waiting.{Listening, Calling, Answering}
+use Rattle.explicit.specs.inner.Moves.{answerLimit, answerKind, limitOf}
+use Rattle.part_path.specs.States.{targetOf}
 
 -- a choice between nothing and nothing
 pub no-choice : (b : Bool) (x y : ℕ) → x ≡ 0 → y ≡ 0 → pick b x y ≡ 0

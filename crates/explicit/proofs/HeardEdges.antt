@@ -12,7 +12,7 @@ use Rattle.language.specs.Choice.{pick}
 use Rattle.language.specs.Number.{numbers}
 use Rattle.automaton.specs.declared.Move.{Move as Record}
 use Rattle.explicit.specs.declared.Wait.{Wait}
-use Rattle.explicit.specs.declared.Site.{Site}
+use Rattle.part_path.specs.declared.Site.{Site}
 use Rattle.explicit.specs.inner.Rows.{Edge}
 use Rattle.explicit.specs.inner.Moves.{codeAt, limitOf, edgeBy, valueEdge, valueEdges, blockEdges}
 use Rattle.explicit.specs.inner.Moves.{heardEdges}

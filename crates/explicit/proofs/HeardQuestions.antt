@@ -13,9 +13,9 @@ use Rattle.language.specs.declared.Numbers.{Numbers}
 use Rattle.part_rows.specs.Row.{word}
 use Rattle.automaton.specs.walk.Row.{nameCount, partClass, partValues}
 use Rattle.explicit.specs.declared.Wait.{Wait}
-use Rattle.explicit.specs.declared.Site.{Site}
+use Rattle.part_path.specs.declared.Site.{Site}
 use Rattle.explicit.specs.inner.Rows.{withEdges, past}
-use Rattle.explicit.specs.inner.Kept.{Calling, Argument, Arguments}
+use Rattle.explicit.specs.inner.Waiting.{Calling, Argument, Arguments}
 use Rattle.automaton.specs.walk.Types.{questionLimit}
 use Rattle.explicit.specs.inner.Moves.{answerKind, limitOf, askingOf, blockEdges, heardEdges}
 use Rattle.explicit.specs.inner.Moves.{questionEdges, askedEdges}

@@ -13,7 +13,7 @@ use Rattle.machine.specs.Edge.{received, edge-hear, edge}
 use Rattle.automaton.specs.walk.Shows.{moveOf}
 use Rattle.automaton.proofs.Sums.{when-no}
 use Rattle.explicit.specs.declared.Wait.{Wait}
-use Rattle.explicit.specs.declared.Site.{Site}
+use Rattle.part_path.specs.declared.Site.{Site}
 use Rattle.explicit.specs.inner.Moves.{codeAt, letterOf, edgeBy, heardEdges}
 use Rattle.explicit.specs.inner.Acts.{waits, leads}
 use Rattle.explicit.proofs.Codes.{code-of, letter-of}

@@ -12,11 +12,11 @@ use Rattle.automaton.specs.declared.Out.{Out}
 use Rattle.automaton.specs.declared.Out.the-variants.{Go, Exit, Say, Hear, Stuck}
 use Rattle.automaton.specs.walk.Row.{sumOf}
 use Rattle.explicit.specs.declared.Wait.{Wait}
-use Rattle.explicit.specs.declared.Site.{Site}
-use Rattle.explicit.specs.inner.States.{spotsOf, sheetAt}
+use Rattle.part_path.specs.declared.Site.{Site}
+use Rattle.part_path.specs.States.{spotsOf, sheetAt, targetOf}
 use Rattle.explicit.specs.inner.Rows.{Edge, StateRow, withEdge, withEdges, past, withHead, withRow, before}
 use Rattle.explicit.specs.inner.Rows.{withRows}
-use Rattle.explicit.specs.inner.Moves.{codeAt, letterOf, limitOf, waitOf, targetOf, silentOf, edgeBy, valueEdge}
+use Rattle.explicit.specs.inner.Moves.{codeAt, letterOf, limitOf, waitOf, silentOf, edgeBy, valueEdge}
 use Rattle.explicit.specs.inner.Moves.{valueEdges, blockEdges, heardEdges, edgesOf, rowFor, rowOf}
 use Rattle.explicit.specs.inner.Moves.{edgesAfter, filledOf}
 use Rattle.explicit.proofs.Writing.{with-append, past-append}

@@ -10,16 +10,17 @@ use Rattle.automaton.specs.declared.Frame.{Frame}
 use Rattle.automaton.specs.declared.Out.{Out}
 use Rattle.automaton.specs.declared.Out.the-variants.{Go, Exit, Say, Hear, Stuck}
 use Rattle.automaton.specs.walk.Row.{sumOf}
-use Rattle.explicit.specs.declared.Site.{Site}
+use Rattle.part_path.specs.declared.Site.{Site}
 use Rattle.explicit.specs.declared.Wait.{Wait}
-use Rattle.explicit.specs.inner.Path.{riseAll, Owned}
-use Rattle.explicit.specs.inner.Levels.{framesOf, Sound}
-use Rattle.explicit.specs.inner.Kept.{Arrived}
+use Rattle.part_path.specs.Path.{riseAll, Owned}
+use Rattle.part_path.specs.Levels.{framesOf, Sound}
+use Rattle.part_path.specs.Kept.{Arrived}
 use Rattle.explicit.specs.inner.Rows.{withEdge, withEdges, past, withHead}
-use Rattle.explicit.specs.inner.Moves.{letterOf, waitOf, targetOf, visibleOf, silentOf, edgesOf, heardEdges}
-use Rattle.explicit.proofs.PathRise.{Quiet, q-go, q-exit, q-stuck, quiet-all}
-use Rattle.explicit.proofs.PathLead.{rise-say, rise-hear, rise-stuck}
-use Rattle.explicit.proofs.PathSays.{frames-owned}
+use Rattle.explicit.specs.inner.Moves.{letterOf, waitOf, visibleOf, silentOf, edgesOf, heardEdges}
+use Rattle.part_path.specs.States.{targetOf}
+use Rattle.part_path.proofs.PathRise.{Quiet, q-go, q-exit, q-stuck, quiet-all}
+use Rattle.part_path.proofs.PathLead.{rise-say, rise-hear, rise-stuck}
+use Rattle.part_path.proofs.PathSays.{frames-owned}
 use Rattle.explicit.proofs.Loops.{WroteRow, row-silent, row-say, row-hear, head-of, edge-of, wrote-by}
 
 -- a silent step, an exit and none make no move

@@ -13,9 +13,9 @@ use Rattle.language.specs.Weight.{size}
 use Rattle.machine.specs.Sheet.{spots, steps}
 use Rattle.machine.proofs.Accepts.{spots-size}
 use Rattle.dfa.specs.Graph.{rest}
-use Rattle.explicit.specs.declared.Site.{Site}
+use Rattle.part_path.specs.declared.Site.{Site}
 use Rattle.explicit.specs.Explicit.{Explicit}
-use Rattle.explicit.specs.inner.States.{spotsOf}
+use Rattle.part_path.specs.States.{spotsOf}
 use Rattle.explicit.specs.inner.Rows.{StateRow, noEdges, withRows}
 use Rattle.explicit.specs.inner.Moves.{rowOf, edgesAfter, filledOf}
 use Rattle.explicit.specs.inner.Shown.{Fine, edgesBelow, ShownRows, Room, Automaton}

@@ -22,10 +22,10 @@ use Rattle.automaton.specs.walk.Row.{sumOf}
 use Rattle.automaton.specs.walk.Shows.{moveOf, GivenMove}
 use Rattle.automaton.proofs.Sums.{sum-small, when-no}
 use Rattle.explicit.specs.declared.Wait.{Wait}
-use Rattle.explicit.specs.declared.Site.{Site}
+use Rattle.part_path.specs.declared.Site.{Site}
 use Rattle.explicit.specs.Explicit.{packed, silentWord}
-use Rattle.explicit.specs.inner.States.{sheetAt}
-use Rattle.explicit.specs.inner.Moves.{codeAt, letterOf, limitOf, waitOf, targetOf, visibleOf, silentOf}
+use Rattle.part_path.specs.States.{sheetAt, targetOf}
+use Rattle.explicit.specs.inner.Moves.{codeAt, letterOf, limitOf, waitOf, visibleOf, silentOf}
 use Rattle.explicit.specs.inner.Moves.{edgeBy, heardEdges}
 use Rattle.explicit.specs.inner.Moves.{edgesOf, rowFor, rowOf}
 use Rattle.explicit.specs.inner.Acts.{Waits, Leads, SaysMove, Listens, waits, leads, Acts}

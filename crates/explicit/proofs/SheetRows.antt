@@ -17,8 +17,8 @@ use Rattle.machine.proofs.Accepts.{spots-size}
 use Rattle.machine.proofs.Degrees.{few-edges}
 use Rattle.automaton.specs.declared.Move.{Move as Record}
 use Rattle.automaton.specs.walk.Shows.{GivenMove}
-use Rattle.explicit.specs.declared.Site.{Site}
-use Rattle.explicit.specs.inner.States.{spotsOf, sheetAt}
+use Rattle.part_path.specs.declared.Site.{Site}
+use Rattle.part_path.specs.States.{spotsOf, sheetAt}
 use Rattle.explicit.specs.inner.Moves.{rowOf}
 use Rattle.explicit.specs.inner.Acts.{Acts}
 use Rattle.explicit.specs.inner.Shown.{edgesBelow, Right}

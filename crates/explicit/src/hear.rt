@@ -1,15 +1,10 @@
 // The edges of a waiting state: the moves that it takes, in the order of their letters, and where they lead.
-use crate::Site;
 use crate::Wait;
-use crate::exits::exit;
-use crate::exits::reach;
 use crate::letters::answer_kind;
 use crate::letters::code_at;
 use crate::letters::letter_of;
 use crate::letters::limit;
-use crate::levels::WORDS;
 use crate::rows::write_edge;
-use crate::whole::at_start;
 use automaton::Move;
 use automaton::moves::OPENING;
 use automaton::moves::RUN;
@@ -22,14 +17,19 @@ use automaton::row::part_values;
 use automaton::row::sum;
 use automaton::types::question_limit;
 use language::Numbers;
+use part_path::Site;
+use part_path::exits::exit;
+use part_path::exits::reach;
+use part_path::levels::WORDS;
+use part_path::whole::at_start;
 use part_rows::row::CLASS;
 ghost use mathlib.Core.Path.{_≡_};
 ghost use Prim.Native.Nat.{_-_, _≤_};
 ghost use Rattle.language.specs.Number.{numbers};
-ghost use Rattle.explicit.specs.inner.States.{sheetAt};
-ghost use Rattle.explicit.specs.inner.Kept.{Listening, Calling, Argument, Arguments, Answering};
+ghost use Rattle.part_path.specs.States.{sheetAt, targetOf};
+ghost use Rattle.explicit.specs.inner.Waiting.{Listening, Calling, Argument, Arguments, Answering};
 ghost use Rattle.explicit.specs.inner.Rows.{withEdges, past};
-ghost use Rattle.explicit.specs.inner.Moves.{targetOf, valueEdge, valueEdges, blockEdges, heardEdges};
+ghost use Rattle.explicit.specs.inner.Moves.{valueEdge, valueEdges, blockEdges, heardEdges};
 ghost use Rattle.explicit.specs.inner.Moves.{questionEdges, askedEdges, askingOf};
 
 // A name has at most this many arguments.

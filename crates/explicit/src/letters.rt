@@ -1,7 +1,6 @@
 // The moves that a waiting state takes: for each kind and argument the values below a limit, in the order of the signed
 // values; and the letter of a move.
 use crate::Wait;
-use crate::whole::WHOLE;
 use automaton::Move;
 use automaton::moves::ASK;
 use automaton::moves::DONE;
@@ -20,6 +19,7 @@ use automaton::types::COMMAND;
 use automaton::types::EXPRESSION;
 use automaton::types::question_limit;
 use language::Numbers;
+use part_path::whole::WHOLE;
 use part_rows::row::CLASS;
 use part_rows::row::VALUES;
 ghost use mathlib.Core.Path.{_≡_};

@@ -15,7 +15,7 @@ use Rattle.automaton.specs.declared.Out.{Out}
 use Rattle.automaton.specs.declared.Out.the-variants.{Go, Exit, Say, Hear, Stuck}
 use Rattle.automaton.specs.walk.MoveKind.{OPENING, NO-MOVE}
 use Rattle.automaton.specs.walk.Shows.{moveOf, Awaits}
-use Rattle.explicit.specs.inner.States.{WHOLE}
+use Rattle.part_path.specs.States.{WHOLE}
 
 -- whom a state waits for: a name at a place of the table, or the asker of the whole term, which is at the root
 pub data Waits (N : Numbers) (t : List ℕ) : Listen → ℕ → ℕ → ℕ → Type 0 where

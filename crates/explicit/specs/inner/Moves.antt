@@ -18,8 +18,8 @@ use Rattle.automaton.specs.walk.Row.{SHORTS, sumOf, nameId, nameCount, partClas
 use Rattle.automaton.specs.walk.Types.{questionLimit}
 use Rattle.automaton.specs.walk.Name.{noMove}
 use Rattle.explicit.specs.declared.Wait.{Wait}
-use Rattle.explicit.specs.declared.Site.{Site}
-use Rattle.explicit.specs.inner.States.{WHOLE, spotsOf, sheetAt}
+use Rattle.part_path.specs.declared.Site.{Site}
+use Rattle.part_path.specs.States.{WHOLE, spotsOf, sheetAt, targetOf}
 use Rattle.explicit.specs.inner.Rows.{Edge, StateRow, noEdges, withRow, before, withRows}
 
 -- the value of number r in the order of the signed values
@@ -73,14 +73,6 @@ unfoldable pub waitOf : List ℕ → ℕ → ℕ → ℕ → ℕ → Wait
 waitOf t state at kind value =
     pick (eqb kind OPENING) (record { state = state; id = WHOLE; at = at; kind = kind; value = value })
     (record { state = state; id = nameId t at; at = at; kind = kind; value = value })
-
--- the state to which a step leads: the dead state, n - 1, where it leads nowhere
-unfoldable pub targetOf : Site → Out → ℕ
-targetOf s (Go next level set) = sumOf (s .o) next
-targetOf s (Exit kind value level set) = s .n - 1
-targetOf s (Say said next) = s .n - 1
-targetOf s (Hear at kind value) = s .n - 1
-targetOf s Stuck = s .n - 1
 
 -- whether a state makes or takes a move
 unfoldable pub visibleOf : Out → Bool

@@ -1,7 +1,7 @@
 -- What `fill` gives is what `edgesAfter` says, and what it leaves what `filledOf` says.
 use borrow.Author.Needs.{needs}
-use Rattle.explicit.specs.inner.Kept.{KeptPath}
-use Rattle.explicit.proofs.PathDeeper.{kept-none, kept-fewer}
+use Rattle.part_path.specs.Kept.{KeptPath}
+use Rattle.part_path.proofs.PathDeeper.{kept-none, kept-fewer}
 use native.Mathlib.Omega.{arith}
 use Prim.Native.Nat.{_-_, _≤_}
 use mathlib.Core.Path.{_≡_, refl}

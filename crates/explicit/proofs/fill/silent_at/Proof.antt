@@ -2,7 +2,7 @@
 use borrow.Author.Needs.{needs}
 use native.Mathlib.Omega.{arith}
 use Rattle.explicit.proofs.PathRows.{is-go, is-exit, silent-quiet, silent-stuck, silent-say, silent-hear}
-use Rattle.explicit.proofs.PathSays.{frames-owned}
+use Rattle.part_path.proofs.PathSays.{frames-owned}
 use Rattle.explicit.proofs.fill.silent_at.Statement.{statement}
 use Rattle.explicit.proofs.fill.silent_at.Tie as tie
 

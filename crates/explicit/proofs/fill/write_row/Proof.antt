@@ -3,7 +3,7 @@ use borrow.Author.Needs.{needs}
 use native.Mathlib.Omega.{arith}
 use mathlib.Core.Path.{refl}
 use Rattle.explicit.proofs.PathRows.{is-go, is-exit, is-stuck, row-quiet, row-says, row-hears}
-use Rattle.explicit.proofs.PathCode.{row-listens}
+use Rattle.explicit.proofs.PathListens.{row-listens}
 use Rattle.explicit.proofs.Loops.{WroteRow}
 use Rattle.explicit.proofs.fill.write_row.Statement.{statement}
 use Rattle.explicit.proofs.fill.write_row.Tie as tie

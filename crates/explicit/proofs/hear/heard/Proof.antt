@@ -1,6 +1,6 @@
 -- What `heard` gives is what `targetOf` says, case by case.
 use borrow.Author.Needs.{needs}
-use Rattle.explicit.proofs.PathCode.{heard-start, heard-later}
+use Rattle.explicit.proofs.PathListens.{heard-start, heard-later}
 use Rattle.explicit.proofs.hear.heard.Statement.{statement}
 use Rattle.explicit.proofs.hear.heard.Tie as tie
 

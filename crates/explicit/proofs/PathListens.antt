@@ -1,0 +1,77 @@
+-- What the path says of a state that waits: whom it waits for, and where a move leads.
+use mathlib.Core.Path.{_≡_, refl, sym, _∙_, ap}
+use mathlib.Core.List.{List}
+use Prim.Native.Nat.{ℕ}
+use native.Mathlib.Decide.{ℕ-discrete}
+use borrow.Author.Tests.{eq-eqb, ne-eqb}
+use Rattle.language.specs.declared.Numbers.{Numbers}
+use Rattle.automaton.specs.declared.Move.{Move}
+use Rattle.automaton.specs.declared.Out.{Out}
+use Rattle.automaton.specs.declared.Out.the-variants.{Hear}
+use Rattle.automaton.specs.walk.Row.{nameId}
+use Rattle.automaton.specs.walk.Name.{noMove, atWait}
+use Rattle.part_path.specs.declared.Site.{Site}
+use Rattle.part_path.specs.States.{atStart, sheetAt, targetOf}
+use Rattle.part_path.specs.Path.{riseAll}
+use Rattle.part_path.specs.Levels.{framesOf}
+use Rattle.part_path.specs.Kept.{waitAt, Arrived}
+use Rattle.part_path.proofs.PathLead.{rise-hear}
+use Rattle.explicit.specs.declared.Wait.{Wait}
+use Rattle.explicit.specs.inner.Moves.{waitOf}
+use Rattle.explicit.specs.inner.Waiting.{Listening}
+
+-- whom a state waits for
+wait-fields : (t : List ℕ) (k at q x : ℕ) →
+  (waitOf t k at q x .state ≡ k) × (waitOf t k at q x .at ≡ at) × (waitOf t k at q x .kind ≡ q) × (waitOf t k at q x
+      .value ≡ x)
+unfolding waitOf
+wait-fields t k at q x = go (ℕ-discrete q 7)
+  where
+    go : Dec (q ≡ 7) → (waitOf t k at q x .state ≡ k) × (waitOf t k at q x .at ≡ at) × (waitOf t k at q x .kind ≡ q) ×
+      (waitOf t k at q x .value ≡ x)
+    go (yes e) = rw (eq-eqb q 7 e) (refl, refl, refl, refl)
+    go (no e) = rw (ne-eqb q 7 e) (refl, refl, refl, refl)
+
+-- the start waits for the first question
+waits-first : (t : List ℕ) (N : Numbers) (root k at q x : ℕ) (o : Out) → sheetAt t N root k noMove ≡ o →
+  o ≡ Hear at q x → k ≡ 0 → q ≡ 7
+unfolding sheetAt atStart
+waits-first t N root k at q x o e w z =
+    let h : Hear root 7 0 ≡ Hear at q x = rw z at (e ∙ w) in
+    cc
+
+wait-named : (t : List ℕ) (k at q x : ℕ) → (q ≡ 7 → ⊥) → waitOf t k at q x .id ≡ nameId t at
+unfolding waitOf
+wait-named t k at q x n = rw (ne-eqb q 7 n)
+
+pub row-listens : (t : List ℕ) (N : Numbers) (root : ℕ) (p : List ℕ) (c k at q x : ℕ) (out : Out) (wait : Wait) →
+  Arrived t root p c k out → out ≡ Hear at q x → wait ≡ waitOf t k at q x → Listening t N root p c wait
+row-listens t N root p c k at q x out wait A w g = record
+  { sound = A .kept .sound
+  ; hears = λ m. rw (g, f .0, f .1, f .2, f .3) (A .at .hears N m at q x w)
+  ; first = rw (g, f .0, f .2) (waits-first t N root k at q x _ (A .at .does N)
+      (ap (λ (y : Out). riseAll N (framesOf p c) y) w ∙ rise-hear N (framesOf p c) at q x))
+  ; named = rw (g, f .1, f .2) (λ n. wait-named t k at q x n) }
+  where
+    f : (waitOf t k at q x .state ≡ k) × (waitOf t k at q x .at ≡ at) × (waitOf t k at q x .kind ≡ q) ×
+      (waitOf t k at q x .value ≡ x)
+    f = wait-fields t k at q x
+
+-- where a move leads
+pub heard-start : (t : List ℕ) (N : Numbers) (s : Site) (p : List ℕ) (c : ℕ) (wait : Wait) (m : Move) (o : Out)
+    (r : ℕ) →
+  Listening t N (s .root) p c wait → wait .state ≡ 0 → o ≡ atStart t (s .root) m →
+  r ≡ targetOf s (riseAll N (framesOf p c) o) → r ≡ targetOf s (sheetAt t N (s .root) (wait .state) m)
+unfolding waitAt
+heard-start t N s p c wait m o r L z e g =
+    let h = rw (eq-eqb (wait .state) 0 z) at (L .hears m) in
+    g ∙ ap (λ (y : Out). targetOf s (riseAll N (framesOf p c) y)) e ∙ ap (λ (y : Out). targetOf s y) (sym h)
+
+pub heard-later : (t : List ℕ) (N : Numbers) (s : Site) (p : List ℕ) (c : ℕ) (wait : Wait) (m : Move) (o : Out)
+    (r : ℕ) →
+  Listening t N (s .root) p c wait → (wait .state ≡ 0 → ⊥) → o ≡ atWait t (wait .at) (wait .kind) (wait .value) m →
+  r ≡ targetOf s (riseAll N (framesOf p c) o) → r ≡ targetOf s (sheetAt t N (s .root) (wait .state) m)
+unfolding waitAt
+heard-later t N s p c wait m o r L z e g =
+    let h = rw (ne-eqb (wait .state) 0 z) at (L .hears m) in
+    g ∙ ap (λ (y : Out). targetOf s (riseAll N (framesOf p c) y)) e ∙ ap (λ (y : Out). targetOf s y) (sym h)

@@ -1,0 +1,41 @@
+-- `led` leads a step where `riseAll` leads it.
+use borrow.Author.Needs.{needs}
+use native.Mathlib.Omega.{arith}
+use Rattle.part_path.proofs.PathCode.{from-first}
+use Rattle.part_path.proofs.PathSteps.{lead-plain, lead-low, led-none, led-own}
+use Rattle.part_path.proofs.exits.led.Statement.{statement}
+use Rattle.part_path.proofs.exits.led.Tie as tie
+
+lead-requires : tie.Need-lead-requires
+lead-requires c κs = c .before .pre .0
+
+returns : tie.Need-returns
+returns c = λ N s e. led-none N _ _ _ _ _ _ _ _ (c .before .if1 .taken) (c .lead .ensures N s e)
+
+start-at-requires : tie.Need-start-at-requires
+start-at-requires c κs = c .before .before .before .pre .0
+
+add-sum : tie.Need-add-sum
+add-sum c = omega (arith, lead-low _ _ _ (c .before .before .before .before .pre .0) (c .start-at .ensures), c
+    .before .if3 .taken)
+
+sum-requires : tie.Need-sum-requires
+sum-requires c κs = search needs
+
+returns-2 : tie.Need-returns-2
+returns-2 c = λ N s e. led-own N _ _ _ _ _ _ _ _ (c .before .before .before .before .if1 .left)
+    (lead-plain N _ _ _ _ _ _ _ _ (c .before .before .before .before .before .pre .0) (c .before .before .if3
+        .taken) (c .before .start-at .ensures) (c .before .before .before .before .before .pre .1 (omega (arith, c
+        .before .before .before .before .if1 .left))) _
+      (c .before .before .before .if2 .taken) (from-first _ _ _ _ e (c .sum .ensures)))
+
+lead-at-requires : tie.Need-lead-at-requires
+lead-at-requires c κs = (c .before .before .pre .0, c .before .before .pre .1 (omega (arith, c .before .if1 .left)))
+
+returns-3 : tie.Need-returns-3
+returns-3 c = λ N s e. led-own N _ _ _ _ _ _ _ _ (c .before .before .if1 .left) (c .lead-at .ensures N s e)
+
+pub led-spec : {M : Type 1} → statement M
+led-spec = tie.close (tie.spec lead-requires returns start-at-requires add-sum sum-requires returns-2
+    lead-at-requires
+    returns-3)

@@ -1,0 +1,28 @@
+-- What `stop_at` gives is what `stopOf` says, case by case.
+use borrow.Author.Needs.{needs}
+use native.Mathlib.Omega.{arith}
+use Rattle.part_path.specs.Levels.{levelAt}
+use Rattle.part_path.specs.Kept.{stopOf}
+use borrow.Author.Tests.{le-leb, lt-leb, lt-ltb, le-ltb, eq-eqb, ne-eqb}
+use Rattle.part_path.proofs.path.stop_at.Statement.{statement}
+use Rattle.part_path.proofs.path.stop_at.Tie as tie
+
+after-of-requires : tie.Need-after-of-requires
+after-of-requires c κs = search needs
+
+returns : tie.Need-returns
+unfolding stopOf
+returns c = simp (← c .after-of .ensures, eq-eqb _ _ (c .before .if1 .taken))
+
+sub-field : tie.Need-sub-field
+sub-field c = search needs
+
+field-requires : tie.Need-field-requires
+field-requires c κs = (omega (arith, c .before .before .pre .few), omega arith)
+
+returns-2 : tie.Need-returns-2
+unfolding stopOf levelAt
+returns-2 c = simp (← c .field .ensures, ne-eqb _ _ (c .before .if1 .left))
+
+pub stop-at-spec : {M : Type 1} → statement M
+stop-at-spec = tie.close (tie.spec after-of-requires returns sub-field field-requires returns-2)
