@@ -3,30 +3,9 @@ use Prim.Native.Nat.{ℕ, zero, suc, _+_, _*_, _≤_}
 use native.Mathlib.Omega.{arith}
 use mathlib.Core.List.{List}
 use mathlib.Core.Path.{_≡_, refl, ap, _∙_}
-use lib.ListN.{set, length, length-set}
+use lib.ListN.{set}
 use Rattle.procedures.specs.Held.{held}
 use Rattle.weighing.specs.Stack.{spot, formWord, cleared, copied, summed}
-
--- no table is longer or shorter for it
-pub length-cleared : (at n : ℕ) (t : List ℕ) → length (cleared at n t) ≡ length t
-unfolding cleared
-length-cleared at zero t = refl
-length-cleared at (suc n) t = length-set (cleared at n t) (at + n) 0 ∙ length-cleared at n t
-
-pub length-copied : (to from n : ℕ) (t : List ℕ) → length (copied to from n t) ≡ length t
-unfolding copied
-length-copied to from zero t = refl
-length-copied to from (suc n) t =
-    length-set (copied to from n t) (spot to (1 + n)) (formWord (copied to from n t) from (1 + n))
-      ∙ length-copied to from n t
-
-pub length-summed : (to from c n : ℕ) (t : List ℕ) → length (summed to from c n t) ≡ length t
-unfolding summed
-length-summed to from c zero t = refl
-length-summed to from c (suc n) t =
-    length-set (summed to from c n t) (spot to (1 + n))
-      (held (formWord (summed to from c n t) to (1 + n) + c * formWord (summed to from c n t) from (1 + n)))
-      ∙ length-summed to from c n t
 
 -- before the first word
 pub cleared-none : (at : ℕ) (t : List ℕ) → t ≡ cleared at 0 t

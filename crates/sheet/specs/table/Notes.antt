@@ -13,18 +13,15 @@ use Rattle.records.specs.declared.standing.Standing.{Standing}
 use Rattle.records.specs.declared.standing.Standing.the-variants.{Free, Retired, Declared, Variable, Parameter}
 use Rattle.records.specs.declared.standing.Standing.the-variants.{Procedure}
 use Rattle.procedures.specs.Uses.{bit}
+use Rattle.weighing.specs.Stack.{all-words}
 
 -- where the notes begin: after nine words for each of 4,096 places
 abbrev pub notes : ℕ
 notes = 36864
 
--- how many words a table has
-abbrev pub table-words : ℕ
-table-words = 58313
-
 -- a table in which nothing is written
 pub record Blank (t : List ℕ) : Type 0 where
-  pub long : length t ≡ table-words
+  pub long : length t ≡ all-words
   pub clear : (i : ℕ) → getD t i 0 ≡ 0
 
 -- whether a standing is that of a declared name

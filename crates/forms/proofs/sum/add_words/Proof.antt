@@ -5,7 +5,8 @@ use Prim.Native.Nat.{_-_, _≤_}
 use mathlib.Core.Path.{_≡_, ap, _∙_}
 use lib.ListN.{length}
 use Rattle.weighing.specs.Stack.{summed}
-use Rattle.forms.proofs.Steps.{length-summed, summed-none, summed-more, summed-all}
+use Rattle.weighing.proofs.Below.{length-summed}
+use Rattle.forms.proofs.Steps.{summed-none, summed-more, summed-all}
 use Rattle.forms.proofs.Made.{held-below}
 use Rattle.forms.proofs.sum.add_words.Statement.{statement}
 use Rattle.forms.proofs.sum.add_words.Tie as tie

@@ -5,7 +5,8 @@ use Prim.Native.Nat.{_-_, _≤_}
 use mathlib.Core.Path.{_≡_, ap, _∙_}
 use lib.ListN.{length}
 use Rattle.weighing.specs.Stack.{cleared}
-use Rattle.forms.proofs.Steps.{length-cleared, cleared-none, cleared-more, cleared-all}
+use Rattle.weighing.proofs.Below.{length-cleared}
+use Rattle.forms.proofs.Steps.{cleared-none, cleared-more, cleared-all}
 use Rattle.forms.proofs.words.clear.Statement.{statement}
 use Rattle.forms.proofs.words.clear.Tie as tie
 

@@ -4,7 +4,8 @@ use Prim.Native.Nat.{_-_, _≤_}
 use mathlib.Core.Path.{_≡_, ap, _∙_}
 use lib.ListN.{length}
 use Rattle.weighing.specs.Stack.{copied}
-use Rattle.forms.proofs.Steps.{length-copied, copied-none, copied-more, copied-all}
+use Rattle.weighing.proofs.Below.{length-copied}
+use Rattle.forms.proofs.Steps.{copied-none, copied-more, copied-all}
 use Rattle.forms.proofs.words.copy.Statement.{statement}
 use Rattle.forms.proofs.words.copy.Tie as tie
 
