@@ -9,6 +9,7 @@ mod long;
 pub mod names;
 pub mod near;
 mod pairs;
+pub mod parts;
 mod plays;
 pub mod procedures;
 pub mod renumber;
@@ -24,6 +25,7 @@ use hiding::hidden;
 use limits::sheet_at_a_limit;
 use long::Long;
 use names::sheet_of_names;
+use parts::OnePart;
 use plays::{play_for, random_play};
 
 pub enum Case {
@@ -49,6 +51,7 @@ pub enum Case {
         output: usize,
         list: usize,
     },
+    Parts(OnePart),
 }
 
 pub fn case(random: &mut Random) -> Case {

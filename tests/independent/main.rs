@@ -8,7 +8,8 @@
 //! 2 MiB of stack on the deepest and largest sheets and on those of the files.
 //!
 //! After the word `procedures`, `random` and `write` have cases with procedures, kind 28 of document 02; after the word
-//! `renumber`, sheets to renumber; after the word `names`, sheets with many name records, of which some are used.
+//! `renumber`, sheets to renumber; after the word `names`, sheets with many name records, of which some are used; after
+//! the word `parts`, sheets that differ in one part, and the parts as sheets of their own.
 
 #[path = "../../include/negyvosal.rs"]
 mod boundary;
@@ -21,6 +22,7 @@ mod library;
 mod machine;
 mod mark;
 mod moves;
+mod part;
 mod random;
 mod reader;
 mod related;
@@ -37,7 +39,7 @@ use cases::Case;
 use random::Random;
 use std::process::ExitCode;
 
-const USAGE: &str = "usage: independent [procedures | renumber | names] \
+const USAGE: &str = "usage: independent [procedures | renumber | names | parts] \
     vectors FILE... | random SEED COUNT | near SEED COUNT | write SEED COUNT | stack FILE... | \
     compare OLD NEW [WORDS SPACE]";
 
@@ -54,6 +56,7 @@ fn run(arguments: &[String]) -> Result<bool, String> {
         Some((word, rest)) if word == "procedures" => run_mode(rest, cases::procedures::case),
         Some((word, rest)) if word == "renumber" => run_mode(rest, cases::renumber::case),
         Some((word, rest)) if word == "names" => run_mode(rest, cases::names::case),
+        Some((word, rest)) if word == "parts" => run_mode(rest, cases::parts::case),
         _ => run_mode(arguments, cases::case),
     }
 }

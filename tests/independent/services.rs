@@ -240,6 +240,19 @@ pub fn compare_text(old: &[u8], new: &[u8], words: usize, space: usize) -> Strin
     }
 }
 
+/// What compare says of two parts as sheets of their own and of the whole sheets, with room enough.
+pub fn parts_text(old: &[u8], new: &[u8], part_old: &[u8], part_new: &[u8]) -> String {
+    format!("parts {} whole {}\n", verdict(part_old, part_new), verdict(old, new))
+}
+
+fn verdict(old: &[u8], new: &[u8]) -> String {
+    match compare(old, new, usize::MAX, usize::MAX, usize::MAX) {
+        Answer::Refused { number, .. } => format!("refused {number}"),
+        Answer::Same { .. } => "same".to_string(),
+        _ => "apart".to_string(),
+    }
+}
+
 /// The line that says how many of the declared names each sheet uses.
 fn uses_text(old: &Sheet, new: &Sheet) -> String {
     let [a, b] = [old, new].map(|sheet| format!("{} of {}", sheet.mark().used, sheet.declared()));

@@ -1,5 +1,8 @@
 //! Runs random cases through the services here and through the library, and reports where they disagree.
 
+mod parts;
+
+use crate::cases::parts::OnePart;
 use crate::cases::{near, Case};
 use crate::compare::{first_difference, Difference};
 use crate::library::{self, bytes_of, words_of, Compared, Words, WORDS};
@@ -11,6 +14,7 @@ use crate::renumber::LIST;
 use crate::services::{self, Answer, Marks, Which};
 use crate::sheet::{written, Record};
 use crate::vectors::hex;
+use parts::PartCounts;
 
 /// The number of the refusal of a use of a retired id.
 const RETIRED: u32 = 6;
@@ -49,6 +53,7 @@ struct Counts {
     near: usize,
     /// Comparisons in which some silent walk goes round for ever.
     rounds: usize,
+    parts: PartCounts,
 }
 
 impl Counts {
@@ -102,10 +107,16 @@ impl Counts {
         println!("compare: {} with both sizes {} or more", self.near, near::SMALLEST);
         println!("renumber: {} renumbered, {} of them unaltered", self.renumbered, self.unaltered);
         println!("renumber: up to {} changes", self.most_changes);
-        let refused = self.refused.iter().enumerate().filter(|(_, count)| **count > 0);
-        let refused: Vec<String> = refused.map(|(number, count)| format!("{number}: {count}")).collect();
-        println!("refused, by number: {}", refused.join(", "));
+        self.parts.print();
+        println!("refused, by number: {}", by_number(&self.refused));
     }
+}
+
+/// The counts that are not 0, each with its number.
+fn by_number(counts: &[usize]) -> String {
+    let counted = counts.iter().enumerate().filter(|(_, count)| **count > 0);
+    let counted: Vec<String> = counted.map(|(number, count)| format!("{number}: {count}")).collect();
+    counted.join(", ")
 }
 
 /// Runs that many cases as `make` makes them; whether there was no disagreement.
@@ -136,6 +147,10 @@ fn shown(case: &Case) -> String {
             format!("compare {} and {} words {words} space {space}", hex(old), hex(new))
         }
         Case::Renumber { sheet, output, list } => format!("renumber {} output {output} list {list}", hex(sheet)),
+        Case::Parts(OnePart { wholes: [old, new], place, parts: [part_old, part_new], .. }) => {
+            let parts = format!("parts {} and {}", hex(part_old), hex(part_new));
+            format!("{parts} at {place} of {} and {}", hex(old), hex(new))
+        }
     }
 }
 
@@ -172,6 +187,7 @@ fn run_case(case: &Case, room: usize, counts: &mut Counts) -> Result<(), String>
             got.expect(&answer)?;
             expect_renumbered(sheet, &answer)
         }
+        Case::Parts(case) => parts::run(case, room, counts),
     }
 }
 

@@ -1,6 +1,7 @@
 //! Runs the cases of vector files, one JSON object a line, through the services here.
 
-use crate::cases;
+use crate::cases::{self, parts::OnePart};
+use crate::part::expect_one_part;
 use crate::services;
 use std::collections::HashMap;
 
@@ -157,6 +158,11 @@ fn outcome(case: &Case) -> Result<String, String> {
             let (output, list) = (number(case, "out")?, number(case, "list")?);
             Ok(services::text(&services::renumber(&part("sheet")?, output, list)))
         }
+        "parts" => {
+            let [old, new, part_old, part_new] = [part("old")?, part("new")?, part("part_old")?, part("part_new")?];
+            expect_one_part(&old, &new, number(case, "place")?, [&part_old, &part_new])?;
+            Ok(services::parts_text(&old, &new, &part_old, &part_new))
+        }
         other => Err(format!("service {other} is not known")),
     }
 }
@@ -210,6 +216,17 @@ pub fn line(case: &cases::Case) -> String {
         cases::Case::Renumber { sheet, output, list } => (
             format!("\"renumber\", \"sheet\": \"{}\", \"out\": {output}, \"list\": {list}", hex(sheet)),
             services::text(&services::renumber(sheet, *output, *list)),
+        ),
+        cases::Case::Parts(OnePart { wholes: [old, new], place, parts: [part_old, part_new], .. }) => (
+            format!(
+                "\"parts\", \"old\": \"{}\", \"new\": \"{}\", \"place\": {place}, \
+                \"part_old\": \"{}\", \"part_new\": \"{}\"",
+                hex(old),
+                hex(new),
+                hex(part_old),
+                hex(part_new)
+            ),
+            services::parts_text(old, new, part_old, part_new),
         ),
     };
     format!("{{\"service\": {given}, \"expect\": \"{}\"{}}}", expect.replace('\n', "\\n"), marks_field(case))

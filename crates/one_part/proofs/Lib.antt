@@ -1,0 +1,15 @@
+pub mod Matching
+pub mod Answering
+pub mod Twins
+pub mod Alone
+pub mod Filling
+pub mod Gap
+pub mod Rules
+pub mod Records
+pub mod Own
+pub mod Sheets
+pub mod Refused
+pub mod Stretch
+pub mod Rereading
+pub mod Tells
+pub mod Wrong

@@ -1,0 +1,1 @@
+// Theory: two sheets that differ in one part may be compared by that part.
