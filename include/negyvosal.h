@@ -52,6 +52,10 @@ extern "C" {
  * operand that differs from the left operand by a multiple of the right one: -1 remainder 7 is 6. A right operand of 0
  * has no play.
  *
+ * Kind 3 of a sheet is a name record with the body of kind 1: id, result type, number of arguments, four argument types
+ * (unused ones 255). It declares a name that puts at most one question to its arguments, all taken together, in each
+ * call. A use of it weighs 3 where one of a name of kind 1 weighs 2. Kinds 1 and 3 are the declared records.
+ *
  * Kind 28 of a sheet is a procedure of the routine's own: id, result type, number of parameters, four pairs of id and type
  * (unused ones 255 255); then the procedure's term, and the term in which it may be used.
  *

@@ -75,7 +75,7 @@ impl User<'_> {
 /// The id and the arguments of a record that declares a name of that type.
 fn fits(record: &Record, wanted: Type) -> Option<(u8, Vec<Type>)> {
     match record {
-        Record::Declare { id, result, arguments } if *result == wanted => Some((*id, arguments.clone())),
+        Record::Declare { id, result, arguments, .. } if *result == wanted => Some((*id, arguments.clone())),
         _ => None,
     }
 }

@@ -8,7 +8,7 @@ pub const TRUTH_VARIABLE: Type = Type::Variable(Data::Truth);
 pub const NUMBER_VARIABLE: Type = Type::Variable(Data::Number);
 
 pub fn declared(id: u8, result: Type, arguments: &[Type]) -> Record {
-    Record::Declare { id, result, arguments: arguments.to_vec() }
+    Record::Declare { once: false, id, result, arguments: arguments.to_vec() }
 }
 
 pub fn skip() -> Term {
@@ -25,7 +25,7 @@ pub fn number(value: i8) -> Term {
 
 /// A use of a declared name.
 pub fn named(id: u8, result: Type, arguments: Vec<Term>) -> Term {
-    Term::new(Kind::Name { id, result }, arguments)
+    Term::new(Kind::Name { id, result, once: false }, arguments)
 }
 
 /// A private variable.

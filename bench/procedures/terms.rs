@@ -6,12 +6,12 @@ use crate::sheet::{Data, Heading, Kind, Procedure, Record, Term, Type};
 pub const NAME: u8 = 8;
 
 pub fn heading() -> Heading {
-    let record = Record::Declare { id: NAME, result: Type::Command, arguments: vec![] };
+    let record = Record::Declare { once: false, id: NAME, result: Type::Command, arguments: vec![] };
     Heading { z: 1, wraps: false, records: vec![record] }
 }
 
 pub fn name() -> Term {
-    Term::new(Kind::Name { id: NAME, result: Type::Command }, vec![])
+    Term::new(Kind::Name { id: NAME, result: Type::Command, once: false }, vec![])
 }
 
 pub fn skip() -> Term {

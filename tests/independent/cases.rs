@@ -20,7 +20,7 @@ use crate::random::Random;
 use crate::reader::read;
 use crate::services::{space_to_compare, words_to_compare, words_to_follow};
 use crate::sheet::{written, Data, Heading, Term, Type};
-use damage::{damaged, misnamed, random_bytes};
+use damage::{damaged, misnamed, random_bytes, redeclared};
 use hiding::hidden;
 use limits::sheet_at_a_limit;
 use long::Long;
@@ -190,9 +190,10 @@ fn case_to_compare(random: &mut Random) -> Case {
         4 => new[random.below(2)] ^= 1,
         5 => old = hidden(random, old),
         6 => new = hidden(random, new),
+        7 => new = redeclared(random, new),
         _ => {}
     }
-    alike &= spoilt > 6;
+    alike &= spoilt > 7;
     compare_of(random, (old, new, alike))
 }
 

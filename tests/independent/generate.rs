@@ -10,7 +10,10 @@ pub fn heading(random: &mut Random, most: usize) -> Heading {
     let mut heading = Heading { z, wraps, records: Vec::new() };
     for result in Type::ALL {
         if random.one_in(2) {
-            add(random, &mut heading, |_, id| Record::Declare { id, result, arguments: vec![] });
+            add(random, &mut heading, |random, id| {
+                let once = random.one_in(10);
+                Record::Declare { once, id, result, arguments: vec![] }
+            });
         }
     }
     for _ in 0..random.between(most / 3, most) {
@@ -34,7 +37,7 @@ fn record(random: &mut Random, id: u8) -> Record {
     }
     let count = random.choose(&[0, 1, 1, 1, 2, 2, 3, 4]);
     let arguments = (0..count).map(|_| random.choose(&Type::ALL)).collect();
-    Record::Declare { id, result: random.choose(&Type::ALL), arguments }
+    Record::Declare { once: random.one_in(3), id, result: random.choose(&Type::ALL), arguments }
 }
 
 /// What an id stands for inside its binder.
@@ -180,7 +183,7 @@ impl<'a> Generator<'a> {
             return bound;
         }
         let declared = self.heading.records.iter().filter_map(|record| match record {
-            Record::Declare { id, result, arguments } if *result == wanted => Some((*id, arguments.clone())),
+            Record::Declare { id, result, arguments, .. } if *result == wanted => Some((*id, arguments.clone())),
             _ => None,
         });
         declared.filter(|(_, arguments)| arguments.is_empty() == plain).chain(bound).collect()
@@ -214,8 +217,8 @@ impl<'a> Generator<'a> {
             (Some(Meaning::Private(data)), _) => Kind::Private { id, data: *data },
             (Some(Meaning::Parameter(result)), _) => Kind::Parameter { id, result: *result },
             (Some(Meaning::Procedure(procedure, _)), _) => Kind::Call { id, result: procedure.result },
-            (None, Some(Record::Declare { result, .. })) => Kind::Name { id, result: *result },
-            (None, _) => Kind::Name { id, result: Type::Command },
+            (None, Some(Record::Declare { once, result, .. })) => Kind::Name { id, result: *result, once: *once },
+            (None, _) => Kind::Name { id, result: Type::Command, once: false },
         }
     }
 

@@ -21,6 +21,9 @@ struct Call<'a> {
     id: u8,
     result: Type,
     question: Question,
+    /// Whether it asks its arguments at most once, and whether it may ask them no more.
+    once: bool,
+    spent: bool,
 }
 
 /// What is going on.
@@ -159,7 +162,10 @@ impl<'a> Player<'a> {
         match at.at.0.kind {
             Kind::Skip => from.answer(Answer::Done),
             Kind::Constant(_, value) => from.answer(Answer::Value(value)),
-            Kind::Name { id, result } => from.show(question.at(id, 0), Now::Waiting(Call { at, id, result, question })),
+            Kind::Name { id, result, once } => {
+                let call = Call { at, id, result, question, once, spent: false };
+                from.show(question.at(id, 0), Now::Waiting(call))
+            }
             Kind::Private { id, .. } => stored(from, self.scopes.stored(id, at.scope), question),
             Kind::Parameter { id, .. } => from.ask(self.scopes.argument(id, at.scope), question),
             Kind::Call { id, .. } => from.ask(self.called(id, at), question),
@@ -190,7 +196,8 @@ impl<'a> Player<'a> {
         let z = self.sheet.heading.z;
         let answers = call.question.answers(call.result, z).into_iter();
         let mut moves: Vec<_> = answers.map(|a| (a.at(call.id, 0), from.to(Now::Answered(a)))).collect();
-        for (i, j) in (0..call.at.at.0.parts.len()).zip(1..) {
+        let arguments = if call.spent { 0 } else { call.at.at.0.parts.len() };
+        for (i, j) in (0..arguments).zip(1..) {
             let argument = call.at.part(i);
             let waits = self.pushed(from, Frame::Argument(call, j));
             for asked in Question::all(argument.at.0.gives, z) {
@@ -207,7 +214,10 @@ impl<'a> Player<'a> {
         let (frame, frames) = *self.stacks.get(stack);
         let rest = Configuration { frames, ..from.clone() };
         match frame {
-            Frame::Argument(call, j) => rest.show(answer.at(call.id, j), Now::Waiting(call)),
+            Frame::Argument(call, j) => {
+                let waits = Call { spent: call.once, ..call };
+                rest.show(answer.at(call.id, j), Now::Waiting(waits))
+            }
             Frame::Left(at, operator) => {
                 self.ask_for(&rest, Frame::Right(operator, answer.value()), at.part(1), Question::Ask)
             }

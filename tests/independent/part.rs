@@ -39,6 +39,7 @@ impl<'a> Part<'a> {
     pub fn heading(&self, whole: &Heading) -> Heading {
         let mut heading = whole.clone();
         heading.records.extend(self.around.iter().map(|&(id, data)| Record::Declare {
+            once: false,
             id,
             result: Type::Variable(data),
             arguments: vec![],

@@ -138,19 +138,21 @@ impl Reader<'_> {
     fn read_heading(&mut self) -> Result<(), Fault> {
         self.heading.z = self.next(|b| (1..=7).contains(&b).then_some(b as i8))?;
         self.heading.wraps = self.next(|b| (b < 2).then_some(b == 1))?;
-        while let Some(kind @ (1 | 2)) = self.bytes.get(self.at) {
+        while let Some(&kind @ 1..=3) = self.bytes.get(self.at) {
             if self.heading.records.len() == MOST_RECORDS {
                 return fault(9, self.at);
             }
             self.at += 1;
-            let record =
-                if *kind == 1 { self.read_declaration()? } else { Record::Retire { id: self.next_unused_id()? } };
+            let record = match kind {
+                2 => Record::Retire { id: self.next_unused_id()? },
+                _ => self.read_declaration(kind == 3)?,
+            };
             self.heading.records.push(record);
         }
         Ok(())
     }
 
-    fn read_declaration(&mut self) -> Result<Record, Fault> {
+    fn read_declaration(&mut self, once: bool) -> Result<Record, Fault> {
         let id = self.next_unused_id()?;
         let result = self.next_type()?;
         let count = self.next(|b| (b <= 4).then_some(b as usize))?;
@@ -162,7 +164,7 @@ impl Reader<'_> {
                 self.next(|b| (b == 255).then_some(()))?;
             }
         }
-        Ok(Record::Declare { id, result, arguments })
+        Ok(Record::Declare { once, id, result, arguments })
     }
 
     fn read_term(&mut self) -> Result<Term, Fault> {
@@ -251,9 +253,9 @@ impl Reader<'_> {
         match self.heading.record(id) {
             None => fault(5, self.at - 1),
             Some(Record::Retire { .. }) => fault(6, self.at - 1),
-            Some(Record::Declare { result, arguments, .. }) => {
+            Some(Record::Declare { once, result, arguments, .. }) => {
                 declared.clone_from(arguments);
-                Ok(Kind::Name { id, result: *result })
+                Ok(Kind::Name { id, result: *result, once: *once })
             }
         }
     }

@@ -143,8 +143,16 @@ impl Operator {
 /// A record of the heading.
 #[derive(Clone, Debug, PartialEq)]
 pub enum Record {
-    Declare { id: u8, result: Type, arguments: Vec<Type> },
-    Retire { id: u8 },
+    /// A name; one that asks once puts at most one question to its arguments in a call.
+    Declare {
+        once: bool,
+        id: u8,
+        result: Type,
+        arguments: Vec<Type>,
+    },
+    Retire {
+        id: u8,
+    },
 }
 
 impl Record {
@@ -156,8 +164,8 @@ impl Record {
 
     pub fn write(&self, out: &mut Vec<u8>) {
         match self {
-            Record::Declare { id, result, arguments } => {
-                out.extend([1, *id, result.byte(), arguments.len() as u8]);
+            Record::Declare { once, id, result, arguments } => {
+                out.extend([if *once { 3 } else { 1 }, *id, result.byte(), arguments.len() as u8]);
                 out.extend((0..4).map(|j| arguments.get(j).map_or(255, |t| t.byte())));
             }
             Record::Retire { id } => out.extend([2, *id]),
@@ -194,6 +202,7 @@ pub enum Kind {
     Name {
         id: u8,
         result: Type,
+        once: bool,
     },
     /// A use of a private variable.
     Private {

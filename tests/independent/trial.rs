@@ -33,6 +33,8 @@ struct Counts {
     followed: usize,
     complete: usize,
     same: usize,
+    /// Those tried with every name declared by kind 3.
+    same_once: usize,
     apart: usize,
     capped: usize,
     refused: [usize; 18],
@@ -99,6 +101,7 @@ impl Counts {
         );
         println!("follow: {} followed, {} of them complete", self.followed, self.complete);
         println!("compare: {} same, {} of them without plays", self.same, self.empty);
+        println!("compare: {} same with every name asking once too", self.same_once);
         println!("compare: {} apart, by up to {} moves", self.apart, self.longest_play);
         let (unlike, same) = (self.unlike_marks, self.same_with_unlike_marks);
         println!("compare: {unlike} with different marks, {same} of them same");
@@ -171,7 +174,10 @@ fn run_case(case: &Case, room: usize, counts: &mut Counts) -> Result<(), String>
         Case::Compare { old, new, words, space, alike } => {
             let got = library::compare(old, new, *words, *space, room)?;
             match services::read_both(old, new, *words, *space) {
-                Ok((a, b)) => run_compare(&a, &b, *alike, &got, counts),
+                Ok((a, b)) => {
+                    run_compare(&a, &b, *alike, &got, counts)?;
+                    expect_once(&a, &b, &got, room, counts)
+                }
                 Err(answer) => {
                     counts.note(&answer);
                     expect_words(&answer, got.words)?;
@@ -269,6 +275,38 @@ fn run_compare(a: &Sheet, b: &Sheet, alike: bool, got: &Compared, counts: &mut C
             got.expect_space(&bytes_of(&answer))
         }
     }
+}
+
+/// Two sheets that are the same are the same with every name declared by kind 3: a play tells by its moves how often each
+/// call asks, and those that ask at most once are the plays that are left.
+fn expect_once(a: &Sheet, b: &Sheet, got: &Compared, room: usize, counts: &mut Counts) -> Result<(), String> {
+    let same = words_of(&Answer::Same { marks: services::marks_of(a, b) });
+    let [old, new] = [a, b].map(asking_once);
+    let (Ok(a), Ok(b)) = (read(&old), read(&new)) else {
+        return Ok(());
+    };
+    if got.words != same {
+        return Ok(());
+    }
+    counts.same_once += 1;
+    let (words, space) = (services::words_to_compare(a.size, b.size), services::space_to_compare(a.size, b.size));
+    let got = library::compare(&old, &new, words as usize, space as usize, room)?;
+    if got.words == same {
+        Ok(())
+    } else {
+        Err("they are not the same where every name asks once".to_string())
+    }
+}
+
+/// The bytes of the sheet with every name declared by kind 3. It may be too large.
+fn asking_once(sheet: &Sheet) -> Vec<u8> {
+    let mut heading = sheet.heading.clone();
+    for record in &mut heading.records {
+        if let Record::Declare { once, .. } = record {
+            *once = true;
+        }
+    }
+    written(&heading, &sheet.term)
 }
 
 /// The reckoned size bounds the states in which a move is due.

@@ -71,7 +71,7 @@ impl<'a> Weigher<'a> {
         match &term.kind {
             Kind::Skip | Kind::Diverge(_) | Kind::Constant(..) => 1,
             Kind::Private { .. } => 2,
-            Kind::Name { .. } => self.use_of_name(term, scope),
+            Kind::Name { once, .. } => self.use_of_name(term, *once, scope),
             Kind::Parameter { id, .. } => parameter(*id, scope),
             Kind::Call { id, .. } => self.call(*id, &term.parts, scope),
             Kind::Operate(_) => self.sum(&[(1, &term.parts[0]), (count(0), &term.parts[1])], scope),
@@ -99,10 +99,10 @@ impl<'a> Weigher<'a> {
         })
     }
 
-    fn use_of_name(&mut self, term: &'a Term, scope: &mut Scope<'a>) -> u64 {
+    fn use_of_name(&mut self, term: &'a Term, once: bool, scope: &mut Scope<'a>) -> u64 {
         let asked: Vec<(u64, &Term)> = term.parts.iter().map(|p| (p.gives.questions(self.z), p)).collect();
         let answers: u64 = term.parts.iter().map(|p| p.gives.answers(self.z)).sum();
-        self.sum(&asked, scope).saturating_add(2 + answers)
+        self.sum(&asked, scope).saturating_add(2 + once as u64 + answers)
     }
 
     /// A part with one entry more in its environment.

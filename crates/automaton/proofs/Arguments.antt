@@ -12,18 +12,19 @@ use Rattle.language.specs.Choice.{pick}
 use Rattle.language.specs.Ty.{Ty, command, expression, variable, Question, Answer, Answers, to-run, to-ask, to-read}
 use Rattle.language.specs.Ty.{to-write, questions, answers}
 use Rattle.language.specs.Move.{at, Move, move}
-use Rattle.language.specs.Term.{Term, Args, arg, name}
-use Rattle.language.specs.Weight.{weight, weightArgs}
+use Rattle.language.specs.Term.{Term, Often, freely, once, onces, Args, arg, name}
+use Rattle.language.specs.Weight.{useWeight, weight, weightArgs}
 use Rattle.language.specs.declared.Numbers.{Numbers}
 use Rattle.machine.specs.Action.{Next, to, out, dead, AnswersAt, Action, go, say, hear, mapNext, mapAction}
 use Rattle.machine.specs.Decide.{when, answers?}
 use Rattle.machine.specs.Edge.{edge-hear}
-use Rattle.machine.specs.Position.{Context, Store, QuestionOf, Reply, types, within}
+use Rattle.machine.specs.Position.{Context, Store, QuestionOf, Reply, types, spent, within}
 use Rattle.machine.specs.Position.{reply, Position, PositionArgs, State, Exit as ExitOf, StateArgs, ExitArgs}
 use Rattle.machine.specs.Numbered.{Numbered, single, values, iso, sum, sum-code, product, product-code}
 use Rattle.machine.specs.Numbering.{alone, numbered-questions, numbered-answers, replies, numbered-replies}
-use Rattle.machine.specs.Numbering.{numbered-name, positions, weight-args, numbered-use, numbered, numberedArgs}
-use Rattle.machine.specs.Step.{later, step, stepArgs}
+use Rattle.machine.specs.Numbering.{numbered-spent, numbered-name, positions, weight-args, numbered-use}
+use Rattle.machine.specs.Numbering.{numbered, numberedArgs}
+use Rattle.machine.specs.Step.{later, again, step, stepArgs}
 use Rattle.machine.proofs.Unique.{Answers-prop}
 use Rattle.part_rows.specs.Row.{word}
 use Rattle.nodes.specs.Rep.{count, RepArgs, r-none, r-arg}
@@ -52,22 +53,33 @@ subst-code : {X : Type 0} {a b : ℕ} (e : a ≡ b) (N : Numbered X a) (x : X) �
   (subst (λ (k : ℕ). Numbered X k) e N) .code x ≡ N .code x
 subst-code {X} {a} e N x = ap (N .code) (subst⁻¹-refl (λ (k : ℕ). X) {x = a} x)
 
-pub named-code : (i : ℕ) (T : Ty) (args : Args) (x : Position (name i T args)) →
-  numbered (name i T args) .code x ≡ numbered-name (numberedArgs args) (numbered-replies (types args)) .code x
+pub named-code : (i : ℕ) (o : Often) (T : Ty) (args : Args) (x : Position (name i o T args)) →
+  numbered (name i o T args) .code x
+  ≡ numbered-name (numbered-spent o) (numberedArgs args) (numbered-replies (types args)) .code x
 unfolding numbered numbered-use
-named-code i T args x =
-    subst-code {b = 2 + weightArgs args} (omega (arith, weight-args args))
-    (numbered-name (numberedArgs args) (numbered-replies (types args))) x
+named-code i o T args x =
+    subst-code {b = useWeight o + weightArgs args} (omega (arith, weight-args args))
+    (numbered-name (numbered-spent o) (numberedArgs args) (numbered-replies (types args))) x
 
-pub within-code : (i : ℕ) (T : Ty) (args : Args) (p : PositionArgs args) →
-  2 + numberedArgs args .code p ≡ numbered (name i T args) .code (within p)
-unfolding numbered-name iso sum sum-code single
-within-code i T args p = omega (arith, named-code i T args (within p))
+pub spent-code : (i : ℕ) (T : Ty) (args : Args) → 2 ≡ numbered (name i once T args) .code (spent tt)
+unfolding numbered-name numbered-spent iso sum sum-code single
+spent-code i T args = omega (arith, named-code i once T args (spent tt))
 
-pub reply-code : (i : ℕ) (T : Ty) (args : Args) (r : Reply (types args)) →
-  2 + positions args + numbered-replies (types args) .code r ≡ numbered (name i T args) .code (reply r)
+-- where a name waits after the answer of an argument
+pub again-code : (i : ℕ) (o : Often) (T : Ty) (args : Args) → 1 + onces o ≡ numbered (name i o T args) .code (again o)
+unfolding again onces numbered-name numbered-spent iso sum sum-code single
+again-code i freely T args = sym (named-code i freely T args (again freely))
+again-code i once T args = spent-code i T args
+
+pub within-code : (i : ℕ) (o : Often) (T : Ty) (args : Args) (p : PositionArgs args) →
+  2 + onces o + numberedArgs args .code p ≡ numbered (name i o T args) .code (within p)
 unfolding numbered-name iso sum sum-code single
-reply-code i T args r = omega (arith, named-code i T args (reply r))
+within-code i o T args p = omega (arith, named-code i o T args (within p))
+
+pub reply-code : (i : ℕ) (o : Often) (T : Ty) (args : Args) (r : Reply (types args)) →
+  2 + onces o + positions args + numbered-replies (types args) .code r ≡ numbered (name i o T args) .code (reply r)
+unfolding numbered-name iso sum sum-code single
+reply-code i o T args r = omega (arith, named-code i o T args (reply r))
 
 -- one argument's positions
 module _ (t : List ℕ) (node j : ℕ) (T : Ty) (M : Term) (pw : partWeight t node j ≡ weight M)
@@ -182,7 +194,7 @@ module _ (K : Numbers) (t : List ℕ) (m : Record) (n : Context) (T : Ty) (M : T
   unfolding Shows ArgsShow mapAction riseOf
   first (go x) o h = first-next x o h
   first (say y x) o h = first-said y x o h
-  first (hear l k) o (waits {node} {q} {x} a w b) = a-waits {node = node} {q = q} {x = x} a w (rw b refl)
+  first (hear l k) o (waits {node} {q} {x} {c} a w b) = a-waits {node = node} {q = q} {x = x} {c = c} a w (rw b refl)
   first (hear l k₁) o (leads i j d a b) =
       a-leads i j d a
       (subst (λ (x : Next (StateArgs n (arg T M rest)) (ExitArgs n (types (arg T M rest)))).
@@ -223,7 +235,7 @@ module _ (K : Numbers) (t : List ℕ) (m : Record) (n : Context) (T : Ty) (M : T
   unfolding ArgsShow mapAction
   among (go x) o h = later-next x o h
   among (say y x) o h = later-said y x o h
-  among (hear l k) o (a-waits {node} {q} {x} a w b) = a-waits {node = node} {q = q} {x = x} a w b
+  among (hear l k) o (a-waits {node} {q} {x} {c} a w b) = a-waits {node = node} {q = q} {x = x} {c = c} a w b
   among (hear l k) o (a-leads i j d a b) =
       a-leads i j d a
       (subst (λ (x : Next (StateArgs n (arg T M rest)) (ExitArgs n (types (arg T M rest)))).
@@ -232,73 +244,74 @@ module _ (K : Numbers) (t : List ℕ) (m : Record) (n : Context) (T : Ty) (M : T
         (later-next (edge-hear l k (move (at i j) d)) o b))
 
 -- the steps of the arguments, in the name
-module _ (K : Numbers) (t : List ℕ) (m : Record) (n : Context) (i : ℕ) (T : Ty) (args : Args) (vs : Variables) where
-  abbrev pub whole-in : StateArgs n args → State n (name i T args)
+module _ (K : Numbers) (t : List ℕ) (m : Record) (n : Context) (i : ℕ) (o : Often) (T : Ty) (args : Args)
+  (vs : Variables) where
+  abbrev pub whole-in : StateArgs n args → State n (name i o T args)
   whole-in s = (s .0, within (s .1))
 
-  abbrev pub whole-out : ExitArgs n (types args) → Next (State n (name i T args)) (ExitOf n)
+  abbrev pub whole-out : ExitArgs n (types args) → Next (State n (name i o T args)) (ExitOf n)
   whole-out e = to (e .0, reply (e .1))
 
-  whole-next : (x : Next (StateArgs n args) (ExitArgs n (types args))) (o : Did) →
-    ArgsNext n args 2 (2 + positions args) vs x o →
-    ShowsNext n (name i T args) vs (mapNext whole-in whole-out x) o
+  whole-next : (x : Next (StateArgs n args) (ExitArgs n (types args))) (d : Did) →
+    ArgsNext n args (2 + onces o) (2 + onces o + positions args) vs x d →
+    ShowsNext n (name i o T args) vs (mapNext whole-in whole-out x) d
   unfolding ArgsNext ShowsNext mapNext
-  whole-next (to s) o (l, u, h, w) = (l, u, h ∙ ap (λ (j : ℕ). Go j l u) (within-code i T args (s .1)), w)
-  whole-next (out x) o (l, u, h, w) = (l, u, h ∙ ap (λ (j : ℕ). Go j l u) (reply-code i T args (x .1)), w)
-  whole-next dead o h = h
+  whole-next (to s) d (l, u, h, w) = (l, u, h ∙ ap (λ (j : ℕ). Go j l u) (within-code i o T args (s .1)), w)
+  whole-next (out x) d (l, u, h, w) = (l, u, h ∙ ap (λ (j : ℕ). Go j l u) (reply-code i o T args (x .1)), w)
+  whole-next dead d h = h
 
-  whole-said : (y : Move) (x : Next (StateArgs n args) (ExitArgs n (types args))) (o : Did) →
-    ArgsSaid n args 2 (2 + positions args) vs y x o →
-    ShowsSaid n (name i T args) vs y (mapNext whole-in whole-out x) o
+  whole-said : (y : Move) (x : Next (StateArgs n args) (ExitArgs n (types args))) (d : Did) →
+    ArgsSaid n args (2 + onces o) (2 + onces o + positions args) vs y x d →
+    ShowsSaid n (name i o T args) vs y (mapNext whole-in whole-out x) d
   unfolding ArgsSaid ShowsSaid mapNext
-  whole-said y (to s) o (h, w) = (h ∙ ap (λ (j : ℕ). Say (moveOf y) j) (within-code i T args (s .1)), w)
-  whole-said y (out x) o h = absurd h
-  whole-said y dead o h = absurd h
+  whole-said y (to s) d (h, w) = (h ∙ ap (λ (j : ℕ). Say (moveOf y) j) (within-code i o T args (s .1)), w)
+  whole-said y (out x) d h = absurd h
+  whole-said y dead d h = absurd h
 
-  pub whole : (y : Action (StateArgs n args) (ExitArgs n (types args))) (o : Did) →
-    ArgsShow K t n args 2 (2 + positions args) vs m y o →
-    Shows K t n (name i T args) vs m (mapAction whole-in whole-out y) o
+  pub whole : (y : Action (StateArgs n args) (ExitArgs n (types args))) (d : Did) →
+    ArgsShow K t n args (2 + onces o) (2 + onces o + positions args) vs m y d →
+    Shows K t n (name i o T args) vs m (mapAction whole-in whole-out y) d
   unfolding ArgsShow Shows mapAction
-  whole (go x) o h = whole-next x o h
-  whole (say y x) o h = whole-said y x o h
-  whole (hear l k) o (a-waits {node} {q} {x} a w b) = waits {node = node} {q = q} {x = x} a w b
-  whole (hear l k) o (a-leads i′ j d a b) =
-      leads i′ j d a
-      (subst (λ (x : Next (State n (name i T args)) (ExitOf n)). ShowsNext n (name i T args) vs x o)
-        (sym (map-edge whole-in whole-out l k (move (at i′ j) d)))
-        (whole-next (edge-hear l k (move (at i′ j) d)) o b))
+  whole (go x) d h = whole-next x d h
+  whole (say y x) d h = whole-said y x d h
+  whole (hear l k) d (a-waits {node} {q} {x} {c} a w b) = waits {node = node} {q = q} {x = x} {c = c} a w b
+  whole (hear l k) d (a-leads i′ j e a b) =
+      leads i′ j e a
+      (subst (λ (x : Next (State n (name i o T args)) (ExitOf n)). ShowsNext n (name i o T args) vs x d)
+        (sym (map-edge whole-in whole-out l k (move (at i′ j) e)))
+        (whole-next (edge-hear l k (move (at i′ j) e)) d b))
 
 -- what a reply says
-said-of : (id c m : ℕ) (T : Ty) → HasType c m T → (j : ℕ) (q : Question) (a : Answer) (h : Answers T q a) →
-  replyHere id c m j (numbered-answers T .code (q, a, h)) ≡ saidOf (kindA a) id j (valueA a)
+said-of : (id c m : ℕ) (T : Ty) → HasType c m T → (j : ℕ) (q : Question) (a : Answer) (h : Answers T q a)
+  (next : ℕ) → replyHere id c m j (numbered-answers T .code (q, a, h)) next ≡ saidOf (kindA a) id j (valueA a) next
 unfolding HasType numbered-answers alone iso single sum sum-code values replyHere kindA valueA
-said-of id c m command e j _ _ to-run = rw e refl
-said-of id c m (expression k) e j _ _ (to-ask {v = v} h) = rw (e .0, e .1, lt-leb k v h) refl
-said-of id c m (variable k) e j _ _ (to-read {v = v} h) = rw (e .0, e .1, lt-leb k v h) refl
-said-of id c m (variable k) e j _ _ (to-write {v = v} h) = rw (e .0, e .1, le-leb k (k + v) (omega arith)) refl
+said-of id c m command e j _ _ to-run next = rw e refl
+said-of id c m (expression k) e j _ _ (to-ask {v = v} h) next = rw (e .0, e .1, lt-leb k v h) refl
+said-of id c m (variable k) e j _ _ (to-read {v = v} h) next = rw (e .0, e .1, lt-leb k v h) refl
+said-of id c m (variable k) e j _ _ (to-write {v = v} h) next = rw (e .0, e .1, le-leb k (k + v) (omega arith)) refl
 
 pub reply-of : {K : Numbers} {t rs n : List ℕ} {left node j : ℕ} {args : Args} → RepArgs K t left node j rs n args →
-  weightArgs args < 65536 → j + count args < 65536 → (id : ℕ) (r : Reply (types args)) →
-  replyOf t id node j (count args) (numbered-replies (types args) .code r)
-  ≡ saidOf (kindA (r .2)) id (suc (j + r .0)) (valueA (r .2))
+  weightArgs args < 65536 → j + count args < 65536 → (id : ℕ) (r : Reply (types args)) (next : ℕ) →
+  replyOf t id node j (count args) (numbered-replies (types args) .code r) next
+  ≡ saidOf (kindA (r .2)) id (suc (j + r .0)) (valueA (r .2)) next
 unfolding count types AnswersAt replyOf numbered-replies iso sum sum-code weightArgs
-reply-of r-none b h id r = absurd (r .3)
-reply-of {t = t} (r-arg {at = node} {j} {T = T} {M} {args} r rs) b h id (zero, q, a, x) =
+reply-of r-none b h id r next = absurd (r .3)
+reply-of {t = t} (r-arg {at = node} {j} {T = T} {M} {args} r rs) b h id (zero, q, a, x) next =
     let pw = part-weight node j r in
     let ty = part-type node j r in
     let e : sumOf j 1 ≡ suc (j + 0) = sum-small j 1 (omega arith) ∙ omega arith in
     rw (answers-here t node j T M pw ty (omega arith),
       lt-leb (answers T) (numbered-answers T .code (q, a, x)) (numbered-answers T .bound (q, a, x)), e)
-    (said-of id (partClass t node j) (partValues t node j) T ty (suc (j + 0)) q a x)
-reply-of {t = t} (r-arg {at = node} {j} {T = T} {M} {args} r rs) b h id (suc i, q, a, x) =
+    (said-of id (partClass t node j) (partValues t node j) T ty (suc (j + 0)) q a x next)
+reply-of {t = t} (r-arg {at = node} {j} {T = T} {M} {args} r rs) b h id (suc i, q, a, x) next =
     let pw = part-weight node j r in
     let ty = part-type node j r in
     let k = numbered-replies (types args) .code (i, q, a, x) in
     let e : sumOf j 1 ≡ j + 1 = sum-small j 1 (omega arith) in
     let d : answers T + k - answers T ≡ k = omega arith in
     rw (answers-here t node j T M pw ty (omega arith), le-leb (answers T) (answers T + k) (omega arith), e, d)
-    (reply-of rs (omega arith) (omega arith) id (i, q, a, x)
-      ∙ ap (λ (k : ℕ). saidOf (kindA a) id (suc k) (valueA a)) (omega arith))
+    (reply-of rs (omega arith) (omega arith) id (i, q, a, x) next
+      ∙ ap (λ (k : ℕ). saidOf (kindA a) id (suc k) (valueA a) next) (omega arith))
 
 -- where a position of the arguments is found
 pub record ArgFound (K : Numbers) (t : List ℕ) (left node j base after : ℕ) (rs : List ℕ) (n : Context) (args : Args)

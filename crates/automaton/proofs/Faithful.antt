@@ -8,11 +8,12 @@ use native.Mathlib.Nat.{mod-eq-of-lt}
 use borrow.Author.Tests.{lt-ltb, le-ltb, ne-eqb}
 use Rattle.language.specs.Ty.{Ty, command, expression, variable, Question, run, ask, read, write, questions, answers}
 use Rattle.language.specs.Term.{Term, skip, diverge, const, private, name, fetch, operate, assign, seq, while, cond}
-use Rattle.language.specs.Term.{new, Args, no-args, arg}
+use Rattle.language.specs.Term.{new, Often, onces, Args, no-args, arg}
 use Rattle.language.specs.Typing.{operands}
 use Rattle.language.specs.Weight.{weight, weightArgs}
 use Rattle.language.specs.declared.Numbers.{Numbers}
-use Rattle.machine.specs.Position.{Context, Store, types, start, wait, within, reply, Position, PositionArgs, entry}
+use Rattle.machine.specs.Position.{Context, Store, types, start, wait, spent, within, reply, Position, PositionArgs}
+use Rattle.machine.specs.Position.{entry}
 use Rattle.machine.specs.Numbered.{single, values, sum, sum-code, product, product-code}
 use Rattle.machine.specs.Numbering.{replies, positions, weight-args, numbered}
 use Rattle.machine.specs.Step.{step}
@@ -23,7 +24,7 @@ use Rattle.nodes.specs.Rep.{r-operate, r-assign, r-seq, r-cond, r-while, r-new,
 use Rattle.automaton.specs.declared.Move.{Move as Record}
 use Rattle.automaton.specs.declared.Out.the-variants.{Go, Exit, Stuck}
 use Rattle.automaton.specs.declared.Spot.the-variants.{Inside}
-use Rattle.automaton.specs.walk.Row.{nameId, nameCount, sumOf, mulAddOf}
+use Rattle.automaton.specs.walk.Row.{nameId, nameCount, nameSpent, sumOf, mulAddOf}
 use Rattle.automaton.specs.walk.Store.{withValue}
 use Rattle.automaton.specs.walk.Name.{framedOf}
 use Rattle.automaton.specs.walk.Down.{inFetch, inSeq, inWhile, condIn, inCond, operateIn, inOperate, assignIn}
@@ -37,22 +38,28 @@ use Rattle.automaton.proofs.TypeNumbers.{has-type}
 use Rattle.automaton.proofs.Parts.{small-weight, part-weight, part-type, expression-values, variable-values}
 use Rattle.automaton.proofs.Parts.{positive}
 use Rattle.automaton.proofs.Arguments.{ArgFound, arg-first, arg-later}
-use Rattle.automaton.proofs.Hearing.{entry-zero, hears, unwritten}
+use Rattle.automaton.proofs.Hearing.{entry-zero, hears, unwritten, spent-shows}
 use Rattle.automaton.proofs.Lifting.{lift, out-pass, out-done, out-ok, out-while, out-cond, out-value}
 use Rattle.automaton.proofs.Lifting.{out-operate}
 use Rattle.automaton.proofs.Lifting.{same}
 use Rattle.automaton.proofs.Variables.{Blocks, outside, inside, block, held-push, private-shows, lift-new}
 use Rattle.automaton.proofs.Walking.{walk-here, walk-in, walk-new, assign-right, operate-right, private-go}
-use Rattle.automaton.proofs.Walking.{name-start, name-wait, name-reply, name-within}
+use Rattle.automaton.proofs.Walking.{name-start, name-wait, name-reply, name-within, name-spent}
 
--- the id and the number of arguments of a name
-id-of : (t : List ℕ) (node i c : ℕ) → i < 256 → word t node 4 ≡ i + 256 * c → nameId t node ≡ i
+-- the id of a name, the number of its arguments and of its second waits
+id-of : (t : List ℕ) (node i c w : ℕ) → i < 256 → word t node 4 ≡ i + 256 * (c + 8 * w) → nameId t node ≡ i
 unfolding nameId
-id-of t node i c h e = omega arith
+id-of t node i c w h e = omega arith
 
-count-of : (t : List ℕ) (node i c : ℕ) → i < 256 → word t node 4 ≡ i + 256 * c → nameCount t node ≡ c
+count-of : (t : List ℕ) (node i c w : ℕ) → i < 256 → c ≤ 4 → word t node 4 ≡ i + 256 * (c + 8 * w) →
+  nameCount t node ≡ c
 unfolding nameCount
-count-of t node i c h e = omega arith
+count-of t node i c w h l e = omega arith
+
+spent-of : (t : List ℕ) (node i c w : ℕ) → i < 256 → c ≤ 4 → word t node 4 ≡ i + 256 * (c + 8 * w) →
+  nameSpent t node ≡ w
+unfolding nameSpent
+spent-of t node i c w h l e = omega arith
 
 -- the detail in a row
 detail-small : (t : List ℕ) (node : ℕ) → Words t → word t node 4 < 65536
@@ -258,23 +265,37 @@ module _ (K : Numbers) (t : List ℕ) (ws : Words t) (m : Record) (gv : GivenMov
             (omega arith) (v .1)
               (omega (arith, row .small, factors m₀ (weight R) (omega (arith, v .1)) (positive R) .0)))
           _ _ (faithful R rR ask σ s hd ds p))
-    faithful (name i T args) (r-name {left} {at = node} {rs = rs} {n = n} row h e few ra) q σ s hd ds start =
-        name-start K t left node i rs n T args (row .kinded) (id-of t node i (count args) h e)
-        (count-of t node i (count args) h e) few (omega (arith, row .small)) ra q σ s m
-    faithful (name i T args) (r-name {left} {at = node} {rs = rs} {n = n} row h e few ra) q σ s hd ds wait =
-        name-wait K t left node i rs n T args (row .kinded) (id-of t node i (count args) h e)
-        (count-of t node i (count args) h e) few (omega (arith, row .small)) ra q σ s m
-        (hears K t left node i rs n T args (id-of t node i (count args) h e) (count-of t node i (count args) h e)
+    faithful (name i o T args) (r-name {left} {at = node} {rs = rs} {n = n} row h e few ra) q σ s hd ds start =
+        name-start K t left node i rs n o T args (row .kinded) (id-of t node i (count args) (onces o) h e)
+        (count-of t node i (count args) (onces o) h few e) (spent-of t node i (count args) (onces o) h few e) few
+        (omega (arith, row .small)) ra q σ s m
+    faithful (name i o T args) (r-name {left} {at = node} {rs = rs} {n = n} row h e few ra) q σ s hd ds wait =
+        name-wait K t left node i rs n o T args (row .kinded) (id-of t node i (count args) (onces o) h e)
+        (count-of t node i (count args) (onces o) h few e) (spent-of t node i (count args) (onces o) h few e) few
+        (omega (arith, row .small)) ra q σ s m
+        (hears K t left node i rs n o T args (id-of t node i (count args) (onces o) h e)
+          (count-of t node i (count args) (onces o) h few e) (spent-of t node i (count args) (onces o) h few e)
           (has-type t node T (row .typed)) (few-answers t node T ws (row .typed)) few (omega (arith, row .small))
           (r-name row h e few ra) ra q σ m gv)
-    faithful (name i T args) (r-name {left} {at = node} {rs = rs} {n = n} row h e few ra) q σ s hd ds (within p) =
-        name-within K t left node i rs n T args (row .kinded) (id-of t node i (count args) h e)
-        (count-of t node i (count args) h e) few (omega (arith, row .small)) ra q σ s m p
-        (faithfulArgs args ra (omega (arith, row .small)) (omega arith) σ s hd ds 2 (2 + positions args)
-          (omega (arith, row .small, weight-args args)) (omega (arith, row .small, weight-args args)) p)
-    faithful (name i T args) (r-name {left} {at = node} {rs = rs} {n = n} row h e few ra) q σ s hd ds (reply r) =
-        name-reply K t left node i rs n T args (row .kinded) (id-of t node i (count args) h e)
-        (count-of t node i (count args) h e) few (omega (arith, row .small)) ra q σ s m r
+    faithful (name i o T args) (r-name {left} {at = node} {rs = rs} {n = n} row h e few ra) q σ s hd ds (spent x) =
+        name-spent K t left node i rs n o T args (row .kinded) (spent-of t node i (count args) (onces o) h few e) q σ
+        s m x
+        (spent-shows K t left node i rs n o T args (id-of t node i (count args) (onces o) h e)
+          (count-of t node i (count args) (onces o) h few e) (spent-of t node i (count args) (onces o) h few e)
+          (has-type t node T (row .typed)) (few-answers t node T ws (row .typed)) few (omega (arith, row .small))
+          (r-name row h e few ra) ra q σ m gv)
+    faithful (name i o T args) (r-name {left} {at = node} {rs = rs} {n = n} row h e few ra) q σ s hd ds (within p) =
+        name-within K t left node i rs n o T args (row .kinded) (id-of t node i (count args) (onces o) h e)
+        (count-of t node i (count args) (onces o) h few e) (spent-of t node i (count args) (onces o) h few e) few
+        (omega (arith, row .small)) ra q σ s m p
+        (faithfulArgs args ra (omega (arith, row .small)) (omega arith) σ s hd ds (2 + onces o)
+          (2 + onces o + positions args)
+          (omega (arith, row .small, weight-args args))
+          (omega (arith, row .small, weight-args args)) p)
+    faithful (name i o T args) (r-name {left} {at = node} {rs = rs} {n = n} row h e few ra) q σ s hd ds (reply r) =
+        name-reply K t left node i rs n o T args (row .kinded) (id-of t node i (count args) (onces o) h e)
+        (count-of t node i (count args) (onces o) h few e) (spent-of t node i (count args) (onces o) h few e) few
+        (omega (arith, row .small)) ra q σ s m r
 
     pub faithfulArgs : (args : Args) {left node j : ℕ} {rs : List ℕ} {n : Context} → RepArgs K t left node j rs n args →
       weightArgs args < 65536 → j + count args < 65536 → (σ : Store n) (s : ℕ → ℕ) → HeldStore s (held rs n σ) →

@@ -13,11 +13,11 @@ use Rattle.language.specs.Ty.{Ty, Question, run, ask, read, write, Answer, done
 use Rattle.language.specs.Ty.{questions, answers}
 use Rattle.language.specs.Move.{Event, question, answer, at, move}
 use Rattle.language.specs.Term.{Term, skip, diverge, const, private, name, fetch, operate, assign, seq, while, cond}
-use Rattle.language.specs.Term.{new}
-use Rattle.language.specs.Term.{Args, arg}
-use Rattle.language.specs.Weight.{weight, weightArgs}
+use Rattle.language.specs.Term.{new, Often, onces, Args, no-args, arg}
+use Rattle.language.specs.Weight.{useWeight, weight, weightArgs}
+use Rattle.language.proofs.AskOnceLaws.{onces-below}
 use Rattle.language.specs.declared.Numbers.{Numbers}
-use Rattle.machine.specs.Action.{Next, to, out, dead, calling, who, FitsAt, mapNext}
+use Rattle.machine.specs.Action.{Next, to, out, dead, calling, who, FitsAt, mapNext, Action, go}
 use Rattle.machine.specs.Decide.{when, answers?, fits-at?, hears?}
 use Rattle.machine.specs.Edge.{received, edge-hear}
 use Rattle.machine.specs.Position.{Context, Store, types, start, within, reply, PositionArgs, entry}
@@ -25,19 +25,22 @@ use Rattle.machine.specs.Position.{State, Exit as ExitOf}
 use Rattle.machine.specs.Numbered.{single, values, iso, sum, sum-code, product, product-code}
 use Rattle.machine.specs.Numbering.{numbered-answers, numbered-questions, numbered-name, weight-args, numbered}
 use Rattle.machine.specs.Numbering.{numberedArgs}
-use Rattle.machine.specs.Step.{enter, listen}
+use Rattle.machine.specs.Step.{enter, listen, closing, closes}
 use Rattle.machine.proofs.Unique.{FitsAt-prop}
 use Rattle.part_rows.specs.Row.{word}
 use Rattle.nodes.specs.Rep.{count, Rep, RepArgs, r-none, r-arg}
 use Rattle.automaton.specs.declared.Move.{Move as Record}
 use Rattle.automaton.specs.declared.Out.{Out as Did}
 use Rattle.automaton.specs.declared.Out.the-variants.{Go, Exit, Hear, Stuck}
-use Rattle.automaton.specs.walk.Row.{partWeight, partClass, partValues, nameId, nameCount, sumOf, mulAddOf}
+use Rattle.automaton.specs.walk.Row.{partWeight, partClass, partValues, nameId, nameCount, nameSpent, sumOf}
+use Rattle.automaton.specs.walk.Row.{mulAddOf}
 use Rattle.automaton.specs.walk.Types.{questionNumber, answerNumber}
-use Rattle.automaton.specs.walk.Name.{argSpots, hearAnswer, hearQuestion, listenOf, atWait}
+use Rattle.automaton.specs.walk.Name.{innerOf, againOf, argSpots, hearAnswer, hearQuestion, listenOf, atWait}
+use Rattle.automaton.specs.walk.Name.{atSpent}
 use Rattle.automaton.specs.walk.Shows.{kindQ, valueQ, kindA, valueA, moveOf, stored, held, valued, updated}
 use Rattle.automaton.specs.walk.Shows.{Variables, ShowsNext}
-use Rattle.automaton.specs.walk.Shows.{Awaits, ShowsHeard, waits, leads, GivenMove}
+use Rattle.automaton.specs.walk.Shows.{Takes, takes-all, takes-none, Awaits, ShowsHeard, waits, leads, Shows}
+use Rattle.automaton.specs.walk.Shows.{GivenMove}
 use Rattle.automaton.proofs.Sums.{sum-small, mul-add-small, when-dead}
 use Rattle.automaton.proofs.TypeNumbers.{HasType, Answered, fitting, unfitting, answer-of, Asked, asking}
 use Rattle.automaton.proofs.TypeNumbers.{not-asking, question-of, no-answer, no-question}
@@ -51,7 +54,7 @@ entry-zero skip = refl
 entry-zero diverge = refl
 entry-zero (const v) = refl
 entry-zero (private i) = refl
-entry-zero (name i T args) = unfold numbered-name iso sum sum-code single entry in named-code i T args start
+entry-zero (name i o T args) = unfold numbered-name iso sum sum-code single entry in named-code i o T args start
 entry-zero (fetch X) = entry-zero X
 entry-zero (operate m o L R) = entry-zero L
 entry-zero (assign m X E) = entry-zero E
@@ -137,14 +140,24 @@ kind-below i j (answer done) = refl
 kind-below i j (answer ok) = refl
 kind-below i j (answer (value v)) = refl
 
+-- where the arguments of a name begin, and where it waits after one of them
+pub inner-of : (t : List ℕ) (node : ℕ) (o : Often) → nameSpent t node ≡ onces o → innerOf t node ≡ 2 + onces o
+unfolding innerOf
+inner-of t node o e = rw e (sum-small 2 (onces o) (omega (arith, onces-below o)))
+
+pub again-of : (t : List ℕ) (node : ℕ) (o : Often) → nameSpent t node ≡ onces o → againOf t node ≡ 1 + onces o
+unfolding againOf
+again-of t node o e = rw e (sum-small 1 (onces o) (omega (arith, onces-below o)))
+
 -- what is heard at a name
-module _ (K : Numbers) (t : List ℕ) (left node i : ℕ) (rs : List ℕ) (n : Context) (T : Ty) (args : Args) (pi : nameId
-    t node ≡ i)
-  (pc : nameCount t node ≡ count args) (ty : HasType (word t node 2) (word t node 3) T) (own : answers T < 1048576)
-  (few : count args ≤ 4) (fits : 2 + weightArgs args < 65536) (r : Rep K t (suc left) node rs n (name i T args) T)
+module _ (K : Numbers) (t : List ℕ) (left node i : ℕ) (rs : List ℕ) (n : Context) (o : Often) (T : Ty) (args : Args)
+  (pi : nameId t node ≡ i) (pc : nameCount t node ≡ count args) (ps : nameSpent t node ≡ onces o)
+  (ty : HasType (word t node 2) (word t node 3) T) (own : answers T < 1048576)
+  (few : count args ≤ 4) (fits : useWeight o + weightArgs args < 65536)
+  (r : Rep K t (suc left) node rs n (name i o T args) T)
   (ra : RepArgs K t left node 0 rs n args) (q : Question) (σ : Store n) where
   abbrev Use : Term
-  Use = name i T args
+  Use = name i o T args
 
   abbrev vs : Variables
   vs = held rs n σ
@@ -178,7 +191,7 @@ module _ (K : Numbers) (t : List ℕ) (left node i : ℕ) (rs : List ℕ) (n : C
       pick (leb (count args) j) Stuck
       (pick (eqb (questionNumber (partClass t node j) (partValues t node j) (kindQ p) (valueQ p)) 0) Stuck
       (Go (mulAddOf (questionNumber (partClass t node j) (partValues t node j) (kindQ p) (valueQ p) - 1)
-        (partWeight t node j) (sumOf 2 (argSpots t node 0 j))) 0 0))
+        (partWeight t node j) (sumOf (innerOf t node) (argSpots t node 0 j))) 0 0))
 
   heard-question : (p : Question) (j : ℕ) (d : Dec (FitsAt (types args) j p)) →
     ShowsNext n Use vs (when d (entered p j)) (numbering p j)
@@ -190,10 +203,12 @@ module _ (K : Numbers) (t : List ℕ) (left node i : ℕ) (rs : List ℕ) (n : C
       cases (yes y) (enters h x k g l e k₁ k₂ w) =
           let d : suc k - 1 ≡ k = omega arith in
           let b : numberedArgs args .code x < 65536 = omega (arith, numberedArgs args .bound x, weight-args args) in
-          let f : mulAddOf k (partWeight t node j) (sumOf 2 (argSpots t node 0 j)) ≡ numbered Use .code (within x) =
-            rw (sum-small 2 (argSpots t node 0 j) (omega (arith, w)),
-              mul-add-small k (partWeight t node j) (2 + argSpots t node 0 j) k₁ k₂ (omega (arith, w)))
-            (omega (arith, w, within-code i T args x)) in
+          let f : mulAddOf k (partWeight t node j) (sumOf (innerOf t node) (argSpots t node 0 j))
+              ≡ numbered Use .code (within x) =
+            rw (inner-of t node o ps, sum-small (2 + onces o) (argSpots t node 0 j) (omega (arith, w, onces-below o)),
+              mul-add-small k (partWeight t node j) (2 + onces o + argSpots t node 0 j) k₁ k₂
+                (omega (arith, w, onces-below o)))
+            (omega (arith, w, within-code i o T args x)) in
           rw (FitsAt-prop (types args) j p y h, g, lt-leb (count args) j l, e, ne-eqb (suc k) 0 (omega arith), d)
           (0, 0, ap (λ (z : ℕ). Go z 0 0) f, unwritten rs n σ)
       cases (yes y) (refuses f x) = absurd (f y)
@@ -202,8 +217,8 @@ module _ (K : Numbers) (t : List ℕ) (left node i : ℕ) (rs : List ℕ) (n : C
       cases (no y) (refuses f (inr (l, e))) = rw (lt-leb (count args) j l, e) refl
 
   pub listen-shows : (i′ j : ℕ) (e : Event) →
-    ShowsNext n Use vs (edge-hear (calling i (types args) T q) (listen i T args n q σ) (move (at i′ j) e))
-    (listenOf t node (kindQ q) (valueQ q) (moveOf (move (at i′ j) e)))
+    ShowsNext n Use vs (edge-hear (calling i (types args) T q) (listen i o T args n q σ) (move (at i′ j) e))
+    (listenOf t node (kindQ q) (valueQ q) (nameCount t node) (moveOf (move (at i′ j) e)))
   unfolding edge-hear received hears? listenOf hearAnswer hearQuestion moveOf listen who when
   listen-shows i′ zero (question p) =
       dead-shows _ _ (when-dead (ℕ-discrete i i′))
@@ -221,7 +236,7 @@ module _ (K : Numbers) (t : List ℕ) (left node i : ℕ) (rs : List ℕ) (n : C
       less : suc j - 1 ≡ j
       less = omega arith
       cases : (d : Dec (i ≡ i′)) → ShowsNext n Use vs (when d (λ e. when (fits-at? (types args) j p) (entered p j)))
-        (listenOf t node (kindQ q) (valueQ q) (moveOf (move (at i′ (suc j)) (question p))))
+        (listenOf t node (kindQ q) (valueQ q) (nameCount t node) (moveOf (move (at i′ (suc j)) (question p))))
       cases (yes e) =
           rw (eq-eqb i′ (nameId t node) (sym e ∙ sym pi), ne-eqb (suc j) 0 (omega arith), less, pc)
           (heard-question p j (fits-at? (types args) j p))
@@ -232,20 +247,71 @@ module _ (K : Numbers) (t : List ℕ) (left node i : ℕ) (rs : List ℕ) (n : C
         no-question (partClass t node (suc j - 1)) (partValues t node (suc j - 1)) a,
         stuck (leb (nameCount t node) (suc j - 1))) (stuck (eqb i′ (nameId t node))))
 
-  awaited : Awaits K t (calling i (types args) T q) node (kindQ q) (valueQ q)
-  awaited = record {
-    left = suc left; rows = rs; within = n; id = i; result = T; args = args; part = r; asked = q; listens = refl;
-        kinded = refl;
-    valued = refl
+  awaited : (Ts : List Ty) (c : ℕ) → Takes args Ts c → Awaits K t (calling i Ts T q) node (kindQ q) (valueQ q) c
+  awaited Ts c h = record {
+    left = suc left; rows = rs; within = n; id = i; often = o; result = T; args = args; part = r; asked = q;
+    asks = Ts; takes = h; listens = refl; kinded = refl; valued = refl
   }
 
   pub hears : (m : Record) → GivenMove m →
-    ShowsHeard K t n Use vs m (calling i (types args) T q) (listen i T args n q σ)
-      (atWait t node (kindQ q) (valueQ q) m)
+    ShowsHeard K t n Use vs m (calling i (types args) T q) (listen i o T args n q σ)
+      (atWait t node (kindQ q) (valueQ q) (nameCount t node) m)
   unfolding atWait
-  hears m (inl e) = rw (eq-eqb (m .kind) 255 e) (waits {node = node} {q = kindQ q} {x = valueQ q} e awaited refl)
+  hears m (inl e) =
+      rw (eq-eqb (m .kind) 255 e, pc)
+        (waits {node = node} {q = kindQ q} {x = valueQ q} {c = count args} e
+          (awaited (types args) (count args) takes-all) refl)
   hears m (inr (i′, j, ev, e)) =
-      subst (λ (m : Record). ShowsHeard K t n Use vs m (calling i (types args) T q) (listen i T args n q σ)
-          (pick (eqb (m .kind) 255) (Hear node (kindQ q) (valueQ q)) (listenOf t node (kindQ q) (valueQ q) m)))
+      subst (λ (m : Record). ShowsHeard K t n Use vs m (calling i (types args) T q) (listen i o T args n q σ)
+          (pick (eqb (m .kind) 255) (Hear node (kindQ q) (valueQ q) (nameCount t node))
+            (listenOf t node (kindQ q) (valueQ q) (nameCount t node) m)))
         (sym e)
       (leads i′ j ev refl (rw (kind-below i′ j ev) (listen-shows i′ j ev)))
+
+  -- at the second wait only answers are heard
+  close-shows : (i′ j : ℕ) (e : Event) →
+    ShowsNext n Use vs (edge-hear (calling i [] T q) (closing i T n q σ) (move (at i′ j) e))
+    (listenOf t node (kindQ q) (valueQ q) 0 (moveOf (move (at i′ j) e)))
+  unfolding edge-hear received hears? fits-at? listenOf hearAnswer hearQuestion moveOf closing who when
+  close-shows i′ zero (question p) =
+      dead-shows _ _ (when-dead (ℕ-discrete i i′))
+      (rw (no-answer (word t node 2) (word t node 3) (kindQ q) (valueQ q) p) (stuck (eqb i′ (nameId t node))))
+  close-shows i′ zero (answer a) = cases (ℕ-discrete i i′)
+    where
+      cases : (d : Dec (i ≡ i′)) → ShowsNext n Use vs (when d (λ e. when (answers? T q a) (λ h. out (σ, a))))
+        (pick (eqb i′ (nameId t node))
+          (pick (eqb (answerNumber (word t node 2) (word t node 3) (kindQ q) (valueQ q) (kindA a) (valueA a)) 0) Stuck
+            (Exit (kindA a) (valueA a) 0 0)) Stuck)
+      cases (yes e) = rw (eq-eqb i′ (nameId t node) (sym e ∙ sym pi)) (heard-answer a (answers? T q a))
+      cases (no e) = rw (ne-eqb i′ (nameId t node) (λ x. e (sym (x ∙ pi)))) (dead-shows _ _ refl refl)
+  close-shows i′ (suc j) (question p) =
+      dead-shows _ _ (when-dead (ℕ-discrete i i′))
+      (rw (ne-eqb (suc j) 0 (omega arith), le-leb 0 (suc j - 1) (omega arith)) (stuck (eqb i′ (nameId t node))))
+  close-shows i′ (suc j) (answer a) =
+      dead-shows _ _ refl
+      (rw (ne-eqb (suc j) 0 (omega arith), le-leb 0 (suc j - 1) (omega arith)) (stuck (eqb i′ (nameId t node))))
+
+  closing-hears : (m : Record) → GivenMove m →
+    ShowsHeard K t n Use vs m (calling i [] T q) (closing i T n q σ) (atWait t node (kindQ q) (valueQ q) 0 m)
+  unfolding atWait
+  closing-hears m (inl e) =
+      rw (eq-eqb (m .kind) 255 e)
+        (waits {node = node} {q = kindQ q} {x = valueQ q} {c = 0} e (awaited [] 0 takes-none) refl)
+  closing-hears m (inr (i′, j, ev, e)) =
+      subst (λ (m : Record). ShowsHeard K t n Use vs m (calling i [] T q) (closing i T n q σ)
+          (pick (eqb (m .kind) 255) (Hear node (kindQ q) (valueQ q) 0) (listenOf t node (kindQ q) (valueQ q) 0 m)))
+        (sym e)
+      (leads i′ j ev refl (rw (kind-below i′ j ev) (close-shows i′ j ev)))
+
+-- the second wait
+pub spent-shows : (K : Numbers) (t : List ℕ) (left node i : ℕ) (rs : List ℕ) (n : Context) (o : Often) (T : Ty)
+  (args : Args) → nameId t node ≡ i → nameCount t node ≡ count args → nameSpent t node ≡ onces o →
+  HasType (word t node 2) (word t node 3) T → answers T < 1048576 → count args ≤ 4 →
+  useWeight o + weightArgs args < 65536 → Rep K t (suc left) node rs n (name i o T args) T →
+  RepArgs K t left node 0 rs n args → (q : Question) (σ : Store n) (m : Record) → GivenMove m →
+  Shows K t n (name i o T args) (held rs n σ) m (closes i T args n q σ) (atSpent t node (kindQ q) (valueQ q) m)
+unfolding Shows ShowsNext closes atSpent count
+spent-shows K t left node i rs n o T no-args pi pc ps ty own few fits r ra q σ m gv = rw (pc) refl
+spent-shows K t left node i rs n o T (arg A M args) pi pc ps ty own few fits r ra q σ m gv =
+    rw (pc, ne-eqb (suc (count args)) 0 (omega arith))
+      (closing-hears K t left node i rs n o T (arg A M args) pi pc ps ty own few fits r ra q σ m gv)

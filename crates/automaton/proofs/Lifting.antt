@@ -66,7 +66,7 @@ module _ (K : Numbers) (t : List ℕ) (m : Record) (n : Context) (L M : Term) (F
   unfolding Shows mapAction riseOf
   lift (go x) o h = lift-next x o h
   lift (say y x) o h = lift-said y x o h
-  lift (hear l k) o (waits {node} {q} {x} a w b) = waits {node = node} {q = q} {x = x} a w (rw b refl)
+  lift (hear l k) o (waits {node} {q} {x} {c} a w b) = waits {node = node} {q = q} {x = x} {c = c} a w (rw b refl)
   lift (hear l k) o (leads i j d a b) =
       leads i j d a
       (subst (λ (x : Next (State n M) (ExitOf n)). ShowsNext n M vs x (riseOf K F o))
@@ -185,5 +185,5 @@ module _ (K : Numbers) (t : List ℕ) (m : Record) (n : Context) (X : Term) (vs 
   unfolding Shows riseOf
   same (go x) o h = same-next x o h
   same (say y x) o h = same-said y x o h
-  same (hear l k) o (waits {node} {q} {x} a w b) = waits {node = node} {q = q} {x = x} a w (rw b refl)
+  same (hear l k) o (waits {node} {q} {x} {c} a w b) = waits {node = node} {q = q} {x = x} {c = c} a w (rw b refl)
   same (hear l k) o (leads i j d a b) = leads i j d a (same-next (edge-hear l k (move (at i j) d)) o b)

@@ -22,13 +22,13 @@ unfolding argSpots
 spots-step t at j zero h = absurd (h refl)
 spots-step t at j (suc n) h = simp sub-one
 
-pub reply-step : (t : List ℕ) (id at j n k : ℕ) → (n ≡ 0 → ⊥) → replyOf t id at j n k ≡
+pub reply-step : (t : List ℕ) (id at j n k next : ℕ) → (n ≡ 0 → ⊥) → replyOf t id at j n k next ≡
   pick (leb (answersOf (partClass t at j) (partValues t at j)) k)
-  (replyOf t id at (sumOf j 1) (n - 1) (k - answersOf (partClass t at j) (partValues t at j)))
-  (replyHere id (partClass t at j) (partValues t at j) (sumOf j 1) k)
+  (replyOf t id at (sumOf j 1) (n - 1) (k - answersOf (partClass t at j) (partValues t at j)) next)
+  (replyHere id (partClass t at j) (partValues t at j) (sumOf j 1) k next)
 unfolding replyOf
-reply-step t id at j zero k h = absurd (h refl)
-reply-step t id at j (suc n) k h = simp sub-one
+reply-step t id at j zero k next h = absurd (h refl)
+reply-step t id at j (suc n) k next h = simp sub-one
 
 pub args-step : (t : List ℕ) (at j n k base after : ℕ) → (n ≡ 0 → ⊥) → inArgs t at j n k base after ≡
   pick (leb (copiesOf t at j) k)

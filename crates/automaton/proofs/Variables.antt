@@ -242,7 +242,7 @@ module _ (K : Numbers) (t : List ℕ) (m : Record) (n : Context) (k : ℕ) (z : 
   unfolding Shows mapAction riseOf
   lift-new (go x) o h = new-next x o h
   lift-new (say y x) o h = new-said y x o h
-  lift-new (hear l k) o (waits {node} {q} {x} a w b) = waits {node = node} {q = q} {x = x} a w (rw b refl)
+  lift-new (hear l k) o (waits {node} {q} {x} {c} a w b) = waits {node = node} {q = q} {x = x} {c = c} a w (rw b refl)
   lift-new (hear l k₁) o (leads i j d a b) =
       leads i j d a
       (subst (λ (x : Next (State n (new k z C)) (ExitOf n)). ShowsNext n (new k z C) vs x (riseOf K BlockFrame o))

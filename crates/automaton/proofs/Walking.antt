@@ -8,15 +8,17 @@ use mathlib.Core.Bool.{false}
 use borrow.Author.Tests.{lt-ltb, le-ltb, ne-eqb}
 use Rattle.language.specs.Ty.{Ty, Question}
 use Rattle.language.specs.Move.{question, answer, at, move}
-use Rattle.language.specs.Term.{Args, name}
-use Rattle.language.specs.Weight.{weightArgs}
+use Rattle.language.specs.Term.{Often, freely, once, onces, Args, name}
+use Rattle.language.specs.Weight.{useWeight, weightArgs}
+use Rattle.language.proofs.AskOnceLaws.{onces-below}
 use Rattle.language.specs.declared.Numbers.{Numbers}
 use Rattle.machine.specs.Action.{to, calling, Action, say, hear}
-use Rattle.machine.specs.Position.{Context, Store, Reply, types, start, wait, within, reply, Position, PositionArgs}
-use Rattle.machine.specs.Position.{State, Exit as ExitOf}
+use Rattle.machine.specs.Position.{Context, Store, Reply, types, Spent, start, wait, spent, within, reply, Position}
+use Rattle.machine.specs.Position.{PositionArgs, State, Exit as ExitOf}
 use Rattle.machine.specs.Numbered.{single, iso, sum, sum-code}
-use Rattle.machine.specs.Numbering.{numbered-replies, numbered-name, positions, weight-args, numbered, numberedArgs}
-use Rattle.machine.specs.Step.{listen, step, stepArgs}
+use Rattle.machine.specs.Numbering.{numbered-replies, numbered-name, positions, weight-args, numbered}
+use Rattle.machine.specs.Numbering.{numberedArgs}
+use Rattle.machine.specs.Step.{listen, again, closes, step, stepArgs}
 use Rattle.part_rows.specs.Row.{word}
 use Rattle.nodes.specs.Rep.{count, RepArgs}
 use Rattle.automaton.specs.declared.Move.{Move as Record}
@@ -24,18 +26,19 @@ use Rattle.automaton.specs.declared.Frame.{Frame}
 use Rattle.automaton.specs.declared.Out.{Out as Did}
 use Rattle.automaton.specs.declared.Out.the-variants.{Go, Say}
 use Rattle.automaton.specs.declared.Spot.the-variants.{Here, Inside}
-use Rattle.automaton.specs.walk.Row.{nameId, nameCount, sumOf, mulAddOf}
+use Rattle.automaton.specs.walk.Row.{nameId, nameCount, nameSpent, sumOf, mulAddOf}
 use Rattle.automaton.specs.walk.Store.{withValue, storeIn}
-use Rattle.automaton.specs.walk.Name.{framedOf, saidOf, argSpots, replyOf, inArgs, atWait, inName}
+use Rattle.automaton.specs.walk.Name.{framedOf, innerOf, againOf, saidOf, argSpots, replyOf, inArgs, atWait}
+use Rattle.automaton.specs.walk.Name.{atSpent, inName}
 use Rattle.automaton.specs.walk.Down.{operateIn, assignIn, inPrivate, downAs, downOf}
 use Rattle.automaton.specs.walk.Up.{riseOf}
 use Rattle.automaton.specs.walk.Step.{onSpot, stepAt}
 use Rattle.automaton.specs.walk.Shows.{kindQ, valueQ, kindA, valueA, moveOf, held, ShowsSaid, ShowsHeard}
 use Rattle.automaton.specs.walk.Shows.{Shows}
 use Rattle.automaton.proofs.Sums.{sum-small, quotient, remainder}
-use Rattle.automaton.proofs.Arguments.{named-code, spots-of, reply-of, within-code, reply-code, whole}
-use Rattle.automaton.proofs.Arguments.{ArgFound}
-use Rattle.automaton.proofs.Hearing.{valued-held}
+use Rattle.automaton.proofs.Arguments.{named-code, spent-code, again-code, spots-of, reply-of, within-code}
+use Rattle.automaton.proofs.Arguments.{reply-code, whole, ArgFound}
+use Rattle.automaton.proofs.Hearing.{valued-held, inner-of, again-of}
 
 -- the position is here
 pub walk-here : (K : Numbers) (t : List ℕ) (left node q x k : ℕ) (s : ℕ → ℕ) (m : Record) {o : Did} →
@@ -84,97 +87,117 @@ unfolding downAs inPrivate
 private-go t node q x s m kd = rw kd refl
 
 -- names
-module _ (K : Numbers) (t : List ℕ) (left node i : ℕ) (rs : List ℕ) (n : Context) (T : Ty) (args : Args) (kd : word t
-    node 0 ≡ 20)
-  (pi : nameId t node ≡ i) (pc : nameCount t node ≡ count args) (few : count args ≤ 4)
-  (fits : 2 + weightArgs args < 65536) (ra : RepArgs K t left node 0 rs n args) (q : Question) (σ : Store n) (s : ℕ → ℕ)
-  (m : Record) where
+module _ (K : Numbers) (t : List ℕ) (left node i : ℕ) (rs : List ℕ) (n : Context) (o : Often) (T : Ty) (args : Args)
+  (kd : word t node 0 ≡ 20) (pi : nameId t node ≡ i) (pc : nameCount t node ≡ count args)
+  (ps : nameSpent t node ≡ onces o) (few : count args ≤ 4) (fits : useWeight o + weightArgs args < 65536)
+  (ra : RepArgs K t left node 0 rs n args) (q : Question) (σ : Store n) (s : ℕ → ℕ) (m : Record) where
   all : argSpots t node 0 (count args) ≡ positions args
   all = spots-of ra (omega arith) (omega arith)
 
-  after : sumOf 2 (positions args) ≡ 2 + positions args
-  after = sum-small 2 (positions args) (omega (arith, weight-args args))
+  first : innerOf t node ≡ 2 + onces o
+  first = inner-of t node o ps
+
+  after : sumOf (2 + onces o) (positions args) ≡ 2 + onces o + positions args
+  after = sum-small (2 + onces o) (positions args) (omega (arith, weight-args args, onces-below o))
 
   at-args : (k : ℕ) → k < positions args →
-    downOf t node (kindQ q) (valueQ q) (2 + k) s m
-    ≡ inArgs t node 0 (count args) k 2 (2 + positions args)
+    downOf t node (kindQ q) (valueQ q) (2 + onces o + k) s m
+    ≡ inArgs t node 0 (count args) k (2 + onces o) (2 + onces o + positions args)
   unfolding downAs inName
   at-args k h =
-      let d : 2 + k - 2 ≡ k = omega arith in
-      rw (kd, ne-eqb (2 + k) 0 (omega arith), ne-eqb (2 + k) 1 (omega arith), pc, all, d,
-        lt-ltb k (positions args) h, after) refl
+      let d : 2 + onces o + k - (2 + onces o) ≡ k = omega arith in
+      rw (kd, ne-eqb (2 + onces o + k) 0 (omega arith), ne-eqb (2 + onces o + k) 1 (omega arith), first,
+        le-ltb (2 + onces o + k) (2 + onces o) (omega arith), pc, all, d, lt-ltb k (positions args) h, after) refl
 
   at-replies : (k : ℕ) →
-    downOf t node (kindQ q) (valueQ q) (2 + positions args + k) s m
-    ≡ Here (replyOf t i node 0 (count args) k)
+    downOf t node (kindQ q) (valueQ q) (2 + onces o + positions args + k) s m
+    ≡ Here (replyOf t i node 0 (count args) k (1 + onces o))
   unfolding downAs inName
   at-replies k =
-      let d : 2 + positions args + k - 2 ≡ positions args + k = omega arith in
+      let d : 2 + onces o + positions args + k - (2 + onces o) ≡ positions args + k = omega arith in
       let d′ : positions args + k - positions args ≡ k = omega arith in
-      rw (kd, ne-eqb (2 + positions args + k) 0 (omega arith), ne-eqb (2 + positions args + k) 1 (omega arith), pi,
-        pc, all, d, le-ltb (positions args + k) (positions args) (omega arith), d′) refl
+      rw (kd, ne-eqb (2 + onces o + positions args + k) 0 (omega arith),
+        ne-eqb (2 + onces o + positions args + k) 1 (omega arith), first,
+        le-ltb (2 + onces o + positions args + k) (2 + onces o) (omega arith), pi, pc, all, d,
+        le-ltb (positions args + k) (positions args) (omega arith), d′, again-of t node o ps) refl
 
-  abbrev Goal : Position (name i T args) → Action (State n (name i T args)) (ExitOf n) → Type 0
-  Goal p y = Shows K t n (name i T args) (held rs n σ) m y
-    (stepAt t K (suc left) node (kindQ q) (valueQ q) (numbered (name i T args) .code p) s m)
+  abbrev Goal : Position (name i o T args) → Action (State n (name i o T args)) (ExitOf n) → Type 0
+  Goal p y = Shows K t n (name i o T args) (held rs n σ) m y
+    (stepAt t K (suc left) node (kindQ q) (valueQ q) (numbered (name i o T args) .code p) s m)
 
-  move-to : (p : Position (name i T args)) (y : Action (State n (name i T args)) (ExitOf n)) (k : ℕ) →
-    k ≡ numbered (name i T args) .code p →
-    Shows K t n (name i T args) (held rs n σ) m y (stepAt t K (suc left) node (kindQ q) (valueQ q) k s m) →
+  move-to : (p : Position (name i o T args)) (y : Action (State n (name i o T args)) (ExitOf n)) (k : ℕ) →
+    k ≡ numbered (name i o T args) .code p →
+    Shows K t n (name i o T args) (held rs n σ) m y (stepAt t K (suc left) node (kindQ q) (valueQ q) k s m) →
     Goal p y
   move-to p y k e x =
-      subst (λ (j : ℕ). Shows K t n (name i T args) (held rs n σ) m y
+      subst (λ (j : ℕ). Shows K t n (name i o T args) (held rs n σ) m y
         (stepAt t K (suc left) node (kindQ q) (valueQ q) j s m)) e x
 
-  start-code : 0 ≡ numbered (name i T args) .code start
+  start-code : 0 ≡ numbered (name i o T args) .code start
   unfolding numbered-name iso sum sum-code single
-  start-code = sym (named-code i T args start)
+  start-code = sym (named-code i o T args start)
 
-  wait-code : 1 ≡ numbered (name i T args) .code wait
+  wait-code : 1 ≡ numbered (name i o T args) .code wait
   unfolding numbered-name iso sum sum-code single
-  wait-code = sym (named-code i T args wait)
+  wait-code = sym (named-code i o T args wait)
 
   pub name-start : Goal start (say (move (at i 0) (question q)) (to (σ, wait)))
   unfolding downAs inName Shows ShowsSaid moveOf
   name-start =
       move-to start (say (move (at i 0) (question q)) (to (σ, wait))) 0 start-code
-      (rw (walk-here K t left node (kindQ q) (valueQ q) 0 s m {o = saidOf (kindQ q) i 0 (valueQ q)}
+      (rw (walk-here K t left node (kindQ q) (valueQ q) 0 s m {o = saidOf (kindQ q) i 0 (valueQ q) 1}
           (rw (kd, pi) refl))
         (ap (λ (j : ℕ). Say (record { kind = kindQ q; id = i; arg = 0; value = valueQ q }) j) wait-code, valued-held
             rs n σ))
 
   pub name-wait :
-    ShowsHeard K t n (name i T args) (held rs n σ) m (calling i (types args) T q) (listen i T args n q σ)
-      (atWait t node (kindQ q) (valueQ q) m) →
-    Goal wait (hear (calling i (types args) T q) (listen i T args n q σ))
+    ShowsHeard K t n (name i o T args) (held rs n σ) m (calling i (types args) T q) (listen i o T args n q σ)
+      (atWait t node (kindQ q) (valueQ q) (nameCount t node) m) →
+    Goal wait (hear (calling i (types args) T q) (listen i o T args n q σ))
   unfolding downAs inName Shows
   name-wait x =
-      move-to wait (hear (calling i (types args) T q) (listen i T args n q σ)) 1 wait-code
-      (rw (walk-here K t left node (kindQ q) (valueQ q) 1 s m {o = atWait t node (kindQ q) (valueQ q) m}
-          (rw kd refl)) x)
+      move-to wait (hear (calling i (types args) T q) (listen i o T args n q σ)) 1 wait-code
+      (rw (walk-here K t left node (kindQ q) (valueQ q) 1 s m
+          {o = atWait t node (kindQ q) (valueQ q) (nameCount t node) m} (rw kd refl)) x)
 
   pub name-reply : (r : Reply (types args)) →
-    Goal (reply r) (say (move (at i (suc (r .0))) (answer (r .2))) (to (σ, wait)))
+    Goal (reply r) (say (move (at i (suc (r .0))) (answer (r .2))) (to (σ, again o)))
   unfolding Shows ShowsSaid moveOf
   name-reply r =
-      move-to (reply r) (say (move (at i (suc (r .0))) (answer (r .2))) (to (σ, wait)))
-      (2 + positions args + numbered-replies (types args) .code r) (reply-code i T args r)
-      (rw (walk-here K t left node (kindQ q) (valueQ q) (2 + positions args + numbered-replies (types args) .code r) s
-          m {o = saidOf (kindA (r .2)) i (suc (0 + r .0)) (valueA (r .2))}
+      move-to (reply r) (say (move (at i (suc (r .0))) (answer (r .2))) (to (σ, again o)))
+      (2 + onces o + positions args + numbered-replies (types args) .code r) (reply-code i o T args r)
+      (rw (walk-here K t left node (kindQ q) (valueQ q)
+          (2 + onces o + positions args + numbered-replies (types args) .code r) s
+          m {o = saidOf (kindA (r .2)) i (suc (0 + r .0)) (valueA (r .2)) (1 + onces o)}
           (at-replies (numbered-replies (types args) .code r)
-            ∙ ap (λ (o : Did). Here o) (reply-of ra (omega arith) (omega arith) i r)))
+            ∙ ap (λ (d : Did). Here d) (reply-of ra (omega arith) (omega arith) i r (1 + onces o))))
         (ap₂ (λ (a k : ℕ). Say (record { kind =
             kindA (r .2); id = i; arg = a; value = valueA (r .2) }) k) (omega arith)
-          wait-code, valued-held rs n σ))
+          (again-code i o T args), valued-held rs n σ))
 
   pub name-within : (p : PositionArgs args) →
-    ArgFound K t left node 0 2 (2 + positions args) rs n args σ s m p →
-    Goal (within p) (step (name i T args) n q σ (within p))
+    ArgFound K t left node 0 (2 + onces o) (2 + onces o + positions args) rs n args σ s m p →
+    Goal (within p) (step (name i o T args) n q σ (within p))
   unfolding step
   name-within p x =
-      move-to (within p) (step (name i T args) n q σ (within p)) (2 + numberedArgs args .code p)
-      (within-code i T args p)
-      (rw (walk-in K t left node (kindQ q) (valueQ q) (2 + numberedArgs args .code p) s m {part = x .part}
+      move-to (within p) (step (name i o T args) n q σ (within p)) (2 + onces o + numberedArgs args .code p)
+      (within-code i o T args p)
+      (rw (walk-in K t left node (kindQ q) (valueQ q) (2 + onces o + numberedArgs args .code p) s m {part = x .part}
           {kind = x .kind} {value = x .value} {inner = x .inner} {F = x .frame}
           (at-args (numberedArgs args .code p) (numberedArgs args .bound p) ∙ x .down) (x .plain))
-        (whole K t m n i T args (held rs n σ) (stepArgs args n σ p) _ (x .shows)))
+        (whole K t m n i o T args (held rs n σ) (stepArgs args n σ p) _ (x .shows)))
+
+-- the second wait of a name that asks once
+pub name-spent : (K : Numbers) (t : List ℕ) (left node i : ℕ) (rs : List ℕ) (n : Context) (o : Often) (T : Ty)
+  (args : Args) → word t node 0 ≡ 20 → nameSpent t node ≡ onces o → (q : Question) (σ : Store n) (s : ℕ → ℕ)
+  (m : Record) (x : Spent o) →
+  Shows K t n (name i o T args) (held rs n σ) m (closes i T args n q σ) (atSpent t node (kindQ q) (valueQ q) m) →
+  Shows K t n (name i o T args) (held rs n σ) m (closes i T args n q σ)
+    (stepAt t K (suc left) node (kindQ q) (valueQ q) (numbered (name i o T args) .code (spent x)) s m)
+unfolding downAs inName onces
+name-spent K t left node i rs n freely T args kd ps q σ s m x h = absurd x
+name-spent K t left node i rs n once T args kd ps q σ s m tt h =
+    subst (λ (j : ℕ). Shows K t n (name i once T args) (held rs n σ) m (closes i T args n q σ)
+        (stepAt t K (suc left) node (kindQ q) (valueQ q) j s m)) (spent-code i T args)
+      (rw (walk-here K t left node (kindQ q) (valueQ q) 2 s m {o = atSpent t node (kindQ q) (valueQ q) m}
+        (rw (kd, inner-of t node once ps) refl)) h)

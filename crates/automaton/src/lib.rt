@@ -27,8 +27,8 @@ pub struct Move {
 }
 
 // What is done at a position: a silent step, an exit with an answer, a move that the term says, a wait in which it
-// hears the moves of the name at a place, or nothing. A block is 0 where no private variable is written, else 1 more
-// than the row of the variable's new.
+// hears the moves of the name at a place, whose first `count` arguments may be asked, or nothing. A block is 0 where no
+// private variable is written, else 1 more than the row of the variable's new.
 pub enum Out {
     Go {
         next: usize,
@@ -49,6 +49,7 @@ pub enum Out {
         at: usize,
         kind: usize,
         value: usize,
+        count: usize,
     },
     Stuck,
 }

@@ -1,5 +1,5 @@
-// Names: their positions are the question to them, the wait for their moves, the positions of their arguments, a
-// copy for each question, and the replies of their arguments.
+// Names: their positions are the question to them, the wait for their moves, of a name that asks once the wait for its
+// answer alone, the positions of their arguments, a copy for each question, and the replies of their arguments.
 use crate::Frame;
 use crate::Move;
 use crate::Out;
@@ -13,6 +13,7 @@ use crate::row::cell;
 use crate::row::mul_add;
 use crate::row::name_count;
 use crate::row::name_id;
+use crate::row::name_spent;
 use crate::row::part_at;
 use crate::row::part_class;
 use crate::row::part_values;
@@ -30,18 +31,33 @@ use part_rows::row::VALUES;
 ghost use mathlib.Core.Path.{_≡_};
 ghost use Rattle.automaton.specs.walk.Name.{saidOf, framedOf, copiesOf, argSpots, replyHere, replyOf, argHere};
 ghost use Rattle.automaton.specs.walk.Name.{inArgs, hearAnswer, hearQuestion, listenOf, atWait, inName};
-ghost use Rattle.automaton.specs.walk.Name.{noMove};
+ghost use Rattle.automaton.specs.walk.Name.{noMove, innerOf, againOf, spentOf};
 
-// The first positions of a name: its question is put, its moves are waited for, its arguments begin.
+// The first positions of a name: its question is put, its moves are waited for; where it has no second wait, its
+// arguments begin.
 const CALL: usize = 0;
 
 const WAIT: usize = 1;
 
 const INNER: usize = 2;
 
-// A move is said, and the name waits.
-pub fn said(kind: usize, id: usize, arg: usize, value: usize) -> Out
-    ensures { λ r. ⌜ r ≡ saidOf kind id arg value ⌝ }
+// Where the arguments of a name begin.
+pub(crate) fn inner(t: &[u16], at: usize) -> usize
+    ensures { λ r. ⌜ r ≡ innerOf (now (t .entry)) at ⌝ }
+{
+    sum(INNER, name_spent(t, at))
+}
+
+// Where a name waits after the answer of an argument.
+pub(crate) fn after(t: &[u16], at: usize) -> usize
+    ensures { λ r. ⌜ r ≡ againOf (now (t .entry)) at ⌝ }
+{
+    sum(WAIT, name_spent(t, at))
+}
+
+// A move is said, and the name waits at a position.
+pub fn said(kind: usize, id: usize, arg: usize, value: usize, next: usize) -> Out
+    ensures { λ r. ⌜ r ≡ saidOf kind id arg value next ⌝ }
 {
     let said = Move {
         kind,
@@ -49,7 +65,7 @@ pub fn said(kind: usize, id: usize, arg: usize, value: usize) -> Out
         arg,
         value,
     };
-    Out::Say { said, next: WAIT }
+    Out::Say { said, next }
 }
 
 // A frame.
@@ -88,22 +104,37 @@ pub(crate) fn spots(t: &[u16], at: usize, j: usize, n: usize) -> usize
     sum(here, spots(t, at, sum(j, 1), n - 1))
 }
 
-// The answer of number k of an argument.
-pub(crate) fn reply_here(id: usize, class: usize, values: usize, arg: usize, k: usize) -> Out
-    ensures { λ r. ⌜ r ≡ replyHere id class values arg k ⌝ }
+// The answer of number k of an argument, after which the name waits at the position `next`.
+pub(crate) fn reply_here(
+    id: usize,
+    class: usize,
+    values: usize,
+    arg: usize,
+    k: usize,
+    next: usize,
+) -> Out
+    ensures { λ r. ⌜ r ≡ replyHere id class values arg k next ⌝ }
 {
     if class == COMMAND {
-        return said(DONE, id, arg, 0);
+        return said(DONE, id, arg, 0, next);
     }
     if values <= k {
-        return said(OK, id, arg, 0);
+        return said(OK, id, arg, 0, next);
     }
-    said(VALUE, id, arg, k)
+    said(VALUE, id, arg, k, next)
 }
 
 // Reply k of n arguments from argument j on.
-pub(crate) fn reply(t: &[u16], id: usize, at: usize, j: usize, n: usize, k: usize) -> Out
-    ensures { λ r. ⌜ r ≡ replyOf (now (t .entry)) id at j n k ⌝ }
+pub(crate) fn reply(
+    t: &[u16],
+    id: usize,
+    at: usize,
+    j: usize,
+    n: usize,
+    k: usize,
+    next: usize,
+) -> Out
+    ensures { λ r. ⌜ r ≡ replyOf (now (t .entry)) id at j n k next ⌝ }
 {
     if n == 0 {
         return Out::Stuck;
@@ -112,9 +143,9 @@ pub(crate) fn reply(t: &[u16], id: usize, at: usize, j: usize, n: usize, k: usiz
     let values = part_values(t, at, j);
     let w = answers(class, values);
     if w <= k {
-        return reply(t, id, at, sum(j, 1), n - 1, k - w);
+        return reply(t, id, at, sum(j, 1), n - 1, k - w, next);
     }
-    reply_here(id, class, values, sum(j, 1), k)
+    reply_here(id, class, values, sum(j, 1), k, next)
 }
 
 // Position k of an argument, whose positions begin at base and whose replies at after.
@@ -203,18 +234,18 @@ pub fn hear_answer(t: &[u16], at: usize, q: usize, x: usize, m: Move) -> Out
     }
 }
 
-// A move at argument j: a question enters its copy of the argument.
-pub(crate) fn hear_question(t: &[u16], at: usize, j: usize, m: Move) -> Out
-    ensures { λ r. ⌜ r ≡ hearQuestion (now (t .entry)) at j m ⌝ }
+// A move at argument j, where the first n may be asked: a question enters its copy of the argument.
+pub(crate) fn hear_question(t: &[u16], at: usize, n: usize, j: usize, m: Move) -> Out
+    ensures { λ r. ⌜ r ≡ hearQuestion (now (t .entry)) at n j m ⌝ }
 {
-    if name_count(t, at) <= j {
+    if n <= j {
         return Out::Stuck;
     }
     let i = question_number(part_class(t, at, j), part_values(t, at, j), m.kind, m.value);
     if i == 0 {
         return Out::Stuck;
     }
-    let base = sum(INNER, spots(t, at, 0, j));
+    let base = sum(inner(t, at), spots(t, at, 0, j));
     let next = mul_add(i - 1, part_weight(t, at, j), base);
     Out::Go {
         next,
@@ -223,9 +254,9 @@ pub(crate) fn hear_question(t: &[u16], at: usize, j: usize, m: Move) -> Out
     }
 }
 
-// What follows a move at a name that waits.
-pub(crate) fn listen(t: &[u16], at: usize, q: usize, x: usize, m: Move) -> Out
-    ensures { λ r. ⌜ r ≡ listenOf (now (t .entry)) at q x m ⌝ }
+// What follows a move at a name that waits, whose first n arguments may be asked.
+pub(crate) fn listen(t: &[u16], at: usize, q: usize, x: usize, n: usize, m: Move) -> Out
+    ensures { λ r. ⌜ r ≡ listenOf (now (t .entry)) at q x n m ⌝ }
 {
     if m.id != name_id(t, at) {
         return Out::Stuck;
@@ -234,21 +265,37 @@ pub(crate) fn listen(t: &[u16], at: usize, q: usize, x: usize, m: Move) -> Out
     if arg == 0 {
         return hear_answer(t, at, q, x, m);
     }
-    hear_question(t, at, arg - 1, m)
+    hear_question(t, at, n, arg - 1, m)
 }
 
 // A name that waits: for a move, or what follows the move that is given.
-pub fn waiting(t: &[u16], at: usize, q: usize, x: usize, m: Move) -> Out
-    ensures { λ r. ⌜ r ≡ atWait (now (t .entry)) at q x m ⌝ }
+pub fn waiting(t: &[u16], at: usize, q: usize, x: usize, n: usize, m: Move) -> Out
+    ensures { λ r. ⌜ r ≡ atWait (now (t .entry)) at q x n m ⌝ }
 {
     if m.kind == NO_MOVE {
         return Out::Hear {
             at,
             kind: q,
             value: x,
+            count: n,
         };
     }
-    listen(t, at, q, x, m)
+    listen(t, at, q, x, n, m)
+}
+
+// The second wait of a name with n arguments: without any it never comes there.
+fn spent(at: usize, q: usize, x: usize, n: usize) -> Out
+    ensures { λ r. ⌜ r ≡ spentOf at q x n ⌝ }
+{
+    if n == 0 {
+        return Out::Stuck;
+    }
+    Out::Hear {
+        at,
+        kind: q,
+        value: x,
+        count: 0,
+    }
 }
 
 // The same spot, put together anew. A spot that is handed on as another function gave it lies in memory on every way to
@@ -281,24 +328,31 @@ pub(crate) fn in_name(t: &[u16], at: usize, q: usize, x: usize, k: usize) -> Spo
     let id = name_id(t, at);
     if k == CALL {
         return Spot::Here {
-            out: said(q, id, 0, x),
+            out: said(q, id, 0, x, WAIT),
         };
     }
+    let n = name_count(t, at);
     if k == WAIT {
         return Spot::Here {
             out: Out::Hear {
                 at,
                 kind: q,
                 value: x,
+                count: n,
             },
         };
     }
-    let n = name_count(t, at);
+    let first = inner(t, at);
+    if k < first {
+        return Spot::Here {
+            out: spent(at, q, x, n),
+        };
+    }
     let all = spots(t, at, 0, n);
-    if k - INNER < all {
-        return again(in_args(t, at, 0, n, k - INNER, INNER, sum(INNER, all)));
+    if k - first < all {
+        return again(in_args(t, at, 0, n, k - first, first, sum(first, all)));
     }
     Spot::Here {
-        out: reply(t, id, at, 0, n, k - INNER - all),
+        out: reply(t, id, at, 0, n, k - first - all, after(t, at)),
     }
 }

@@ -8,10 +8,17 @@ use part_rows::row::WORDS;
 ghost use mathlib.Core.Path.{_≡_};
 ghost use Prim.Native.Nat.{_+_};
 ghost use Rattle.part_rows.specs.Row.{word};
-ghost use Rattle.automaton.specs.walk.Row.{partWeight, partClass, partValues, nameId, nameCount, sumOf, mulAddOf};
+ghost use Rattle.automaton.specs.walk.Row.{partWeight, partClass, partValues, nameId, nameCount, nameSpent};
+ghost use Rattle.automaton.specs.walk.Row.{sumOf, mulAddOf};
 
-// The detail of a name is its id and this many times the number of its arguments.
+// The detail of a name is its id and this many times the number of its arguments, which is below COUNTS; where the name
+// asks once, it has ONCE besides.
 const IDS: usize = 256;
+
+const COUNTS: usize = 8;
+
+const ONCE: usize = 2048;
+
 // Numbers below this are added without becoming too large, and those below its root are multiplied.
 const TOO_LARGE: usize = 4294967296;
 
@@ -79,7 +86,14 @@ pub fn name_id(t: &[u16], at: usize) -> usize
 pub fn name_count(t: &[u16], at: usize) -> usize
     ensures { λ r. ⌜ r ≡ nameCount (now (t .entry)) at ⌝ }
 {
-    cell(t, at, DETAIL) / IDS
+    cell(t, at, DETAIL) / IDS % COUNTS
+}
+
+// How many second waits a name has: one where it asks once.
+pub fn name_spent(t: &[u16], at: usize) -> usize
+    ensures { λ r. ⌜ r ≡ nameSpent (now (t .entry)) at ⌝ }
+{
+    cell(t, at, DETAIL) / ONCE
 }
 
 // a + b, and 0 where one of them is too large.

@@ -15,6 +15,7 @@ pub mod PlayOrder
 pub mod Unique
 pub mod Listing
 pub mod Search
+pub mod AskOnce
 pub mod Worked
 pub mod Table
 pub mod WalkingPlays

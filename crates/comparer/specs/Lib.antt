@@ -1,4 +1,5 @@
 pub mod Plays
+pub mod AskOnce
 pub mod Refusals
 pub mod Promise
 pub mod Demands

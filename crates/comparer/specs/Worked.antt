@@ -1,5 +1,5 @@
 -- The sheets worked through: document 01, "Sheets worked through", the rows marked • as one table, with a single
--- claim over all its rows. SHEETS 12.
+-- claim over all its rows; and what document 02, [5], says of the tenth. SHEETS 12.
 use mathlib.Core.Path.{_≡_}
 use mathlib.Core.List.{List, [], _∷_, _++_}
 use Prim.Native.Nat.{ℕ}
@@ -101,3 +101,14 @@ table =
 -- the claim: every row of the table holds
 abbrev pub AllWorked : Type 0
 AllWorked = Every table
+
+-- document 02, [5]: "With f so declared and Z = 1, rule 0, the tenth row of 01's table becomes "same"": f of kind 3
+abbrev with-f-once : List ℕ
+with-f-once = 1 ∷ 0 ∷ 3 ∷ 7 ∷ 0 ∷ 1 ∷ 0 ∷ 255 ∷ 255 ∷ 255 ∷ []
+
+abbrev pub once-table : List TableRow
+once-table = row with-f-once (27 ∷ 1 ∷ 2 ∷ counts) (20 ∷ 7 ∷ 16 ∷ []) 48 8 same ∷ []
+
+-- the claim: that row holds
+abbrev pub OnceWorked : Type 0
+OnceWorked = Every once-table

@@ -11,6 +11,7 @@ use borrow.Author.Tests.{lt-ltb, ltb-true}
 use Rattle.language.specs.Choice.{pick}
 use Rattle.language.specs.Ty.{Ty}
 use Rattle.language.specs.declared.Numbers.{Numbers}
+use Rattle.language.specs.Term.{Often}
 use Rattle.procedures.specs.Written.{Name, declare, retire, Sheet}
 use Rattle.procedures.specs.Meaning.{Meaning, named, declared, useType, meaning, tyOf, termOf, typeOf}
 use Rattle.procedures.specs.Fine.{FineNames, Accepted}
@@ -48,25 +49,25 @@ first-below m R i x e = by-test (ltb i m)
     (λ t. let h = rw t at e in let z : _≡_ {A = ℕ} 0 1 = cc in absurd (omega arith))
 
 -- what the name records of an accepted sheet declare
-few-types : (earlier ns : List Name) → FineNames earlier ns → (i ty : ℕ) (tys : List ℕ) → declared ns i ≡ named ty tys →
-    (ty < 5) × (length tys ≤ 4)
+few-types : (earlier ns : List Name) → FineNames earlier ns → (i ty : ℕ) (often : Often) (tys : List ℕ) →
+    declared ns i ≡ named often ty tys → (ty < 5) × (length tys ≤ 4)
 unfolding FineNames declared
-few-types earlier [] f i ty tys e = let z : _≡_ {A = ℕ} 0 1 = cc in absurd (omega arith)
-few-types earlier (declare k t ts ∷ ns) f i ty tys e = by-test (eqb k i)
-    (λ q. let h : named t ts ≡ named ty tys = rw q at e in
+few-types earlier [] f i ty often tys e = let z : _≡_ {A = ℕ} 0 1 = cc in absurd (omega arith)
+few-types earlier (declare o k t ts ∷ ns) f i ty often tys e = by-test (eqb k i)
+    (λ q. let h : named o t ts ≡ named often ty tys = rw q at e in
       let a : t ≡ ty = cc in
       let b : ts ≡ tys = cc in
       (omega (arith, f .2), omega (arith, f .3, ap length b)))
-    (λ q. few-types (declare k t ts ∷ earlier) ns (f .5) i ty tys (rw q at e))
-few-types earlier (retire k ∷ ns) f i ty tys e = by-test (eqb k i)
+    (λ q. few-types (declare o k t ts ∷ earlier) ns (f .5) i ty often tys (rw q at e))
+few-types earlier (retire k ∷ ns) f i ty often tys e = by-test (eqb k i)
     (λ q. let h = rw q at e in let z : _≡_ {A = ℕ} 0 1 = cc in absurd (omega arith))
-    (λ q. few-types (retire k ∷ earlier) ns (f .2) i ty tys (rw q at e))
+    (λ q. few-types (retire k ∷ earlier) ns (f .2) i ty often tys (rw q at e))
 
 five-types : (earlier ns : List Name) → FineNames earlier ns → (i : ℕ) → useType (declared ns i) < 5
 unfolding FineNames declared useType
 five-types earlier [] f i = omega arith
-five-types earlier (declare k t ts ∷ ns) f i = by-test (eqb k i)
-    (λ q. rw q (f .2)) (λ q. rw q (five-types (declare k t ts ∷ earlier) ns (f .5) i))
+five-types earlier (declare o k t ts ∷ ns) f i = by-test (eqb k i)
+    (λ q. rw q (f .2)) (λ q. rw q (five-types (declare o k t ts ∷ earlier) ns (f .5) i))
 five-types earlier (retire k ∷ ns) f i = by-test (eqb k i)
     (λ q. rw q (omega arith)) (λ q. rw q (five-types (retire k ∷ earlier) ns (f .2) i))
 
@@ -90,8 +91,8 @@ module _ (S : Sheet) (A : Accepted S) (u : List ℕ) (r m : ℕ)
 
   unfoldable covers : RowTyped N (S .names) u r (typeOf S) × Covered N (S .names) u 0 m
   unfolding typeOf binders TypedIn Blocks meaning IsParameter
-  covers = cover N (S .names) u (λ i ty tys e. few-types [] (S .names) (A .fine-names) i ty tys e .1) x lo (A .fine-term)
-      tt (five-types [] (S .names) (A .fine-names)) tt (λ s z l. absurd z) few
+  covers = cover N (S .names) u (λ i ty often tys e. few-types [] (S .names) (A .fine-names) i ty often tys e .1) x lo
+      (A .fine-term) tt (five-types [] (S .names) (A .fine-names)) tt (λ s z l. absurd z) few
 
   all : AllWorded N u (firstOf m R)
   all i y e =

@@ -14,6 +14,8 @@ use Rattle.language.specs.Term.{Term, Args, Operation}
 use Rattle.language.specs.Typing.{Scope, here, there, operands, results}
 use Rattle.language.specs.Weight.{weight, weightArgs}
 use Rattle.language.specs.declared.Numbers.{Numbers}
+use Rattle.language.specs.Term.{Often, onces}
+use Rattle.language.specs.Weight.{useWeight}
 use Rattle.procedures.specs.Held.{held}
 use Rattle.procedures.specs.Nodes.{deep, deepArgs}
 use Rattle.procedures.specs.Shared as s
@@ -208,15 +210,16 @@ module _ (N : Numbers) (u : List ℕ) (left r : ℕ) (p k : List ℕ) where
         (subst (λ c. n.Rep N u left c (r ∷ p) (m ∷ k) C command) (sym ea) x)
 
   -- the arguments of a name
-  row-name : {i : ℕ} {S T : Ty} {xs : Parts} {args : Args} → Worded N u r (s.name i S xs) T → 2 + weightArgs args ≤ 4096 →
+  row-name : {i : ℕ} {o : Often} {S T : Ty} {xs : Parts} {args : Args} → Worded N u r (s.name i o S xs) T →
+      useWeight o + weightArgs args ≤ 4096 →
       count args ≡ counted xs →
       (Arguments u r 0 xs → RepArgs N u left r 0 p k args × (argumentWeights u xs ≡ weightArgs args)) →
-      Whole (t.name i S args) T
+      Whole (t.name i o S args) T
   unfolding weight
-  row-name {i} {S} {xs = xs} {args} (of-name w l e c z) le q f =
+  row-name {i} {o} {S} {xs = xs} {args} (of-name w l e c z) le q f =
       let y = f z in
-      r-name (row (t.name i S args) w (ap (λ v. 2 + v) (sym (y .1))) le) l
-        (e ∙ ap (λ v. i + 256 * v) (sym q)) (omega (arith, q, c)) (y .0)
+      r-name (row (t.name i o S args) w (ap (λ v. useWeight o + v) (sym (y .1))) le) l
+        (e ∙ ap (λ v. i + 256 * (v + 8 * onces o)) (sym q)) (omega (arith, q, c)) (y .0)
 
 -- THEOREM: rows that represent a term, and are so in words, represent it for the automaton
 module _ (N : Numbers) (u : List ℕ) (R : ℕ → Option Row) (all : AllWorded N u R) where
@@ -258,8 +261,8 @@ module _ (N : Numbers) (u : List ℕ) (R : ℕ → Option Row) (all : AllWorded 
     bridge {p} {r} (rep-private {v = b} e x) k v (suc left) d l T h =
         row-private N u left r p k (worded r (s.private b) e T h) x v
     bridge {p} {r} (rep-name e x) k v zero d l T h = absurd (omega arith)
-    bridge {p} {r} (rep-name {i = i} {T = S} {xs = xs} e x) k v (suc left) d l T h =
-        row-name N u left r p k (worded r (s.name i S xs) e T h) l (as-many R Fresh x)
+    bridge {p} {r} (rep-name {i = i} {o = o} {T = S} {xs = xs} e x) k v (suc left) d l T h =
+        row-name N u left r p k (worded r (s.name i o S xs) e T h) l (as-many R Fresh x)
           (λ z. bridges x r 0 k v left (omega arith) (omega arith) z)
     bridge {p} {r} (rep-fetch e x) k v zero d l T h = absurd (omega arith)
     bridge {p} {r} (rep-fetch {a = a} e x) k v (suc left) d l T h =

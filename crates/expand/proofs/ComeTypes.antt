@@ -111,7 +111,7 @@ module _ (N : Numbers) (ns : List Name) where
   Right bs κ (argument k ty) = ty ≡ typeAt bs k
   Right bs κ (routine k ty tys) =
       (t : ℕ) → κ k ≡ suc t → ty ≡ beyond k (typeAt bs) (λ j. getD tys j 0) t
-  Right bs κ (named ty tys) = Unit
+  Right bs κ (named often ty tys) = Unit
   Right bs κ retired = Unit
   Right bs κ free = Unit
 
@@ -126,7 +126,7 @@ module _ (N : Numbers) (ns : List Name) where
       h t (sym (g k b) ∙ e) ∙ by-test (ltb t k)
         (λ l. rw l (sym (f t (omega (arith, ltb-true t k l)))))
         (λ l. rw l refl)
-  right-more bs cs κ μ n (named ty tys) f g b h = tt
+  right-more bs cs κ μ n (named often ty tys) f g b h = tt
   right-more bs cs κ μ n retired f g b h = tt
   right-more bs cs κ μ n free f g b h = tt
 
@@ -143,7 +143,7 @@ module _ (N : Numbers) (ns : List Name) where
 
   comes-right : (Γ : Context) → ComesTyped Γ → (id : ℕ) → Right (binders Γ) (downs ns Γ) (meaning ns (binders Γ) id)
   unfolding ComesTyped Right binders downs after meant meaning typeAt
-  comes-right whole c id = all-declared (Right [] (λ k. 0)) ns id (λ ty tys. tt) tt tt
+  comes-right whole c id = all-declared (Right [] (λ k. 0)) ns id (λ often ty tys. tt) tt tt
   comes-right (in-block i d Γ) c id =
       one-more-binder (Right (a-block i d ∷ binders Γ) (downs ns Γ)) ns (a-block i d) (binders Γ) tt
         (λ j b. right-more (binders Γ) (a-block i d ∷ binders Γ) (downs ns Γ) (downs ns Γ) (length (binders Γ))
@@ -170,7 +170,7 @@ module _ (N : Numbers) (ns : List Name) where
       ((tys : List ℕ) → FineArgs N ns (binders Γ) ws tys → (j : ℕ) →
         comes ns (binders Γ) (downs ns Γ) ws j ≡ suc s → getD tys j 0 ≡ typeAt (binders Γ) s) →
       byMeaning m 0 (λ k. 0) (λ k. suc k)
-        (λ k. through k (downs ns Γ k) (λ j. comes ns (binders Γ) (downs ns Γ) ws j)) (λ ty tys. 0) ≡ suc s →
+        (λ k. through k (downs ns Γ k) (λ j. comes ns (binders Γ) (downs ns Γ) ws j)) (λ often ty tys. 0) ≡ suc s →
       useType m ≡ typeAt (binders Γ) s
   unfolding byMeaning Right FineUse useType
   of-meaning Γ ws s (private k d) h f g e = absurd (omega arith)
@@ -178,7 +178,7 @@ module _ (N : Numbers) (ns : List Name) where
   of-meaning Γ ws s (routine k ty tys) h f g e =
       through-typed (typeAt (binders Γ)) tys (λ j. comes ns (binders Γ) (downs ns Γ) ws j) k s ty (downs ns Γ k) h
         (λ j i. g tys f j i) e
-  of-meaning Γ ws s (named ty tys) h f g e = absurd (omega arith)
+  of-meaning Γ ws s (named often ty tys) h f g e = absurd (omega arith)
   of-meaning Γ ws s retired h f g e = absurd (omega arith)
   of-meaning Γ ws s free h f g e = absurd (omega arith)
 

@@ -15,6 +15,8 @@ use Rattle.language.specs.Ty.{Ty, command, expression, variable, questions, ans
 use Rattle.language.specs.Term.{Operation}
 use Rattle.language.specs.Typing.{operands, results}
 use Rattle.language.specs.declared.Numbers.{Numbers}
+use Rattle.language.specs.Term.{Often, onces}
+use Rattle.language.specs.Weight.{useWeight}
 use Rattle.parts.specs.Rule.{values, operandType, resultType}
 use Rattle.part_rows.specs.Row.{classOf}
 use Rattle.procedures.specs.Environment.{beyond}
@@ -176,7 +178,7 @@ module _ (N : Numbers) (ns : List Name) (u : List ℕ) where
   Meant Γ β (argument k ty) = Unit
   Meant Γ β (routine k ty tys) = (Δ : Context) (ps : List Parameter) (body : Written) → Sees Γ Δ ps body →
       length (binders Δ) ≡ k → (typed ns (inside ps (binders Δ)) body ≡ ty) × (typesOf ps ≡ tys)
-  Meant Γ β (named ty tys) = Unit
+  Meant Γ β (named often ty tys) = Unit
   Meant Γ β retired = Unit
   Meant Γ β free = Unit
 
@@ -190,7 +192,7 @@ module _ (N : Numbers) (ns : List Name) (u : List ℕ) where
       go : (Δ : Context) (ps : List Parameter) (body : Written) → Sees (in-block i d Γ) Δ ps body →
         length (binders Δ) ≡ k → (typed ns (inside ps (binders Δ)) body ≡ ty) × (typesOf ps ≡ tys)
       go Δ ps body (from-block x) e = h Δ ps body x e
-  meant-block i d Γ β (named ty tys) h = tt
+  meant-block i d Γ β (named often ty tys) h = tt
   meant-block i d Γ β retired h = tt
   meant-block i d Γ β free h = tt
 
@@ -204,7 +206,7 @@ module _ (N : Numbers) (ns : List Name) (u : List ℕ) where
       go : (Δ : Context) (ps : List Parameter) (body : Written) → Sees (in-procedure qs Γ) Δ ps body →
         length (binders Δ) ≡ k → (typed ns (inside ps (binders Δ)) body ≡ ty) × (typesOf ps ≡ tys)
       go Δ ps body (from-procedure x) e = h Δ ps body x e
-  meant-procedure qs Γ β (named ty tys) h = tt
+  meant-procedure qs Γ β (named often ty tys) h = tt
   meant-procedure qs Γ β retired h = tt
   meant-procedure qs Γ β free h = tt
 
@@ -219,13 +221,13 @@ module _ (N : Numbers) (ns : List Name) (u : List ℕ) where
         length (binders Δ) ≡ k → (typed ns (inside ps (binders Δ)) body ≡ ty) × (typesOf ps ≡ tys)
       go Δ ps body sees-it e = absurd (omega arith)
       go Δ ps body (from-scope x) e = h Δ ps body x e
-  meant-scope i t qs b Γ β (named ty tys) l h = tt
+  meant-scope i t qs b Γ β (named often ty tys) l h = tt
   meant-scope i t qs b Γ β retired l h = tt
   meant-scope i t qs b Γ β free l h = tt
 
   meant-right : (Γ : Context) (β : ℕ → ℕ) → TypedIn Γ → Blocks Γ β → (id : ℕ) → Meant Γ β (meaning ns (binders Γ) id)
   unfolding TypedIn Blocks Meant binders after meaning meant
-  meant-right whole β t b id = all-declared (Meant whole β) ns id (λ ty tys. tt) tt tt
+  meant-right whole β t b id = all-declared (Meant whole β) ns id (λ often ty tys. tt) tt tt
   meant-right (in-block i d Γ) β t b id =
       one-more-binder (Meant (in-block i d Γ) β) ns (a-block i d) (binders Γ) (b .0, b .1, b .2)
         (λ j l. meant-block i d Γ β (meaning ns (binders Γ) j) (meant-right Γ β t (b .3) j)) id
@@ -423,22 +425,24 @@ module _ (N : Numbers) (ns : List Name) (u : List ℕ) where
   counted-args no-args = refl
   counted-args (one-arg e x y) = ap suc (counted-args y)
 
-  worded-name : {Γ : Context} {n id ty : ℕ} {tys : List ℕ} {ws : Writtens} {xs : Parts} → n < 12288 →
-      ((i ty : ℕ) (tys : List ℕ) → declared ns i ≡ named ty tys → length tys ≤ 4) → Coded n (s.name id (tyOf N ty) xs) →
-      Right N ns u Γ (call id ws) n (s.name id (tyOf N ty) xs) → meaning ns (binders Γ) id ≡ named ty tys →
-      word u n DETAIL ≡ nameDetail id (length tys) → counted xs ≡ length tys → id < 255 → AllTyped xs →
-      Worded N u n (s.name id (tyOf N ty) xs) (tyOf N ty)
+  worded-name : {Γ : Context} {n id ty : ℕ} {often : Often} {tys : List ℕ} {ws : Writtens} {xs : Parts} → n < 12288 →
+      ((i ty : ℕ) (often : Often) (tys : List ℕ) → declared ns i ≡ named often ty tys → length tys ≤ 4) →
+      Coded n (s.name id often (tyOf N ty) xs) →
+      Right N ns u Γ (call id ws) n (s.name id often (tyOf N ty) xs) → meaning ns (binders Γ) id ≡ named often ty tys →
+      word u n DETAIL ≡ nameDetail id (length tys) often → counted xs ≡ length tys → id < 255 → AllTyped xs →
+      Worded N u n (s.name id often (tyOf N ty) xs) (tyOf N ty)
   unfolding rowWeight typed useType nameDetail
-  worded-name {Γ} {n} {id} {ty} {tys} {ws} {xs} l few (is-name {ty = b} {tys = cs} k d i y p) r e h c f a =
+  worded-name {Γ} {n} {id} {ty} {often} {tys} {ws} {xs} l few (is-name {ty = b} {often = q} {tys = cs} k d i y p) r e h
+      c f a =
       let z : counted xs ≡ length cs =
           ap counted (sym p) ∙ counted-from (λ j. word u n (PARTS + j)) cs 0 in
       let g : Arguments u n 0 xs =
           subst (λ q. Arguments u n 0 q) p
             (arguments-from n cs 0 (subst AllTyped (sym p) a)) in
-      let v : RowWords u n 20 (2 + partsWeight (λ j. word u j 1) xs) (tyOf N ty) =
+      let v : RowWords u n 20 (useWeight often + partsWeight (λ j. word u j 1) xs) (tyOf N ty) =
           row-words l k r (ap (λ m. tyOf N (useType m)) e) in
-      w.of-name {i = id} (subst (λ o. RowWords u n 20 (2 + o) (tyOf N ty)) (same-weights u xs) v) (omega arith)
-        (h ∙ ap (λ q. id + 256 * q) (sym c)) (omega (arith, z, few _ b cs d)) g
+      w.of-name {i = id} (subst (λ o. RowWords u n 20 (useWeight often + o) (tyOf N ty)) (same-weights u xs) v)
+        (omega arith) (h ∙ ap (λ q. id + 256 * (q + 8 * onces often)) (sym c)) (omega (arith, z, few _ b q cs d)) g
 
   -- what the term of a procedure is given where it is used
   slots-use : (Γ Δ : Context) (ps : List Parameter) (body : Written) (f : Form) (fs : ℕ → Form) (ε : Slots)
@@ -517,10 +521,11 @@ module _ (N : Numbers) (ns : List Name) (u : List ℕ) where
   unfolding Fine FineUse
   use-args Γ id k ty tys ws e f = let g = f .1 in rw e at g
 
-  name-args : (Γ : Context) (id ty : ℕ) (tys : List ℕ) (ws : Writtens) → meaning ns (binders Γ) id ≡ named ty tys →
-      Fine N ns (binders Γ) (call id ws) → FineArgs N ns (binders Γ) ws tys
+  name-args : (Γ : Context) (id ty : ℕ) (often : Often) (tys : List ℕ) (ws : Writtens) →
+      meaning ns (binders Γ) id ≡ named often ty tys → Fine N ns (binders Γ) (call id ws) →
+      FineArgs N ns (binders Γ) ws tys
   unfolding Fine FineUse
-  name-args Γ id ty tys ws e f = let g = f .1 in rw e at g
+  name-args Γ id ty often tys ws e f = let g = f .1 in rw e at g
 
   use-each : (Γ Δ : Context) (ε : Slots) (id ty : ℕ) (tys : List ℕ) (ws : Writtens) (ps : List Parameter)
       (body : Written) → meaning ns (binders Γ) id ≡ routine (length (binders Δ)) ty tys → Sees Γ Δ ps body →
@@ -532,14 +537,14 @@ module _ (N : Numbers) (ns : List Name) (u : List ℕ) where
   use-each Γ Δ ε id ty tys ws ps body e x a =
       let b = rw e at a in rw (sees-form N ns x, sees-count N ns x) at b
 
-  name-each : (Γ : Context) (ε : Slots) (id ty : ℕ) (tys : List ℕ) (ws : Writtens) →
-      meaning ns (binders Γ) id ≡ named ty tys →
+  name-each : (Γ : Context) (ε : Slots) (id ty : ℕ) (often : Often) (tys : List ℕ) (ws : Writtens) →
+      meaning ns (binders Γ) id ≡ named often ty tys →
       Each (binders Γ) (formOf N ns (binders Γ) (forms N ns Γ) (call id ws)) (Slot ε (binders Γ)) →
       Each (binders Γ) (formArgs N ns (binders Γ) (forms N ns Γ) ws tys) (Slot ε (binders Γ))
   unfolding formOf byMeaning
-  name-each Γ ε id ty tys ws e a =
+  name-each Γ ε id ty often tys ws e a =
       let b = rw e at a in
-      each-right (binders Γ) (only 2) (formArgs N ns (binders Γ) (forms N ns Γ) ws tys) b
+      each-right (binders Γ) (only (useWeight often)) (formArgs N ns (binders Γ) (forms N ns Γ) ws tys) b
 
   -- the blocks around a new's block
   blocks-new : (Γ : Context) (ε : Slots) (id d n a : ℕ) → 0 < d → d < 3 → Coded n (s.new (values N d) a) →
@@ -569,7 +574,7 @@ module _ (N : Numbers) (ns : List Name) (u : List ℕ) where
   used-there Δ ps body i h = h
 
   -- THEOREM: an expansion's row has the type of the part, and all rows that it makes are so in words
-  module _ (few : (i ty : ℕ) (tys : List ℕ) → declared ns i ≡ named ty tys → length tys ≤ 4) where
+  module _ (few : (i ty : ℕ) (often : Often) (tys : List ℕ) → declared ns i ≡ named often ty tys → length tys ≤ 4) where
     mutual
       unfolding formOf formArgs formed binders forms after IsParameter typeAt typed Fine FineArgs TypedIn Blocks Local
         LocalArgs LocalPasses with-block with-rows AllTyped typesOf
@@ -619,12 +624,13 @@ module _ (N : Numbers) (ns : List Name) (u : List ℕ) where
           let q = private-means Γ (ε .block) id k d t b e in
           (right-type lo, one-row n (s.private (ε .block k)) (variable (values N d)) h
             (worded-private Γ n (omega arith) (coded n (s.private (ε .block k)) h) lo e (q .0) (q .1) (q .2)))
-      cover (of-name {Γ = Γ} {ε = ε} {n = n} {m = m} {id = id} {ty = ty} {tys = tys} {ws = ws} {xs = xs} e x h) lo f t g b
-          a c =
-          let y = cover-args x (lo .2) (name-args Γ id ty tys ws e f) t g b (name-each Γ ε id ty tys ws e a) c in
-          (right-type (lo .0), join (one-row n (s.name id (tyOf N ty) xs) (tyOf N ty) h
-            (worded-name (omega (arith, grows-args N ns R x)) few (coded n (s.name id (tyOf N ty) xs) h) (lo .0) e (lo .1)
-              (counted-args x) (f .0) (y .0))) (y .1))
+      cover (of-name {Γ = Γ} {ε = ε} {n = n} {m = m} {id = id} {ty = ty} {often = often} {tys = tys} {ws = ws} {xs = xs}
+          e x h) lo f t g b a c =
+          let y = cover-args x (lo .2) (name-args Γ id ty often tys ws e f) t g b
+              (name-each Γ ε id ty often tys ws e a) c in
+          (right-type (lo .0), join (one-row n (s.name id often (tyOf N ty) xs) (tyOf N ty) h
+            (worded-name (omega (arith, grows-args N ns R x)) few (coded n (s.name id often (tyOf N ty) xs) h) (lo .0) e
+              (lo .1) (counted-args x) (f .0) (y .0))) (y .1))
       cover (of-fetch {Γ = Γ} {n = n} {a = r} {x = v} x h) lo f t g b a c =
           let y = cover x (lo .1) (f .0) t g b a c in
           (right-type (lo .0), join (one-row n (s.fetch r) _ h

@@ -12,6 +12,7 @@ use Rattle.language.specs.Ty.{Ty}
 use Rattle.language.specs.Term.{Operation}
 use Rattle.language.specs.Typing.{operands}
 use Rattle.language.specs.declared.Numbers.{Numbers}
+use Rattle.language.specs.Term.{Often}
 use Rattle.procedures.specs.Written.{Name}
 use Rattle.procedures.specs.Meaning.{Meaning, private, argument, routine, named, retired, free, declared, tyOf}
 use Rattle.procedures.specs.Shared as s
@@ -25,8 +26,9 @@ module _ (N : Numbers) (ns : List Name) (kind d : ℕ) (f : ℕ → ℕ) where
     is-diverge : kind ≡ 17 → Decoded s.diverge
     is-const : {v : ℕ} → kind ≡ 18 → d ≡ v → Decoded (s.const v)
     is-private : {v : ℕ} → kind ≡ 128 → d ≡ v → Decoded (s.private v)
-    is-name : {i ty : ℕ} {tys : List ℕ} {T : Ty} {xs : Parts} → kind ≡ 20 → declared ns (d % 256) ≡ named ty tys →
-      d % 256 ≡ i → tyOf N ty ≡ T → partsFrom N tys f 0 ≡ xs → Decoded (s.name i T xs)
+    is-name : {i ty : ℕ} {often : Often} {tys : List ℕ} {T : Ty} {xs : Parts} → kind ≡ 20 →
+      declared ns (d % 256) ≡ named often ty tys → d % 256 ≡ i → tyOf N ty ≡ T → partsFrom N tys f 0 ≡ xs →
+      Decoded (s.name i often T xs)
     is-fetch : {a : ℕ} → kind ≡ 21 → f 0 ≡ a → Decoded (s.fetch a)
     is-operate : {m a b : ℕ} {o : Operation} → kind ≡ 22 → operation N d ≡ o → operands o ≡ m → f 0 ≡ a → f 1 ≡ b →
       Decoded (s.operate m o a b)
@@ -55,7 +57,7 @@ module _ (N : Numbers) (ns : List Name) (kind d : ℕ) (f : ℕ → ℕ) where
   name-decoded x (private k e) q l h = nothing h
   name-decoded x (argument k ty) q l h = nothing h
   name-decoded x (routine k ty tys) q l h = nothing h
-  name-decoded x (named ty tys) q l h = same h (is-name l q refl refl refl)
+  name-decoded x (named often ty tys) q l h = same h (is-name l q refl refl refl)
   name-decoded x retired q l h = nothing h
   name-decoded x free q l h = nothing h
 

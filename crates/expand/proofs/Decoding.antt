@@ -10,6 +10,7 @@ use borrow.Author.Tests.{lt-ltb, le-ltb, ne-eqb}
 use Rattle.language.specs.Ty.{questions, answers}
 use Rattle.language.specs.Typing.{operands}
 use Rattle.language.specs.declared.Numbers.{Numbers}
+use Rattle.language.specs.Term.{Often}
 use Rattle.parts.specs.Rule.{values}
 use Rattle.part_rows.specs.Row.{classOf}
 use Rattle.procedures.specs.Written.{Name}
@@ -28,11 +29,11 @@ use Rattle.expand.specs.Close.{bitOf, firstBits, questionsBy, answersBy,
 use Rattle.expand.specs.Close.{weightOf}
 use Rattle.expand.proofs.Frames.{lower-part}
 
-not-named : (k : ℕ) (c : Binder) (ty : ℕ) (tys : List ℕ) → meant k c ≡ named ty tys → ⊥
+not-named : (k : ℕ) (c : Binder) (often : Often) (ty : ℕ) (tys : List ℕ) → meant k c ≡ named often ty tys → ⊥
 unfolding meant
-not-named k (a-block id d) ty tys e = let z : _≡_ {A = ℕ} 0 1 = cc in omega arith
-not-named k (a-parameter id d) ty tys e = let z : _≡_ {A = ℕ} 0 1 = cc in omega arith
-not-named k (a-procedure id d ts) ty tys e = let z : _≡_ {A = ℕ} 0 1 = cc in omega arith
+not-named k (a-block id d) often ty tys e = let z : _≡_ {A = ℕ} 0 1 = cc in omega arith
+not-named k (a-parameter id d) often ty tys e = let z : _≡_ {A = ℕ} 0 1 = cc in omega arith
+not-named k (a-procedure id d ts) often ty tys e = let z : _≡_ {A = ℕ} 0 1 = cc in omega arith
 
 -- the first c bits, and no other
 pub bit-first : (c i : ℕ) → i < c → c ≤ 4 → bitOf (firstBits c) i ≡ 1
@@ -73,21 +74,21 @@ bit-later (suc (suc (suc (suc c)))) (suc (suc (suc zero))) h l = absurd (omega a
 bit-later c (suc (suc (suc (suc i)))) h l = absurd (omega arith)
 
 -- an id that means a name inside binders is declared as that name
-pub name-declared : (ns : List Name) (bs : List Binder) (id ty : ℕ) (tys : List ℕ) → meaning ns bs id ≡ named ty tys →
-    declared ns id ≡ named ty tys
+pub name-declared : (ns : List Name) (bs : List Binder) (id ty : ℕ) (often : Often) (tys : List ℕ) →
+    meaning ns bs id ≡ named often ty tys → declared ns id ≡ named often ty tys
 unfolding meaning
-name-declared ns [] id ty tys e = e
-name-declared ns (b ∷ bs) id ty tys e =
+name-declared ns [] id ty often tys e = e
+name-declared ns (b ∷ bs) id ty often tys e =
     by-test (eqb (idOf b) id)
     (λ h.
-      let x : meant (length bs) b ≡ named ty tys = rw h at e in
+      let x : meant (length bs) b ≡ named often ty tys = rw h at e in
       absurd (never b x))
     (λ h.
-      let x : meaning ns bs id ≡ named ty tys = rw h at e in
-      name-declared ns bs id ty tys x)
+      let x : meaning ns bs id ≡ named often ty tys = rw h at e in
+      name-declared ns bs id ty often tys x)
   where
-    never : (c : Binder) → meant (length bs) c ≡ named ty tys → ⊥
-    never c x = not-named (length bs) c ty tys x
+    never : (c : Binder) → meant (length bs) c ≡ named often ty tys → ⊥
+    never c x = not-named (length bs) c often ty tys x
 
 module _ (N : Numbers) (ns : List Name) (T : List ℕ) (n : ℕ) where
   pub row-skip : word T n 0 ≡ SKIP → decode N ns T n ≡ some s.skip
@@ -146,11 +147,12 @@ module _ (N : Numbers) (ns : List Name) (T : List ℕ) (n : ℕ) where
   parts-same (ty ∷ tys) f g j h =
       rw (h j (omega arith) (omega arith), parts-same tys f g (suc j) (λ i p q. h i (omega arith) (omega arith)))
 
-  pub row-name : (id c ty : ℕ) (tys : List ℕ) (f : ℕ → ℕ) → word T n 0 ≡ NAME → word T n 4 ≡ id + 256 * c → id < 256 →
-      declared ns id ≡ named ty tys → ((i : ℕ) → i < length tys → word T n (PARTS + i) ≡ f i) →
-      decode N ns T n ≡ some (s.name id (tyOf N ty) (partsFrom N tys f 0))
+  pub row-name : (id c ty : ℕ) (often : Often) (tys : List ℕ) (f : ℕ → ℕ) → word T n 0 ≡ NAME →
+      word T n 4 ≡ id + 256 * c → id < 256 → declared ns id ≡ named often ty tys →
+      ((i : ℕ) → i < length tys → word T n (PARTS + i) ≡ f i) →
+      decode N ns T n ≡ some (s.name id often (tyOf N ty) (partsFrom N tys f 0))
   unfolding decode rowOf namedRow
-  row-name id c ty tys f k e h g p =
+  row-name id c ty often tys f k e h g p =
       let z : (id + 256 * c) % 256 ≡ id = lower-part 256 id c h in
       let q = parts-same tys (λ j. word T n (PARTS + j)) f 0 (λ i a b. p i (omega arith)) in
       rw (k, e, z, g, q)

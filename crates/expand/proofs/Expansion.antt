@@ -186,11 +186,11 @@ module _ (N : Numbers) (ns : List Name) (t marks slots rows : List ℕ) (Γ : Co
         use-row N ns t marks slots Γ ε π level (left - 1) at end (X .routine (p .kinded)) (site pl) (parts-reach pl)
           (term-reach pl) (pl .passed) (pl .sized) id k ty from tys ws q e l b a (pl .marked) (pl .fine) (pl .few)
               (pl .room)
-    by-shown pl z (shown-name {from = from} {id = id} {ty = ty} {tys = tys} {ws = ws} q p e l b a) =
+    by-shown pl z (shown-name {from = from} {id = id} {ty = ty} {often = often} {tys = tys} {ws = ws} q p e l b a) =
         let c = plain _ (p .kinded) (λ i. omega arith) (λ i. omega arith) (λ i. omega arith) in
         rw (c .0) (name-row N ns t marks slots Γ ε π level (left - 1) at end (c .1) (site pl) (parts-reach pl) (pl
             .passed)
-          (pl .sized) id ty from tys ws q p e l b a (pl .marked) (pl .fine) (pl .few) (pl .room))
+          (pl .sized) id ty from often tys ws q p e l b a (pl .marked) (pl .fine) (pl .few) (pl .room))
     by-shown pl z (shown-fetch {a = a} {x = v} p e b x) =
         let c = plain _ (p .kinded) (λ i. omega arith) (λ i. omega arith) (λ i. omega arith) in
         rw (c .0) (fetch-row N ns t marks slots Γ ε π level (left - 1) at end (c .1) (site pl) (parts-reach pl)

@@ -1,11 +1,12 @@
 -- Rows without parts: what they weigh.
-use Prim.Native.Nat.{ℕ, _/_, min}
+use Prim.Native.Nat.{ℕ, _+_, _/_, _%_, min}
 use native.Mathlib.Omega.{arith}
 use native.Mathlib.Decide.{ℕ-discrete}
 use mathlib.Core.Path.{_≡_, refl}
 use mathlib.Core.List.{List}
 use borrow.Author.Tests.{ne-eqb}
 use Rattle.procedures.specs.PartKind.{NAME, FETCH, OPERATE, ASSIGN, SEQUENCE, IF, WHILE, NEW, PRIVATE, KIND, DETAIL}
+use Rattle.procedures.specs.PartKind.{ONCE}
 use Rattle.part_rows.specs.Row.{word}
 use Rattle.expand.specs.Close.{firstBits, partsOf, argumentWeight, nameWeight, plainWeight, weightOf, leafWeight}
 
@@ -23,11 +24,11 @@ first-none c h = go (ℕ-discrete c 0) (ℕ-discrete c 1) (ℕ-discrete c 2) (�
         let g : _≡_ {A = ℕ} 15 0 = rw (ne-eqb c 0 a, ne-eqb c 1 b, ne-eqb c 2 d, ne-eqb c 3 e) at h in absurd (omega arith)
 
 -- a row of another kind
-plain-leaf : (k d v a b c : ℕ) → (k ≡ NAME → ⊥) → partsOf k d ≡ 0 → min (plainWeight k v d a b c) 4097 ≡ leafWeight k
+plain-leaf : (k d v a b c : ℕ) → (k ≡ NAME → ⊥) → partsOf k d ≡ 0 → min (plainWeight k v d a b c) 4097 ≡ leafWeight k d
 unfolding partsOf plainWeight leafWeight
 plain-leaf k d v a b c n h = go (ℕ-discrete k PRIVATE)
   where
-    go : Dec (k ≡ PRIVATE) → min (plainWeight k v d a b c) 4097 ≡ leafWeight k
+    go : Dec (k ≡ PRIVATE) → min (plainWeight k v d a b c) 4097 ≡ leafWeight k d
     go (yes e) = rw e refl
     go (no e) =
         rw (ne-eqb k NAME n, ne-eqb k PRIVATE e,
@@ -40,28 +41,32 @@ plain-leaf k d v a b c n h = go (ℕ-discrete k PRIVATE)
           ne-eqb k NEW (λ x. let g : _≡_ {A = ℕ} 1 0 = rw x at h in absurd (omega arith))) refl
 
 -- a name
-name-leaf : (t : List ℕ) (at a b c d : ℕ) → word t at DETAIL / 256 ≡ 0 → nameWeight t at a b c d ≡ 2
+name-leaf : (t : List ℕ) (at a b c d : ℕ) → word t at DETAIL / 256 % 8 ≡ 0 →
+    nameWeight t at a b c d ≡ 2 + word t at DETAIL / ONCE % 2
 unfolding nameWeight argumentWeight
-name-leaf t at a b c d z = rw z refl
+name-leaf t at a b c d z = rw z (omega arith)
 
 -- it has no arguments
-name-none : (k d : ℕ) → k ≡ NAME → partsOf k d ≡ 0 → d / 256 ≡ 0
+name-none : (k d : ℕ) → k ≡ NAME → partsOf k d ≡ 0 → d / 256 % 8 ≡ 0
 unfolding partsOf
-name-none k d e h = first-none (d / 256) (rw e at h)
+name-none k d e h = first-none (d / 256 % 8) (rw e at h)
 
 module _ (t rows : List ℕ) (at a b c d : ℕ) (h : partsOf (word t at KIND) (word t at DETAIL) ≡ 0) where
-  named : word t at KIND ≡ NAME → min (weightOf t rows at a b c d) 4097 ≡ leafWeight (word t at KIND)
+  named : word t at KIND ≡ NAME → min (weightOf t rows at a b c d) 4097 ≡ leafWeight (word t at KIND) (word t at DETAIL)
   unfolding weightOf leafWeight
-  named e = rw e (rw (name-leaf t at _ _ _ _ (name-none _ _ e h)) refl)
+  named e = rw e (rw (name-leaf t at _ _ _ _ (name-none _ _ e h)) (omega arith))
 
-  other : (word t at KIND ≡ NAME → ⊥) → min (weightOf t rows at a b c d) 4097 ≡ leafWeight (word t at KIND)
+  other : (word t at KIND ≡ NAME → ⊥) →
+      min (weightOf t rows at a b c d) 4097 ≡ leafWeight (word t at KIND) (word t at DETAIL)
   unfolding weightOf
   other e = rw (ne-eqb (word t at KIND) NAME e) (plain-leaf _ _ _ _ _ _ e h)
 
-  -- THEOREM: a row without parts weighs 2 where it is a name or a private variable, else 1
-  pub leaf-weighs : min (weightOf t rows at a b c d) 4097 ≡ leafWeight (word t at KIND)
+  -- THEOREM: a row without parts weighs 2 where it is a name, 3 where that asks once, 2 where it is a private variable,
+  -- else 1
+  pub leaf-weighs : min (weightOf t rows at a b c d) 4097 ≡ leafWeight (word t at KIND) (word t at DETAIL)
   leaf-weighs = go (ℕ-discrete (word t at KIND) NAME)
     where
-      go : Dec (word t at KIND ≡ NAME) → min (weightOf t rows at a b c d) 4097 ≡ leafWeight (word t at KIND)
+      go : Dec (word t at KIND ≡ NAME) →
+          min (weightOf t rows at a b c d) 4097 ≡ leafWeight (word t at KIND) (word t at DETAIL)
       go (yes e) = named e
       go (no e) = other e

@@ -1,5 +1,5 @@
 -- A declared name: its arguments are expanded in their order.
-use Prim.Native.Nat.{ℕ, zero, suc, _+_, _*_, _/_, _≤_, _<_}
+use Prim.Native.Nat.{ℕ, zero, suc, _+_, _*_, _/_, _%_, _≤_, _<_}
 use native.Mathlib.Omega.{arith}
 use mathlib.Core.Path.{_≡_, refl, sym, ap, _∙_}
 use mathlib.Core.List.{List, [], _∷_}
@@ -7,6 +7,9 @@ use lib.ListN.{length}
 use borrow.Author.Tests.{lt-ltb, le-ltb}
 use Rattle.language.specs.Ty.{questions, answers}
 use Rattle.language.specs.declared.Numbers.{Numbers}
+use Rattle.language.specs.Term.{Often, onces}
+use Rattle.language.specs.Weight.{useWeight}
+use Rattle.language.proofs.AskOnceLaws.{onces-below}
 use Rattle.parts.specs.Rule.{values}
 use Rattle.part_rows.specs.Row.{classOf}
 use Rattle.procedures.specs.Written.{call, Writtens, none, more, Name}
@@ -16,7 +19,7 @@ use Rattle.procedures.specs.Made.{made, madeArgs}
 use Rattle.procedures.specs.Context.{Context, binders, forms, makes}
 use Rattle.procedures.specs.Shared as s
 use Rattle.procedures.specs.Expand.{Slots, ExpandsArgs, no-args, one-arg, of-name}
-use Rattle.procedures.specs.PartKind.{NAME, KIND, CLASS, VALUES, DETAIL, PARTS}
+use Rattle.procedures.specs.PartKind.{NAME, KIND, CLASS, VALUES, DETAIL, PARTS, ONCE}
 use Rattle.part_rows.specs.Row.{word}
 use Rattle.procedures.specs.Table.{nameDetail, PartRow, ShownArgs, shown-none, shown-more, Few}
 use Rattle.procedures.specs.Marks.{Marked}
@@ -49,16 +52,16 @@ sum-none zero j f h = refl
 sum-none (suc k) j f h = omega (arith, h j (omega arith), sum-none k (suc j) f (λ i l. h i (omega arith)))
 
 -- what an argument adds
-argument-adds : (N : Numbers) (t : List ℕ) (at j w p ty : ℕ) → j < word t at DETAIL / 256 → word t at (PARTS + j) ≡ p →
-    word t p CLASS ≡ classOf ty → word t p VALUES ≡ values N ty →
+argument-adds : (N : Numbers) (t : List ℕ) (at j w p ty : ℕ) → j < word t at DETAIL / 256 % 8 →
+    word t at (PARTS + j) ≡ p → word t p CLASS ≡ classOf ty → word t p VALUES ≡ values N ty →
     argumentWeight t at j w ≡ questions (tyOf N ty) * w + answers (tyOf N ty)
 unfolding argumentWeight
 argument-adds N t at j w p ty h e c v =
-    rw (lt-ltb j (word t at DETAIL / 256) h, e, c, v, questions-by N ty, answers-by N ty) refl
+    rw (lt-ltb j (word t at DETAIL / 256 % 8) h, e, c, v, questions-by N ty, answers-by N ty) refl
 
-argument-past : (t : List ℕ) (at j w : ℕ) → word t at DETAIL / 256 ≤ j → argumentWeight t at j w ≡ 0
+argument-past : (t : List ℕ) (at j w : ℕ) → word t at DETAIL / 256 % 8 ≤ j → argumentWeight t at j w ≡ 0
 unfolding argumentWeight
-argument-past t at j w h = rw (le-ltb j (word t at DETAIL / 256) h)
+argument-past t at j w h = rw (le-ltb j (word t at DETAIL / 256 % 8) h)
 
 module _ (N : Numbers) (ns : List Name) (t marks slots : List ℕ) (Γ : Context) (ε : Slots) (π : ℕ → ℕ)
     (level left at wants : ℕ) {rows after : List ℕ} {n a b c d m : ℕ}
@@ -97,7 +100,7 @@ module _ (N : Numbers) (ns : List Name) (t marks slots : List ℕ) (Γ : Context
 
   -- what the arguments weigh
   args-weigh : (T : List ℕ) (ws : Writtens) (tys : List ℕ) (j k from end : ℕ) → j + k ≡ 4 →
-      word t at DETAIL / 256 ≡ j + length tys → length tys ≤ k → ShownArgs N ns t Γ π at j from end ws tys →
+      word t at DETAIL / 256 % 8 ≡ j + length tys → length tys ≤ k → ShownArgs N ns t Γ π at j from end ws tys →
       FineArgs N ns (binders Γ) ws tys → Got N ns t marks slots Γ ε π level left at wants P S T j ws →
       partsWeight (λ r. word T r WEIGHT) (partsFrom N tys (P .row) j)
       ≡ sumFrom k j (λ i. argumentWeight t at i (word after (P .row i) WEIGHT))
@@ -139,34 +142,36 @@ module _ (N : Numbers) (ns : List Name) (t marks slots : List ℕ) (Γ : Context
   part-words T w (suc (suc (suc (suc i)))) h = absurd (omega arith)
 
   -- its weight
-  name-weighs : (T : List ℕ) (tys : List ℕ) →
+  name-weighs : (T : List ℕ) (often : Often) (tys : List ℕ) → 2 + word t at DETAIL / ONCE % 2 ≡ useWeight often →
       partsWeight (λ r. word T r WEIGHT) (partsFrom N tys (C .pieces .row) 0)
       ≡ sumFrom 4 0 (λ i. argumentWeight t at i (word (C .between) (C .pieces .row i) WEIGHT)) →
       nameWeight t at (word (C .between) (C .a) WEIGHT) (word (C .between) (C .b) WEIGHT) (word (C .between) (C .c)
           WEIGHT)
         (word (C .between) (C .d) WEIGHT)
-      ≡ 2 + partsWeight (λ r. word T r WEIGHT) (partsFrom N tys (C .pieces .row) 0)
+      ≡ useWeight often + partsWeight (λ r. word T r WEIGHT) (partsFrom N tys (C .pieces .row) 0)
   unfolding nameWeight
-  name-weighs T tys e =
+  name-weighs T often tys o e =
       let f : ℕ → ℕ = λ i. argumentWeight t at i (word (C .between) (C .pieces .row i) WEIGHT) in
       let p = C .pieces .parts in
       let e₀ : f 0 ≡ argumentWeight t at 0 (word (C .between) (C .a) WEIGHT) = rw (p .0) refl in
       let e₁ : f 1 ≡ argumentWeight t at 1 (word (C .between) (C .b) WEIGHT) = rw (p .1) refl in
       let e₂ : f 2 ≡ argumentWeight t at 2 (word (C .between) (C .c) WEIGHT) = rw (p .2) refl in
       let e₃ : f 3 ≡ argumentWeight t at 3 (word (C .between) (C .d) WEIGHT) = rw (p .3) refl in
-      omega (arith, e, four-sum f, e₀, e₁, e₂, e₃)
+      omega (arith, o, e, four-sum f, e₀, e₁, e₂, e₃)
 
-  pub name-row : (id ty from : ℕ) (tys : List ℕ) (ws : Writtens) → meaning ns (binders Γ) id ≡ named ty tys →
-      PartRow N ns t Γ NAME (call id ws) at end → word t at DETAIL ≡ nameDetail id (length tys) → length tys ≤ 4 →
+  pub name-row : (id ty from : ℕ) (often : Often) (tys : List ℕ) (ws : Writtens) →
+      meaning ns (binders Γ) id ≡ named often ty tys → PartRow N ns t Γ NAME (call id ws) at end →
+      word t at DETAIL ≡ nameDetail id (length tys) often → length tys ≤ 4 →
       at < from → ShownArgs N ns t Γ π at 0 from end ws tys → Marked N ns t marks Γ at (call id ws) →
       Fine N ns (binders Γ) (call id ws) → Few Γ (call id ws) → n + rowsOf N ns Γ (call id ws) ≤ ROWS →
       Expanded N ns Γ ε (call id ws) rows after n n m
   unfolding Local Marked Fine FineUse Few depth made byMeaning partsOf nameDetail rowWeight
-  name-row id ty from tys ws e p o l h x k f q r =
+  name-row id ty from often tys ws e p o l h x k f q r =
       let g : FineArgs N ns (binders Γ) ws tys = rw e at (f .1) in
       let u : n + (1 + madeArgs N ns (binders Γ) (forms N ns Γ) (makes N ns Γ) ws tys) ≤ ROWS = rw e at r in
       let i : id < 255 = f .0 in
-      let c : word t at DETAIL / 256 ≡ length tys = rw o (upper-part 256 id (length tys) (omega (arith, i))) in
+      let c : word t at DETAIL / 256 % 8 ≡ length tys = omega (arith, o, i, l, onces-below often) in
+      let own : 2 + word t at DETAIL / ONCE % 2 ≡ useWeight often = omega (arith, o, i, l, onces-below often) in
       let y : many ws ≡ length tys = args-many x in
       let b : partsOf (word t at KIND) (word t at DETAIL) ≡ firstBits (many ws) = rw (p .kinded, c, y) refl in
       let P = C .pieces in
@@ -181,10 +186,10 @@ module _ (N : Numbers) (ns : List Name) (t marks slots : List ℕ) (Γ : Context
           let c′ = args-weigh N ns t marks slots Γ ε π level left at v P S T ws tys 0 4 from end (omega arith)
               (omega (arith, c)) l x g z in
           record {
-            expands = of-name e (a′ .0) (row-name N ns T n id (length tys) ty tys (P .row) (w .kinded ∙ p .kinded)
-              (w .detailed ∙ (detail-name t slots at (p .kinded) ∙ o)) (omega (arith, i))
-              (name-declared ns (binders Γ) id ty tys e) (λ j d. part-words T w j (omega (arith, d, l))));
+            expands = of-name e (a′ .0) (row-name N ns T n id (length tys + 8 * onces often) ty often tys (P .row)
+              (w .kinded ∙ p .kinded) (w .detailed ∙ (detail-name t slots at (p .kinded) ∙ o)) (omega (arith, i))
+              (name-declared ns (binders Γ) id ty often tys e) (λ j d. part-words T w j (omega (arith, d, l))));
             local = (right N ns t marks slots Γ ε π level left at C S Γ (call id ws) end NAME T
-              (s.name id (tyOf N ty) (partsFrom N tys (P .row) 0)) p w
-              (weight-name t (C .between) at (C .a) (C .b) (C .c) (C .d) (p .kinded) ∙ name-weighs T tys c′),
+              (s.name id often (tyOf N ty) (partsFrom N tys (P .row) 0)) p w
+              (weight-name t (C .between) at (C .a) (C .b) (C .c) (C .d) (p .kinded) ∙ name-weighs T often tys own c′),
               w .detailed ∙ (detail-name t slots at (p .kinded) ∙ o), a′ .1) })

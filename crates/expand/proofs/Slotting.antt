@@ -21,7 +21,7 @@ unfoldable Block-right : List ℕ → Slots → Meaning → Type 0
 Block-right slots ε (private k d) = getD slots k 0 ≡ ε .block k
 Block-right slots ε (argument k ty) = Unit
 Block-right slots ε (routine k ty tys) = Unit
-Block-right slots ε (named ty tys) = Unit
+Block-right slots ε (named often ty tys) = Unit
 Block-right slots ε retired = Unit
 Block-right slots ε free = Unit
 
@@ -41,7 +41,7 @@ shows-less slots ε (a-procedure id ty tys) bs h = h
 block-right : (ns : List Name) (slots : List ℕ) (ε : Slots) (bs : List Binder) → Shows slots ε bs → (id : ℕ) →
     Block-right slots ε (meaning ns bs id)
 unfolding meaning Block-right
-block-right ns slots ε [] h id = all-declared (Block-right slots ε) ns id (λ ty tys. tt) tt tt
+block-right ns slots ε [] h id = all-declared (Block-right slots ε) ns id (λ often ty tys. tt) tt tt
 block-right ns slots ε (b ∷ bs) h id =
     one-more-binder (Block-right slots ε) ns b bs (block-meant slots ε b bs h)
       (λ j l. block-right ns slots ε bs (shows-less slots ε b bs h) j) id

@@ -1,11 +1,11 @@
 -- The stores of a row and of slots, over plain variables.
-use Prim.Native.Nat.{ℕ, _+_, min}
+use Prim.Native.Nat.{ℕ, _+_, _/_, _%_, min}
 use native.Mathlib.Omega.{arith}
 use mathlib.Core.Path.{_≡_, _∙_}
 use mathlib.Core.List.{List}
 use lib.ListN.{set}
 use Rattle.part_rows.specs.Row.{cell}
-use Rattle.procedures.specs.PartKind.{KIND, CLASS, VALUES}
+use Rattle.procedures.specs.PartKind.{KIND, CLASS, VALUES, ONCE}
 use Rattle.part_rows.specs.Row.{word}
 use Rattle.expand.specs.Close.{weightOf, detailOf, headPut, partsPut, closedRow, passedSlots, fiveAt, fourAt}
 
@@ -59,3 +59,9 @@ row-closed t slots rows at n a b c d p q s u x y z = z ∙ rw (y, p, q, s, u, x)
 -- a sum of two held numbers, held, is the held sum
 pub held-sum : (a b x y : ℕ) {r : ℕ} → x ≡ min a 4097 → y ≡ min b 4097 → r ≡ min (x + y) 4097 → r ≡ min (a + b) 4097
 held-sum a b x y p q s = omega arith
+
+-- what a name weighs beside its arguments is a small number
+pub own-held : (w : ℕ) {d r : ℕ} → d ≡ w → r ≡ 2 + d / ONCE % 2 → r ≡ min (2 + w / ONCE % 2) 4097
+own-held w {d} p q =
+    let e : 2 + d / ONCE % 2 ≡ 2 + w / ONCE % 2 = rw p in
+    omega (arith, q, e)

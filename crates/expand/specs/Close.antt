@@ -9,7 +9,8 @@ use Rattle.language.specs.Choice.{pick}
 use Rattle.records.specs.Limits.{held-at}
 use Rattle.part_rows.specs.Row.{cell}
 use Rattle.procedures.specs.PartKind.{NAME, FETCH, OPERATE, ASSIGN, SEQUENCE, IF, WHILE, NEW, PRIVATE, KIND, CLASS}
-use Rattle.procedures.specs.PartKind.{VALUES, DETAIL, PARTS, IDS, PLACES, PROCEDURE, USE}
+use Rattle.procedures.specs.PartKind.{VALUES, DETAIL, PARTS, IDS, COUNTS, ONCE, PLACES, PROCEDURE}
+use Rattle.procedures.specs.PartKind.{USE}
 use Rattle.part_rows.specs.Row.{word}
 use Rattle.procedures.specs.Marks.{COMES}
 use Rattle.expand.specs.Rows.{WEIGHT}
@@ -42,7 +43,7 @@ firstBits c = pick (eqb c 0) 0 (pick (eqb c 1) 1 (pick (eqb c 2) 3 (pick (eqb c 
 -- which parts a record of a kind has, where its detail is given: a bit each
 unfoldable pub partsOf : ℕ → ℕ → ℕ
 partsOf kind d =
-    pick (eqb kind NAME) (firstBits (d / IDS))
+    pick (eqb kind NAME) (firstBits (d / IDS % COUNTS))
     (pick (eqb kind FETCH) 1
     (pick (eqb kind NEW) 1
     (pick (eqb kind OPERATE) 3
@@ -68,15 +69,16 @@ answersBy class v = pick (eqb class 0) 1 (pick (eqb class 1) v (2 * v))
 -- what argument j of the name at a place adds to its weight, where the argument's row weighs w
 unfoldable pub argumentWeight : List ℕ → ℕ → ℕ → ℕ → ℕ
 argumentWeight t at j w =
-    pick (ltb j (word t at DETAIL / IDS))
+    pick (ltb j (word t at DETAIL / IDS % COUNTS))
     (questionsBy (word t (word t at (PARTS + j)) CLASS) (word t (word t at (PARTS + j)) VALUES) * w
       + answersBy (word t (word t at (PARTS + j)) CLASS) (word t (word t at (PARTS + j)) VALUES))
     0
 
--- the weight of a name at a place whose arguments' rows weigh as given
+-- the weight of a name at a place whose arguments' rows weigh as given; one that asks once weighs one more
 unfoldable pub nameWeight : List ℕ → ℕ → ℕ → ℕ → ℕ → ℕ → ℕ
 nameWeight t at a b c d =
-    2 + (argumentWeight t at 0 a + (argumentWeight t at 1 b + (argumentWeight t at 2 c + argumentWeight t at 3 d)))
+    2 + word t at DETAIL / ONCE % 2
+      + (argumentWeight t at 0 a + (argumentWeight t at 1 b + (argumentWeight t at 2 c + argumentWeight t at 3 d)))
 
 -- the weight of a row of another kind: v are the values of its first part, d is its detail, a, b, c weigh its parts
 unfoldable pub plainWeight : ℕ → ℕ → ℕ → ℕ → ℕ → ℕ → ℕ
@@ -123,9 +125,9 @@ fiveAt rows at a b c d e = set (set (set (set (set rows at a) (at + 1) b) (at + 
 unfoldable pub fourAt : List ℕ → ℕ → ℕ → ℕ → ℕ → ℕ → List ℕ
 fourAt rows at a b c d = set (set (set (set rows at a) (at + 1) b) (at + 2) c) (at + 3) d
 
--- the weight of a row without parts
-unfoldable pub leafWeight : ℕ → ℕ
-leafWeight kind = pick (eqb kind NAME) 2 (pick (eqb kind PRIVATE) 2 1)
+-- the weight of a row without parts, where its detail is given
+unfoldable pub leafWeight : ℕ → ℕ → ℕ
+leafWeight kind d = pick (eqb kind NAME) (2 + d / ONCE % 2) (pick (eqb kind PRIVATE) 2 1)
 
 -- the rows with the row n for the part at a place
 unfoldable pub closedRow : List ℕ → List ℕ → List ℕ → ℕ → ℕ → ℕ → ℕ → ℕ → ℕ → List ℕ

@@ -44,8 +44,9 @@ module _ (N : Numbers) (ns : List Name) (t : List ℕ) where
     Local (of-number {Γ = Γ} {n = n} {b = b} h) = Right Γ (number b) n (s.const (code N (fromByte b)))
     Local (of-private {Γ = Γ} {ε = ε} {n = n} {id = id} {k = k} {ws = ws} e h) =
         Right Γ (call id ws) n (s.private (ε .block k))
-    Local (of-name {Γ = Γ} {n = n} {id = id} {ty = ty} {tys = tys} {ws = ws} {xs = xs} e x h) =
-        Right Γ (call id ws) n (s.name id (tyOf N ty) xs) × (word t n DETAIL ≡ nameDetail id (length tys)) × LocalArgs x
+    Local (of-name {Γ = Γ} {n = n} {id = id} {ty = ty} {often = often} {tys = tys} {ws = ws} {xs = xs} e x h) =
+        Right Γ (call id ws) n (s.name id often (tyOf N ty) xs) × (word t n DETAIL ≡ nameDetail id (length tys) often)
+        × LocalArgs x
     Local (of-fetch {Γ = Γ} {n = n} {a = a} {x = v} x h) = Right Γ (fetch v) n (s.fetch a) × Local x
     Local (of-operate {Γ = Γ} {n = n} {a = a} {b = b} {op = op} {x = v} {y = z} x y h) =
         Right Γ (operate op v z) n (s.operate (operands (operation N op)) (operation N op) a b) × Local x × Local y

@@ -2,9 +2,9 @@
 --
 -- A row: 0 kind (16 to 27, 18 for every constant, 128 for the use of a private variable), 1 weight, held at 4,097, 2
 -- class of its type (0 command, 1 expression, 2 variable), 3 number of values of its data, 4 detail, 5 to 8 the rows of
--- its parts. The detail of a constant is its code, of an operation its operator, of a name its id and 256 times the
--- number of its arguments, of a new the number of values of its variable, of an assignment that of the variable that it
--- sets, of a private variable the row of its new.
+-- its parts. The detail of a constant is its code, of an operation its operator, of a name its id, 256 times the number
+-- of its arguments and, where it asks once, 2,048, of a new the number of values of its variable, of an assignment that
+-- of the variable that it sets, of a private variable the row of its new.
 use Prim.Native.Nat.{ℕ, suc, _+_, _*_, _%_}
 use mathlib.Core.Option.{Option, none, some}
 use mathlib.Core.List.{List, [], _∷_}
@@ -13,6 +13,7 @@ use Rattle.language.specs.Choice.{pick}
 use Rattle.language.specs.Ty.{questions, answers}
 use Rattle.language.specs.Typing.{operands}
 use Rattle.language.specs.declared.Numbers.{Numbers}
+use Rattle.language.specs.Weight.{useWeight}
 use Rattle.procedures.specs.Written.{Name}
 use Rattle.procedures.specs.Meaning.{Meaning, private, argument, routine, named, retired, free, declared, tyOf}
 use Rattle.procedures.specs.Shared as s
@@ -45,7 +46,7 @@ unfoldable pub namedRow : Numbers → ℕ → (ℕ → ℕ) → Meaning → Opti
 namedRow N id f (private k d) = none
 namedRow N id f (argument k ty) = none
 namedRow N id f (routine k ty tys) = none
-namedRow N id f (named ty tys) = some (s.name id (tyOf N ty) (partsFrom N tys f 0))
+namedRow N id f (named often ty tys) = some (s.name id often (tyOf N ty) (partsFrom N tys f 0))
 namedRow N id f retired = none
 namedRow N id f free = none
 
@@ -80,7 +81,7 @@ rowWeight w s.skip = 1
 rowWeight w s.diverge = 1
 rowWeight w (s.const v) = 1
 rowWeight w (s.private v) = 2
-rowWeight w (s.name i T xs) = 2 + partsWeight w xs
+rowWeight w (s.name i o T xs) = useWeight o + partsWeight w xs
 rowWeight w (s.fetch a) = w a
 rowWeight w (s.operate m o a b) = w a + m * w b
 rowWeight w (s.assign m a b) = w b + m * w a

@@ -4,7 +4,8 @@ use mathlib.Core.Path.{_≡_}
 use mathlib.Core.Option.{Option, some}
 use mathlib.Core.List.{List, [], _∷_}
 use Rattle.language.specs.Ty.{Ty, command, expression, variable, questions, answers}
-use Rattle.language.specs.Term.{Operation}
+use Rattle.language.specs.Term.{Operation, Often, onces}
+use Rattle.language.specs.Weight.{useWeight}
 use Rattle.language.specs.Typing.{operands, results}
 use Rattle.language.specs.declared.Numbers.{Numbers}
 use Rattle.procedures.specs.Held.{held}
@@ -46,8 +47,9 @@ module _ (N : Numbers) (u : List ℕ) where
     of-const : {v m : ℕ} → RowWords u r 18 1 (expression m) → word u r 4 ≡ v → v < m → Worded r (const v) (expression m)
     of-private : {b m : ℕ} → RowWords u r 128 2 (variable m) → word u r 4 ≡ b → word u b 4 ≡ m →
       Worded r (private b) (variable m)
-    of-name : {i : ℕ} {T : Ty} {xs : Parts} → RowWords u r 20 (2 + argumentWeights u xs) T → i < 256 →
-      word u r 4 ≡ i + 256 * counted xs → counted xs ≤ 4 → Arguments u r 0 xs → Worded r (name i T xs) T
+    of-name : {i : ℕ} {o : Often} {T : Ty} {xs : Parts} → RowWords u r 20 (useWeight o + argumentWeights u xs) T →
+      i < 256 → word u r 4 ≡ i + 256 * (counted xs + 8 * onces o) → counted xs ≤ 4 → Arguments u r 0 xs →
+      Worded r (name i o T xs) T
     of-fetch : {a m : ℕ} → RowWords u r 21 (w a) (expression m) → word u r 5 ≡ a → TyRow u a (variable m) →
       Worded r (fetch a) (expression m)
     of-operate : {o : Operation} {a b : ℕ} → o .over ≡ N →

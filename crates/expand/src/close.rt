@@ -7,6 +7,7 @@ use crate::words::VALUES;
 use crate::words::WEIGHT;
 use crate::words::arguments_of;
 use crate::words::first_bits;
+use crate::words::own_of;
 use crate::words::place_of;
 use crate::words::put_word;
 use crate::words::slot_at;
@@ -154,7 +155,11 @@ fn name_weight(t: &[u16], at: u16, a: u16, b: u16, c: u16, d: u16) -> u32
     let second = argument_weight(t, at, 1, b);
     let third = argument_weight(t, at, 2, c);
     let fourth = argument_weight(t, at, 3, d);
-    sat_add(2, sat_add(first, sat_add(second, sat_add(third, fourth))))
+    let own = own_of(word_at(t, at, DETAIL));
+    sat_add(
+        own as u32,
+        sat_add(first, sat_add(second, sat_add(third, fourth))),
+    )
 }
 
 // The weight of a row of another kind: v are the values of its first part, d is its detail, a, b, c weigh its parts.
@@ -338,12 +343,12 @@ pub(crate) fn close_row(
     put_parts(rows, n, a, b, c, d);
 }
 
-// The weight of a row without parts.
-fn leaf_weight(kind: u16) -> u16
-    ensures { λ r. ⌜ r ≡ leafWeight kind ⌝ }
+// The weight of a row without parts, where its detail is given.
+fn leaf_weight(kind: u16, detail: u16) -> u16
+    ensures { λ r. ⌜ r ≡ leafWeight kind detail ⌝ }
 {
     if kind == NAME {
-        return 2;
+        return own_of(detail);
     }
     if kind == PRIVATE {
         return 2;
@@ -361,6 +366,7 @@ pub(crate) fn close_leaf(t: &[u16], slots: &[u16; 128], rows: &mut [u16], at: u1
     let class = word_at(t, at, CLASS);
     let values = word_at(t, at, VALUES);
     let detail = detail_of(t, slots, at);
-    put_head(rows, n, kind, leaf_weight(kind), class, values, detail);
+    let weight = leaf_weight(kind, word_at(t, at, DETAIL));
+    put_head(rows, n, kind, weight, class, values, detail);
     put_parts(rows, n, NO_ROW, NO_ROW, NO_ROW, NO_ROW);
 }

@@ -6,6 +6,7 @@ ghost use mathlib.Core.Path.{_≡_};
 ghost use Prim.Native.Nat.{_+_, _%_, _/_, _<_};
 ghost use lib.ListN.{getD, set};
 ghost use Rattle.part_rows.specs.Row.{cell, word};
+ghost use Rattle.procedures.specs.PartKind.{ONCE};
 ghost use Rattle.expand.specs.Close.{comeOf, usedOf, moreOf, firstBits, passedSlots};
 
 // The words of a row: the kind of a part, its weight (of a row of the expansion), the class of its type, the number of
@@ -28,8 +29,13 @@ const COMES: u16 = 128;
 // The detail of a use has the place of the procedure's record below this, and above it the number of arguments.
 const PLACES: u16 = 4096;
 
-// The detail of a name has its id below this, and above it the number of arguments.
+// The detail of a name has its id below this, and above it the number of arguments, which is below COUNTS; where the
+// name asks once, it has ONCE besides.
 const IDS: u16 = 256;
+
+const COUNTS: u16 = 8;
+
+const ONCE: u16 = 2048;
 
 const LAST_WORD: u16 = 65535;
 
@@ -124,9 +130,16 @@ pub(crate) fn passed_of(detail: u16) -> u16
 
 // How many arguments a name with this detail has.
 pub(crate) fn arguments_of(detail: u16) -> u16
-    ensures { λ r. ⌜ r ≡ detail / 256 ⌝ }
+    ensures { λ r. ⌜ r ≡ detail / 256 % 8 ⌝ }
 {
-    detail / IDS
+    detail / IDS % COUNTS
+}
+
+// What a name with this detail weighs beside its arguments.
+pub(crate) fn own_of(detail: u16) -> u16
+    ensures { λ r. ⌜ r ≡ 2 + detail / ONCE % 2 ⌝ }
+{
+    2 + detail / ONCE % 2
 }
 
 // A bit for each of so many arguments.

@@ -167,10 +167,10 @@ module _ (N : Numbers) (t : List ℕ) {root : ℕ} {M : Term} {T : Ty} (r : Rep 
   at-start : (m : Record) → GivenMove m → Listens N t m (opening 255 T) begins (atStart t root m)
   unfolding atStart
   at-start m (inl e) =
-      rw (eq-eqb (m .kind) 255 e) (waits {node = root} {q = 7} {x = 0} e (opens (row-of r .1 .typed)) refl)
+      rw (eq-eqb (m .kind) 255 e) (waits {node = root} {q = 7} {x = 0} {c = 0} e (opens (row-of r .1 .typed)) refl)
   at-start m (inr (i, j, ev, e)) =
       subst (λ (m : Record). Listens N t m (opening 255 T) begins
-          (pick (eqb (m .kind) 255) (Hear root 7 0) (openedOf t root m))) (sym e)
+          (pick (eqb (m .kind) 255) (Hear root 7 0 0) (openedOf t root m))) (sym e)
       (leads i j ev refl (rw (kind-below i j ev) (start-leads i j ev)))
 
   -- the steps of the term in the copy for the question q
@@ -242,7 +242,8 @@ module _ (N : Numbers) (t : List ℕ) {root : ℕ} {M : Term} {T : Ty} (r : Rep 
     unfolding Shows Acts mapAction riseOf
     rise m (go x) o h = rise-next x o h
     rise m (say y x) o h = rise-said y x o h
-    rise m (hear l k) o (awaits {node} {q} {x} a w b) = waits {node = node} {q = q} {x = x} a (calls w) (rw b refl)
+    rise m (hear l k) o (awaits {node} {q} {x} {c} a w b) =
+        waits {node = node} {q = q} {x = x} {c = c} a (calls w) (rw b refl)
     rise m (hear l k) o (follows i j d a b) =
         leads i j d a
         (subst (λ (x : Next (Index (spots T M)) (Unit {0})). Leads x (riseOf N copy o))

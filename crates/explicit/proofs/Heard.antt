@@ -12,14 +12,14 @@ use Rattle.language.specs.Choice.{pick}
 use Rattle.language.specs.Ty.{Ty, command, expression, variable, Question, run, ask, read, write}
 use Rattle.language.specs.Ty.{Answer, value, Fits, fits-run, fits-ask, fits-read, fits-write}
 use Rattle.language.specs.Ty.{Answers, to-run, to-ask, to-read, to-write, questions}
-use Rattle.language.specs.Term.{Args, arg, name}
+use Rattle.language.specs.Term.{Often, Args, arg, name}
 use Rattle.machine.specs.Action.{Heard, asked, answered, opened, Listen, calling, opening, who, heard, FitsAt, Hears}
 use Rattle.machine.specs.Position.{types}
 use Rattle.machine.specs.Degree.{answersTo, asks, hearings}
 use Rattle.part_rows.specs.Row.{word}
 use Rattle.nodes.specs.Rep.{count, Rep, RepArgs, r-none, r-arg, r-name, TyRow}
-use Rattle.automaton.specs.walk.Row.{partClass, partValues, nameId, nameCount}
-use Rattle.automaton.specs.walk.Shows.{kindQ, valueQ, kindA, valueA, moveOf}
+use Rattle.automaton.specs.walk.Row.{partClass, partValues, nameId}
+use Rattle.automaton.specs.walk.Shows.{kindQ, valueQ, kindA, valueA, moveOf, Takes, takes-all, takes-none}
 use Rattle.automaton.proofs.TypeNumbers.{HasType, has-type}
 use Rattle.automaton.proofs.Parts.{part-type}
 use Rattle.explicit.specs.declared.Wait.{Wait}
@@ -59,7 +59,7 @@ limit-one t wait k j h =
       (pick-most (eqb j 0) _ 0 1 (one-question (word t (wait .at) 2) (word t (wait .at) 3) k h) (omega arith))
       (pick-most (eqb j 0) _ _ 1
         (one-answer (word t (wait .at) 2) (word t (wait .at) 3) (wait .kind) (wait .value) k h)
-        (pick-most (ltb (nameCount t (wait .at)) j) 0 _ 1 (omega arith)
+        (pick-most (ltb (wait .count) j) 0 _ 1 (omega arith)
           (one-question (partClass t (wait .at) (j - 1)) (partValues t (wait .at) (j - 1)) k h)))
 
 -- a question of a type, and an answer to one, is below its limit
@@ -146,6 +146,24 @@ asked-sum {t = t} (r-arg {at = node} {j} {T = T} r rs) zero a e l =
     rw same (question-sum (partClass t node j) (partValues t node j) T (part-type node j r))
 asked-sum (r-arg {j = j} r rs) (suc i) a e l = asked-sum rs i a (omega arith) (omega arith)
 
+-- the same where a name may ask all its arguments or none
+taken-limit : {K : Numbers} {t rs n : List ℕ} {left node c : ℕ} {args : Args} {Ts : List Ty} →
+    RepArgs K t left node 0 rs n args → Takes args Ts c → (j : ℕ) (q : Question) → FitsAt Ts j q →
+    (j < c) × (valueQ q < questionLimit (partClass t node j) (partValues t node j) (kindQ q))
+unfolding FitsAt
+taken-limit ra takes-all j q f = asked-limit ra j j (omega arith) q f
+taken-limit ra takes-none j q f = absurd f
+
+taken-few : {c : ℕ} {args : Args} {Ts : List Ty} → Takes args Ts c → c ≤ count args
+taken-few takes-all = omega arith
+taken-few takes-none = omega arith
+
+taken-sum : {K : Numbers} {t rs n : List ℕ} {left node c : ℕ} {args : Args} {Ts : List Ty} →
+    RepArgs K t left node 0 rs n args → Takes args Ts c → (j : ℕ) → j < c →
+    kinds (questionLimit (partClass t node j) (partValues t node j)) ≤ share Ts j
+taken-sum ra takes-all j l = asked-sum ra j j (omega arith) l
+taken-sum ra takes-none j l = absurd (omega arith)
+
 -- the one a state waits for, by the code
 pub record Heeds (t : List ℕ) (l : Listen) (wait : Wait) : Type 0 where
   pub same : who l ≡ wait .id
@@ -164,90 +182,90 @@ not-seven ask = refl
 not-seven read = refl
 not-seven (write v) = refl
 
--- a name that waits for an answer to the question q
-abbrev nameWait : List ℕ → ℕ → ℕ → Question → Wait
-nameWait t s node q = record { state = s; id = nameId t node; at = node; kind = kindQ q; value = valueQ q }
+-- a name that waits for an answer to the question q, and may ask c arguments
+abbrev nameWait : List ℕ → ℕ → ℕ → Question → ℕ → Wait
+nameWait t s node q c =
+    record { state = s; id = nameId t node; at = node; kind = kindQ q; value = valueQ q; count = c }
 
-module _ (t : List ℕ) (s node : ℕ) (q : Question) where
-  pub wait-at : waitOf t s node (kindQ q) (valueQ q) ≡ nameWait t s node q
+module _ (t : List ℕ) (s node : ℕ) (q : Question) (c : ℕ) where
+  pub wait-at : waitOf t s node (kindQ q) (valueQ q) c ≡ nameWait t s node q c
   unfolding waitOf
   wait-at = rw (not-seven q) refl
 
-  limit-own : (k : ℕ) → limitOf t (nameWait t s node q) k 0 ≡
+  limit-own : (k : ℕ) → limitOf t (nameWait t s node q c) k 0 ≡
       answerLimit (word t node 2) (word t node 3) (kindQ q) (valueQ q) k
   unfolding limitOf
   limit-own k = rw (not-seven q) refl
 
-  limit-arg : (j : ℕ) → j < nameCount t node → (k : ℕ) → limitOf t (nameWait t s node q) k (suc j) ≡
+  limit-arg : (j : ℕ) → j < c → (k : ℕ) → limitOf t (nameWait t s node q c) k (suc j) ≡
       questionLimit (partClass t node j) (partValues t node j) k
   unfolding limitOf
   limit-arg j h k =
       let less : suc j - 1 ≡ j = omega arith in
-      rw (not-seven q, ne-eqb (suc j) 0 (omega arith), le-ltb (nameCount t node) (suc j) h, less) refl
+      rw (not-seven q, ne-eqb (suc j) 0 (omega arith), le-ltb c (suc j) h, less) refl
 
-  limit-past : (j : ℕ) → nameCount t node ≤ j → (k : ℕ) → limitOf t (nameWait t s node q) k (suc j) ≡ 0
+  limit-past : (j : ℕ) → c ≤ j → (k : ℕ) → limitOf t (nameWait t s node q c) k (suc j) ≡ 0
   unfolding limitOf
   limit-past j h k =
-      rw (not-seven q, ne-eqb (suc j) 0 (omega arith), lt-ltb (nameCount t node) (suc j) (omega arith)) refl
+      rw (not-seven q, ne-eqb (suc j) 0 (omega arith), lt-ltb c (suc j) (omega arith)) refl
 
-  -- the moves at a name
-  module _ {K : Numbers} {rs n : List ℕ} {left i : ℕ} (T : Ty) {args : Args} (ra : RepArgs K t left node 0 rs n args)
-      (pi : nameId t node ≡ i) (pc : nameCount t node ≡ count args) (few : count args ≤ 4)
-      (ty : HasType (word t node 2) (word t node 3) T) where
-    arg-near : (r : Heard) → Hears (calling i (types args) T q) r →
-        moveOf (heard (who (calling i (types args) T q)) r) .arg < 5
+  -- the moves at a name that may ask the first c of its arguments, which have the types Ts
+  module _ {K : Numbers} {rs n : List ℕ} {left i : ℕ} (T : Ty) {args : Args} (Ts : List Ty)
+      (ra : RepArgs K t left node 0 rs n args) (h : Takes args Ts c)
+      (pi : nameId t node ≡ i) (few : count args ≤ 4) (ty : HasType (word t node 2) (word t node 3) T) where
+    arg-near : (r : Heard) → Hears (calling i Ts T q) r → moveOf (heard (who (calling i Ts T q)) r) .arg < 5
     unfolding Hears heard moveOf
-    arg-near (asked j p) h = omega (arith, asked-limit ra j j (omega arith) p h .0)
-    arg-near (answered a) h = omega arith
-    arg-near (opened p) h = absurd h
+    arg-near (asked j p) f = omega (arith, taken-limit ra h j p f .0, taken-few h)
+    arg-near (answered a) f = omega arith
+    arg-near (opened p) f = absurd f
 
-    value-below : (r : Heard) → Hears (calling i (types args) T q) r →
-        moveOf (heard (who (calling i (types args) T q)) r) .value <
-        limitOf t (nameWait t s node q) (moveOf (heard (who (calling i (types args) T q)) r) .kind)
-          (moveOf (heard (who (calling i (types args) T q)) r) .arg)
+    value-below : (r : Heard) → Hears (calling i Ts T q) r →
+        moveOf (heard (who (calling i Ts T q)) r) .value <
+        limitOf t (nameWait t s node q c) (moveOf (heard (who (calling i Ts T q)) r) .kind)
+          (moveOf (heard (who (calling i Ts T q)) r) .arg)
     unfolding Hears heard moveOf
-    value-below (asked j p) h =
-        let f = asked-limit ra j j (omega arith) p h in
-        rw (limit-arg j (omega (arith, f .0)) (kindQ p)) (f .1)
-    value-below (answered a) h = rw (limit-own (kindA a)) (answer-limit (word t node 2) (word t node 3) ty h)
-    value-below (opened p) h = absurd h
+    value-below (asked j p) f =
+        let g = taken-limit ra h j p f in
+        rw (limit-arg j (g .0) (kindQ p)) (g .1)
+    value-below (answered a) f = rw (limit-own (kindA a)) (answer-limit (word t node 2) (word t node 3) ty f)
+    value-below (opened p) f = absurd f
 
-    column : (j : ℕ) → kinds (λ k. limitOf t (nameWait t s node q) k (suc j)) ≤ share (types args) j
-    column j = cases (decLt j (nameCount t node))
+    column : (j : ℕ) → kinds (λ k. limitOf t (nameWait t s node q c) k (suc j)) ≤ share Ts j
+    column j = cases (decLt j c)
       where
-        cases : Dec (j < nameCount t node) →
-            kinds (λ k. limitOf t (nameWait t s node q) k (suc j)) ≤ share (types args) j
-        cases (yes h) = simp (limit-arg j h) (asked-sum ra j j (omega arith) (omega arith))
-        cases (no h) = simp (limit-past j (omega arith)) (omega arith)
+        cases : Dec (j < c) → kinds (λ k. limitOf t (nameWait t s node q c) k (suc j)) ≤ share Ts j
+        cases (yes l) = simp (limit-arg j l) (taken-sum ra h j l)
+        cases (no l) = simp (limit-past j (omega arith)) (omega arith)
 
-    own : kinds (λ k. limitOf t (nameWait t s node q) k 0) ≤ answersTo T q
+    own : kinds (λ k. limitOf t (nameWait t s node q c) k 0) ≤ answersTo T q
     own = simp limit-own (answer-sum (word t node 2) (word t node 3) T ty q)
 
-    heeds-name : Heeds t (calling i (types args) T q) (nameWait t s node q)
+    heeds-name : Heeds t (calling i Ts T q) (nameWait t s node q c)
     unfolding who hearings nameId
     heeds-name = record {
       same = sym pi; byte = omega arith; near = arg-near; below = value-below;
-      few = omega (arith, own, column 0, column 1, column 2, column 3, share-sum (types args))
+      few = omega (arith, own, column 0, column 1, column 2, column 3, share-sum Ts)
     }
 
-  name-heeds : {K : Numbers} {rs n : List ℕ} {left i : ℕ} {T : Ty} {args : Args} →
-      Rep K t left node rs n (name i T args) T → Heeds t (calling i (types args) T q) (nameWait t s node q)
-  unfolding nameId nameCount
-  name-heeds {T = T} (r-name row i-byte e few ra) =
-      heeds-name T ra (omega arith) (omega arith) few (has-type t node T (row .typed))
+  name-heeds : {K : Numbers} {rs n : List ℕ} {left i : ℕ} {o : Often} {T : Ty} {args : Args} (Ts : List Ty) →
+      Takes args Ts c → Rep K t left node rs n (name i o T args) T →
+      Heeds t (calling i Ts T q) (nameWait t s node q c)
+  unfolding nameId
+  name-heeds {T = T} Ts h (r-name row i-byte e few ra) =
+      heeds-name T Ts ra h (omega arith) few (has-type t node T (row .typed))
 
 -- the state of an wait
-pub wait-state : (t : List ℕ) (s node q x : ℕ) → waitOf t s node q x .state ≡ s
+pub wait-state : (t : List ℕ) (s node q x c : ℕ) → waitOf t s node q x c .state ≡ s
 unfolding waitOf
-wait-state t s node q x = cases (eqb q 7)
+wait-state t s node q x c = cases (eqb q 7)
   where
-    cases : (b : Bool) → pick {A = Wait} b (record { state = s; id = 255; at = node; kind = q; value = x })
-        (record { state = s; id = nameId t node; at = node; kind = q; value = x }) .state ≡ s
+    cases : (b : Bool) → pick {A = Wait} b (record { state = s; id = 255; at = node; kind = q; value = x; count = c })
+        (record { state = s; id = nameId t node; at = node; kind = q; value = x; count = c }) .state ≡ s
     cases true = refl
     cases false = refl
 
 -- the asker of the whole term
-asker-heeds : (t : List ℕ) (s root : ℕ) (T : Ty) → TyRow t root T → Heeds t (opening 255 T) (waitOf t s root 7 0)
+asker-heeds : (t : List ℕ) (s root : ℕ) (T : Ty) → TyRow t root T → Heeds t (opening 255 T) (waitOf t s root 7 0 0)
 unfolding waitOf who hearings
 asker-heeds t s root T h = record {
     same = refl; byte = omega arith; near = arg-near; below = value-below; few = sum
@@ -256,7 +274,7 @@ asker-heeds t s root T h = record {
     ty : HasType (word t root 2) (word t root 3) T
     ty = has-type t root T h
     wait : Wait
-    wait = record { state = s; id = 255; at = root; kind = 7; value = 0 }
+    wait = record { state = s; id = 255; at = root; kind = 7; value = 0; count = 0 }
     arg-near : (r : Heard) → Hears (opening 255 T) r → moveOf (heard 255 r) .arg < 5
     arg-near (asked j p) f = unfold Hears in absurd f
     arg-near (answered a) f = unfold Hears in absurd f
@@ -272,8 +290,9 @@ asker-heeds t s root T h = record {
     sum = unfold limitOf in omega (arith, question-sum (word t root 2) (word t root 3) T ty)
 
 -- THEOREM: a state's wait is that of the one it waits for
-pub heeds : {N : Numbers} (t : List ℕ) (s : ℕ) {l : Listen} {node q x : ℕ} → Waits N t l node q x →
-    Heeds t l (waitOf t s node q x)
-heeds t s (calls {node = node} a) =
-    rw (a .listens, a .kinded, a .valued, wait-at t s node (a .asked)) (name-heeds t s node (a .asked) (a .part))
+pub heeds : {N : Numbers} (t : List ℕ) (s : ℕ) {l : Listen} {node q x c : ℕ} → Waits N t l node q x c →
+    Heeds t l (waitOf t s node q x c)
+heeds t s (calls {node = node} {c = c} a) =
+    rw (a .listens, a .kinded, a .valued, wait-at t s node (a .asked) c)
+      (name-heeds t s node (a .asked) c (a .asks) (a .takes) (a .part))
 heeds t s (opens {T = T} {root = root} h) = asker-heeds t s root T h

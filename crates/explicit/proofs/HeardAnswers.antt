@@ -108,7 +108,7 @@ module _ (t : List ℕ) (wait : Wait) (calls : Calling wait) where
   -- such an answer ends the name
   answer-exits : (N : Numbers) (root : ℕ) (p : List ℕ) (c kind v : ℕ) → Words t → Listening t N root p c wait →
     v < limitOf t wait kind 0 →
-    waitAt t root (wait .state) (wait .at) (wait .kind) (wait .value)
+    waitAt t root (wait .state) (wait .at) (wait .kind) (wait .value) (wait .count)
       (record { kind = kind; id = wait .id; arg = 0; value = v }) ≡ Exit kind v 0 0
   unfolding waitAt atWait listenOf hearAnswer word
   answer-exits N root p c kind v small L h =

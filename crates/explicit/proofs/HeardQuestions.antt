@@ -11,7 +11,7 @@ use borrow.Author.Tests.{lt-ltb, le-ltb, ne-eqb}
 use Rattle.language.specs.Choice.{pick}
 use Rattle.language.specs.declared.Numbers.{Numbers}
 use Rattle.part_rows.specs.Row.{word}
-use Rattle.automaton.specs.walk.Row.{nameCount, partClass, partValues}
+use Rattle.automaton.specs.walk.Row.{partClass, partValues}
 use Rattle.explicit.specs.declared.Wait.{Wait}
 use Rattle.part_path.specs.declared.Site.{Site}
 use Rattle.explicit.specs.inner.Rows.{withEdges, past}
@@ -33,56 +33,54 @@ no-question class m c q = go (eqb c 0) (eqb q 6)
     go false false = no-choice (eqb class 0) 0 _ refl (no-choice (eqb class 1) 0 0 refl refl)
 
 -- the arguments that have moves are arguments, and they are all, or four
-asking-within : (t : List ℕ) (at : ℕ) → askingOf t at ≤ nameCount t at
+asking-within : (count : ℕ) → askingOf count ≤ count
 unfolding askingOf
-asking-within t at = go (decLt 4 (nameCount t at))
+asking-within count = go (decLt 4 count)
   where
-    go : Dec (4 < nameCount t at) → askingOf t at ≤ nameCount t at
-    go (yes h) = rw (lt-ltb 4 (nameCount t at) h) (omega arith)
-    go (no h) = rw (le-ltb 4 (nameCount t at) (omega arith)) (omega arith)
+    go : Dec (4 < count) → askingOf count ≤ count
+    go (yes h) = rw (lt-ltb 4 count h) (omega arith)
+    go (no h) = rw (le-ltb 4 count (omega arith)) (omega arith)
 
-asking-four : (t : List ℕ) (at : ℕ) → askingOf t at ≤ 4
+asking-four : (count : ℕ) → askingOf count ≤ 4
 unfolding askingOf
-asking-four t at = go (decLt 4 (nameCount t at))
+asking-four count = go (decLt 4 count)
   where
-    go : Dec (4 < nameCount t at) → askingOf t at ≤ 4
-    go (yes h) = rw (lt-ltb 4 (nameCount t at) h) (omega arith)
-    go (no h) = rw (le-ltb 4 (nameCount t at) (omega arith)) (omega arith)
+    go : Dec (4 < count) → askingOf count ≤ 4
+    go (yes h) = rw (lt-ltb 4 count h) (omega arith)
+    go (no h) = rw (le-ltb 4 count (omega arith)) (omega arith)
 
-asking-all : (t : List ℕ) (at arg : ℕ) → askingOf t at < arg → arg ≤ 4 → nameCount t at < arg
+asking-all : (count arg : ℕ) → askingOf count < arg → arg ≤ 4 → count < arg
 unfolding askingOf
-asking-all t at arg l f = go (decLt 4 (nameCount t at)) l
+asking-all count arg l f = go (decLt 4 count) l
   where
-    go : Dec (4 < nameCount t at) → askingOf t at < arg → nameCount t at < arg
-    go (yes h) l = let g : 4 < arg = rw (lt-ltb 4 (nameCount t at) h) at l in absurd (omega arith)
-    go (no h) l = rw (le-ltb 4 (nameCount t at) (omega arith)) at l
+    go : Dec (4 < count) → askingOf count < arg → count < arg
+    go (yes h) l = let g : 4 < arg = rw (lt-ltb 4 count h) at l in absurd (omega arith)
+    go (no h) l = rw (le-ltb 4 count (omega arith)) at l
 
-pub asking-most : (t : List ℕ) (at count : ℕ) → count ≡ nameCount t at → 4 < count → 4 ≡ askingOf t at
+pub asking-most : (count : ℕ) → 4 < count → 4 ≡ askingOf count
 unfolding askingOf
-asking-most t at count e h = rw (← e, lt-ltb 4 count h)
+asking-most count h = rw (lt-ltb 4 count h)
 
-pub asking-few : (t : List ℕ) (at count : ℕ) → count ≡ nameCount t at → count ≤ 4 → count ≡ askingOf t at
+pub asking-few : (count : ℕ) → count ≤ 4 → count ≡ askingOf count
 unfolding askingOf
-asking-few t at count e h = rw (← e, le-ltb 4 count h)
+asking-few count h = rw (le-ltb 4 count h)
 
-pub arguments : (t : List ℕ) (wait : Wait) (count : ℕ) → Calling wait → count ≡ askingOf t (wait .at) →
-  Arguments t wait count
-arguments t wait count calls e =
-    record { calls = calls; within = omega (arith, e, asking-within t (wait .at)) }
+pub arguments : (wait : Wait) (count : ℕ) → Calling wait → count ≡ askingOf (wait .count) → Arguments wait count
+arguments wait count calls e =
+    record { calls = calls; within = omega (arith, e, asking-within (wait .count)) }
 
-pub argument : (t : List ℕ) (wait : Wait) (count arg : ℕ) → Arguments t wait count → arg < count →
-  Argument t wait (arg + 1)
-argument t wait count arg a h =
+pub argument : (wait : Wait) (count arg : ℕ) → Arguments wait count → arg < count → Argument wait (arg + 1)
+argument wait count arg a h =
     record { within = record { calls = a .calls; within = omega (arith, a .within) }; some = omega arith }
 
 -- the limit of the questions at an argument
-pub limit-question : (t : List ℕ) (wait : Wait) (kind arg class m l : ℕ) → Argument t wait arg →
+pub limit-question : (t : List ℕ) (wait : Wait) (kind arg class m l : ℕ) → Argument wait arg →
   class ≡ partClass t (wait .at) (arg - 1) → m ≡ partValues t (wait .at) (arg - 1) → l ≡ questionLimit class m kind →
   l ≡ limitOf t wait kind arg
 unfolding limitOf
 limit-question t wait kind arg class m l a c v e =
     rw (ne-eqb (wait .kind) 7 (a .within .calls), ne-eqb arg 0 (λ z. omega (arith, a .some)),
-        le-ltb (nameCount t (wait .at)) arg (a .within .within), ← c, ← v) e
+        le-ltb (wait .count) arg (a .within .within), ← c, ← v) e
 
 module _ (t : List ℕ) (N : Numbers) (s : Site) (wait : Wait) where
   -- the loop over arguments
@@ -155,13 +153,13 @@ module _ (t : List ℕ) (N : Numbers) (s : Site) (wait : Wait) where
     unfolding limitOf
     own-questions arg n =
         no-block own arg (rw (ne-eqb (wait .kind) 7 calls, ne-eqb arg 0 n, is)
-          (no-choice (ltb (nameCount t (wait .at)) arg) 0 _ refl (no-question _ _ (word t (wait .at) 2) (wait .kind))))
+          (no-choice (ltb (wait .count) arg) 0 _ refl (no-question _ _ (word t (wait .at) 2) (wait .kind))))
 
-    no-argument : (kind arg : ℕ) → nameCount t (wait .at) < arg → blockEdges t N s wait kind arg ≡ []
+    no-argument : (kind arg : ℕ) → wait .count < arg → blockEdges t N s wait kind arg ≡ []
     unfolding limitOf
     no-argument kind arg h =
         no-block kind arg (rw (ne-eqb (wait .kind) 7 calls, ne-eqb arg 0 (λ z. omega arith),
-          lt-ltb (nameCount t (wait .at)) arg h))
+          lt-ltb (wait .count) arg h))
 
     -- five blocks of a kind
     kind-asked : (k : ℕ) → (k ≡ own → ⊥) → (j b : ℕ) → b ≡ 5 * k + j → j < 5 →
@@ -190,26 +188,26 @@ module _ (t : List ℕ) (N : Numbers) (s : Site) (wait : Wait) where
         block-step b own (suc j) e h ∙ rw (own-questions (suc j) (λ z. omega arith), f, rec) (append-nil _)
 
     -- the arguments that have moves are enough
-    enough : (k j : ℕ) → askingOf t (wait .at) ≤ j → j ≤ 4 →
-      questionEdges t N s wait k j ≡ questionEdges t N s wait k (askingOf t (wait .at))
+    enough : (k j : ℕ) → askingOf (wait .count) ≤ j → j ≤ 4 →
+      questionEdges t N s wait k j ≡ questionEdges t N s wait k (askingOf (wait .count))
     unfolding questionEdges
-    enough k zero h l = let z : askingOf t (wait .at) ≡ 0 = omega arith in rw z
-    enough k (suc j) h l = go (λ x. enough k j x (omega arith)) (decLt (askingOf t (wait .at)) (suc j))
+    enough k zero h l = let z : askingOf (wait .count) ≡ 0 = omega arith in rw z
+    enough k (suc j) h l = go (λ x. enough k j x (omega arith)) (decLt (askingOf (wait .count)) (suc j))
       where
-        go : (askingOf t (wait .at) ≤ j →
-            questionEdges t N s wait k j ≡ questionEdges t N s wait k (askingOf t (wait .at))) →
-          Dec (askingOf t (wait .at) < suc j) →
-          questionEdges t N s wait k (suc j) ≡ questionEdges t N s wait k (askingOf t (wait .at))
+        go : (askingOf (wait .count) ≤ j →
+            questionEdges t N s wait k j ≡ questionEdges t N s wait k (askingOf (wait .count))) →
+          Dec (askingOf (wait .count) < suc j) →
+          questionEdges t N s wait k (suc j) ≡ questionEdges t N s wait k (askingOf (wait .count))
         go rec (yes x) =
-            rw (no-argument k (suc j) (asking-all t (wait .at) (suc j) x l)) (append-nil _ ∙ rec (omega arith))
-        go rec (no x) = let z : askingOf t (wait .at) ≡ suc j = omega arith in rw z
+            rw (no-argument k (suc j) (asking-all (wait .count) (suc j) x l)) (append-nil _ ∙ rec (omega arith))
+        go rec (no x) = let z : askingOf (wait .count) ≡ suc j = omega arith in rw z
 
-    module _ (count : ℕ) (all : count ≡ askingOf t (wait .at)) where
+    module _ (count : ℕ) (all : count ≡ askingOf (wait .count)) where
       kind-step : (k : ℕ) → (k ≡ own → ⊥) → heardEdges t N s wait (5 * (k + 1)) ≡
         heardEdges t N s wait (5 * k) ++ questionEdges t N s wait k count
       kind-step k n =
           let f : 5 * (k + 1) ≡ suc (5 * k + 4) = omega arith in
-          rw (f, all, ← enough k 4 (asking-four t (wait .at)) (omega arith))
+          rw (f, all, ← enough k 4 (asking-four (wait .count)) (omega arith))
             (kind-asked k n 4 (5 * k + 4) refl (omega arith))
 
       asked-before : (m : ℕ) → m ≤ own → heardEdges t N s wait (5 * m) ≡ askedEdges t N s wait count 0 m
@@ -242,7 +240,7 @@ module _ (t : List ℕ) (N : Numbers) (s : Site) (wait : Wait) where
 
   -- what is written for the kinds before that of the answers, for the answers, and for the kinds after it
   pub called-told : (class own count e₀ e₁ e₂ e₃ : ℕ) (ws₀ ws₁ ws₂ ws₃ : List ℕ) → Calling wait →
-    class ≡ word t (wait .at) 2 → own ≡ answerKind class (wait .kind) → count ≡ askingOf t (wait .at) →
+    class ≡ word t (wait .at) 2 → own ≡ answerKind class (wait .kind) → count ≡ askingOf (wait .count) →
     Wrote ws₀ (s .n) e₀ (askedEdges t N s wait count 0 (own - 0)) e₁ ws₁ →
     Wrote ws₁ (s .n) e₁ (blockEdges t N s wait own 0) e₂ ws₂ →
     Wrote ws₂ (s .n) e₂ (askedEdges t N s wait count (own + 1) (7 - (own + 1))) e₃ ws₃ →
@@ -254,12 +252,12 @@ module _ (t : List ℕ) (N : Numbers) (s : Site) (wait : Wait) where
       let a′ : Wrote ws₀ (s .n) e₀ (askedEdges t N s wait count 0 own) e₁ ws₁ = rw z at a in
       told (rw (called-edges calls own is count q) (wrote-append _ _ (wrote-append _ _ a′ b) d))
 
-  -- a name without arguments takes only its answers
-  pub plain-told : (class own count e e′ : ℕ) (ws ws′ : List ℕ) → Calling wait → count ≡ nameCount t (wait .at) →
-    count ≡ 0 → class ≡ word t (wait .at) 2 → own ≡ answerKind class (wait .kind) →
+  -- a name that may ask no argument takes only its answers
+  pub plain-told : (class own e e′ : ℕ) (ws ws′ : List ℕ) → Calling wait → wait .count ≡ 0 →
+    class ≡ word t (wait .at) 2 → own ≡ answerKind class (wait .kind) →
     Wrote ws (s .n) e (blockEdges t N s wait own 0) e′ ws′ →
     (e′ ≡ past e (heardEdges t N s wait 35)) × (ws′ ≡ withEdges ws (s .n) e (heardEdges t N s wait 35))
-  plain-told class own count e e′ ws ws′ calls a z c k b =
+  plain-told class own e e′ ws ws′ calls z c k b =
       called-told class own 0 e e e′ e′ ws ws ws′ ws′ calls c k
-        (asking-few t (wait .at) 0 (sym z ∙ a) (omega arith)) (asked-none 0 (own - 0) e ws) b
+        (asking-few 0 (omega arith) ∙ ap askingOf (sym z)) (asked-none 0 (own - 0) e ws) b
         (asked-none (own + 1) (7 - (own + 1)) e′ ws′)

@@ -118,11 +118,11 @@ pub edge-of : (ws ws′ : List ℕ) (N : Numbers) (n e o next letter target : �
   target ≡ sumOf o next → ws′ ≡ withEdge ws n e letter target → ws′ ≡ withEdge ws n e (letterOf N m) (sumOf o next)
 edge-of ws ws′ N n e o next letter target m l g w = rw (← l, ← g) w
 
-pub wrote-by : (t : List ℕ) (N : Numbers) (s : Site) (wait : Wait) (k at kind value e e′ : ℕ) (ws ws′ : List ℕ) →
-  wait ≡ waitOf t k at kind value → e′ ≡ past e (heardEdges t N s wait 35) →
+pub wrote-by : (t : List ℕ) (N : Numbers) (s : Site) (wait : Wait) (k at kind value count e e′ : ℕ) (ws ws′ : List ℕ) →
+  wait ≡ waitOf t k at kind value count → e′ ≡ past e (heardEdges t N s wait 35) →
   ws′ ≡ withEdges ws (s .n) e (heardEdges t N s wait 35) →
-  Wrote ws (s .n) e (heardEdges t N s (waitOf t k at kind value) 35) e′ ws′
-wrote-by t N s wait k at kind value e e′ ws ws′ h f w = rw (← h) (record { returned = f; written = w })
+  Wrote ws (s .n) e (heardEdges t N s (waitOf t k at kind value count) 35) e′ ws′
+wrote-by t N s wait k at kind value count e e′ ws ws′ h f w = rw (← h) (record { returned = f; written = w })
 
 module _ (t : List ℕ) (N : Numbers) (s : Site) where
   -- one state: silent, saying a move, waiting
@@ -149,11 +149,11 @@ module _ (t : List ℕ) (N : Numbers) (s : Site) where
   row-say k e e′ next said o ws ws₁ ws′ c h z w f =
       row-as k e e′ o ws ws₁ ws′ c h (rw z (record { returned = f; written = w }))
 
-  pub row-hear : (k e e′ at kind value : ℕ) (o : Out) (ws ws₁ ws′ : List ℕ) → o ≡ sheetAt t N (s .root) k none →
-    ws₁ ≡ withHead ws (s .n) (sumOf (s .o) k) e (silentOf s o) → o ≡ Hear at kind value →
-    Wrote ws₁ (s .n) e (heardEdges t N s (waitOf t k at kind value) 35) e′ ws′ → WroteRow ws k e e′ ws′
+  pub row-hear : (k e e′ at kind value count : ℕ) (o : Out) (ws ws₁ ws′ : List ℕ) → o ≡ sheetAt t N (s .root) k none →
+    ws₁ ≡ withHead ws (s .n) (sumOf (s .o) k) e (silentOf s o) → o ≡ Hear at kind value count →
+    Wrote ws₁ (s .n) e (heardEdges t N s (waitOf t k at kind value count) 35) e′ ws′ → WroteRow ws k e e′ ws′
   unfolding edgesOf
-  row-hear k e e′ at kind value o ws ws₁ ws′ c h z w = row-as k e e′ o ws ws₁ ws′ c h (rw z w)
+  row-hear k e e′ at kind value count o ws ws₁ ws′ c h z w = row-as k e e′ o ws ws₁ ws′ c h (rw z w)
 
 -- the states below k are written
 pub record Filled (row : ℕ → StateRow) (n o e : ℕ) (ws : List ℕ) (k e′ : ℕ) (ws′ : List ℕ) : Type 0 where

@@ -21,41 +21,43 @@ use Rattle.explicit.specs.inner.Moves.{waitOf}
 use Rattle.explicit.specs.inner.Waiting.{Listening}
 
 -- whom a state waits for
-wait-fields : (t : List ℕ) (k at q x : ℕ) →
-  (waitOf t k at q x .state ≡ k) × (waitOf t k at q x .at ≡ at) × (waitOf t k at q x .kind ≡ q) × (waitOf t k at q x
-      .value ≡ x)
+abbrev Fields : List ℕ → ℕ → ℕ → ℕ → ℕ → ℕ → Type 0
+Fields t k at q x n =
+    (waitOf t k at q x n .state ≡ k) × (waitOf t k at q x n .at ≡ at) × (waitOf t k at q x n .kind ≡ q) ×
+      (waitOf t k at q x n .value ≡ x) × (waitOf t k at q x n .count ≡ n)
+
+wait-fields : (t : List ℕ) (k at q x n : ℕ) → Fields t k at q x n
 unfolding waitOf
-wait-fields t k at q x = go (ℕ-discrete q 7)
+wait-fields t k at q x n = go (ℕ-discrete q 7)
   where
-    go : Dec (q ≡ 7) → (waitOf t k at q x .state ≡ k) × (waitOf t k at q x .at ≡ at) × (waitOf t k at q x .kind ≡ q) ×
-      (waitOf t k at q x .value ≡ x)
-    go (yes e) = rw (eq-eqb q 7 e) (refl, refl, refl, refl)
-    go (no e) = rw (ne-eqb q 7 e) (refl, refl, refl, refl)
+    go : Dec (q ≡ 7) → Fields t k at q x n
+    go (yes e) = rw (eq-eqb q 7 e) (refl, refl, refl, refl, refl)
+    go (no e) = rw (ne-eqb q 7 e) (refl, refl, refl, refl, refl)
 
 -- the start waits for the first question
-waits-first : (t : List ℕ) (N : Numbers) (root k at q x : ℕ) (o : Out) → sheetAt t N root k noMove ≡ o →
-  o ≡ Hear at q x → k ≡ 0 → q ≡ 7
+waits-first : (t : List ℕ) (N : Numbers) (root k at q x n : ℕ) (o : Out) → sheetAt t N root k noMove ≡ o →
+  o ≡ Hear at q x n → k ≡ 0 → q ≡ 7
 unfolding sheetAt atStart
-waits-first t N root k at q x o e w z =
-    let h : Hear root 7 0 ≡ Hear at q x = rw z at (e ∙ w) in
+waits-first t N root k at q x n o e w z =
+    let h : Hear root 7 0 0 ≡ Hear at q x n = rw z at (e ∙ w) in
     cc
 
-wait-named : (t : List ℕ) (k at q x : ℕ) → (q ≡ 7 → ⊥) → waitOf t k at q x .id ≡ nameId t at
+wait-named : (t : List ℕ) (k at q x n : ℕ) → (q ≡ 7 → ⊥) → waitOf t k at q x n .id ≡ nameId t at
 unfolding waitOf
-wait-named t k at q x n = rw (ne-eqb q 7 n)
+wait-named t k at q x n z = rw (ne-eqb q 7 z)
 
-pub row-listens : (t : List ℕ) (N : Numbers) (root : ℕ) (p : List ℕ) (c k at q x : ℕ) (out : Out) (wait : Wait) →
-  Arrived t root p c k out → out ≡ Hear at q x → wait ≡ waitOf t k at q x → Listening t N root p c wait
-row-listens t N root p c k at q x out wait A w g = record
+pub row-listens : (t : List ℕ) (N : Numbers) (root : ℕ) (p : List ℕ) (c k at q x n : ℕ) (out : Out)
+  (wait : Wait) → Arrived t root p c k out → out ≡ Hear at q x n → wait ≡ waitOf t k at q x n →
+  Listening t N root p c wait
+row-listens t N root p c k at q x n out wait A w g = record
   { sound = A .kept .sound
-  ; hears = λ m. rw (g, f .0, f .1, f .2, f .3) (A .at .hears N m at q x w)
-  ; first = rw (g, f .0, f .2) (waits-first t N root k at q x _ (A .at .does N)
-      (ap (λ (y : Out). riseAll N (framesOf p c) y) w ∙ rise-hear N (framesOf p c) at q x))
-  ; named = rw (g, f .1, f .2) (λ n. wait-named t k at q x n) }
+  ; hears = λ m. rw (g, f .0, f .1, f .2, f .3, f .4) (A .at .hears N m at q x n w)
+  ; first = rw (g, f .0, f .2) (waits-first t N root k at q x n _ (A .at .does N)
+      (ap (λ (y : Out). riseAll N (framesOf p c) y) w ∙ rise-hear N (framesOf p c) at q x n))
+  ; named = rw (g, f .1, f .2) (λ z. wait-named t k at q x n z) }
   where
-    f : (waitOf t k at q x .state ≡ k) × (waitOf t k at q x .at ≡ at) × (waitOf t k at q x .kind ≡ q) ×
-      (waitOf t k at q x .value ≡ x)
-    f = wait-fields t k at q x
+    f : Fields t k at q x n
+    f = wait-fields t k at q x n
 
 -- where a move leads
 pub heard-start : (t : List ℕ) (N : Numbers) (s : Site) (p : List ℕ) (c : ℕ) (wait : Wait) (m : Move) (o : Out)
@@ -69,7 +71,8 @@ heard-start t N s p c wait m o r L z e g =
 
 pub heard-later : (t : List ℕ) (N : Numbers) (s : Site) (p : List ℕ) (c : ℕ) (wait : Wait) (m : Move) (o : Out)
     (r : ℕ) →
-  Listening t N (s .root) p c wait → (wait .state ≡ 0 → ⊥) → o ≡ atWait t (wait .at) (wait .kind) (wait .value) m →
+  Listening t N (s .root) p c wait → (wait .state ≡ 0 → ⊥) →
+  o ≡ atWait t (wait .at) (wait .kind) (wait .value) (wait .count) m →
   r ≡ targetOf s (riseAll N (framesOf p c) o) → r ≡ targetOf s (sheetAt t N (s .root) (wait .state) m)
 unfolding waitAt
 heard-later t N s p c wait m o r L z e g =

@@ -60,9 +60,9 @@ module _ (N : Numbers) (s : Site) (fs : List Frame) (o : Out) where
   unfolding silentOf visibleOf
   silent-say {m = m} {next = next} w e = rw (e, rise-say N fs m next w .1)
 
-  pub silent-hear : {at q x : ℕ} → o ≡ Hear at q x → 0 ≡ silentOf s (riseAll N fs o)
+  pub silent-hear : {at q x n : ℕ} → o ≡ Hear at q x n → 0 ≡ silentOf s (riseAll N fs o)
   unfolding silentOf visibleOf
-  silent-hear {at = at} {q = q} {x = x} e = rw (e, rise-hear N fs at q x)
+  silent-hear {at = at} {q = q} {x = x} {n = n} e = rw (e, rise-hear N fs at q x n)
 
 -- the row
 module _ (t : List ℕ) (N : Numbers) (s : Site) (p : List ℕ) (c k e : ℕ) (out : Out) (A : Arrived t (s .root) p c k out)
@@ -90,10 +90,10 @@ module _ (t : List ℕ) (N : Numbers) (s : Site) (p : List ℕ) (c k e : ℕ) (o
         (ap (λ (y : Out). riseAll N (framesOf p c) y) eo ∙ r .1)
         (edge-of ws₁ ws′ N (s .n) e (s .o) (r .0) letter to m el g ew) ee
 
-  pub row-hears : (of q x e′ : ℕ) (wait : Wait) (ws′ : List ℕ) → out ≡ Hear of q x → wait ≡ waitOf t k of q x →
+  pub row-hears : (of q x n e′ : ℕ) (wait : Wait) (ws′ : List ℕ) → out ≡ Hear of q x n → wait ≡ waitOf t k of q x n →
     e′ ≡ past e (heardEdges t N s wait 35) → ws′ ≡ withEdges ws₁ (s .n) e (heardEdges t N s wait 35) →
     WroteRow t N s ws k e e′ ws′
-  row-hears of q x e′ wait ws′ eo er ee ew =
-      row-hear t N s k e e′ of q x did ws ws₁ ws′ (sym (A .at .does N)) head
-        (ap (λ (y : Out). riseAll N (framesOf p c) y) eo ∙ rise-hear N (framesOf p c) of q x)
-        (wrote-by t N s wait k of q x e e′ ws₁ ws′ er ee ew)
+  row-hears of q x n e′ wait ws′ eo er ee ew =
+      row-hear t N s k e e′ of q x n did ws ws₁ ws′ (sym (A .at .does N)) head
+        (ap (λ (y : Out). riseAll N (framesOf p c) y) eo ∙ rise-hear N (framesOf p c) of q x n)
+        (wrote-by t N s wait k of q x n e e′ ws₁ ws′ er ee ew)

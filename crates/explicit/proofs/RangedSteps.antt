@@ -20,7 +20,7 @@ use Rattle.machine.specs.Position as position
 use Rattle.machine.specs.Range.{TyIn, InRange, InRangeArgs}
 use Rattle.machine.specs.Settle.{Index}
 use Rattle.machine.specs.Sheet.{Spot, start, within, reply, spots, sheet, numbered-spots, numbered-step, steps}
-use Rattle.machine.specs.Step.{step, stepArgs}
+use Rattle.machine.specs.Step.{closes, step, stepArgs}
 use Rattle.explicit.specs.inner.Ranged.{AllIn, ListenIn, ActionIn}
 
 module _ (N : Numbers) where
@@ -68,6 +68,13 @@ module _ (N : Numbers) where
   map-in f h (say m x) r = r
   map-in f h (hear l k) r = r
 
+  -- a name that may put no more questions
+  close-in : (S : Type 0) (i : ℕ) (T : Ty) (args : Args) (n : List ℕ) (q : Question) (σ : Store n) → i < 256 →
+      TyIn N T → ActionIn N (closes {S = S} i T args n q σ)
+  unfolding ActionIn ListenIn AllIn closes
+  close-in S i T no-args n q σ h b = tt
+  close-in S i T (arg A M args) n q σ h b = (h, omega arith, tt, b)
+
   -- the actions of a term that has been asked a question of its type
   mutual
     unfolding step InRange ActionIn ListenIn Small
@@ -78,11 +85,12 @@ module _ (N : Numbers) where
     step-in (const v) (a-const h) r q f σ p = tt
     step-in (private i) (a-private h) r q f σ (inl p) = tt
     step-in (private i) (a-private h) r q f σ (inr p) = tt
-    step-in (name i T args) (a-name h) r q f σ position.start = (r .0, omega arith, question-in (r .1) f)
-    step-in (name i T args) (a-name h) r q f σ position.wait =
+    step-in (name i o T args) (a-name h) r q f σ position.start = (r .0, omega arith, question-in (r .1) f)
+    step-in (name i o T args) (a-name h) r q f σ position.wait =
         (r .0, omega (arith, few-args args 0 (r .2) (omega arith)), types-in args 0 (r .2), r .1)
-    step-in (name i T args) (a-name h) r q f σ (position.within p) = map-in _ _ _ (args-in args h 0 (r .2) σ p)
-    step-in (name i T args) (a-name h) r q f σ (position.reply (j, q′, a, x)) =
+    step-in (name i o T args) (a-name h) r q f σ (position.spent s) = close-in _ i T args _ q σ (r .0) (r .1)
+    step-in (name i o T args) (a-name h) r q f σ (position.within p) = map-in _ _ _ (args-in args h 0 (r .2) σ p)
+    step-in (name i o T args) (a-name h) r q f σ (position.reply (j, q′, a, x)) =
         let y = reply-in (types args) (types-in args 0 (r .2)) j q′ a x in
         (r .0, omega (arith, y .0, few-args args 0 (r .2) (omega arith)), y .1)
     step-in (fetch X) (a-fetch h) r q f σ p = step-in X h r read fits-read σ p
@@ -90,9 +98,9 @@ module _ (N : Numbers) where
         map-in _ _ _ (step-in L h (r .0) ask fits-ask σ p)
     step-in (operate m o L R) (an-operate h k) r q f σ (inr p) =
         map-in _ _ _ (step-in R k (r .1) ask fits-ask σ (p .1))
-    step-in (assign m X E) (an-assign h k) r q f σ (inl p) = map-in _ _ _ (step-in E k (r .1) ask fits-ask σ p)
+    step-in (assign m X E) (an-assign h k) r q f σ (inl p) = map-in _ _ _ (step-in E k (r .2) ask fits-ask σ p)
     step-in (assign m X E) (an-assign h k) r q f σ (inr p) =
-        map-in _ _ _ (step-in X h (r .0) (write (p .0 .0)) (fits-write (p .0 .1)) σ (p .1))
+        map-in _ _ _ (step-in X h (r .1) (write (p .0 .0)) (fits-write (p .0 .1)) σ (p .1))
     step-in (seq C M) (a-seq h k) r q f σ (inl p) = map-in _ _ _ (step-in C h (r .0) run fits-run σ p)
     step-in (seq C M) (a-seq h k) r q f σ (inr p) = map-in _ _ _ (step-in M k (r .1) q f σ p)
     step-in (while B C) (a-while h k) r q f σ (inl p) = map-in _ _ _ (step-in B h (r .0) ask fits-ask σ p)

@@ -20,7 +20,7 @@ use Rattle.procedures.specs.Written.{while, choose, new, procedure, Writtens, n
 use Rattle.procedures.specs.Meaning.{Binder, a-block, a-parameter, a-procedure, Meaning, private, argument, routine}
 use Rattle.procedures.specs.Meaning.{named, retired, free, declared, idOf, meant, meaning, inside, after, tyOf}
 use Rattle.procedures.specs.Meaning.{byMeaning, Terms, no-terms, with-level, with-body, with-passed, resolve}
-use Rattle.procedures.specs.Meaning.{resolveArgs, resolved, termOf, typeOf}
+use Rattle.procedures.specs.Meaning.{resolveArgs, resolved, some-value, typed, termOf, typeOf}
 use Rattle.procedures.specs.Fine.{FineUse, Fine, FineArgs, FineNames, Accepted}
 use Rattle.procedures.proofs.Numbering.{beyond-all}
 use Rattle.procedures.proofs.WellTyped.{accepted-typed}
@@ -30,12 +30,12 @@ use Rattle.explicit.specs.Letter.{AllSmall}
 use Rattle.explicit.proofs.Spelling.{complete-small}
 
 -- the types of a sheet
-values-in : (N : Numbers) → 0 < N .z → (ty : ℕ) → (0 < values N ty) × (values N ty ≤ numbers N)
+values-in : (N : Numbers) → 0 < N .z → (ty : ℕ) → (1 < values N ty) × (values N ty ≤ numbers N)
 unfolding values numbers
 values-in N h ty = go (eqb ty 1) (eqb ty 3)
   where
     go : (a b : Bool) →
-        (0 < pick a 2 (pick b 2 (2 * N .z + 1))) × (pick a 2 (pick b 2 (2 * N .z + 1)) ≤ 2 * N .z + 1)
+        (1 < pick a 2 (pick b 2 (2 * N .z + 1))) × (pick a 2 (pick b 2 (2 * N .z + 1)) ≤ 2 * N .z + 1)
     go true b = (omega arith, omega arith)
     go false true = (omega arith, omega arith)
     go false false = (omega arith, omega arith)
@@ -57,7 +57,7 @@ unfoldable Few : Meaning → Type 0
 Few (private k d) = Unit
 Few (argument k ty) = Unit
 Few (routine k ty tys) = Unit
-Few (named ty tys) = length tys < 5
+Few (named often ty tys) = length tys < 5
 Few retired = Unit
 Few free = Unit
 
@@ -74,7 +74,7 @@ few-pick false x y h k = k
 few-declared : (earlier ns : List Name) → FineNames earlier ns → (id : ℕ) → Few (declared ns id)
 unfolding FineNames declared Few
 few-declared earlier [] f id = tt
-few-declared earlier (declare k ty tys ∷ ns) f id = few-pick (eqb k id) _ _ (f .3) (few-declared _ ns (f .5) id)
+few-declared earlier (declare often k ty tys ∷ ns) f id = few-pick (eqb k id) _ _ (f .3) (few-declared _ ns (f .5) id)
 few-declared earlier (retire k ∷ ns) f id = few-pick (eqb k id) _ _ tt (few-declared _ ns (f .2) id)
 
 -- what stands for the binders is in range
@@ -124,12 +124,12 @@ module _ (N : Numbers) (above : 0 < N .z) (ns : List Name) (f : (id : ℕ) → F
         (λ k. t.private (n - suc (ρ .level k)))
         (λ k. ρ .passed k n)
         (λ k. ρ .body k (λ j l. resolved N ns bs ρ l ws j) n)
-        (λ ty tys. t.name id (tyOf N ty) (resolveArgs N ns bs ρ n ws tys)))
+        (λ often ty tys. t.name id often (tyOf N ty) (resolveArgs N ns bs ρ n ws tys)))
   unfolding byMeaning InRange Few FineUse
   use-in bs ρ n id ws (private k d) h e l u g r = tt
   use-in bs ρ n id ws (argument k ty) h e l u g r = e .passed k n
   use-in bs ρ n id ws (routine k ty tys) h e l u g r = e .body k (λ j i. resolved N ns bs ρ i ws j) (g tys u) n
-  use-in bs ρ n id ws (named ty tys) h e l u g r = (omega arith, type-in N above ty, r tys l u)
+  use-in bs ρ n id ws (named often ty tys) h e l u g r = (omega arith, type-in N above ty, r tys l u)
   use-in bs ρ n id ws retired h e l u g r = tt
   use-in bs ρ n id ws free h e l u g r = tt
 
@@ -147,7 +147,8 @@ module _ (N : Numbers) (above : 0 < N .z) (ns : List Name) (f : (id : ℕ) → F
           (λ tys l g. args-in ws bs ρ n tys 0 e (omega arith) g)
     term-in (fetch v) bs ρ n e h = term-in v bs ρ n e (h .0)
     term-in (operate op l r) bs ρ n e h = (term-in l bs ρ n e (h .1), term-in r bs ρ n e (h .3))
-    term-in (assign v x) bs ρ n e h = (term-in v bs ρ n e (h .0), term-in x bs ρ n e (h .2))
+    term-in (assign v x) bs ρ n e h =
+        (some-value N (typed ns bs v), term-in v bs ρ n e (h .0), term-in x bs ρ n e (h .2))
     term-in (sequence c m) bs ρ n e h = (term-in c bs ρ n e (h .0), term-in m bs ρ n e (h .2))
     term-in (choose b x y) bs ρ n e h =
         (term-in b bs ρ n e (h .0), term-in x bs ρ n e (h .2), term-in y bs ρ n e (h .3))

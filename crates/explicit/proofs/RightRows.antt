@@ -53,7 +53,7 @@ none = record { kind = 255; id = 0; arg = 0; value = 0 }
 
 -- whom a state waits for, where no move is given
 data Waiting (N : Numbers) (t : List ℕ) (l : Listen) (y : Out) : Type 0 where
-  waiting : {node q x : ℕ} → Waits N t l node q x → y ≡ Hear node q x → Waiting N t l y
+  waiting : {node q x c : ℕ} → Waits N t l node q x c → y ≡ Hear node q x c → Waiting N t l y
 
 no-move : (i j : ℕ) (e : Event) → 255 ≡ moveOf (move (at i j) e) .kind → ⊥
 no-move i j e h = omega (arith, kind-small i j e)
@@ -163,9 +163,9 @@ right-row N few t s (say m x) k room most h i = say-row N few t s room most k m 
 right-row N few t s {K} (hear l f) k room most h i = cases (waited (h none (inl refl)))
   where
     cases : {y : Out} → Waiting N t l y → Right N (s .n) (s .o) (hear l f) (rowFor t N s k y)
-    cases (waiting {node = node} {q = q} {x = x} w e) =
+    cases (waiting {node = node} {q = q} {x = x} {c = c} w e) =
         rw e (unfold rowFor visibleOf silentOf edgesOf in
-          hear-row N few t s room most k l f (waitOf t k node q x) (heeds t k w) (wait-state t k node q x) h)
+          hear-row N few t s room most k l f (waitOf t k node q x c) (heeds t k w) (wait-state t k node q x c) h)
 
 -- THEOREM: it has at most as many edges as the degree of the action
 pub few-row : (N : Numbers) (t : List ℕ) (s : Site) {K : ℕ} (a : Action (Index K) (Unit {0})) (k : ℕ) →
@@ -177,5 +177,5 @@ few-row N t s (say m x) k h = one-said t N s k m x _ (h none (inl refl))
 few-row N t s (hear l f) k h = cases (waited (h none (inl refl)))
   where
     cases : {y : Out} → Waiting N t l y → length (edgesOf t N s k y) ≤ hearings l
-    cases (waiting {node = node} {q = q} {x = x} w e) =
-        rw e (unfold edgesOf in omega (arith, heard-few t N s (waitOf t k node q x), heeds t k w .few))
+    cases (waiting {node = node} {q = q} {x = x} {c = c} w e) =
+        rw e (unfold edgesOf in omega (arith, heard-few t N s (waitOf t k node q x c), heeds t k w .few))

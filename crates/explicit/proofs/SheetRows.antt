@@ -71,5 +71,5 @@ module _ {N : Numbers} {t : List ℕ} (s : Site) {T : Ty} {M : Term} (R : Ready 
   sheet-few =
       let three : 3 ≤ numbers N = omega (arith, R .z-above) in
       let sixteen : 1 + numbers N ≤ 16 = omega (arith, R .z-below) in
-      omega (arith, rows-few (spots T M) (omega arith), few-edges N three T M (R .type-in) (R .term-in),
+      omega (arith, rows-few (spots T M) (omega arith), few-edges N three T M (R .typed) (R .type-in) (R .term-in),
         spots-size T M, mul-le-mul-right (1 + spots T M) sixteen)

@@ -10,8 +10,8 @@ use Rattle.language.specs.Ty.{Answers, to-run, to-ask, to-read, to-write}
 use Rattle.language.specs.Move.{Event, question, answer, at, private, Move, move, Word, valueOf}
 use Rattle.language.specs.Term as t
 use Rattle.language.specs.Term.{Term, skip, diverge, const, name, fetch, operate, assign, seq, while, cond, new}
-use Rattle.language.specs.Term.{Args, no-args, arg}
-use Rattle.language.specs.Play.{Cat, Star, end, more, hide, Use, Plays, PlaysArg, whole, Complete}
+use Rattle.language.specs.Term.{Often, freely, once, Args, no-args, arg}
+use Rattle.language.specs.Play.{Cat, Star, end, more, none, one, hide, AsOften, Use, Plays, PlaysArg, whole, Complete}
 use Rattle.explicit.specs.Letter.{Values, Small, AllSmall}
 use Rattle.machine.specs.Range.{TyIn, InRange, InRangeArgs}
 use Rattle.machine.proofs.Block.{Tidy, clear, seen, used}
@@ -51,6 +51,12 @@ module _ (N : Numbers) where
   star-loose h end = tt
   star-loose h (more {u} {v} p s) = loose-append u v (h u p) (star-loose h s)
 
+  uses-loose : (o : Often) {L : Word → Type 0} → ((u : Word) → L u → Loose u) → (u : Word) → AsOften o L u → Loose u
+  unfolding AsOften Loose
+  uses-loose freely h u x = star-loose h x
+  uses-loose once h u none = tt
+  uses-loose once h u (one x) = h u x
+
   cat-loose : {L R : Word → Type 0} → ((u : Word) → L u → Loose u) → ((u : Word) → R u → Loose u) →
       (u : Word) → Cat L R u → Loose u
   cat-loose h k u (l, r, e, p, s) = rw e (loose-append l r (h l p) (k r s))
@@ -84,14 +90,15 @@ module _ (N : Numbers) where
     loose diverge s q a u p = absurd p
     loose (const x) s q a u p = rw (p .1) tt
     loose (t.private i) s q a u p = rw (p .1) tt
-    loose (name i T args) s q a u (h, v, st, e) =
+    loose (name i o T args) s q a u (h, v, st, e) =
         let f : Played args 0 = λ j p b x y. looseArgs args 0 (s .2) j p b x y in
-        rw e (between q a i 0 v (asked (s .1) h i 0 (s .0) (omega arith)) (star-loose (use-loose i (s .0) args f) st))
+        rw e (between q a i 0 v (asked (s .1) h i 0 (s .0) (omega arith))
+          (uses-loose o (use-loose i (s .0) args f) v st))
     loose (fetch X) s q a u p = loose X s read a u p
     loose (operate m o L R) s q a u (x, y, z, eo, ea, p) =
         cat-loose (loose L (s .0) ask (value (x .0))) (loose R (s .1) ask (value (y .0))) u p
     loose (assign m X E) s q a u (ea, x, p) =
-        cat-loose (loose E (s .1) ask (value (x .0))) (loose X (s .0) (write (x .0)) ok) u p
+        cat-loose (loose E (s .2) ask (value (x .0))) (loose X (s .1) (write (x .0)) ok) u p
     loose (seq C M) s q a u p = cat-loose (loose C (s .0) run done) (loose M (s .1) q a) u p
     loose (while B C) s q a u (ea, p) =
         let round = cat-loose (loose B (s .0) ask (value 1)) (loose C (s .1) run done) in

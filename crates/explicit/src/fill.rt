@@ -51,6 +51,7 @@ fn silent_at(n: Numbers, s: Site, p: &[usize; WORDS], c: usize, o: Out) -> usize
             at: _,
             kind: _,
             value: _,
+            count: _,
         } => 0,
         Out::Stuck => sum(dead(s.n), 1),
     }
@@ -101,7 +102,11 @@ fn write_row(
             at: of,
             kind,
             value,
-        } => hear(t, n, s, words, p, c, wait_of(t, k, of, kind, value), e),
+            count,
+        } => {
+            let wait = wait_of(t, k, of, kind, value, count);
+            hear(t, n, s, words, p, c, wait, e)
+        }
         Out::Stuck => e,
     }
 }

@@ -11,7 +11,6 @@ use automaton::moves::RUN;
 use automaton::moves::WRITE;
 use automaton::name::waiting;
 use automaton::row::cell;
-use automaton::row::name_count;
 use automaton::row::part_class;
 use automaton::row::part_values;
 use automaton::row::sum;
@@ -49,7 +48,13 @@ fn heard(t: &[u16], n: Numbers, s: Site, p: &[usize; WORDS], c: usize, wait: Wai
     if wait.state == 0 {
         return reach(n, s, p, c, at_start(t, s.root, m));
     }
-    reach(n, s, p, c, waiting(t, wait.at, wait.kind, wait.value, m))
+    reach(
+        n,
+        s,
+        p,
+        c,
+        waiting(t, wait.at, wait.kind, wait.value, wait.count, m),
+    )
 }
 
 // The edge by the value of number r, where it is below the limit.
@@ -159,7 +164,7 @@ fn hear_argument(
     arg: usize,
     e: usize,
 ) -> usize
-    requires { ⌜ Listening (now t) n (s .root) (now p) c wait × Argument (now t) wait arg ⌝ }
+    requires { ⌜ Listening (now t) n (s .root) (now p) c wait × Argument wait arg ⌝ }
     ensures returned { λ x. ⌜ x ≡ past e (blockEdges (now (t .entry)) n s wait kind arg) ⌝ }
     ensures written { λ x. ⌜ now (words .exit) ≡ withEdges (now (words .entry)) (s .n) e
         (blockEdges (now (t .entry)) n s wait kind arg) ⌝ }
@@ -185,7 +190,7 @@ fn hear_questions(
     count: usize,
     e: usize,
 ) -> usize
-    requires { ⌜ Listening (now t) n (s .root) (now p) c wait × Arguments (now t) wait count ⌝ }
+    requires { ⌜ Listening (now t) n (s .root) (now p) c wait × Arguments wait count ⌝ }
     ensures returned { λ x. ⌜ x ≡ past e (questionEdges (now (t .entry)) n s wait kind count) ⌝ }
     ensures written { λ x. ⌜ now (words .exit) ≡ withEdges (now (words .entry)) (s .n) e
         (questionEdges (now (t .entry)) n s wait kind count) ⌝ }
@@ -213,7 +218,7 @@ fn hear_kinds(
     end: usize,
     e: usize,
 ) -> usize
-    requires { ⌜ Listening (now t) n (s .root) (now p) c wait × (Arguments (now t) wait count × (first ≤ end)) ⌝ }
+    requires { ⌜ Listening (now t) n (s .root) (now p) c wait × (Arguments wait count × (first ≤ end)) ⌝ }
     ensures returned { λ x. ⌜ x ≡ past e (askedEdges (now (t .entry)) n s wait count first (end - first)) ⌝ }
     ensures written { λ x. ⌜ now (words .exit) ≡ withEdges (now (words .entry)) (s .n) e
         (askedEdges (now (t .entry)) n s wait count first (end - first)) ⌝ }
@@ -322,11 +327,10 @@ fn hear_all(
     next
 }
 
-// How many arguments of a name have moves.
-fn asking(t: &[u16], at: usize) -> usize
-    ensures { λ r. ⌜ r ≡ askingOf (now (t .entry)) at ⌝ }
+// How many arguments of a name have moves, where so many may be asked.
+fn asking(count: usize) -> usize
+    ensures { λ r. ⌜ r ≡ askingOf count ⌝ }
 {
-    let count = name_count(t, at);
     if ARGUMENTS < count {
         return ARGUMENTS;
     }
@@ -351,7 +355,7 @@ fn hear_called(
         (heardEdges (now (t .entry)) n s wait 35) ⌝ }
 {
     let own = answer_kind(cell(t, wait.at, CLASS), wait.kind);
-    let count = asking(t, wait.at);
+    let count = asking(wait.count);
     let asked = hear_kinds(t, n, s, words, p, c, wait, count, RUN, own, e);
     let answered = hear_block(t, n, s, words, p, c, wait, own, OWN, asked);
     hear_kinds(
@@ -369,7 +373,7 @@ fn hear_called(
     )
 }
 
-// The edges of a waiting state: a name without arguments takes only its answers.
+// The edges of a waiting state: a name that may ask no argument takes only its answers.
 pub(crate) fn hear(
     t: &[u16],
     n: Numbers,
@@ -388,7 +392,7 @@ pub(crate) fn hear(
     if wait.kind == OPENING {
         return hear_all(t, n, s, words, p, c, wait, e);
     }
-    if name_count(t, wait.at) == 0 {
+    if wait.count == 0 {
         let own = answer_kind(cell(t, wait.at, CLASS), wait.kind);
         return hear_answers(t, n, s, words, p, c, wait, own, e);
     }

@@ -11,7 +11,6 @@ use automaton::moves::RUN;
 use automaton::moves::VALUE;
 use automaton::moves::WRITE;
 use automaton::row::cell;
-use automaton::row::name_count;
 use automaton::row::name_id;
 use automaton::row::part_class;
 use automaton::row::part_values;
@@ -150,7 +149,7 @@ pub fn limit(t: &[u16], e: Wait, kind: usize, arg: usize) -> usize
             kind,
         );
     }
-    if name_count(t, at) < arg {
+    if e.count < arg {
         return 0;
     }
     question_limit(
@@ -161,8 +160,15 @@ pub fn limit(t: &[u16], e: Wait, kind: usize, arg: usize) -> usize
 }
 
 // Whom the state k waits for.
-pub(crate) fn wait_of(t: &[u16], state: usize, at: usize, kind: usize, value: usize) -> Wait
-    ensures { λ r. ⌜ r ≡ waitOf (now (t .entry)) state at kind value ⌝ }
+pub(crate) fn wait_of(
+    t: &[u16],
+    state: usize,
+    at: usize,
+    kind: usize,
+    value: usize,
+    count: usize,
+) -> Wait
+    ensures { λ r. ⌜ r ≡ waitOf (now (t .entry)) state at kind value count ⌝ }
 {
     if kind == OPENING {
         return Wait {
@@ -171,6 +177,7 @@ pub(crate) fn wait_of(t: &[u16], state: usize, at: usize, kind: usize, value: us
             at,
             kind,
             value,
+            count,
         };
     }
     Wait {
@@ -179,5 +186,6 @@ pub(crate) fn wait_of(t: &[u16], state: usize, at: usize, kind: usize, value: us
         at,
         kind,
         value,
+        count,
     }
 }

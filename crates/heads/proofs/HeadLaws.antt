@@ -34,7 +34,7 @@ record Shaped (x : Shape) (k : ℕ → ℕ → Rule → Head) (r : Record) : Typ
 shaped : (x : Shape) (at : ℕ) (k : ℕ → ℕ → Rule → Head) (r : Record) → headOfShape x at k ≡ Good r → Shaped x k r
 unfolding headOfShape
 shaped (Part body parts R) at k r h = record { body = body; parts = parts; rule = R; shape = refl; rest = h }
-shaped (Declare body) at k r h = absurd (bad-good h)
+shaped (Declare body once) at k r h = absurd (bad-good h)
 shaped (Retire body) at k r h = absurd (bad-good h)
 shaped Unknown at k r h = absurd (bad-good h)
 

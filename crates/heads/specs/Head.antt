@@ -114,7 +114,7 @@ blank at kind body parts rule =
 -- "A name record's kind met inside the term is an unknown kind"
 unfoldable pub headOfShape : Shape → ℕ → (ℕ → ℕ → Rule → Head) → Head
 headOfShape (Part body parts rule) at k = k body parts rule
-headOfShape (Declare body) at k = Refused (refusal out-of-range at)
+headOfShape (Declare body once) at k = Refused (refusal out-of-range at)
 headOfShape (Retire body) at k = Refused (refusal out-of-range at)
 headOfShape Unknown at k = Refused (refusal out-of-range at)
 

@@ -306,7 +306,7 @@ fn deep_number(shape: Shape) -> u8
 {
     match shape {
         Shape::Unknown => OUT_OF_RANGE,
-        Shape::Declare { body: _ } => OUT_OF_RANGE,
+        Shape::Declare { body: _, once: _ } => OUT_OF_RANGE,
         Shape::Retire { body: _ } => OUT_OF_RANGE,
         Shape::Part {
             body: _,
@@ -343,7 +343,7 @@ pub fn head_at(edition: Edition, s: &[u8], st: &[u32; 255], n: Numbers, left: u8
     let shape = shape_of(kind);
     match shape {
         Shape::Unknown => Head::Refused(refuse(OUT_OF_RANGE, at)),
-        Shape::Declare { body: _ } => Head::Refused(refuse(OUT_OF_RANGE, at)),
+        Shape::Declare { body: _, once: _ } => Head::Refused(refuse(OUT_OF_RANGE, at)),
         Shape::Retire { body: _ } => Head::Refused(refuse(OUT_OF_RANGE, at)),
         Shape::Part { body, parts, rule } => body_at(
             edition,

@@ -12,6 +12,10 @@ use lib.Count.{ones, ones-le, trailingZeros}
 use lib.Bits.{bitAnd}
 use borrow.Author.Tests.{ne-eqb}
 use Rattle.language.specs.Choice.{pick}
+use Rattle.language.specs.Term.{Often, freely, once}
+use Rattle.records.specs.Kind.{shapeOf}
+use Rattle.records.specs.declared.kind.Rule.{Rule}
+use Rattle.records.specs.declared.kind.Shape.the-variants.{Part, Declare}
 use Rattle.records.specs.declared.edition.Edition.{Edition}
 use Rattle.records.specs.declared.edition.Edition.the-variants.{Present}
 use Rattle.procedures.specs.Written.{Written, Name, declare, retire, Sheet}
@@ -20,10 +24,10 @@ use Rattle.procedures.specs.Uses.{uses, isDeclared, isUsed, bit, bits, count, f
 use Rattle.procedures.specs.Uses.{declaredIn}
 use Rattle.procedures.proofs.Tests.{by-test}
 use Rattle.procedures.proofs.Marking.{bits-ones, first-wanted}
-use Rattle.sheet.specs.Encoding.{encode, encodeName, encodeNames, encodeSheet}
+use Rattle.sheet.specs.Encoding.{encode, declareKind, encodeName, encodeNames, encodeSheet}
 use Rattle.sheet.specs.Reader.{readUnder, readSheet, accepted}
 use Rattle.judge.specs.Mark.{usesOf}
-use Rattle.sheet.specs.table.Notes.{isNoted, mask, every}
+use Rattle.sheet.specs.table.Notes.{isDeclaration, isNoted, mask, every}
 use Rattle.judge.specs.Masks.{usesBy, usesAt}
 use Rattle.sheet.proofs.Bytes.{byte-there, open-one}
 use Rattle.sheet.proofs.NameBytes.{declared-there, declared-past}
@@ -35,7 +39,7 @@ pub mask-below : (f : ℕ → Bool) (left : ℕ) (s : List ℕ) (at : ℕ) → m
 unfolding mask bit
 mask-below f zero s at = omega arith
 mask-below f (suc left) s at =
-    go (eqb (getD s at 0) 1) (eqb (getD s at 0) 2) (f (getD s (at + 1) 0)) (mask f left s (at + 8))
+    go (isDeclaration (getD s at 0)) (eqb (getD s at 0) 2) (f (getD s (at + 1) 0)) (mask f left s (at + 8))
       (mask f left s (at + 2)) (2 ^ left) (2 ^ suc left) (mask-below f left s (at + 8))
       (mask-below f left s (at + 2)) (pow-suc 2 left) (pow-pos left)
   where
@@ -63,42 +67,44 @@ module _ (f : ℕ → Bool) (s : List ℕ) (at : ℕ) where
   one-fewer : (left : ℕ) → (left ≡ 0 → ⊥) → left ≡ suc (left - 1)
   one-fewer left h = omega arith
 
-  mask-declared : {left kind rest id : ℕ} → (left ≡ 0 → ⊥) → kind ≡ getD s at 0 → kind ≡ 1 →
-      rest ≡ mask f (left - 1) s (at + 8) → id ≡ getD s (at + 1) 0 → bit (f id) + 2 * rest ≡ mask f left s at
+  mask-declared : {left kind rest id : ℕ} {d : Bool} → (left ≡ 0 → ⊥) → kind ≡ getD s at 0 →
+      d ≡ isDeclaration kind → d ≡ true → rest ≡ mask f (left - 1) s (at + 8) → id ≡ getD s (at + 1) 0 →
+      bit (f id) + 2 * rest ≡ mask f left s at
   unfolding mask
-  mask-declared {left} h k g e i =
-      rw (one-fewer left h, sym k ∙ g, e, i) refl
+  mask-declared {left} h k g t e i =
+      rw (one-fewer left h, ap isDeclaration (sym k) ∙ (sym g ∙ t), e, i) refl
 
-  pub mask-set : {left kind rest id : ℕ} {b : Bool} → (left ≡ 0 → ⊥) → kind ≡ getD s at 0 → kind ≡ 1 →
-      rest ≡ mask f (left - 1) s (at + 8) → id ≡ getD s (at + 1) 0 → b ≡ f id → b ≡ true →
-      1 + 2 * rest ≡ mask f left s at
+  pub mask-set : {left kind rest id : ℕ} {b d : Bool} → (left ≡ 0 → ⊥) → kind ≡ getD s at 0 →
+      d ≡ isDeclaration kind → d ≡ true → rest ≡ mask f (left - 1) s (at + 8) → id ≡ getD s (at + 1) 0 → b ≡ f id →
+      b ≡ true → 1 + 2 * rest ≡ mask f left s at
   unfolding bit
-  mask-set {rest = rest} h k g e i n t = ap (λ c. bit c + 2 * rest) (sym t ∙ n) ∙ mask-declared h k g e i
+  mask-set {rest = rest} h k g z e i n t = ap (λ c. bit c + 2 * rest) (sym t ∙ n) ∙ mask-declared h k g z e i
 
-  pub mask-unset : {left kind rest id : ℕ} {b : Bool} → (left ≡ 0 → ⊥) → kind ≡ getD s at 0 → kind ≡ 1 →
-      rest ≡ mask f (left - 1) s (at + 8) → id ≡ getD s (at + 1) 0 → b ≡ f id → b ≡ false →
-      2 * rest ≡ mask f left s at
+  pub mask-unset : {left kind rest id : ℕ} {b d : Bool} → (left ≡ 0 → ⊥) → kind ≡ getD s at 0 →
+      d ≡ isDeclaration kind → d ≡ true → rest ≡ mask f (left - 1) s (at + 8) → id ≡ getD s (at + 1) 0 → b ≡ f id →
+      b ≡ false → 2 * rest ≡ mask f left s at
   unfolding bit
-  mask-unset {rest = rest} h k g e i n t =
+  mask-unset {rest = rest} h k g y e i n t =
       let z : 2 * rest ≡ bit false + 2 * rest = omega arith in
-      z ∙ (ap (λ c. bit c + 2 * rest) (sym t ∙ n) ∙ mask-declared h k g e i)
+      z ∙ (ap (λ c. bit c + 2 * rest) (sym t ∙ n) ∙ mask-declared h k g y e i)
 
   pub mask-retired : {left kind rest : ℕ} → (left ≡ 0 → ⊥) → kind ≡ getD s at 0 → kind ≡ 2 →
       rest ≡ mask f (left - 1) s (at + 2) → 2 * rest ≡ mask f left s at
-  unfolding mask
+  unfolding mask isDeclaration
   mask-retired {left} h k g e = rw (one-fewer left h, sym k ∙ g, e) refl
 
-  pub mask-ended : (left : ℕ) {kind : ℕ} → kind ≡ getD s at 0 → (kind ≡ 1 → ⊥) → (kind ≡ 2 → ⊥) → 0 ≡ mask f left s at
+  pub mask-ended : (left : ℕ) {kind : ℕ} {d : Bool} → kind ≡ getD s at 0 → d ≡ isDeclaration kind → d ≡ false →
+      (kind ≡ 2 → ⊥) → 0 ≡ mask f left s at
   unfolding mask
-  mask-ended left k g h = go left
+  mask-ended left k g t h = go left
     where
       go : (left : ℕ) → 0 ≡ mask f left s at
       go zero = refl
-      go (suc left) = rw (← k, ne-eqb _ 1 g, ne-eqb _ 2 h) refl
+      go (suc left) = rw (← k, sym g ∙ t, ne-eqb _ 2 h) refl
 
 -- the ids of declared names
 unfoldable ofIds : (ℕ → Bool) → Name → Bool
-ofIds f (declare id ty tys) = f id
+ofIds f (declare often id ty tys) = f id
 ofIds f (retire id) = false
 
 -- the place after a body
@@ -107,22 +113,37 @@ past-body s at n i e f =
     let g : at + n ≡ at + 1 + i = omega arith in
     ap (λ (j : ℕ). drop j s) g ∙ f
 
+-- the kind of a part of a term is not 3
+not-declared : (k body parts : ℕ) (rule : Rule) → shapeOf k ≡ Part body parts rule → k ≡ 3 → ⊥
+unfolding shapeOf
+not-declared k body parts rule e t =
+    let h : Declare 7 1 ≡ Part body parts rule = rw t at e in
+    let z : _≡_ {A = ℕ} 0 1 = cc in omega arith
+
+-- the kinds of declare records
+declare-is : (often : Often) → isDeclaration (declareKind often) ≡ true
+unfolding isDeclaration declareKind
+declare-is freely = refl
+declare-is once = refl
+
 -- the records of names that lie at a place before a term
 mask-names : (f : ℕ → Bool) (s : List ℕ) (W : Written) (ns : List Name) (left at : ℕ) → length ns ≤ left →
     drop at s ≡ encodeNames ns ++ encode W → mask f left s at ≡ bits (ofIds f) ns
-unfolding mask bits bit ofIds encodeNames encodeName
+unfolding mask isDeclaration bits bit ofIds encodeNames encodeName
 mask-names f s W [] zero at h e = refl
 mask-names f s W [] (suc left) at h e =
     let K = kind-of W in
     let b = byte-there s at (K .kind) (K .tail) (e ∙ K .bytes) in
-    rw (b .1, ne-eqb (K .kind) 1 (λ g. omega (arith, K .high)), ne-eqb (K .kind) 2 (λ g. omega (arith, K .high))) refl
+    rw (b .1, ne-eqb (K .kind) 1 (λ g. omega (arith, K .high)),
+      ne-eqb (K .kind) 3 (λ g. not-declared (K .kind) (K .body) (K .parts) (K .rule) (K .shape) g),
+      ne-eqb (K .kind) 2 (λ g. omega (arith, K .high))) refl
 mask-names f s W (n ∷ ns) zero at h e = absurd (omega arith)
-mask-names f s W (declare id ty tys ∷ ns) (suc left) at h e =
-    let D = declared-there s at id ty tys (encodeNames ns ++ encode W)
-      (e ∙ append-assoc (encodeName (declare id ty tys)) (encodeNames ns) (encode W)) in
-    rw (D .kind .1, D .id-byte .1)
+mask-names f s W (declare often id ty tys ∷ ns) (suc left) at h e =
+    let D = declared-there s at often id ty tys (encodeNames ns ++ encode W)
+      (e ∙ append-assoc (encodeName (declare often id ty tys)) (encodeNames ns) (encode W)) in
+    rw (D .kind .1, declare-is often, D .id-byte .1)
       (ap (λ m. bit (f id) + 2 * m) (mask-names f s W ns left (at + 8) (omega arith)
-        (past-body s at 8 7 refl (declared-past s [] at id ty tys (encodeNames ns ++ encode W) D))))
+        (past-body s at 8 7 refl (declared-past s [] at often id ty tys (encodeNames ns ++ encode W) D))))
 mask-names f s W (retire id ∷ ns) (suc left) at h e =
     let o = open-one s at 2 id (encodeNames ns ++ encode W)
       (e ∙ append-assoc (encodeName (retire id)) (encodeNames ns) (encode W)) in
@@ -137,13 +158,14 @@ bits-same f g (n ∷ ns) e = ap₂ (λ b m. bit b + 2 * m) (e n) (bits-same f g 
 
 -- the same records, where the ids of names are below the last byte
 bits-named : (f g : Name → Bool) (earlier ns : List Name) → FineNames earlier ns →
-    ((id ty : ℕ) (tys : List ℕ) → id < 256 → f (declare id ty tys) ≡ g (declare id ty tys)) →
+    ((often : Often) (id ty : ℕ) (tys : List ℕ) → id < 256 →
+      f (declare often id ty tys) ≡ g (declare often id ty tys)) →
     ((id : ℕ) → f (retire id) ≡ g (retire id)) → bits f ns ≡ bits g ns
 unfolding bits FineNames
 bits-named f g earlier [] F e h = refl
-bits-named f g earlier (declare id ty tys ∷ ns) F e h =
-    ap₂ (λ b m. bit b + 2 * m) (e id ty tys (omega (arith, F .0)))
-      (bits-named f g (declare id ty tys ∷ earlier) ns (F .5) e h)
+bits-named f g earlier (declare often id ty tys ∷ ns) F e h =
+    ap₂ (λ b m. bit b + 2 * m) (e often id ty tys (omega (arith, F .0)))
+      (bits-named f g (declare often id ty tys ∷ earlier) ns (F .5) e h)
 bits-named f g earlier (retire id ∷ ns) F e h =
     ap₂ (λ b m. bit b + 2 * m) (h id) (bits-named f g (retire id ∷ earlier) ns (F .2) e h)
 
@@ -175,7 +197,7 @@ module _ (ed : Edition) (s : List ℕ) (S : Sheet) (ty n : ℕ) (reads : readUnd
       mask-names every s (S .term) (S .names) 32 2 few lies ∙ bits-same (ofIds every) isDeclared (S .names) same
     where
       same : (m : Name) → ofIds every m ≡ isDeclared m
-      same (declare id ty tys) = refl
+      same (declare often id ty tys) = refl
       same (retire id) = refl
 
   pub counted : ones (mask every 32 s 2) ≡ declaredIn S
@@ -187,7 +209,7 @@ module _ (ed : Edition) (s : List ℕ) (S : Sheet) (ty n : ℕ) (reads : readUnd
     unfolding markOf ofIds isUsed
     mark-mask =
         mask-names (isNoted t) s (S .term) (S .names) 32 2 few lies
-        ∙ bits-named (ofIds (isNoted t)) (isUsed S) [] (S .names) named (λ id ty tys h. notes id h) (λ id. refl)
+        ∙ bits-named (ofIds (isNoted t)) (isUsed S) [] (S .names) named (λ often id ty tys h. notes id h) (λ id. refl)
 
     -- THEOREM: what is made of the masks is what the sheet uses
     pub uses-right : usesAt s t ≡ usesOf S

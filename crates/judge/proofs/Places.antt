@@ -255,7 +255,7 @@ module _ (ed : Edition) (s : List ℕ) where
       Headed (onPart x at k)
   unfolding onPart HeadIn
   shape-in (Part b p R) at k h f = f b p R
-  shape-in (Declare b) at k h f = told (omega arith) (omega arith) (omega arith)
+  shape-in (Declare b asks) at k h f = told (omega arith) (omega arith) (omega arith)
   shape-in (Retire b) at k h f = told (omega arith) (omega arith) (omega arith)
   shape-in Unknown at k h f = told (omega arith) (omega arith) (omega arith)
 
@@ -327,7 +327,7 @@ module _ (ed : Edition) (s : List ℕ) where
       go : (x : Shape) → HeadAll (λ r. ⊥) (onPart x at (λ body parts rule.
         pick (eqb 0 0) (Bad (refusal too-deep at)) (bodyOf ed rule s st N (blank at (getD s at 0) body parts rule))))
       go (Part b p R) = tt
-      go (Declare b) = tt
+      go (Declare b asks) = tt
       go (Retire b) = tt
       go Unknown = tt
 
@@ -376,13 +376,13 @@ module _ (ed : Edition) (s : List ℕ) where
         (λ e. go (leb-false n at e) (shapeOf (getD s at 0)))
     where
       go : at < n → (x : Shape) → Within (wholeOfShape x
-        (λ body. nameOf rec left s st at body (declaredStanding at) (declareOf s st at) (declareAt s at))
+        (λ body asks. nameOf rec left s st at body (declaredStanding at asks) (declareOf s st at) (declareAt s at asks))
         (λ body. nameOf rec left s st at body 1 (retireOf s st at) (retireAt s at))
         (bind (readPart ed 32 N s st 0 at) (λ t ty end. got (whole [] at t) ty end))
         (refused 3 at))
-      go h (Declare b) =
-          name-in rec (f h) left st at b (declaredStanding at) (declareOf s st at) (declareAt s at) h (declare-in st
-              at h)
+      go h (Declare b asks) =
+          name-in rec (f h) left st at b (declaredStanding at asks) (declareOf s st at) (declareAt s at asks) h
+            (declare-in st at h)
       go h (Retire b) =
           name-in rec (f h) left st at b 1 (retireOf s st at) (retireAt s at) h (fresh-in st (at + 1) (omega arith))
       go h (Part b p R) = in-bind ed n (readPart ed 32 N s st 0 at) _ (part-in 32 N st 0 at) (λ t ty end q. q)

@@ -1,5 +1,6 @@
 // Which names a sheet uses: the mark, a bit for each name record, the first lowest.
 use records::kind::DECLARE;
+use records::kind::DECLARE_ONCE;
 use records::kind::ID;
 use records::kind::RETIRE;
 use records::read::byte_at;
@@ -9,7 +10,7 @@ ghost use Prim.Native.Nat.{ℕ, _+_, _*_, _≤_, _<_};
 ghost use Rattle.procedures.specs.Written.{Sheet};
 ghost use Rattle.procedures.specs.Uses.{declaredIn};
 ghost use Rattle.sheet.specs.Reader.{readSheet, accepted};
-ghost use Rattle.sheet.specs.table.Notes.{mask, isNoted, every};
+ghost use Rattle.sheet.specs.table.Notes.{isDeclaration, mask, isNoted, every};
 ghost use Rattle.judge.specs.Masks.{usesAt};
 
 // The mark of a sheet, how many of its bits are set, and the number of the first declared record without one, or 32.
@@ -28,6 +29,16 @@ const DECLARATION: usize = 8;
 
 const RETIREMENT: usize = 2;
 
+// Whether a record of a kind declares a name.
+fn declares(kind: u8) -> bool
+    ensures { λ r. ⌜ r ≡ isDeclaration kind ⌝ }
+{
+    if kind == DECLARE {
+        return true;
+    }
+    kind == DECLARE_ONCE
+}
+
 // A bit for each of `left` name records at most from a place on: set where the record's name is noted.
 fn mark_from(s: &[u8], t: &[u16], left: u8, at: usize) -> u32
     requires { ⌜ (left ≤ 32) × (at + 8 * left ≤ 65536) ⌝ }
@@ -37,7 +48,7 @@ fn mark_from(s: &[u8], t: &[u16], left: u8, at: usize) -> u32
         return 0;
     }
     let kind = byte_at(s, at);
-    if kind == DECLARE {
+    if declares(kind) {
         let rest = mark_from(s, t, left - 1, at + DECLARATION);
         let id = byte_at(s, at + ID);
         if is_noted(t, id) {
@@ -60,7 +71,7 @@ fn declared_from(s: &[u8], left: u8, at: usize) -> u32
         return 0;
     }
     let kind = byte_at(s, at);
-    if kind == DECLARE {
+    if declares(kind) {
         return 1 + 2 * declared_from(s, left - 1, at + DECLARATION);
     }
     if kind == RETIRE {

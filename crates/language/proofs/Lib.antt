@@ -4,3 +4,4 @@ pub mod NumberSteps
 pub mod OperatorLaws
 pub mod RemainderLaws
 pub mod OperatorSteps
+pub mod AskOnceLaws

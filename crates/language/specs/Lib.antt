@@ -8,4 +8,5 @@ pub mod Move
 pub mod Term
 pub mod Play
 pub mod Weight
+pub mod AskOnce
 pub mod Typing

@@ -9,7 +9,7 @@ use Rattle.language.specs.Ty.{Ty, Question, run, ask, read, write, Answe
 use Rattle.language.specs.Move.{Event, question, answer, Place, at, private, Move, move, Word}
 use Rattle.language.specs.Term as t
 use Rattle.language.specs.Term.{Term, skip, diverge, const, name, fetch, operate, assign, seq, while, cond, new}
-use Rattle.language.specs.Term.{Args, no-args, arg, apply}
+use Rattle.language.specs.Term.{Often, freely, once, Args, no-args, arg, apply}
 
 -- a value of data of m values
 abbrev pub Val : ℕ → Type 0
@@ -23,6 +23,16 @@ Cat L R u = (l : Word) × (r : Word) × (u ≡ l ++ r) × L l × R r
 pub data Star (L : Word → Type 0) : Word → Type 0 where
   end : Star L []
   more : {u v : Word} → L u → Star L v → Star L (u ++ v)
+
+-- at most one word of L
+pub data AtMostOne (L : Word → Type 0) : Word → Type 0 where
+  none : AtMostOne L []
+  one : {u : Word} → L u → AtMostOne L u
+
+-- as many words of L, the uses of a name's arguments, as one call of the name may have (document 02, [5])
+unfoldable pub AsOften : Often → (Word → Type 0) → Word → Type 0
+AsOften freely L u = Star L u
+AsOften once L u = AtMostOne L u
 
 -- what happens at the innermost private variable
 unfoldable pub kept : Word → List Event
@@ -72,8 +82,8 @@ unfoldable mutual
   Plays (cond B M N) q a u =
       Cat (Plays B ask (value 1)) (Plays M q a) u ⊎ Cat (Plays B ask (value 0)) (Plays N q a) u
   -- identifiers (definition 18); between the question to a name and its answer, plays of its arguments (definition 22)
-  Plays (name i T rest) q a u =
-      Answers T q a × (v : Word) × Star (Use i (λ j p b x. PlaysArg rest j p b x)) v
+  Plays (name i o T rest) q a u =
+      Answers T q a × (v : Word) × AsOften o (Use i (λ j p b x. PlaysArg rest j p b x)) v
       × (u ≡ move (at i 0) (question q) ∷ (v ++ (move (at i 0) (answer a) ∷ [])))
   Plays (t.private i) q a u =
       VarPair q a × (u ≡ move (private i) (question q) ∷ move (private i) (answer a) ∷ [])

@@ -16,6 +16,16 @@ pub record Operation : Type 0 where
 unfoldable pub apply : Operation → ℕ → ℕ → Option ℕ
 apply o x y = op.operate (o .over) (o .operator) x y
 
+-- How often a declared name may put a question to its arguments, all taken together, in one call: freely (kind 1), or
+-- at most once (kind 3, document 02 [5])
+pub data Often : Type 0 where
+  freely once : Often
+
+-- 1 where it asks at most once, else 0
+unfoldable pub onces : Often → ℕ
+onces freely = 0
+onces once = 1
+
 -- A term. The number m of values stands in `operate` (of an operand), in `assign` and in `new` (of the variable).
 mutual
   pub data Term : Type 0 where
@@ -27,9 +37,9 @@ mutual
     skip diverge : Term
     seq while : Term → Term → Term
     cond : Term → Term → Term → Term
-    -- identifiers (definition 18) and application (definition 22): the declared name of this id and result type, with
-    -- its arguments; the private variable of the enclosing block i, counted outwards from 0
-    name : ℕ → Ty → Args → Term
+    -- identifiers (definition 18) and application (definition 22): the declared name of this id, how often it asks, its
+    -- result type and its arguments; the private variable of the enclosing block i, counted outwards from 0
+    name : ℕ → Often → Ty → Args → Term
     private : ℕ → Term
     -- variables (definitions 24 to 26)
     fetch : Term → Term

@@ -7,7 +7,7 @@ use Rattle.language.specs.Number.{numbers}
 use Rattle.language.specs.Operators.{takesNumbers, givesNumber}
 use Rattle.language.specs.Ty.{Ty, command, expression, variable}
 use Rattle.language.specs.Term.{Term, skip, diverge, const, private, name, fetch, operate, assign, seq, while}
-use Rattle.language.specs.Term.{cond, new, Args, no-args, arg, Operation}
+use Rattle.language.specs.Term.{cond, new, Often, Args, no-args, arg, Operation}
 
 -- how many values the data of an operator's operands has
 unfoldable pub operands : Operation → ℕ
@@ -29,7 +29,7 @@ mutual
     a-diverge : {n : List ℕ} {T : Ty} → Typed n diverge T
     a-const : {n : List ℕ} {m v : ℕ} → v < m → Typed n (const v) (expression m)
     a-private : {n : List ℕ} {i m : ℕ} → Scope n i m → Typed n (private i) (variable m)
-    a-name : {n : List ℕ} {i : ℕ} {T : Ty} {args : Args} → TypedArgs n args → Typed n (name i T args) T
+    a-name : {n : List ℕ} {i : ℕ} {o : Often} {T : Ty} {args : Args} → TypedArgs n args → Typed n (name i o T args) T
     a-fetch : {n : List ℕ} {m : ℕ} {X : Term} → Typed n X (variable m) → Typed n (fetch X) (expression m)
     an-operate : {n : List ℕ} {o : Operation} {L R : Term} → Typed n L (expression (operands o)) →
       Typed n R (expression (operands o)) → Typed n (operate (operands o) o L R) (expression (results o))

@@ -3,7 +3,11 @@
 use Prim.Native.Nat.{ℕ, _+_, _*_}
 use Rattle.language.specs.Ty.{Ty, questions, answers}
 use Rattle.language.specs.Term.{Term, const, operate, skip, diverge, seq, while, cond, name, private, fetch}
-use Rattle.language.specs.Term.{assign, new, Args, no-args, arg}
+use Rattle.language.specs.Term.{assign, new, Often, onces, Args, no-args, arg}
+
+-- what the use of a name weighs beside its arguments; "3 where kind 1 has 2" (document 02, [5])
+abbrev pub useWeight : Often → ℕ
+useWeight o = 2 + onces o
 
 -- the weight of a term, form by form, and of arguments
 unfoldable mutual
@@ -19,7 +23,7 @@ unfoldable mutual
   weight (while B C) = weight B + weight C
   weight (cond B M N) = weight B + (weight M + weight N)
   -- identifiers (definition 18), and application (definition 22): the arguments of a name
-  weight (name i T args) = 2 + weightArgs args
+  weight (name i o T args) = useWeight o + weightArgs args
   weight (private i) = 2
   -- variables (definitions 24 to 26)
   weight (fetch X) = weight X

@@ -18,7 +18,7 @@ mutual
   correct diverge d s = diverge-correct
   correct (const x) d s = const-correct x
   correct (private i) d s = private-correct i
-  correct (name i T args) d s = name-correct i T args (correctArgs args d s)
+  correct (name i o T args) d s = name-correct i o T args (correctArgs args d s)
   correct (fetch X) d s = fetch-correct X (correct X d s)
   correct (operate m o L R) d s = operate-correct m o L R (correct L d (s .0)) (correct R d (s .1))
   correct (assign m X E) d s = assign-correct m X E (correct X d (s .0)) (correct E d (s .1))

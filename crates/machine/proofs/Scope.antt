@@ -8,8 +8,8 @@ use lib.ListN.{length}
 use Rattle.language.specs.Ty.{Ty, Question, run, ask, read, write, Answer, done, ok, value}
 use Rattle.language.specs.Move.{Word}
 use Rattle.language.specs.Term.{Term, skip, diverge, const, private, name, fetch, operate, assign, seq}
-use Rattle.language.specs.Term.{while, cond, new, Args, no-args, arg}
-use Rattle.language.specs.Play.{Cat, Star, end, more, Use, Plays, PlaysArg}
+use Rattle.language.specs.Term.{while, cond, new, Often, freely, once, Args, no-args, arg}
+use Rattle.language.specs.Play.{Cat, Star, end, more, none, one, AsOften, Use, Plays, PlaysArg}
 use Rattle.language.specs.Typing.{Scope, here, there, Typed, a-private, a-name, a-fetch, an-operate, an-assign}
 use Rattle.language.specs.Typing.{a-seq, a-while, a-cond, a-new, TypedArgs, one-more}
 use Rattle.machine.proofs.Block.{Tidy, clear, seen, used, Tidy-append, Tidy-hide}
@@ -21,7 +21,7 @@ unfoldable mutual
   Scoped diverge d = Unit
   Scoped (const x) d = Unit
   Scoped (private i) d = i < d
-  Scoped (name i T args) d = ScopedArgs args d
+  Scoped (name i o T args) d = ScopedArgs args d
   Scoped (fetch X) d = Scoped X d
   Scoped (operate m o L R) d = Scoped L d × Scoped R d
   Scoped (assign m X E) d = Scoped X d × Scoped E d
@@ -46,7 +46,7 @@ mutual
   scoped-of diverge t = tt
   scoped-of (const x) t = tt
   scoped-of (private i) (a-private s) = in-scope s
-  scoped-of (name i T args) (a-name t) = scopedArgs-of args t
+  scoped-of (name i o T args) (a-name t) = scopedArgs-of args t
   scoped-of (fetch X) (a-fetch t) = scoped-of X t
   scoped-of (operate m o L R) (an-operate t s) = (scoped-of L t, scoped-of R s)
   scoped-of (assign m X E) (an-assign t s) = (scoped-of X t, scoped-of E s)
@@ -66,6 +66,13 @@ module _ (d : ℕ) where
   star-tidy h end = clear
   star-tidy h (more p s) = Tidy-append (h _ p) (star-tidy h s)
 
+  -- as often as a name may use its arguments
+  uses-tidy : (o : Often) {L : Word → Type 0} → ((u : Word) → L u → Tidy d u) → {u : Word} → AsOften o L u → Tidy d u
+  unfolding AsOften
+  uses-tidy freely h x = star-tidy h x
+  uses-tidy once h none = clear
+  uses-tidy once h (one x) = h _ x
+
   -- one word after another
   cat-tidy : {L R : Word → Type 0} → ((u : Word) → L u → Tidy d u) → ((u : Word) → R u → Tidy d u) →
     (u : Word) → Cat L R u → Tidy d u
@@ -84,8 +91,8 @@ mutual
   tidy diverge d s q a u p = absurd p
   tidy (const x) d s q a u p = rw (p .1) clear
   tidy (private i) d s q a u p = rw (p .1) (used s (p .0) clear)
-  tidy (name i T args) d s q a u (h, v, st, e) =
-      let uses = star-tidy d (use-tidy d i (λ j p b x y. tidyArg args d s j p b x y)) st in
+  tidy (name i o T args) d s q a u (h, v, st, e) =
+      let uses = uses-tidy d o (use-tidy d i (λ j p b x y. tidyArg args d s j p b x y)) st in
       rw e (seen (Tidy-append uses (seen clear)))
   tidy (fetch X) d s q a u p = tidy X d s read a u p
   tidy (operate m o L R) d s q a u (x, y, z, eo, ea, p) =

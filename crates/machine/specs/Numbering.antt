@@ -8,12 +8,12 @@ use Rattle.language.specs.Ty.{Ty, command, expression, variable, run, ask, read
 use Rattle.language.specs.Ty.{done, ok, value, fits-run, fits-ask, fits-read, fits-write}
 use Rattle.language.specs.Ty.{to-run, to-ask, to-read, to-write, questions, answers}
 use Rattle.language.specs.Term.{Term, skip, diverge, const, private, name, fetch, operate, assign, seq}
-use Rattle.language.specs.Term.{while, cond, new, Args, no-args, arg}
+use Rattle.language.specs.Term.{while, cond, new, Often, freely, once, onces, Args, no-args, arg}
 use Rattle.language.specs.Play.{Val}
-use Rattle.language.specs.Weight.{weight, weightArgs}
+use Rattle.language.specs.Weight.{useWeight, weight, weightArgs}
 use Rattle.machine.specs.Action.{AnswersAt}
-use Rattle.machine.specs.Position.{QuestionOf, AnswerOf, Reply, types, AtName, start, wait, within, reply}
-use Rattle.machine.specs.Position.{Position, PositionArgs}
+use Rattle.machine.specs.Position.{QuestionOf, AnswerOf, Reply, types, Spent, AtName, start, wait, spent}
+use Rattle.machine.specs.Position.{within, reply, Position, PositionArgs}
 use Rattle.machine.specs.Numbered.{Numbered, empty, single, values, iso, sum, product}
 
 -- a type with the one element x
@@ -105,29 +105,39 @@ numbered-replies (T ∷ Ts) = iso f g gf fg (sum (numbered-answers T) (numbered-
     fg (zero, q, a, h) = refl
     fg (suc j, q, a, h) = refl
 
--- the positions at a name: start, wait, those in the arguments, the replies
-unfoldable pub numbered-name : {X Y : Type 0} {a b : ℕ} → Numbered X a → Numbered Y b →
-  Numbered (AtName X Y) (1 + (1 + (a + b)))
-numbered-name {X} {Y} M N = iso f g gf fg (sum single (sum single (sum M N)))
+-- the second wait of a name that asks once
+unfoldable pub numbered-spent : (o : Often) → Numbered (Spent o) (onces o)
+unfolding onces
+numbered-spent freely = empty
+numbered-spent once = single
+
+-- the positions at a name: start, wait, the second wait, those in the arguments, the replies
+unfoldable pub numbered-name : {S X Y : Type 0} {s a b : ℕ} → Numbered S s → Numbered X a → Numbered Y b →
+  Numbered (AtName S X Y) (1 + (1 + (s + (a + b))))
+numbered-name {S} {X} {Y} O M N = iso f g gf fg (sum single (sum single (sum O (sum M N))))
   where
-    f : Unit {0} ⊎ (Unit {0} ⊎ (X ⊎ Y)) → AtName X Y
+    f : Unit {0} ⊎ (Unit {0} ⊎ (S ⊎ (X ⊎ Y))) → AtName S X Y
     f (inl x) = start
     f (inr (inl x)) = wait
-    f (inr (inr (inl x))) = within x
-    f (inr (inr (inr y))) = reply y
-    g : AtName X Y → Unit {0} ⊎ (Unit {0} ⊎ (X ⊎ Y))
+    f (inr (inr (inl s))) = spent s
+    f (inr (inr (inr (inl x)))) = within x
+    f (inr (inr (inr (inr y)))) = reply y
+    g : AtName S X Y → Unit {0} ⊎ (Unit {0} ⊎ (S ⊎ (X ⊎ Y)))
     g start = inl tt
     g wait = inr (inl tt)
-    g (within x) = inr (inr (inl x))
-    g (reply y) = inr (inr (inr y))
-    gf : (x : Unit {0} ⊎ (Unit {0} ⊎ (X ⊎ Y))) → g (f x) ≡ x
+    g (spent s) = inr (inr (inl s))
+    g (within x) = inr (inr (inr (inl x)))
+    g (reply y) = inr (inr (inr (inr y)))
+    gf : (x : Unit {0} ⊎ (Unit {0} ⊎ (S ⊎ (X ⊎ Y)))) → g (f x) ≡ x
     gf (inl x) = refl
     gf (inr (inl x)) = refl
-    gf (inr (inr (inl x))) = refl
-    gf (inr (inr (inr y))) = refl
-    fg : (y : AtName X Y) → f (g y) ≡ y
+    gf (inr (inr (inl s))) = refl
+    gf (inr (inr (inr (inl x)))) = refl
+    gf (inr (inr (inr (inr y)))) = refl
+    fg : (y : AtName S X Y) → f (g y) ≡ y
     fg start = refl
     fg wait = refl
+    fg (spent s) = refl
     fg (within x) = refl
     fg (reply y) = refl
 
@@ -142,12 +152,13 @@ unfolding positions replies types weightArgs
 weight-args no-args = refl
 weight-args (arg T M args) = omega (arith, weight-args args)
 
--- the positions at a name, as many as it weighs
-unfoldable pub numbered-use : (args : Args) → Numbered (PositionArgs args) (positions args) →
-  Numbered (AtName (PositionArgs args) (Reply (types args))) (2 + weightArgs args)
-numbered-use args N =
-    subst (λ k. Numbered (AtName (PositionArgs args) (Reply (types args))) k) (omega (arith, weight-args args))
-      (numbered-name N (numbered-replies (types args)))
+-- the positions at a name, as many as it weighs: those of its own are 2 or 3
+unfoldable pub numbered-use : (o : Often) (args : Args) → Numbered (PositionArgs args) (positions args) →
+  Numbered (AtName (Spent o) (PositionArgs args) (Reply (types args))) (useWeight o + weightArgs args)
+numbered-use o args N =
+    subst (λ k. Numbered (AtName (Spent o) (PositionArgs args) (Reply (types args))) k)
+      (omega (arith, weight-args args))
+      (numbered-name (numbered-spent o) N (numbered-replies (types args)))
 
 -- the positions of a term, as many as it weighs
 unfoldable mutual
@@ -157,7 +168,7 @@ unfoldable mutual
   numbered diverge = single
   numbered (const x) = single
   numbered (private i) = sum single single
-  numbered (name i T args) = numbered-use args (numberedArgs args)
+  numbered (name i o T args) = numbered-use o args (numberedArgs args)
   numbered (fetch X) = numbered X
   numbered (operate m o L R) = sum (numbered L) (product (values m) (numbered R))
   numbered (assign m X E) = sum (numbered E) (product (values m) (numbered X))

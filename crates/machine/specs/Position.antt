@@ -4,7 +4,7 @@ use mathlib.Core.List.{List, [], _∷_}
 use Prim.Native.Nat.{ℕ}
 use Rattle.language.specs.Ty.{Ty, Question, Answer, Fits, Answers}
 use Rattle.language.specs.Term.{Term, skip, diverge, const, private, name, fetch, operate, assign, seq}
-use Rattle.language.specs.Term.{while, cond, new, Args, no-args, arg}
+use Rattle.language.specs.Term.{while, cond, new, Often, freely, once, Args, no-args, arg}
 use Rattle.language.specs.Play.{Val}
 use Rattle.machine.specs.Action.{AnswersAt}
 
@@ -34,11 +34,18 @@ unfoldable pub types : Args → List Ty
 types no-args = []
 types (arg T M args) = T ∷ types args
 
--- at a name: about to ask it, waiting for its move, in an argument, about to give an argument's answer
-pub data AtName (X Y : Type 0) : Type 0 where
-  start wait : AtName X Y
-  within : X → AtName X Y
-  reply : Y → AtName X Y
+-- the second wait of a name that asks once: its question has been answered
+abbrev pub Spent : Often → Type 0
+Spent freely = ⊥
+Spent once = Unit
+
+-- at a name: about to ask it, waiting for its move, waiting for its answer alone, in an argument, about to give an
+-- argument's answer
+pub data AtName (S X Y : Type 0) : Type 0 where
+  start wait : AtName S X Y
+  spent : S → AtName S X Y
+  within : X → AtName S X Y
+  reply : Y → AtName S X Y
 
 -- Positions. One copy of a part for each value that has to be remembered: of a left operand, of an assigned value, of a
 -- block's variable, and of the question to an argument.
@@ -48,7 +55,7 @@ abbrev mutual
   Position diverge = Unit
   Position (const v) = Unit
   Position (private i) = Unit {0} ⊎ Unit {0}
-  Position (name i T args) = AtName (PositionArgs args) (Reply (types args))
+  Position (name i o T args) = AtName (Spent o) (PositionArgs args) (Reply (types args))
   Position (fetch X) = Position X
   Position (operate m o L R) = Position L ⊎ (Val m × Position R)
   Position (assign m X E) = Position E ⊎ (Val m × Position X)
@@ -67,7 +74,7 @@ entry skip = tt
 entry diverge = tt
 entry (const v) = tt
 entry (private i) = inl tt
-entry (name i T args) = start
+entry (name i o T args) = start
 entry (fetch X) = entry X
 entry (operate m o L R) = inl (entry L)
 entry (assign m X E) = inl (entry E)

@@ -7,12 +7,12 @@ use native.Mathlib.Decide.{decLt}
 use Rattle.language.specs.Ty.{Ty, Question, run, ask, read, write, Answer, done, ok, value}
 use Rattle.language.specs.Move.{question, answer, at, move}
 use Rattle.language.specs.Term.{Term, skip, diverge, const, private, name, fetch, operate, assign, seq}
-use Rattle.language.specs.Term.{while, cond, new, Args, no-args, arg, apply}
+use Rattle.language.specs.Term.{while, cond, new, Often, freely, once, Args, no-args, arg, apply}
 use Rattle.language.specs.Play.{Val}
 use Rattle.machine.specs.Action.{Next, to, out, dead, Heard, asked, answered, opened, calling, FitsAt}
 use Rattle.machine.specs.Action.{AnswersAt, Hears, Action, go, say, hear, mapNext, mapAction}
 use Rattle.machine.specs.Decide.{when, answers?}
-use Rattle.machine.specs.Position.{Context, Store, types, AtName, start, wait, within, reply}
+use Rattle.machine.specs.Position.{Context, Store, types, Spent, AtName, start, wait, spent, within, reply}
 use Rattle.machine.specs.Position.{Position, PositionArgs, entry, State, Exit, StateArgs, ExitArgs}
 
 -- a state of the first part, seen in the whole
@@ -87,20 +87,39 @@ enter (arg T M args) n σ zero q f = to (σ, inl ((q, f), entry M))
 enter (arg T M args) n σ (suc j) q f = mapNext right (λ e. out (later n T (types args) e)) (enter args n σ j q f)
 
 -- a state of an argument, at the name
-abbrev pub inside : {D X Y : Type 0} → D × X → D × AtName X Y
+abbrev pub inside : {D S X Y : Type 0} → D × X → D × AtName S X Y
 inside s = (s .0, within (s .1))
 
 -- an argument's reply, at the name
-abbrev pub replying : {D X Y : Type 0} → D × Y → D × AtName X Y
+abbrev pub replying : {D S X Y : Type 0} → D × Y → D × AtName S X Y
 replying e = (e .0, reply (e .1))
 
 -- what follows each move of the name i, asked q
-unfoldable pub listen : (i : ℕ) (T : Ty) (args : Args) (n : Context) (q : Question) → Store n → (r : Heard) →
-  Hears (calling i (types args) T q) r → Next (State n (name i T args)) (Exit n)
+unfoldable pub listen : (i : ℕ) (o : Often) (T : Ty) (args : Args) (n : Context) (q : Question) → Store n →
+  (r : Heard) → Hears (calling i (types args) T q) r → Next (State n (name i o T args)) (Exit n)
 unfolding Hears
-listen i T args n q σ (asked j p) h = mapNext inside (λ e. to (replying e)) (enter args n σ j p h)
-listen i T args n q σ (answered a) h = out (σ, a)
-listen i T args n q σ (opened p) h = absurd h
+listen i o T args n q σ (asked j p) h = mapNext inside (λ e. to (replying e)) (enter args n σ j p h)
+listen i o T args n q σ (answered a) h = out (σ, a)
+listen i o T args n q σ (opened p) h = absurd h
+
+-- where the name waits after an argument's answer
+unfoldable pub again : (o : Often) {X Y : Type 0} → AtName (Spent o) X Y
+again freely = wait
+again once = spent tt
+
+-- what follows each move of the name i, asked q, that may put no more questions: its answers
+unfoldable pub closing : {S : Type 0} (i : ℕ) (T : Ty) (n : Context) (q : Question) → Store n → (r : Heard) →
+  Hears (calling i [] T q) r → Next S (Exit n)
+unfolding Hears FitsAt
+closing i T n q σ (asked j p) h = absurd h
+closing i T n q σ (answered a) h = out (σ, a)
+closing i T n q σ (opened p) h = absurd h
+
+-- the wait for the answer alone: a name without arguments never comes there
+unfoldable pub closes : {S : Type 0} (i : ℕ) (T : Ty) (args : Args) (n : Context) (q : Question) → Store n →
+  Action S (Exit n)
+closes i T no-args n q σ = go dead
+closes i T (arg A M args) n q σ = hear (calling i [] T q) (closing i T n q σ)
 
 -- what a term that has been asked q does at a position
 unfoldable mutual
@@ -111,10 +130,11 @@ unfoldable mutual
   step (const v) n q σ p = go (out (σ, value v))
   step (private i) n q σ (inl p) = go (to (σ, inr tt))
   step (private i) n q σ (inr p) = go (access n i σ q (λ τ a. out (τ, a)))
-  step (name i T args) n q σ start = say (move (at i 0) (question q)) (to (σ, wait))
-  step (name i T args) n q σ wait = hear (calling i (types args) T q) (listen i T args n q σ)
-  step (name i T args) n q σ (within p) = mapAction inside (λ e. to (replying e)) (stepArgs args n σ p)
-  step (name i T args) n q σ (reply r) = say (move (at i (suc (r .0))) (answer (r .2))) (to (σ, wait))
+  step (name i o T args) n q σ start = say (move (at i 0) (question q)) (to (σ, wait))
+  step (name i o T args) n q σ wait = hear (calling i (types args) T q) (listen i o T args n q σ)
+  step (name i o T args) n q σ (spent s) = closes i T args n q σ
+  step (name i o T args) n q σ (within p) = mapAction inside (λ e. to (replying e)) (stepArgs args n σ p)
+  step (name i o T args) n q σ (reply r) = say (move (at i (suc (r .0))) (answer (r .2))) (to (σ, again o))
   step (fetch X) n q σ p = step X n read σ p
   step (operate m o L R) n q σ (inl p) =
       mapAction left (λ e. onValue m (e .1) (λ x. to (e .0, inr (x, entry R)))) (step L n ask σ p)

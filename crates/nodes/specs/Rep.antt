@@ -6,7 +6,7 @@ use mathlib.Core.Path.{_≡_}
 use mathlib.Core.List.{List, [], _∷_}
 use Rattle.language.specs.Ty.{Ty, command, expression, variable}
 use Rattle.language.specs.Term.{Term, skip, diverge, const, private, name, fetch, operate, assign, seq, while, cond}
-use Rattle.language.specs.Term.{new, Args, no-args, arg, Operation}
+use Rattle.language.specs.Term.{new, Often, onces, Args, no-args, arg, Operation}
 use Rattle.language.specs.Typing.{Scope, operands, results}
 use Rattle.language.specs.Weight.{weight}
 use Rattle.language.specs.declared.Numbers.{Numbers}
@@ -39,6 +39,7 @@ pub record Represented (t : List ℕ) (at kind : ℕ) (M : Term) (T : Ty) : Type
   pub small : weight M ≤ greatest-size
   pub typed : TyRow t at T
 
+-- how many arguments there are
 unfoldable pub count : Args → ℕ
 count no-args = 0
 count (arg T M args) = suc (count args)
@@ -55,9 +56,9 @@ module _ (N : Numbers) (t : List ℕ) where
         word t at 4 ≡ v → v < m → Rep (suc left) at rs n (const v) (expression m)
       r-private : {left at i m r : ℕ} {rs n : List ℕ} → Represented t at 128 (private i) (variable m) →
         word t at 4 ≡ r → Scope rs i r → Scope n i m → Rep (suc left) at rs n (private i) (variable m)
-      r-name : {left at i : ℕ} {rs n : List ℕ} {T : Ty} {args : Args} → Represented t at 20 (name i T args) T →
-        i < 256 → word t at 4 ≡ i + 256 * count args → count args ≤ 4 → RepArgs left at 0 rs n args →
-        Rep (suc left) at rs n (name i T args) T
+      r-name : {left at i : ℕ} {rs n : List ℕ} {o : Often} {T : Ty} {args : Args} →
+        Represented t at 20 (name i o T args) T → i < 256 → word t at 4 ≡ i + 256 * (count args + 8 * onces o) →
+        count args ≤ 4 → RepArgs left at 0 rs n args → Rep (suc left) at rs n (name i o T args) T
       r-fetch : {left at m : ℕ} {rs n : List ℕ} {X : Term} → Represented t at 21 (fetch X) (expression m) →
         Rep left (word t at 5) rs n X (variable m) → Rep (suc left) at rs n (fetch X) (expression m)
       r-operate : {left at : ℕ} {rs n : List ℕ} {o : Operation} {L R : Term} → o .over ≡ N →

@@ -8,8 +8,9 @@ use lib.ListN.{length}
 use Rattle.language.specs.Ty.{Question, run, ask, read, write, Answer, done, ok, value, Answers}
 use Rattle.language.specs.Move as mv
 use Rattle.language.specs.Move.{question, answer, at, move, Word}
-use Rattle.language.specs.Play.{Plays, PlaysArg, VarPair, Star, end, Use}
+use Rattle.language.specs.Play.{Plays, PlaysArg, VarPair, AsOften, Use}
 use Rattle.language.specs.Term as t
+use Rattle.language.specs.Term.{Often}
 use Rattle.language.specs.declared.Numbers.{Numbers}
 use Rattle.parts.specs.Rule.{values}
 use Rattle.procedures.specs.Written.{Written, skip, diverge, truth, number, call, fetch, operate, assign, sequence}
@@ -21,7 +22,7 @@ use Rattle.procedures.specs.Fine.{FineUse, Fine, FineArgs}
 use Rattle.procedures.proofs.WellTyped.{typed-below}
 use Rattle.one_part.proofs.Matching.{Match, Shows, next, nothing, inner, outer, name, cat-match, star-match}
 use Rattle.one_part.proofs.Matching.{use-match, sum-match, empty-match, pair-match, none-match, call-match}
-use Rattle.one_part.proofs.Matching.{hidden-match, star-nothing}
+use Rattle.one_part.proofs.Matching.{hidden-match, uses-match, uses-nothing, no-uses}
 use Rattle.one_part.proofs.Answering.{answers-as, to-command, to-truth, to-fetch, to-operand, to-source}
 use Rattle.one_part.proofs.Answering.{to-target, to-private}
 use Rattle.one_part.proofs.Twins.{Agrees, Level, Passed, Twin, a-variable, an-argument, a-routine, an-outer}
@@ -37,24 +38,24 @@ no-argument N ns bs ρ n (more w ws) j q a u x = x
 
 module _ (N : Numbers) (ns ns′ : List Name) (around : List Binder) where
   -- a use of a private variable whose block encloses the part
-  outer-match : (n i id k d : ℕ) (ws : Writtens) (cs : List Binder) (σ : Terms) (q : Question) (a : Answer) →
-      meaning ns around id ≡ private k d → k < length around → 0 < d → i ≡ n + length around →
+  outer-match : (n i id k d : ℕ) (o : Often) (ws : Writtens) (cs : List Binder) (σ : Terms) (q : Question)
+      (a : Answer) → meaning ns around id ≡ private k d → k < length around → 0 < d → i ≡ n + length around →
       Answers (tyOf N (2 + d)) q a →
       Match ns around n
         (λ u. VarPair q a
           × (u ≡ move (mv.private (i - suc k)) (question q) ∷ move (mv.private (i - suc k)) (answer a) ∷ []))
         (λ u. Answers (tyOf N (2 + d)) q a
-          × (v : Word) × Star (Use id (λ j p b x. PlaysArg (resolveArgs N ns′ cs σ n ws []) j p b x)) v
+          × (v : Word) × AsOften o (Use id (λ j p b x. PlaysArg (resolveArgs N ns′ cs σ n ws []) j p b x)) v
           × (u ≡ move (at id 0) (question q) ∷ (v ++ (move (at id 0) (answer a) ∷ []))))
-  outer-match n i id k d ws cs σ q a h b p e x =
+  outer-match n i id k d o ws cs σ q a h b p e x =
       let place : mv.Place = mv.private (i - suc k) in
       let mine : Word = move place (question q) ∷ move place (answer a) ∷ [] in
       let own : Word = move (at id 0) (question q) ∷ move (at id 0) (answer a) ∷ [] in
       let s : Shows ns around n mine own =
           next (outer {i = i - suc k} h b (omega arith)) (next (outer {i = i - suc k} h b (omega arith)) nothing) in
-      (λ u (y, f). (own, subst (λ z. Shows ns around n z own) (sym f) s, (x, [], end, refl)),
+      (λ u (y, f). (own, subst (λ z. Shows ns around n z own) (sym f) s, (x, [], no-uses o _, refl)),
        λ u (y, v, r, f).
-         let z : v ≡ [] = star-nothing (λ w (j, q′, a′, v′, l, g). no-argument N ns′ cs σ n ws j q′ a′ v′ l) r in
+         let z : v ≡ [] = uses-nothing o (λ w (j, q′, a′, v′, l, g). no-argument N ns′ cs σ n ws j q′ a′ v′ l) r in
          (mine, subst (λ w. Shows ns around n mine w) (sym (f ∙ ap (λ (w : Word). move (at id 0) (question q) ∷ (w ++
            (move (at id 0) (answer a) ∷ []))) z)) s, (to-private N d p x, refl)))
 
@@ -72,12 +73,12 @@ module _ (N : Numbers) (ns ns′ : List Name) (around : List Binder) where
           (λ k. t.private (i - suc (ρ .level k)))
           (λ k. ρ .passed k i)
           (λ k. ρ .body k (λ j l. resolved N ns bs ρ l ws j) i)
-          (λ ty tys. t.name id (tyOf N ty) (resolveArgs N ns bs ρ i ws tys)))
+          (λ often ty tys. t.name id often (tyOf N ty) (resolveArgs N ns bs ρ i ws tys)))
         (byMeaning m′ t.diverge
           (λ k. t.private (n - suc (σ .level k)))
           (λ k. σ .passed k n)
           (λ k. σ .body k (λ j l. resolved N ns′ cs σ l ws j) n)
-          (λ ty tys. t.name id (tyOf N ty) (resolveArgs N ns′ cs σ n ws tys)))
+          (λ often ty tys. t.name id often (tyOf N ty) (resolveArgs N ns′ cs σ n ws tys)))
   unfolding FineUse byMeaning useType Plays
   agrees-use n i id ρ σ bs cs ws h (a-variable {k = k} {l = l} e b) f g p q a x =
       let z : i - suc (ρ .level k) ≡ n - suc (σ .level l) = omega arith in
@@ -85,11 +86,11 @@ module _ (N : Numbers) (ns ns′ : List Name) (around : List Binder) where
   agrees-use n i id ρ σ bs cs ws h (an-argument f′) f g p q a x = f′ i n h (omega arith) q a x
   agrees-use n i id ρ σ bs cs ws h (a-routine {tys = tys} f′) f g p q a x =
       f′ i n (λ j l. resolved N ns bs ρ l ws j) (λ j l. resolved N ns′ cs σ l ws j) h (omega arith) (p tys f) q a x
-  agrees-use n i id ρ σ bs cs ws h (an-outer {k = k} {d = d} e b l z) f g p q a x =
-      rw z (outer-match n i id k d ws cs σ q a e b l h x)
-  agrees-use n i id ρ σ bs cs ws h (a-name {ty = ty} {tys = tys} e) f g p q a x =
-      call-match ns around n id ty tys (question q) (answer a) e
-        (star-match ns around n (use-match ns around n id ty tys e (g tys f)))
+  agrees-use n i id ρ σ bs cs ws h (an-outer {k = k} {d = d} {o = o} e b l z) f g p q a x =
+      rw z (outer-match n i id k d o ws cs σ q a e b l h x)
+  agrees-use n i id ρ σ bs cs ws h (a-name {o = o} {ty = ty} {tys = tys} e) f g p q a x =
+      call-match ns around n id o ty tys (question q) (answer a) e
+        (uses-match ns around n o (use-match ns around n id o ty tys e (g tys f)))
   agrees-use n i id ρ σ bs cs ws h a-retired f g p q a x = absurd f
   agrees-use n i id ρ σ bs cs ws h no-twin f g p q a x = absurd f
 

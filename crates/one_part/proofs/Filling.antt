@@ -20,7 +20,7 @@ use Rattle.procedures.specs.Meaning.{with-level, resolve, resolveArgs, resolved
 use Rattle.procedures.specs.Fine.{FineUse, Fine, FineArgs}
 use Rattle.procedures.proofs.Tests.{by-test}
 use Rattle.procedures.proofs.Numbering.{beyond-below, beyond-at}
-use Rattle.procedures.proofs.Languages.{Same, cat-same, star-same, use-same, sum-same, new-same}
+use Rattle.procedures.proofs.Languages.{Same, cat-same, star-same, uses-same, use-same, sum-same, new-same}
 use Rattle.procedures.proofs.WellTyped.{KnownNames, typed-below}
 use Rattle.one_part.specs.Around.{Around, whole, in-call, in-fetch, in-left, in-right, in-target, in-source}
 use Rattle.one_part.specs.Around.{in-first, in-second, in-test, in-round, in-if, in-then, in-else, in-new}
@@ -39,7 +39,7 @@ unfoldable pub Plain : ℕ → Terms → Meaning → Type 0
 Plain n ρ (private k d) = (k < n) × (0 < d) × (d < 3) × (ρ .level k ≡ k)
 Plain n ρ (argument k ty) = ⊥
 Plain n ρ (routine k ty tys) = ⊥
-Plain n ρ (named ty tys) = ty < 5
+Plain n ρ (named often ty tys) = ty < 5
 Plain n ρ retired = Unit
 Plain n ρ free = Unit
 
@@ -47,7 +47,7 @@ Plain n ρ free = Unit
 plain-declared : (ρ : Terms) (ns : List Name) (id : ℕ) → KnownNames ns → Plain 0 ρ (declared ns id)
 unfolding Plain KnownNames declared
 plain-declared ρ [] id k = tt
-plain-declared ρ (declare j ty tys ∷ ns) id k =
+plain-declared ρ (declare often j ty tys ∷ ns) id k =
     by-test (eqb j id) (λ t. rw t (k .0)) (λ t. rw t (plain-declared ρ ns id (k .1)))
 plain-declared ρ (retire j ∷ ns) id k = by-test (eqb j id) (λ t. rw t tt) (λ t. rw t (plain-declared ρ ns id k))
 
@@ -56,7 +56,7 @@ unfolding Plain with-level
 plain-more n ρ (private k d) (b, l, l′, e) = (omega arith, l, l′, beyond-below n (ρ .level) (λ x. n) k b ∙ e)
 plain-more n ρ (argument k ty) h = h
 plain-more n ρ (routine k ty tys) h = h
-plain-more n ρ (named ty tys) h = h
+plain-more n ρ (named often ty tys) h = h
 plain-more n ρ retired h = tt
 plain-more n ρ free h = tt
 
@@ -78,7 +78,7 @@ unfolding Plain useType
 plain-known n ρ (private k d) h = omega (arith, h .2)
 plain-known n ρ (argument k ty) h = absurd h
 plain-known n ρ (routine k ty tys) h = absurd h
-plain-known n ρ (named ty tys) h = h
+plain-known n ρ (named often ty tys) h = h
 plain-known n ρ retired h = omega arith
 plain-known n ρ free h = omega arith
 
@@ -147,18 +147,18 @@ module _ (N : Numbers) (ns : List Name) (m m′ : Written) where
           (λ k. t.private (length bs - suc (ρ .level k)))
           (λ k. ρ .passed k (length bs))
           (λ k. ρ .body k (λ j l. resolved N ns bs ρ l (allFilled A m) j) (length bs))
-          (λ ty tys. t.name id (tyOf N ty) (resolveArgs N ns bs ρ (length bs) (allFilled A m) tys)))
+          (λ often ty tys. t.name id often (tyOf N ty) (resolveArgs N ns bs ρ (length bs) (allFilled A m) tys)))
         (byMeaning s t.diverge
           (λ k. t.private (length bs - suc (ρ .level k)))
           (λ k. ρ .passed k (length bs))
           (λ k. ρ .body k (λ j l. resolved N ns bs ρ l (allFilled A m′) j) (length bs))
-          (λ ty tys. t.name id (tyOf N ty) (resolveArgs N ns bs ρ (length bs) (allFilled A m′) tys)))
+          (λ often ty tys. t.name id often (tyOf N ty) (resolveArgs N ns bs ρ (length bs) (allFilled A m′) tys)))
   unfolding Plain FineUse byMeaning Plays
   equal-use bs ρ id A (private k d) p f f′ g q a x u = absurd (all-some A m f)
   equal-use bs ρ id A (argument k ty) p f f′ g q a x u = absurd p
   equal-use bs ρ id A (routine k ty tys) p f f′ g q a x u = absurd p
-  equal-use bs ρ id A (named ty tys) p f f′ g q a x u =
-      let e = star-same (use-same id (g tys f f′)) in
+  equal-use bs ρ id A (named often ty tys) p f f′ g q a x u =
+      let e = uses-same often (use-same id (g tys f f′)) in
       (λ (y, v, s, i). (y, v, e v .0 s, i), λ (y, v, s, i). (y, v, e v .1 s, i))
   equal-use bs ρ id A retired p f f′ g q a x u = absurd f
   equal-use bs ρ id A free p f f′ g q a x u = absurd f

@@ -7,8 +7,9 @@ use mathlib.Core.Logic.{_⊎_, inl, inr}
 use mathlib.Core.List.{List, [], _∷_, _++_}
 use lib.ListN.{length}
 use Rattle.language.specs.Ty.{Question, Answer}
+use Rattle.language.specs.Term.{Often, freely, once}
 use Rattle.language.specs.Move.{Event, question, answer, Place, at, private, Move, move, Word}
-use Rattle.language.specs.Play.{Cat, Star, end, more, Use, kept, hide, Stable}
+use Rattle.language.specs.Play.{Cat, Star, end, more, AtMostOne, none, one, AsOften, Use, kept, hide, Stable}
 use Rattle.procedures.specs.Written.{Name}
 use Rattle.procedures.specs.Meaning as meant
 use Rattle.procedures.specs.Meaning.{Binder, named, meaning}
@@ -36,6 +37,10 @@ module _ (Q : Word → Word → Type 0) (J : Joins Q) where
       let (w′, t′, y′) = star-into f v s in
       (w ++ w′, J .join u w v w′ t t′, more y y′)
 
+  one-into : {L L′ : Word → Type 0} → Into Q L L′ → Into Q (AtMostOne L) (AtMostOne L′)
+  one-into f u none = ([], J .empty, none)
+  one-into f u′ (one {u = u} x) = let (w, t, y) = f u x in (w, t, one y)
+
   use-into : {L L′ : ℕ → Question → Answer → Word → Type 0} (i : ℕ) →
       ((j : ℕ) (e : Event) → Q (move (at i j) e ∷ []) (move (at i j) e ∷ [])) →
       ((j : ℕ) (q : Question) (a : Answer) → Into Q (L j q a) (L′ j q a)) → Into Q (Use i L) (Use i L′)
@@ -49,14 +54,28 @@ module _ (Q : Word → Word → Type 0) (J : Joins Q) where
             (J .join v w (r ∷ []) (r ∷ []) t (same (suc j) (answer a)))),
         (j, q, a, w, y, refl))
 
-pub star-nothing : {L : Word → Type 0} {v : Word} → ((u : Word) → L u → ⊥) → Star L v → v ≡ []
+star-nothing : {L : Word → Type 0} {v : Word} → ((u : Word) → L u → ⊥) → Star L v → v ≡ []
 star-nothing f end = refl
 star-nothing f (more {u = u} x s) = absurd (f u x)
+
+pub uses-nothing : (o : Often) {L : Word → Type 0} {v : Word} → ((u : Word) → L u → ⊥) → AsOften o L v → v ≡ []
+unfolding AsOften
+uses-nothing freely f s = star-nothing f s
+uses-nothing once {L} {v} f s = go s
+  where
+    go : {v : Word} → AtMostOne L v → v ≡ []
+    go none = refl
+    go (one {u = u} x) = absurd (f u x)
+
+pub no-uses : (o : Often) (L : Word → Type 0) → AsOften o L []
+unfolding AsOften
+no-uses freely L = end
+no-uses once L = none
 
 number-of : {k k′ d d′ : ℕ} → meant.private k d ≡ meant.private k′ d′ → k ≡ k′
 number-of e = cc
 
-unlike : {k d ty : ℕ} {tys : List ℕ} → meant.private k d ≡ named ty tys → ⊥
+unlike : {k d ty : ℕ} {o : Often} {tys : List ℕ} → meant.private k d ≡ named o ty tys → ⊥
 unlike e = let z : _≡_ {A = ℕ} 0 1 = cc in absurd (omega arith)
 
 -- what follows speaks of a part that stands in the scope of names and in blocks, and of n more blocks around a place
@@ -69,7 +88,7 @@ module _ (ns : List Name) (bs : List Binder) where
     -- one whose block encloses the part: the name that it is declared as
     outer : {id i k d : ℕ} → meaning ns bs id ≡ meant.private k d → k < length bs → i + suc k ≡ n + length bs →
       Shown n (private i) (at id 0)
-    name : {id j ty : ℕ} {tys : List ℕ} → meaning ns bs id ≡ named ty tys → Shown n (at id j) (at id j)
+    name : {id j ty : ℕ} {o : Often} {tys : List ℕ} → meaning ns bs id ≡ named o ty tys → Shown n (at id j) (at id j)
 
   -- a word in the part and the same word in the part's own sheet
   pub data Shows (n : ℕ) : Word → Word → Type 0 where
@@ -101,11 +120,17 @@ module _ (ns : List Name) (bs : List Binder) where
   pub star-match : (n : ℕ) {L L′ : Word → Type 0} → Match n L L′ → Match n (Star L) (Star L′)
   star-match n f = (star-into (Shows n) (joins n) (f .0), star-into (Back n) (joins-back n) (f .1))
 
+  -- as often as a name may ask
+  pub uses-match : (n : ℕ) (o : Often) {L L′ : Word → Type 0} → Match n L L′ → Match n (AsOften o L) (AsOften o L′)
+  unfolding AsOften
+  uses-match n freely f = star-match n f
+  uses-match n once f = (one-into (Shows n) (joins n) (f .0), one-into (Back n) (joins-back n) (f .1))
+
   -- of a declared name
-  pub use-match : (n i ty : ℕ) (tys : List ℕ) {L L′ : ℕ → Question → Answer → Word → Type 0} →
-      meaning ns bs i ≡ named ty tys → ((j : ℕ) (q : Question) (a : Answer) → Match n (L j q a) (L′ j q a)) →
+  pub use-match : (n i : ℕ) (o : Often) (ty : ℕ) (tys : List ℕ) {L L′ : ℕ → Question → Answer → Word → Type 0} →
+      meaning ns bs i ≡ named o ty tys → ((j : ℕ) (q : Question) (a : Answer) → Match n (L j q a) (L′ j q a)) →
       Match n (Use i L) (Use i L′)
-  use-match n i ty tys h f =
+  use-match n i o ty tys h f =
       (use-into (Shows n) (joins n) i (λ j e. next (name h) nothing) (λ j q a. f j q a .0),
        use-into (Back n) (joins-back n) i (λ j e. next (name h) nothing) (λ j q a. f j q a .1))
 
@@ -138,11 +163,11 @@ module _ (ns : List Name) (bs : List Binder) where
   none-match n = (λ u x. absurd x, λ u x. absurd x)
 
   -- between a question to a declared name and its answer
-  pub call-match : (n i ty : ℕ) (tys : List ℕ) (q a : Event) {A : Type 0} {L L′ : Word → Type 0} →
-      meaning ns bs i ≡ named ty tys → Match n L L′ →
+  pub call-match : (n i : ℕ) (o : Often) (ty : ℕ) (tys : List ℕ) (q a : Event) {A : Type 0} {L L′ : Word → Type 0} →
+      meaning ns bs i ≡ named o ty tys → Match n L L′ →
       Match n (λ u. A × (v : Word) × L v × (u ≡ move (at i 0) q ∷ (v ++ (move (at i 0) a ∷ []))))
         (λ u. A × (v : Word) × L′ v × (u ≡ move (at i 0) q ∷ (v ++ (move (at i 0) a ∷ []))))
-  call-match n i ty tys q a h f =
+  call-match n i o ty tys q a h f =
       let p : Word = move (at i 0) q ∷ [] in
       let r : Word = move (at i 0) a ∷ [] in
       (λ u (b, v, x, e). let (w, s, y) = f .0 v x in

@@ -80,7 +80,7 @@ module _ (ed : Edition) (N : Numbers) (s : List ℕ) where
     where
       rest : ℕ → (List ℕ → ℕ → Answer Whole) → Shape → Answer Whole
       rest i r x = wholeOfShape x
-        (λ body. nameOf r i s st at body (declaredStanding at) (declareOf s st at) (declareAt s at))
+        (λ body asks. nameOf r i s st at body (declaredStanding at asks) (declareOf s st at) (declareAt s at asks))
         (λ body. nameOf r i s st at body retired (retireOf s st at) (retireAt s at))
         (bind (readPart ed greatest-depth N s st 0 at) (λ t ty end. got (whole [] at t) ty end))
         (refused out-of-range at)
@@ -88,7 +88,8 @@ module _ (ed : Edition) (N : Numbers) (s : List ℕ) where
       go : (b : Bool) (x : Shape) → More n (pick b (refused cut-short (length s)) (rest k rec′ x)) →
           Nine (pick b (refused cut-short (length s)) (rest n rec x))
       go true x h = absurd h
-      go false (Declare body) h = name-nine n at (declareAt s at) (eqb k 0) (declareOf s st at) _ _ (f _ _) h
+      go false (Declare body asks) h =
+          name-nine n at (declareAt s at asks) (eqb k 0) (declareOf s st at) _ _ (f _ _) h
       go false (Retire body) h = name-nine n at (retireAt s at) (eqb k 0) (retireOf s st at) _ _ (f _ _) h
       go false (Part body parts rule) h = absurd (no-more n at (readPart ed greatest-depth N s st 0 at) h)
       go false Unknown h = absurd h

@@ -9,6 +9,7 @@ use lib.Seq.{drop-at}
 use lib.Dec.{eqb}
 use borrow.Author.Tests.{ne-eqb}
 use Rattle.language.specs.Choice.{pick}
+use Rattle.language.specs.Term.{freely, once}
 use Rattle.language.specs.declared.Numbers.{Numbers}
 use Rattle.records.specs.Limits.{ids, counts}
 use Rattle.procedures.specs.Written.{Written, skip, diverge, truth, number, call, fetch, operate, assign, sequence}
@@ -17,7 +18,7 @@ use Rattle.procedures.specs.Written.{retire}
 use Rattle.procedures.specs.Meaning.{Binder, a-block, Meaning, private, argument, routine, named, retired, free}
 use Rattle.procedures.specs.Meaning.{meaning, inside, after}
 use Rattle.procedures.specs.Fine.{depth, depths, FineUse, Fine, FineArgs}
-use Rattle.sheet.specs.Encoding.{pairs, encode, encodes, encodeName}
+use Rattle.sheet.specs.Encoding.{pairs, encode, encodes, declareKind, encodeName}
 use Rattle.sheet.specs.Reader.{parametersOf}
 use Rattle.sheet.proofs.Pairs.{pairs-length, pairs-parameters}
 use Rattle.one_part.specs.Around.{Around, whole, in-call, in-fetch, in-left, in-right, in-target, in-source}
@@ -104,7 +105,7 @@ count : Meaning → ℕ
 count (private k d) = 0
 count (argument k ty) = 0
 count (routine k ty tys) = length tys
-count (named ty tys) = length tys
+count (named often ty tys) = length tys
 count retired = 0
 count free = 0
 
@@ -115,7 +116,7 @@ unfolding FineUse FineArgs count
 counted N ns bs (private k d) ws f = ([], refl, subst (λ x. FineArgs N ns bs x []) (sym f) tt)
 counted N ns bs (argument k ty) ws f = ([], refl, subst (λ x. FineArgs N ns bs x []) (sym f) tt)
 counted N ns bs (routine k ty tys) ws f = (tys, refl, f)
-counted N ns bs (named ty tys) ws f = (tys, refl, f)
+counted N ns bs (named often ty tys) ws f = (tys, refl, f)
 counted N ns bs retired ws f = absurd f
 counted N ns bs free ws f = absurd f
 
@@ -169,9 +170,10 @@ module _ (ns : List Name) (n : Written) where
 
   -- bytes that are read as a term do not begin with a name's
   no-name : (k : ℕ) (bs : List Binder) (a : Name) (s : List ℕ) → read k bs (encodeName a ++ s) ≡ lost
-  unfolding read ofKind encodeName
+  unfolding read ofKind declareKind encodeName
   no-name zero bs a s = refl
-  no-name (suc k) bs (declare id ty tys) s = refl
+  no-name (suc k) bs (declare freely id ty tys) s = refl
+  no-name (suc k) bs (declare once id ty tys) s = refl
   no-name (suc k) bs (retire id) s = refl
 
   pub no-names : (k : ℕ) (bs : List Binder) {X s : List ℕ} {x : Written} → read k bs X ≡ found x s →

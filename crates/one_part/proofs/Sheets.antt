@@ -8,6 +8,7 @@ use mathlib.Core.List.{List, [], _∷_, _++_}
 use lib.Dec.{eqb}
 use borrow.Author.Tests.{eq-eqb}
 use Rattle.language.specs.declared.Numbers.{Numbers}
+use Rattle.language.specs.Term.{freely}
 use Rattle.procedures.specs.Written.{Written, Name, declare, retire, Sheet}
 use Rattle.procedures.specs.Meaning.{Binder, a-block, a-parameter, a-procedure, Meaning, private, argument, routine}
 use Rattle.procedures.specs.Meaning.{named, retired, free, declared, idOf, meaning}
@@ -71,7 +72,7 @@ unfolding FineUse
 arguments (private k d) h f = absurd (h f)
 arguments (argument k ty) h f = absurd (h f)
 arguments (routine k ty tys) h f = (tys, f)
-arguments (named ty tys) h f = (tys, f)
+arguments (named often ty tys) h f = (tys, f)
 arguments retired h f = absurd f
 arguments free h f = absurd f
 
@@ -121,8 +122,8 @@ onto (n ∷ ns) e = onto ns (n ∷ e)
 fine-append : (ns ms e : List Name) → FineNames e ns → FineNames (onto ns e) ms → FineNames e (ns ++ ms)
 unfolding FineNames onto
 fine-append [] ms e f g = g
-fine-append (declare id ty tys ∷ ns) ms e f g =
-    (f .0, f .1, f .2, f .3, f .4, fine-append ns ms (declare id ty tys ∷ e) (f .5) g)
+fine-append (declare often id ty tys ∷ ns) ms e f g =
+    (f .0, f .1, f .2, f .3, f .4, fine-append ns ms (declare often id ty tys ∷ e) (f .5) g)
 fine-append (retire id ∷ ns) ms e f g = (f .0, f .1, fine-append ns ms (retire id ∷ e) (f .2) g)
 
 onto-free : (ns e : List Name) (id : ℕ) → ((n : Name) → Lists n ns → idIn n ≡ id → ⊥) → declared e id ≡ free →
@@ -143,7 +144,8 @@ declaring-held [] n l = absurd (no-record l refl)
 declaring-held (a-block id d ∷ bs) n l = go n (declaring-held bs n) (lists-either (declaring bs) l)
   where
     go : (n : Name) → (Lists n (declaring bs) → isHeld bs (idIn n) ≡ true) →
-        Lists n (declaring bs) ⊎ Lists n (declare id (2 + d) [] ∷ []) → (eqb id (idIn n) || isHeld bs (idIn n)) ≡ true
+        Lists n (declaring bs) ⊎ Lists n (declare freely id (2 + d) [] ∷ []) →
+        (eqb id (idIn n) || isHeld bs (idIn n)) ≡ true
     go n h (inl x) = held-more (eqb id (idIn n)) (h x)
     go n h (inr first) = rw (eq-eqb id id refl) refl
 declaring-held (a-parameter id ty ∷ bs) n l = held-more (eqb id (idIn n)) (declaring-held bs n l)
@@ -153,7 +155,7 @@ fine-declaring : (ns : List Name) (bs : List Binder) → Ordered ns bs → FineN
 unfolding Ordered Unheld FineNames AllTypes declaring declared
 fine-declaring ns [] o = tt
 fine-declaring ns (a-block id d ∷ bs) o =
-    fine-append (declaring bs) (declare id (2 + d) [] ∷ []) (onto ns []) (fine-declaring ns bs (o .5))
+    fine-append (declaring bs) (declare freely id (2 + d) [] ∷ []) (onto ns []) (fine-declaring ns bs (o .5))
       (o .0,
         onto-free (declaring bs) (onto ns []) id
           (λ n l e. unequal (sym (o .4) ∙ ap (isHeld bs) (sym e) ∙ declaring-held bs n l))

@@ -7,12 +7,13 @@ use lib.ListN.{length, getD, take, drop}
 use lib.Seq.{take-at, take-append-seam, drop-at, drop-append-seam}
 use lib.Dec.{eqb}
 use Rattle.language.specs.Choice.{pick}
+use Rattle.language.specs.Term.{freely, once, onces}
 use Rattle.language.specs.declared.Numbers.{Numbers}
 use Rattle.records.specs.Limits.{greatest-depth}
 use Rattle.records.specs.declared.edition.Edition.the-variants.{Present}
 use Rattle.procedures.specs.Written.{Written, Name, declare, retire, Sheet}
 use Rattle.procedures.specs.Fine.{FineNames}
-use Rattle.sheet.specs.Encoding.{encode, encodeName, encodeNames, encodeSheet, headingLength}
+use Rattle.sheet.specs.Encoding.{encode, declareKind, encodeName, encodeNames, encodeSheet, headingLength}
 use Rattle.sheet.specs.Heading.{declareAt, retireAt}
 use Rattle.sheet.proofs.NameBytes.{declared-there, declared-is, declared-past}
 use Rattle.sheet.proofs.Right.{gives}
@@ -42,18 +43,22 @@ with-hole m front rest F e l =
 
 -- the first name of bytes, and what is behind it
 nameIn : List ℕ → Name
-nameIn s = pick (eqb (getD s 0 0) 2) (retireAt s 0) (declareAt s 0)
+nameIn s = pick (eqb (getD s 0 0) 2) (retireAt s 0) (declareAt s 0 (pick (eqb (getD s 0 0) 3) 1 0))
 
 behindName : List ℕ → List ℕ
 behindName s = drop (pick (eqb (getD s 0 0) 2) 2 8) s
 
 name-there : (e : List Name) (a : Name) (ns : List Name) (u : List ℕ) → FineNames e (a ∷ ns) →
     (nameIn (encodeName a ++ u) ≡ a) × (behindName (encodeName a ++ u) ≡ u)
-unfolding FineNames encodeName nameIn behindName retireAt
-name-there e (declare id ty tys) ns u f =
-    let s = encodeName (declare id ty tys) ++ u in
-    let D = declared-there s 0 id ty tys u refl in
-    (declared-is s [] 0 id ty tys u D (f .3), declared-past s [] 0 id ty tys u D)
+unfolding FineNames onces declareKind encodeName nameIn behindName retireAt
+name-there e (declare freely id ty tys) ns u f =
+    let s = encodeName (declare freely id ty tys) ++ u in
+    let D = declared-there s 0 freely id ty tys u refl in
+    (declared-is s [] 0 freely id ty tys u D (f .3), declared-past s [] 0 freely id ty tys u D)
+name-there e (declare once id ty tys) ns u f =
+    let s = encodeName (declare once id ty tys) ++ u in
+    let D = declared-there s 0 once id ty tys u refl in
+    (declared-is s [] 0 once id ty tys u D (f .3), declared-past s [] 0 once id ty tys u D)
 name-there e (retire id) ns u f = (refl, refl)
 
 -- names in order, before bytes that do not begin with a name's, are told by their bytes

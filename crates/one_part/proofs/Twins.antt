@@ -7,7 +7,7 @@ use mathlib.Core.List.{List, [], _∷_}
 use lib.ListN.{length}
 use lib.Dec.{eqb}
 use Rattle.language.specs.Ty.{Ty, Question, Answer, Answers}
-use Rattle.language.specs.Term.{Term}
+use Rattle.language.specs.Term.{Term, Often}
 use Rattle.language.specs.Play.{Plays}
 use Rattle.language.specs.declared.Numbers.{Numbers}
 use Rattle.procedures.specs.Written.{Written, skip, diverge, truth, number, call, fetch, operate, assign, sequence}
@@ -49,10 +49,10 @@ module _ (N : Numbers) (ns ns′ : List Name) (around : List Binder) where
         Agrees j (tyOf N ty) (ρ .body k xs i) (σ .body l ys j)) →
       Twin id n ρ σ (routine k ty tys) (routine l ty tys)
     -- "every private variable whose block encloses them declared as a name without arguments"
-    an-outer : {k d : ℕ} → meaning ns around id ≡ private k d → k < length around → 0 < d → ρ .level k ≡ k →
-      Twin id n ρ σ (private k d) (named (2 + d) [])
-    a-name : {ty : ℕ} {tys : List ℕ} → meaning ns around id ≡ named ty tys →
-      Twin id n ρ σ (named ty tys) (named ty tys)
+    an-outer : {k d : ℕ} {o : Often} → meaning ns around id ≡ private k d → k < length around → 0 < d → ρ .level k ≡ k →
+      Twin id n ρ σ (private k d) (named o (2 + d) [])
+    a-name : {o : Often} {ty : ℕ} {tys : List ℕ} → meaning ns around id ≡ named o ty tys →
+      Twin id n ρ σ (named o ty tys) (named o ty tys)
     a-retired : Twin id n ρ σ retired retired
     no-twin : Twin id n ρ σ free free
 

@@ -25,9 +25,10 @@ use Rattle.part_path.proofs.PathWords.{frames-next, frames-length}
 use Rattle.part_path.proofs.PathHearing.{listens, never-waits, still-argument}
 use Rattle.part_path.proofs.PathSays.{after-spot, Holds, path-says, spot-next}
 
-wait-later : (t : List ℕ) (root k at q x : ℕ) (m : Move) → 0 < k → waitAt t root k at q x m ≡ atWait t at q x m
+wait-later : (t : List ℕ) (root k at q x n : ℕ) (m : Move) → 0 < k →
+  waitAt t root k at q x n m ≡ atWait t at q x n m
 unfolding waitAt
-wait-later t root k at q x m h = rw (ne-eqb k 0 (λ z. omega arith))
+wait-later t root k at q x n m h = rw (ne-eqb k 0 (λ z. omega arith))
 
 module _ (t : List ℕ) (root : ℕ) where
   -- what is done at a state that is at hand
@@ -40,30 +41,31 @@ module _ (t : List ℕ) (root : ℕ) where
   holds p c k K C z = (K .begun (c - 1) (omega arith), C z)
 
   -- a wait at the start of the sheet
-  first-waits : (k at q x : ℕ) → sheetSpot t root k noMove ≡ Here (Hear at q x) → (m : Move) →
-    sheetSpot t root k m ≡ Here (waitAt t root k at q x m)
+  first-waits : (k at q x n : ℕ) → sheetSpot t root k noMove ≡ Here (Hear at q x n) → (m : Move) →
+    sheetSpot t root k m ≡ Here (waitAt t root k at q x n m)
   unfolding sheetSpot waitAt
-  first-waits k at q x e m = go (ℕ-discrete k 0) (decLt k (afterOf t root)) e
+  first-waits k at q x n e m = go (ℕ-discrete k 0) (decLt k (afterOf t root)) e
     where
-      go : Dec (k ≡ 0) → Dec (k < afterOf t root) → sheetSpot t root k noMove ≡ Here (Hear at q x) →
-        sheetSpot t root k m ≡ Here (waitAt t root k at q x m)
+      go : Dec (k ≡ 0) → Dec (k < afterOf t root) → sheetSpot t root k noMove ≡ Here (Hear at q x n) →
+        sheetSpot t root k m ≡ Here (waitAt t root k at q x n m)
       go (yes a) b e = rw (eq-eqb k 0 a)
       go (no a) (yes b) e =
           let h = rw (ne-eqb k 0 a, lt-ltb k (afterOf t root) b) at e in
-          absurd (never-waits _ at q x (still-argument _ _ _ _ _ _ _) h)
+          absurd (never-waits _ at q x n (still-argument _ _ _ _ _ _ _) h)
       go (no a) (no b) e =
           let h = rw (ne-eqb k 0 a, le-ltb k (afterOf t root) (omega arith)) at e in
           let z : _≡_ {A = ℕ} 0 1 = cc in absurd (omega arith)
 
-  spot-waits : (p : List ℕ) (c k at q x : ℕ) → KeptPath t root p c k → spotIn t root p c k noMove ≡ Here (Hear at q x) →
-    (m : Move) → spotIn t root p c k m ≡ Here (waitAt t root k at q x m)
+  spot-waits : (p : List ℕ) (c k at q x n : ℕ) → KeptPath t root p c k →
+    spotIn t root p c k noMove ≡ Here (Hear at q x n) →
+    (m : Move) → spotIn t root p c k m ≡ Here (waitAt t root k at q x n m)
   unfolding spotIn
-  spot-waits p zero k at q x K e m = first-waits k at q x e m
-  spot-waits p (suc i) k at q x K e m =
+  spot-waits p zero k at q x n K e m = first-waits k at q x n e m
+  spot-waits p (suc i) k at q x n K e m =
       spot-next t root p i k m
-      ∙ listens t (levelAt p i .part) (levelAt p i .kind) (levelAt p i .value) (k - levelAt p i .base) _ at q x
+      ∙ listens t (levelAt p i .part) (levelAt p i .kind) (levelAt p i .value) (k - levelAt p i .base) _ at q x n
           (sym (spot-next t root p i k noMove) ∙ e) m
-      ∙ ap Here (sym (wait-later t root k at q x m
+      ∙ ap Here (sym (wait-later t root k at q x n m
           (omega (arith, K .sound .plain i (omega arith) .some, K .begun i (omega arith)))))
 
   -- THEOREM: where the state is at hand, the path says what it does
@@ -74,8 +76,8 @@ module _ (t : List ℕ) (root : ℕ) where
     ; at = record
         { does = λ N. path-says t N root p c k noMove h (K .stands) (holds p c k K C)
             ∙ after-here N (framesOf p c) (6144 - c) noMove _ o (sym e)
-        ; hears = λ N m at q x g. path-says t N root p c k m h (K .stands) (holds p c k K C)
-            ∙ after-here N (framesOf p c) (6144 - c) m _ _ (spot-waits p c k at q x K (sym e ∙ ap Here g) m) } }
+        ; hears = λ N m at q x n g. path-says t N root p c k m h (K .stands) (holds p c k K C)
+            ∙ after-here N (framesOf p c) (6144 - c) m _ _ (spot-waits p c k at q x n K (sym e ∙ ap Here g) m) } }
 
   -- past the last level nothing is done
   deep-says : (N : Numbers) (p : List ℕ) (k : ℕ) (m : Move) → Stands t root (framesOf p 6144) (levelAt p 6144) →
@@ -94,7 +96,7 @@ module _ (t : List ℕ) (root : ℕ) where
     ; at = record
         { does = λ N. deep-says N p k noMove (K .stands 6144 (omega arith)) (K .begun 6144 (omega arith)) (C (omega
             arith))
-        ; hears = λ N m at q x g. let z : _≡_ {A = ℕ} 0 1 = cc in absurd (omega arith) } }
+        ; hears = λ N m at q x n g. let z : _≡_ {A = ℕ} 0 1 = cc in absurd (omega arith) } }
 
   pub arrives-deep : (p : List ℕ) (c k : ℕ) → 6145 ≤ c → KeptPath t root p c k → Covers p c k → Arrived t root p c k
       Stuck

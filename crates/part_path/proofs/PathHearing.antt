@@ -16,7 +16,8 @@ use Rattle.automaton.specs.declared.Spot.the-variants.{Here, Inside}
 use Rattle.automaton.specs.walk.Row.{nameCount, nameId, sumOf, partClass, partValues, partWeight}
 use Rattle.language.specs.Operator.{operate}
 use Rattle.automaton.specs.walk.Types.{answersOf, answerNumber, questionKind, questionValue}
-use Rattle.automaton.specs.walk.Name.{argHere, inArgs, replyHere, replyOf, atWait, inName, argSpots, saidOf, copiesOf}
+use Rattle.automaton.specs.walk.Name.{argHere, inArgs, replyHere, replyOf, atWait, atSpent, inName, argSpots, saidOf}
+use Rattle.automaton.specs.walk.Name.{copiesOf, innerOf, againOf}
 use Rattle.automaton.specs.walk.Down.{inFetch, inSeq, inWhile, condIn, inCond, operateIn, inOperate, assignIn, inAssign}
 use Rattle.automaton.specs.walk.Down.{inNew, inPrivate, downAs, downOf}
 use Rattle.language.specs.declared.Numbers.{Numbers}
@@ -31,7 +32,7 @@ unfoldable pub Still : Out → Type 0
 Still (Go next level set) = Unit
 Still (Exit kind value level set) = Unit
 Still (Say said next) = Unit
-Still (Hear at kind value) = ⊥
+Still (Hear at kind value count) = ⊥
 Still Stuck = Unit
 
 unfoldable pub StillAt : Spot → Type 0
@@ -51,17 +52,17 @@ unfolding argHere StillAt Still
 still-argument part class n w k base after = spot-pick (eqb w 0) _ _ tt tt
 
 -- a wait at none of these
-pub never-waits : (S : Spot) (at q x : ℕ) → StillAt S → S ≡ Here (Hear at q x) → ⊥
+pub never-waits : (S : Spot) (at q x n : ℕ) → StillAt S → S ≡ Here (Hear at q x n) → ⊥
 unfolding StillAt Still
-never-waits S at q x h e = subst (λ (y : Spot). StillAt y) e h
+never-waits S at q x n h e = subst (λ (y : Spot). StillAt y) e h
 
 module _ (t : List ℕ) where
-  still-reply : (id at j n k : ℕ) → Still (replyOf t id at j n k)
+  still-reply : (id at j n k next : ℕ) → Still (replyOf t id at j n k next)
   unfolding replyOf replyHere Still
-  still-reply id at j zero k = tt
-  still-reply id at j (suc n) k =
+  still-reply id at j zero k next = tt
+  still-reply id at j (suc n) k next =
       still-pick (leb (answersOf (partClass t at j) (partValues t at j)) k) _ _
-      (still-reply id at (sumOf j 1) n (k - answersOf (partClass t at j) (partValues t at j)))
+      (still-reply id at (sumOf j 1) n (k - answersOf (partClass t at j) (partValues t at j)) next)
       (still-pick (eqb (partClass t at j) 0) _ _ tt (still-pick (leb (partValues t at j) k) _ _ tt tt))
 
   still-args : (at j n k base after : ℕ) → StillAt (inArgs t at j n k base after)
@@ -72,33 +73,46 @@ module _ (t : List ℕ) where
 
   -- waiting only as a name waits
   abbrev pub Listens : (Move → Spot) → Type 0
-  Listens F = (at q x : ℕ) → F noMove ≡ Here (Hear at q x) → (m : Move) → F m ≡ Here (atWait t at q x m)
+  Listens F = (at q x n : ℕ) → F noMove ≡ Here (Hear at q x n) → (m : Move) → F m ≡ Here (atWait t at q x n m)
 
   listens-pick : (b : Bool) (F G : Move → Spot) → Listens F → Listens G → Listens (λ m. pick b (F m) (G m))
   listens-pick true F G f g = f
   listens-pick false F G f g = g
 
   still : (S : Spot) → StillAt S → Listens (λ m. S)
-  still S h at q x e m = absurd (never-waits S at q x h e)
+  still S h at q x n e m = absurd (never-waits S at q x n h e)
 
-  waits : (at q x : ℕ) → Listens (λ m. Here (atWait t at q x m))
+  waits : (at q x n : ℕ) → Listens (λ m. Here (atWait t at q x n m))
   unfolding atWait
-  waits at q x at′ q′ x′ e m =
+  waits at q x n at′ q′ x′ n′ e m =
       let a : at ≡ at′ = cc in
       let b : q ≡ q′ = cc in
       let c : x ≡ x′ = cc in
-      rw (a, b, c)
+      let d : n ≡ n′ = cc in
+      rw (a, b, c, d)
+
+  -- at the second wait, where it is one
+  last-waits : (b : Bool) (at q x : ℕ) → Listens (λ m. Here (pick b Stuck (atWait t at q x 0 m)))
+  unfolding StillAt Still
+  last-waits true at q x = still (Here Stuck) tt
+  last-waits false at q x = waits at q x 0
 
   listens-name : (at q x k : ℕ) → Listens (λ m. inName t at q x k m)
-  unfolding inName StillAt Still
+  unfolding inName atSpent StillAt Still
   listens-name at q x k =
-      listens-pick (eqb k 0) _ _ (still (Here (saidOf q (nameId t at) 0 x)) tt)
-      (listens-pick (eqb k 1) _ _ (waits at q x)
-      (listens-pick (ltb (k - 2) (argSpots t at 0 (nameCount t at))) _ _
-        (still (inArgs t at 0 (nameCount t at) (k - 2) 2 (sumOf 2 (argSpots t at 0 (nameCount t at))))
-          (still-args at 0 (nameCount t at) (k - 2) 2 (sumOf 2 (argSpots t at 0 (nameCount t at)))))
-        (still (Here (replyOf t (nameId t at) at 0 (nameCount t at) (k - 2 - argSpots t at 0 (nameCount t at))))
-          (still-reply (nameId t at) at 0 (nameCount t at) (k - 2 - argSpots t at 0 (nameCount t at))))))
+      listens-pick (eqb k 0) _ _ (still (Here (saidOf q (nameId t at) 0 x 1)) tt)
+      (listens-pick (eqb k 1) _ _ (waits at q x (nameCount t at))
+      (listens-pick (ltb k inner) _ _ (last-waits (eqb (nameCount t at) 0) at q x)
+      (listens-pick (ltb (k - inner) (argSpots t at 0 (nameCount t at))) _ _
+        (still (inArgs t at 0 (nameCount t at) (k - inner) inner (sumOf inner (argSpots t at 0 (nameCount t at))))
+          (still-args at 0 (nameCount t at) (k - inner) inner (sumOf inner (argSpots t at 0 (nameCount t at)))))
+        (still (Here (replyOf t (nameId t at) at 0 (nameCount t at) (k - inner - argSpots t at 0 (nameCount t at))
+            (againOf t at)))
+          (still-reply (nameId t at) at 0 (nameCount t at) (k - inner - argSpots t at 0 (nameCount t at))
+            (againOf t at))))))
+    where
+      inner : ℕ
+      inner = innerOf t at
 
   still-fetch : (at k : ℕ) → StillAt (inFetch t at k)
   unfolding inFetch StillAt

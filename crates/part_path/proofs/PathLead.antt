@@ -81,10 +81,11 @@ module _ (N : Numbers) where
           rw (eq-eqb (f .role) 7 e, ne-eqb 0 (f .a) (λ z. omega arith)) h
       go (no e) h = rw (ne-eqb (f .role) 7 e) h
 
-  pub rise-hear : (fs : List Frame) (at kind value : ℕ) → riseAll N fs (Hear at kind value) ≡ Hear at kind value
+  pub rise-hear : (fs : List Frame) (at kind value count : ℕ) →
+    riseAll N fs (Hear at kind value count) ≡ Hear at kind value count
   unfolding riseAll riseOf
-  rise-hear [] at kind value = refl
-  rise-hear (f ∷ fs) at kind value = rise-hear fs at kind value
+  rise-hear [] at kind value count = refl
+  rise-hear (f ∷ fs) at kind value count = rise-hear fs at kind value count
 
   pub rise-stuck : (fs : List Frame) → riseAll N fs Stuck ≡ Stuck
   unfolding riseAll riseOf

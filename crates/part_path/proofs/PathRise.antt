@@ -132,7 +132,7 @@ alike-say (a-go n v) e = let z : _≡_ {A = ℕ} 0 1 = cc in omega arith
 alike-say (a-exit k x v) e = let z : _≡_ {A = ℕ} 0 1 = cc in omega arith
 alike-say a-stuck e = let z : _≡_ {A = ℕ} 0 1 = cc in omega arith
 
-pub alike-hear : {l u at q x : ℕ} {o o′ : Out} → Alike l u o o′ → o′ ≡ Hear at q x → ⊥
+pub alike-hear : {l u at q x c : ℕ} {o o′ : Out} → Alike l u o o′ → o′ ≡ Hear at q x c → ⊥
 alike-hear (a-go n v) e = let z : _≡_ {A = ℕ} 0 1 = cc in omega arith
 alike-hear (a-exit k x v) e = let z : _≡_ {A = ℕ} 0 1 = cc in omega arith
 alike-hear a-stuck e = let z : _≡_ {A = ℕ} 0 1 = cc in omega arith

@@ -288,7 +288,7 @@ module _ (N : Numbers) (s : Site) (p : List ℕ) (c l u m : ℕ) (S : Sound p c)
     pub exit-says : {said : Move} {next : ℕ} → o ≡ Say said next → ⊥
     exit-says q = alike-say alike q
 
-    pub exit-hears : {at q y : ℕ} → o ≡ Hear at q y → ⊥
+    pub exit-hears : {at q y c′ : ℕ} → o ≡ Hear at q y c′ → ⊥
     exit-hears q = alike-hear alike q
 
     pub exit-again : (up′ : ℕ) {k′ x′ b v : ℕ} → o ≡ Exit k′ x′ b v → up′ ≡ upOf (framesOf p (up - 1)) →

@@ -25,10 +25,10 @@ module _ (N : Numbers) (s : Site) (p : List ℕ) (c : ℕ) where
   unfolding targetOf
   reach-say o said next r S e h = rw (e, rise-say N (framesOf p c) said next (frames-owned p c S) .1) h
 
-  pub reach-hear : (o : Out) (at kind value r : ℕ) → o ≡ Hear at kind value → r ≡ s .n - 1 →
+  pub reach-hear : (o : Out) (at kind value count r : ℕ) → o ≡ Hear at kind value count → r ≡ s .n - 1 →
     r ≡ targetOf s (riseAll N (framesOf p c) o)
   unfolding targetOf
-  reach-hear o at kind value r e h = rw (e, rise-hear N (framesOf p c) at kind value) h
+  reach-hear o at kind value count r e h = rw (e, rise-hear N (framesOf p c) at kind value count) h
 
   pub reach-stuck : (o : Out) (r : ℕ) → o ≡ Stuck → r ≡ s .n - 1 → r ≡ targetOf s (riseAll N (framesOf p c) o)
   unfolding targetOf

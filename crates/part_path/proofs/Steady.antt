@@ -18,9 +18,9 @@ use Rattle.automaton.specs.declared.Out.{Out}
 use Rattle.automaton.specs.declared.Out.the-variants.{Exit, Stuck}
 use Rattle.automaton.specs.declared.Spot.{Spot}
 use Rattle.automaton.specs.declared.Spot.the-variants.{Here, Inside}
-use Rattle.automaton.specs.walk.Row.{partWeight, partClass, partValues, nameCount, nameId, sumOf, mulAddOf}
+use Rattle.automaton.specs.walk.Row.{partWeight, partClass, partValues, nameCount, nameId, nameSpent, sumOf, mulAddOf}
 use Rattle.automaton.specs.walk.Types.{questionsOf, questionKind, questionValue, answersOf}
-use Rattle.automaton.specs.walk.Name.{framedOf, copiesOf, argHere, inArgs, argSpots, inName}
+use Rattle.automaton.specs.walk.Name.{framedOf, copiesOf, argHere, inArgs, argSpots, innerOf, inName}
 use Rattle.automaton.specs.walk.Down.{inFetch, inSeq, inWhile, condIn, inCond, operateIn, inOperate, assignIn, inAssign}
 use Rattle.automaton.specs.walk.Down.{inNew, inPrivate, downAs, downOf}
 use Rattle.automaton.specs.walk.Shows.{Words}
@@ -367,22 +367,31 @@ module _ (t : List ℕ) (W : Words t) where
             h k′ m (omega arith) (omega (arith, both)) ∙
             rw (le-leb c (k′ - b) (omega arith), sum-small b c (omega arith), e′)))
 
+  two-before : (at : ℕ) → 2 ≤ innerOf t at
+  unfolding innerOf nameSpent
+  two-before at = rw (sum-small 2 (word t at 4 / 2048) (omega (arith, small-word t W at 4))) (omega arith)
+
   steady-name : (at q x : ℕ) → Steady t (λ k m. inName t at q x k m)
   unfolding inName SameAt
-  steady-name at q x k m l = go (ℕ-discrete k 0) (ℕ-discrete k 1) (decLt (k - 2) all)
+  steady-name at q x k m l = go (ℕ-discrete k 0) (ℕ-discrete k 1) (decLt k first) (decLt (k - first) all)
     where
       all : ℕ
       all = argSpots t at 0 (nameCount t at)
-      go : Dec (k ≡ 0) → Dec (k ≡ 1) → Dec (k - 2 < all) → SameAt t (λ k m. inName t at q x k m) k (inName t at q
-          x k m)
-      go (yes a) b c = rw (eq-eqb k 0 a) tt
-      go (no a) (yes b) c = rw (ne-eqb k 0 a, eq-eqb k 1 b) tt
-      go (no a) (no b) (no c) = rw (ne-eqb k 0 a, ne-eqb k 1 b, le-ltb (k - 2) all (omega arith)) tt
-      go (no a) (no b) (yes c) =
-          rw (ne-eqb k 0 a, ne-eqb k 1 b, lt-ltb (k - 2) all c) (args at 0 (nameCount t at) 2 (sumOf 2 all) k (omega
-              arith) l c
-            (λ k m. inName t at q x k m) (λ k′ m′ r v.
-            rw (ne-eqb k′ 0 (λ e. omega arith), ne-eqb k′ 1 (λ e. omega arith), lt-ltb (k′ - 2) all v)))
+      first : ℕ
+      first = innerOf t at
+      go : Dec (k ≡ 0) → Dec (k ≡ 1) → Dec (k < first) → Dec (k - first < all) →
+        SameAt t (λ k m. inName t at q x k m) k (inName t at q x k m)
+      go (yes a) b d c = rw (eq-eqb k 0 a) tt
+      go (no a) (yes b) d c = rw (ne-eqb k 0 a, eq-eqb k 1 b) tt
+      go (no a) (no b) (yes d) c = rw (ne-eqb k 0 a, ne-eqb k 1 b, lt-ltb k first d) tt
+      go (no a) (no b) (no d) (no c) =
+          rw (ne-eqb k 0 a, ne-eqb k 1 b, le-ltb k first (omega arith), le-ltb (k - first) all (omega arith)) tt
+      go (no a) (no b) (no d) (yes c) =
+          rw (ne-eqb k 0 a, ne-eqb k 1 b, le-ltb k first (omega arith), lt-ltb (k - first) all c)
+            (args at 0 (nameCount t at) first (sumOf first all) k (omega arith) l c (λ k m. inName t at q x k m)
+              (λ k′ m′ r v.
+                rw (ne-eqb k′ 0 (λ e. omega (arith, two-before at)), ne-eqb k′ 1 (λ e. omega (arith, two-before at)),
+                  le-ltb k′ first r, lt-ltb (k′ - first) all v)))
 
   steady-operate-at : (at : ℕ) → Steady t (λ k m. inOperate t at k)
   unfolding inOperate partWeight

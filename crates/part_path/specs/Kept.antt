@@ -78,14 +78,14 @@ abbrev pub Covers : List ℕ → ℕ → ℕ → Type 0
 Covers p c k = 0 < c → k < levelAt p (c - 1) .end
 
 -- what follows a move at the state k, which waits
-unfoldable pub waitAt : List ℕ → ℕ → ℕ → ℕ → ℕ → ℕ → Move → Out
-waitAt t root k at q x m = pick (eqb k 0) (atStart t root m) (atWait t at q x m)
+unfoldable pub waitAt : List ℕ → ℕ → ℕ → ℕ → ℕ → ℕ → ℕ → Move → Out
+waitAt t root k at q x n m = pick (eqb k 0) (atStart t root m) (atWait t at q x n m)
 
 -- the innermost of c levels does `out` at the state k
 pub record Does (t : List ℕ) (root : ℕ) (p : List ℕ) (c k : ℕ) (out : Out) : Type 0 where
   pub does : (N : Numbers) → sheetAt t N root k noMove ≡ riseAll N (framesOf p c) out
-  pub hears : (N : Numbers) (m : Move) (at q x : ℕ) → out ≡ Hear at q x →
-    sheetAt t N root k m ≡ riseAll N (framesOf p c) (waitAt t root k at q x m)
+  pub hears : (N : Numbers) (m : Move) (at q x n : ℕ) → out ≡ Hear at q x n →
+    sheetAt t N root k m ≡ riseAll N (framesOf p c) (waitAt t root k at q x n m)
 
 -- the path has come to the state k
 pub record Arrived (t : List ℕ) (root : ℕ) (p : List ℕ) (c k : ℕ) (out : Out) : Type 0 where

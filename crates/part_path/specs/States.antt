@@ -33,7 +33,7 @@ openedOf t root m =
 
 -- the start: it waits for the question, or what follows the move that is given
 unfoldable pub atStart : List ℕ → ℕ → Move → Out
-atStart t root m = pick (eqb (m .kind) NO-MOVE) (Hear root OPENING 0) (openedOf t root m)
+atStart t root m = pick (eqb (m .kind) NO-MOVE) (Hear root OPENING 0 0) (openedOf t root m)
 
 -- position k of the copies of the term; the answers begin at the state `after`
 unfoldable pub withinOf : List ℕ → Numbers → ℕ → ℕ → ℕ → Move → Out
@@ -68,5 +68,5 @@ unfoldable pub targetOf : Site → Out → ℕ
 targetOf s (Go next level set) = sumOf (s .o) next
 targetOf s (Exit kind value level set) = s .n - 1
 targetOf s (Say said next) = s .n - 1
-targetOf s (Hear at kind value) = s .n - 1
+targetOf s (Hear at kind value count) = s .n - 1
 targetOf s Stuck = s .n - 1

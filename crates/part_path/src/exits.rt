@@ -196,6 +196,7 @@ pub fn exit(
                 at: _,
                 kind: _,
                 value: _,
+                count: _,
             } => return dead(s.n),
             Out::Stuck => return dead(s.n),
         }
@@ -221,6 +222,7 @@ pub fn reach(n: Numbers, s: Site, p: &[usize; WORDS], c: usize, o: Out) -> usize
             at: _,
             kind: _,
             value: _,
+            count: _,
         } => dead(s.n),
         Out::Stuck => dead(s.n),
     }

@@ -57,6 +57,7 @@ pub fn at_start(t: &[u16], root: usize, m: Move) -> Out
             at: root,
             kind: OPENING,
             value: 0,
+            count: 0,
         };
     }
     opened(t, root, m)

@@ -30,7 +30,7 @@ word t at i = getD t (cell at i) 0
 unfoldable pub useKind : ℕ → Standing → ℕ
 useKind kind Free = kind
 useKind kind Retired = kind
-useKind kind (Declared place) = kind
+useKind kind (Declared place once) = kind
 useKind kind (Variable number holds) = 128
 useKind kind (Parameter number ty) = 129
 useKind kind (Routine number place) = 130
@@ -53,12 +53,16 @@ rowKind Procedure r = r .kind
 unfoldable pub classOf : ℕ → ℕ
 classOf ty = pick (eqb ty 0) 0 (pick (ltb ty 3) 1 2)
 
--- the detail of a use of an id with a number of arguments: of a name its id and 256 times that number, of a variable or a
--- parameter its binder's number, of a procedure the place of its record and 4,096 times that number
+-- the detail of a use of a name: its id, 256 times the number of its arguments and, where it asks once, 2,048
+unfoldable pub declaredDetail : ℕ → ℕ → ℕ → ℕ
+declaredDetail id count once = id + 256 * (count % 8 + 8 * (once % 2))
+
+-- the detail of a use of an id with a number of arguments: of a name that, of a variable or a parameter its binder's
+-- number, of a procedure the place of its record and 4,096 times the number of arguments
 unfoldable pub useDetail : ℕ → ℕ → Standing → ℕ
-useDetail id count Free = id + 256 * count
-useDetail id count Retired = id + 256 * count
-useDetail id count (Declared place) = id + 256 * count
+useDetail id count Free = declaredDetail id count 0
+useDetail id count Retired = declaredDetail id count 0
+useDetail id count (Declared place once) = declaredDetail id count once
 useDetail id count (Variable number holds) = number
 useDetail id count (Parameter number ty) = number
 useDetail id count (Routine number place) = place % 4096 + 4096 * (count % 8)

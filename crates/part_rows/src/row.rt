@@ -10,7 +10,7 @@ use records::standing::meaning_of;
 ghost use mathlib.Core.Path.{_≡_};
 ghost use Prim.Native.Nat.{_+_, _*_, _≤_, _<_};
 ghost use lib.ListN.{set, length};
-ghost use Rattle.part_rows.specs.Row.{cell, useKind, rowKind, classOf, useDetail, detail};
+ghost use Rattle.part_rows.specs.Row.{cell, useKind, rowKind, classOf, declaredDetail, useDetail, detail};
 ghost use Rattle.part_rows.specs.Row.{fiveFrom, five, rowWritten, linked};
 ghost use Rattle.records.specs.Standing.{standingOf};
 
@@ -65,12 +65,15 @@ const EXPRESSIONS: u16 = 1;
 
 const VARIABLES: u16 = 2;
 
-// Where ids end in the detail of a use of a name, and where places and counts end in that of a use of a procedure.
+// Where ids end in the detail of a use of a name, and places in that of a use of a procedure; where the number of
+// arguments ends in both; what the detail of a name has besides where it asks once.
 const IDS: u16 = 256;
 
 const PLACES: u16 = 4096;
 
 const COUNTS: u8 = 8;
+
+const ONCE: u16 = 2048;
 
 // Stores v at i, if the table reaches that far.
 pub fn put(t: &mut [u16], i: usize, v: u16)
@@ -106,7 +109,7 @@ pub(crate) fn use_kind(kind: u16, c: u32) -> u16
     match standing {
         Standing::Free => kind,
         Standing::Retired => kind,
-        Standing::Declared { place: _ } => kind,
+        Standing::Declared { place: _, once: _ } => kind,
         Standing::Variable {
             number: _,
             holds: _,
@@ -155,23 +158,23 @@ pub(crate) fn class_of(ty: u8) -> u16
     }
 }
 
-// The detail of a use of a name: its id and 256 times the number of its arguments.
-fn name_detail(id: u8, count: u8) -> u16
-    ensures { λ r. ⌜ r ≡ id + 256 * count ⌝ }
+// The detail of a use of a name: its id, 256 times the number of its arguments and, where it asks once, 2,048.
+fn name_detail(id: u8, count: u8, once: u8) -> u16
+    ensures { λ r. ⌜ r ≡ declaredDetail id count once ⌝ }
 {
-    id as u16 + IDS * (count as u16)
+    id as u16 + IDS * ((count % COUNTS) as u16) + ONCE * ((once % 2) as u16)
 }
 
-// The detail of a use: of a name its id and 256 times the number of its arguments, of a variable or a parameter its
-// number, of a procedure the place of its record and 4,096 times the number of its arguments.
+// The detail of a use: of a name as above, of a variable or a parameter its number, of a procedure the place of its
+// record and 4,096 times the number of its arguments.
 pub(crate) fn use_detail(r: Record) -> u16
     ensures { λ x. ⌜ x ≡ useDetail (r .a) (r .parts) (standingOf (r .b)) ⌝ }
 {
     let standing = meaning_of(r.b);
     match standing {
-        Standing::Free => name_detail(r.a, r.parts),
-        Standing::Retired => name_detail(r.a, r.parts),
-        Standing::Declared { place: _ } => name_detail(r.a, r.parts),
+        Standing::Free => name_detail(r.a, r.parts, 0),
+        Standing::Retired => name_detail(r.a, r.parts, 0),
+        Standing::Declared { place: _, once } => name_detail(r.a, r.parts, once),
         Standing::Variable { number, holds: _ } => number,
         Standing::Parameter { number, ty: _ } => number,
         Standing::Procedure { number: _, place } => {

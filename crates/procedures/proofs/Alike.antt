@@ -29,7 +29,7 @@ Alike-right φ bs ρ σ (routine k ty tys) =
     ((s : ℕ) → IsParameter bs s → s < k → 0 < φ .form k .of s → (n : ℕ) → ρ .passed s n ≡ σ .passed s n) →
     ((j : ℕ) → j < φ .count k → 0 < φ .form k .of (k + j) → (n : ℕ) → xs j n ≡ ys j n) →
     (n : ℕ) → ρ .body k xs n ≡ σ .body k ys n
-Alike-right φ bs ρ σ (named ty tys) = Unit
+Alike-right φ bs ρ σ (named often ty tys) = Unit
 Alike-right φ bs ρ σ retired = Unit
 Alike-right φ bs ρ σ free = Unit
 
@@ -56,7 +56,7 @@ alike-agree n φ ψ bs ρ σ ρ′ σ′ (routine k ty tys) a b h = λ xs ys p q
           ∙ p s z l (rw (a .forms k b) g) j ∙ ap (λ x. x j) (a .passeds′ s (omega arith)))
         (λ j l g. q j (rw (a .counts k b) l) (rw (a .forms k b) g))
         i)
-alike-agree n φ ψ bs ρ σ ρ′ σ′ (named ty tys) a b h = tt
+alike-agree n φ ψ bs ρ σ ρ′ σ′ (named often ty tys) a b h = tt
 alike-agree n φ ψ bs ρ σ ρ′ σ′ retired a b h = tt
 alike-agree n φ ψ bs ρ σ ρ′ σ′ free a b h = tt
 
@@ -72,14 +72,14 @@ unfolding Alike-right
 alike-more φ c bs ρ σ (private k d) h = h
 alike-more φ c bs ρ σ (argument k ty) h = parameter-more c bs k h
 alike-more φ c bs ρ σ (routine k ty tys) h = λ xs ys p q n. h xs ys (λ s z. p s (parameter-more c bs s z)) q n
-alike-more φ c bs ρ σ (named ty tys) h = tt
+alike-more φ c bs ρ σ (named often ty tys) h = tt
 alike-more φ c bs ρ σ retired h = tt
 alike-more φ c bs ρ σ free h = tt
 
 pub alike-declared : (φ : Forms) (bs : List Binder) (ρ σ : Terms) (ns : List Name) (id : ℕ) →
     Alike-right φ bs ρ σ (declared ns id)
 unfolding Alike-right
-alike-declared φ bs ρ σ ns id = all-declared (Alike-right φ bs ρ σ) ns id (λ ty tys. tt) tt tt
+alike-declared φ bs ρ σ ns id = all-declared (Alike-right φ bs ρ σ) ns id (λ often ty tys. tt) tt tt
 
 -- the parameters inside a procedure: those outside, and its own
 pub inside-parameter : (ps : List Parameter) (bs : List Binder) (s : ℕ) → IsParameter (inside ps bs) s →

@@ -15,8 +15,8 @@ use Rattle.procedures.specs.Nodes.{nodes, nodesArgs, deep, deepArgs, Val
 use Rattle.procedures.proofs.Factors.{some-question}
 
 -- a product is at least its second factor, and twice that
-once : (m w : ℕ) → 0 < m → w ≤ m * w
-once m w h = omega (arith, mul-le-mul-right w h)
+single : (m w : ℕ) → 0 < m → w ≤ m * w
+single m w h = omega (arith, mul-le-mul-right w h)
 
 twice : (m w : ℕ) → 2 ≤ m → w + w ≤ m * w
 twice m w h = omega (arith, mul-le-mul-right w h)
@@ -46,7 +46,7 @@ heavy skip v = omega arith
 heavy diverge v = omega arith
 heavy (const x) v = omega arith
 heavy (private i) v = omega arith
-heavy (name i T args) v = omega arith
+heavy (name i o T args) v = omega arith
 heavy (fetch X) v = heavy X v
 heavy (operate m o L R) v = omega (arith, heavy L (v .1))
 heavy (assign m X E) v = omega (arith, heavy E (v .2))
@@ -63,12 +63,12 @@ mutual
   few-nodes diverge (a-diverge {T = T}) v = omega (arith, spare-most T)
   few-nodes (const x) (a-const h) v = omega arith
   few-nodes (private i) (a-private s) v = omega arith
-  few-nodes (name i T args) (a-name a) v = omega (arith, few-nodes-args args a v, spare-most T)
+  few-nodes (name i o T args) (a-name a) v = omega (arith, few-nodes-args args a v, spare-most T)
   few-nodes (fetch X) (a-fetch x) v = omega (arith, few-nodes X x v)
   few-nodes (operate m o L R) (an-operate x y) v =
-      omega (arith, few-nodes L x (v .1), few-nodes R y (v .2), once (operands o) (weight R) (v .0))
+      omega (arith, few-nodes L x (v .1), few-nodes R y (v .2), single (operands o) (weight R) (v .0))
   few-nodes (assign m X E) (an-assign x y) v =
-      omega (arith, few-nodes X x (v .1), few-nodes E y (v .2), once m (weight X) (v .0))
+      omega (arith, few-nodes X x (v .1), few-nodes E y (v .2), single m (weight X) (v .0))
   few-nodes (seq C M) (a-seq x y) v = omega (arith, few-nodes C x (v .0), few-nodes M y (v .1))
   few-nodes (while B C) (a-while x y) v = omega (arith, few-nodes B x (v .0), few-nodes C y (v .1))
   few-nodes (cond B M N) (a-cond b x y) v =
@@ -79,7 +79,8 @@ mutual
       nodesArgs args ≤ 3 * weightArgs args
   few-nodes-args no-args no-more v = omega arith
   few-nodes-args (arg T M args) (one-more x a) v =
-      omega (arith, few-nodes M x (v .0), few-nodes-args args a (v .1), once (questions T) (weight M) (some-question T))
+      omega (arith, few-nodes M x (v .0), few-nodes-args args a (v .1),
+        single (questions T) (weight M) (some-question T))
 
 -- THEOREM: depth
 mutual
@@ -89,13 +90,14 @@ mutual
   not-deep diverge (a-diverge {T = T}) v = omega (arith, slack-least T .0)
   not-deep (const x) (a-const h) v = omega arith
   not-deep (private i) (a-private s) v = omega arith
-  not-deep (name i T args) (a-name a) v = omega (arith, not-deep-args args a v, slack-least T .0)
+  not-deep (name i o T args) (a-name a) v = omega (arith, not-deep-args args a v, slack-least T .0)
   not-deep (fetch X) (a-fetch x) v = omega (arith, not-deep X x v)
   not-deep (operate m o L R) (an-operate x y) v =
-      omega (arith, not-deep L x (v .1), not-deep R y (v .2), once (operands o) (weight R) (v .0), heavy R (v .2),
+      omega (arith, not-deep L x (v .1), not-deep R y (v .2), single (operands o) (weight R) (v .0), heavy R (v .2),
           heavy L (v .1))
   not-deep (assign m X E) (an-assign x y) v =
-      omega (arith, not-deep X x (v .1), not-deep E y (v .2), once m (weight X) (v .0), heavy X (v .1), heavy E (v .2))
+      omega (arith, not-deep X x (v .1), not-deep E y (v .2), single m (weight X) (v .0), heavy X (v .1),
+        heavy E (v .2))
   not-deep (seq C M) (a-seq {T = T} x y) v =
       omega (arith, not-deep C x (v .0), not-deep M y (v .1), heavy C (v .0), heavy M (v .1), slack-least T .0)
   not-deep (while B C) (a-while x y) v =
@@ -110,7 +112,7 @@ mutual
       2 * deepArgs args ≤ 3 * weightArgs args + 1
   not-deep-args no-args no-more v = omega arith
   not-deep-args (arg T M args) (one-more x a) v =
-      omega (arith, not-deep M x (v .0), not-deep-args args a (v .1), once (questions T) (weight M) (some-question T),
+      omega (arith, not-deep M x (v .0), not-deep-args args a (v .1), single (questions T) (weight M) (some-question T),
         slack-least T .1)
 
 -- in the words of the design: at most 3w - 1 nodes, at most 2w deep

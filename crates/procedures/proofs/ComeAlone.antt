@@ -9,6 +9,7 @@ use lib.ListN.{length}
 use lib.Dec.{eqb, ltb}
 use borrow.Author.Tests.{ltb-true, ltb-false, eqb-true, eqb-false, ne-eqb}
 use Rattle.language.specs.declared.Numbers.{Numbers}
+use Rattle.language.specs.Weight.{useWeight}
 use Rattle.procedures.specs.Environment.{beyond}
 use Rattle.procedures.specs.Written.{Written, skip, diverge, truth, number, call, fetch, operate, assign}
 use Rattle.procedures.specs.Written.{sequence, while, choose, new, procedure, Parameter, Writtens, none, more}
@@ -120,20 +121,20 @@ module _ (N : Numbers) (ns : List Name) where
         Alone (formed N ns (binders Γ) (forms N ns Γ) ws j) (mades N ns (binders Γ) (forms N ns Γ) (makes N ns Γ) ws j)
           s) →
       byMeaning m 0 (λ k. 0) (λ k. suc k) (λ k. through k (downs ns Γ k) (λ j. comes ns (binders Γ) (downs ns Γ) ws j))
-        (λ ty tys. 0) ≡ suc s →
+        (λ often ty tys. 0) ≡ suc s →
       Alone
         (byMeaning m (only 1)
           (λ k. only 2)
           (λ k. unit k)
           (λ k. instance k (forms N ns Γ .count k) (forms N ns Γ .form k)
             (λ j. formed N ns (binders Γ) (forms N ns Γ) ws j))
-          (λ ty tys. plus (only 2) (formArgs N ns (binders Γ) (forms N ns Γ) ws tys)))
+          (λ often ty tys. plus (only (useWeight often)) (formArgs N ns (binders Γ) (forms N ns Γ) ws tys)))
         (byMeaning m 1
           (λ k. 1)
           (λ k. 0)
           (λ k. makes N ns Γ k + total (forms N ns Γ .count k)
             (λ j. sign (forms N ns Γ .form k .of (k + j)) * mades N ns (binders Γ) (forms N ns Γ) (makes N ns Γ) ws j))
-          (λ ty tys. 1 + madeArgs N ns (binders Γ) (forms N ns Γ) (makes N ns Γ) ws tys)) s
+          (λ often ty tys. 1 + madeArgs N ns (binders Γ) (forms N ns Γ) (makes N ns Γ) ws tys)) s
   unfolding byMeaning Found-right unit
   alone-use Γ s ws (private k d) o h a e = absurd (omega arith)
   alone-use Γ s ws (argument k ty) o h a e =
@@ -151,7 +152,7 @@ module _ (N : Numbers) (ns : List Name) where
           (λ j. mades N ns (binders Γ) (forms N ns Γ) (makes N ns Γ) ws j)
           (made N ns (inside ps (binders Δ)) (forms N ns Δ) (makes N ns Δ) (o .body)) c s (lonely-sees (o .sees) h) a
               e′)
-  alone-use Γ s ws (named ty tys) o h a e = absurd (omega arith)
+  alone-use Γ s ws (named often ty tys) o h a e = absurd (omega arith)
   alone-use Γ s ws retired o h a e = absurd (omega arith)
   alone-use Γ s ws free o h a e = absurd (omega arith)
 

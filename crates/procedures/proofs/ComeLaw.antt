@@ -26,7 +26,7 @@ Comes-right κ ρ (private k d) = Unit
 Comes-right κ ρ (argument k ty) = Unit
 Comes-right κ ρ (routine k ty tys) =
     (s : ℕ) (xs : ℕ → ℕ → Term) (n : ℕ) → κ k ≡ suc s → ρ .body k xs n ≡ beyond k (ρ .passed) xs s n
-Comes-right κ ρ (named ty tys) = Unit
+Comes-right κ ρ (named often ty tys) = Unit
 Comes-right κ ρ retired = Unit
 Comes-right κ ρ free = Unit
 
@@ -49,13 +49,13 @@ right-agree n κ μ ρ σ (argument k ty) a b h = tt
 right-agree n κ μ ρ σ (routine k ty tys) a b h = λ s xs l e.
     rw (a .bodies k b, beyond-same k (σ .passed) (ρ .passed) xs s (λ j i. a .passeds j (omega arith)))
       (h s xs l (sym (a .downs k b) ∙ e))
-right-agree n κ μ ρ σ (named ty tys) a b h = tt
+right-agree n κ μ ρ σ (named often ty tys) a b h = tt
 right-agree n κ μ ρ σ retired a b h = tt
 right-agree n κ μ ρ σ free a b h = tt
 
 pub comes-declared : (κ : ℕ → ℕ) (ρ : Terms) (ns : List Name) (id : ℕ) → Comes-right κ ρ (declared ns id)
 unfolding Comes-right
-comes-declared κ ρ ns id = all-declared (Comes-right κ ρ) ns id (λ ty tys. tt) tt tt
+comes-declared κ ρ ns id = all-declared (Comes-right κ ρ) ns id (λ often ty tys. tt) tt tt
 
 module _ (N : Numbers) (ns : List Name) where
   abbrev pub Rights : (ℕ → ℕ) → List Binder → Terms → Type 0
@@ -123,18 +123,18 @@ module _ (N : Numbers) (ns : List Name) where
 
   come-use : (bs : List Binder) (κ : ℕ → ℕ) (ρ : Terms) (n id s : ℕ) (ws : Writtens) (m : Meaning) → Comes-right κ ρ m →
       ((j : ℕ) → comes ns bs κ ws j ≡ suc s → resolved N ns bs ρ n ws j ≡ ρ .passed s n) →
-      byMeaning m 0 (λ k. 0) (λ k. suc k) (λ k. through k (κ k) (λ j. comes ns bs κ ws j)) (λ ty tys. 0) ≡ suc s →
+      byMeaning m 0 (λ k. 0) (λ k. suc k) (λ k. through k (κ k) (λ j. comes ns bs κ ws j)) (λ often ty tys. 0) ≡ suc s →
       byMeaning m t.diverge
         (λ k. t.private (n - suc (ρ .level k)))
         (λ k. ρ .passed k n)
         (λ k. ρ .body k (λ j l. resolved N ns bs ρ l ws j) n)
-        (λ ty tys. t.name id (tyOf N ty) (resolveArgs N ns bs ρ n ws tys))
+        (λ often ty tys. t.name id often (tyOf N ty) (resolveArgs N ns bs ρ n ws tys))
       ≡ ρ .passed s n
   unfolding byMeaning Comes-right
   come-use bs κ ρ n id s ws (private k d) h g e = absurd (omega arith)
   come-use bs κ ρ n id s ws (argument k ty) h g e = let same : k ≡ s = omega arith in rw same
   come-use bs κ ρ n id s ws (routine k ty tys) h g e = through-use bs κ ρ n k (κ k) s ws h g e
-  come-use bs κ ρ n id s ws (named ty tys) h g e = absurd (omega arith)
+  come-use bs κ ρ n id s ws (named often ty tys) h g e = absurd (omega arith)
   come-use bs κ ρ n id s ws retired h g e = absurd (omega arith)
   come-use bs κ ρ n id s ws free h g e = absurd (omega arith)
 

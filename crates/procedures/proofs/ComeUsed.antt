@@ -9,6 +9,7 @@ use lib.ListN.{length}
 use lib.Dec.{ltb}
 use borrow.Author.Tests.{ltb-true, ltb-false, lt-ltb, eq-eqb}
 use Rattle.language.specs.declared.Numbers.{Numbers}
+use Rattle.language.specs.Weight.{useWeight}
 use Rattle.procedures.specs.Environment.{beyond}
 use Rattle.procedures.specs.Written.{Written, skip, diverge, truth, number, call, fetch, operate, assign}
 use Rattle.procedures.specs.Written.{sequence, while, choose, new, procedure, Parameter, Writtens, none, more}
@@ -33,13 +34,13 @@ unfoldable pub Argument-right : List Binder → Meaning → Type 0
 Argument-right bs (private k d) = Unit
 Argument-right bs (argument k ty) = IsParameter bs k
 Argument-right bs (routine k ty tys) = Unit
-Argument-right bs (named ty tys) = Unit
+Argument-right bs (named often ty tys) = Unit
 Argument-right bs retired = Unit
 Argument-right bs free = Unit
 
 argument-declared : (bs : List Binder) (ns : List Name) (id : ℕ) → Argument-right bs (declared ns id)
 unfolding Argument-right
-argument-declared bs ns id = all-declared (Argument-right bs) ns id (λ ty tys. tt) tt tt
+argument-declared bs ns id = all-declared (Argument-right bs) ns id (λ often ty tys. tt) tt tt
 
 argument-meant : (c : Binder) (bs : List Binder) → Argument-right (c ∷ bs) (meant (length bs) c)
 unfolding Argument-right meant IsParameter
@@ -52,7 +53,7 @@ unfolding Argument-right
 argument-more c bs (private k d) h = tt
 argument-more c bs (argument k ty) h = parameter-more c bs k h
 argument-more c bs (routine k ty tys) h = tt
-argument-more c bs (named ty tys) h = tt
+argument-more c bs (named often ty tys) h = tt
 argument-more c bs retired h = tt
 argument-more c bs free h = tt
 
@@ -154,19 +155,19 @@ module _ (N : Numbers) (ns : List Name) where
       Known Γ → ((j : ℕ) → comes ns (binders Γ) (downs ns Γ) ws j ≡ suc s →
         Uses (binders Γ) (formed N ns (binders Γ) (forms N ns Γ) ws j) s) →
       byMeaning m 0 (λ k. 0) (λ k. suc k) (λ k. through k (downs ns Γ k) (λ j. comes ns (binders Γ) (downs ns Γ) ws j))
-        (λ ty tys. 0) ≡ suc s →
+        (λ often ty tys. 0) ≡ suc s →
       Uses (binders Γ) (byMeaning m (only 1)
         (λ k. only 2)
         (λ k. unit k)
         (λ k. instance k (forms N ns Γ .count k) (forms N ns Γ .form k)
             (λ j. formed N ns (binders Γ) (forms N ns Γ) ws j))
-        (λ ty tys. plus (only 2) (formArgs N ns (binders Γ) (forms N ns Γ) ws tys))) s
+        (λ often ty tys. plus (only (useWeight often)) (formArgs N ns (binders Γ) (forms N ns Γ) ws tys))) s
   unfolding byMeaning Found-right Argument-right unit
   come-use Γ s id ws (private k d) o z h a e = absurd (omega arith)
   come-use Γ s id ws (argument k ty) o z h a e =
       let same : s ≡ k = omega arith in rw same (z, rw (eq-eqb k k refl) (omega arith))
   come-use Γ s id ws (routine k ty tys) o z h a e = routine-uses Γ s k tys ws o h a e
-  come-use Γ s id ws (named ty tys) o z h a e = absurd (omega arith)
+  come-use Γ s id ws (named often ty tys) o z h a e = absurd (omega arith)
   come-use Γ s id ws retired o z h a e = absurd (omega arith)
   come-use Γ s id ws free o z h a e = absurd (omega arith)
 

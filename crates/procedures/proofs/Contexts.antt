@@ -113,13 +113,13 @@ unfoldable pub Found-right : Context → Meaning → Type 0
 Found-right Γ (private k d) = Unit
 Found-right Γ (argument k ty) = Unit
 Found-right Γ (routine k ty tys) = Found Γ k tys
-Found-right Γ (named ty tys) = Unit
+Found-right Γ (named often ty tys) = Unit
 Found-right Γ retired = Unit
 Found-right Γ free = Unit
 
 found-declared : (Γ : Context) (ns : List Name) (id : ℕ) → Found-right Γ (declared ns id)
 unfolding Found-right
-found-declared Γ ns id = all-declared (Found-right Γ) ns id (λ ty tys. tt) tt tt
+found-declared Γ ns id = all-declared (Found-right Γ) ns id (λ often ty tys. tt) tt tt
 
 found-more : (Γ Γ′ : Context) (m : Meaning) →
     ((Δ : Context) (ps : List Parameter) (body : Written) → Sees Γ Δ ps body → Sees Γ′ Δ ps body) →
@@ -130,7 +130,7 @@ found-more Γ Γ′ (argument k ty) f h = tt
 found-more Γ Γ′ (routine k ty tys) f h = record {
     around = h .around; parameters = h .parameters; body = h .body;
     sees = f (h .around) (h .parameters) (h .body) (h .sees); number = h .number; types = h .types }
-found-more Γ Γ′ (named ty tys) f h = tt
+found-more Γ Γ′ (named often ty tys) f h = tt
 found-more Γ Γ′ retired f h = tt
 found-more Γ Γ′ free f h = tt
 

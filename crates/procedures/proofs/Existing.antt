@@ -162,11 +162,11 @@ module _ (N : Numbers) (ns : List Name) where
       record {
         row = y .row; count = y .count;
         step = weaken (λ S h. of-use e′ (o .sees) (h .0) (h .1)) (follow (x .step) (y .step)) }
-  exists-use Γ id ws (named ty tys) e o r f a p ε n R =
+  exists-use Γ id ws (named often ty tys) e o r f a p ε n R =
       let x : ExpandedArgs Γ ε ws tys (suc n) R = a tys f ε (suc n) R in
       record {
         row = n; count = x .count;
-        step = weaken (λ S h. of-name e (h .1) (h .0)) (fill (s.name id (tyOf N ty) (x .parts)) (x .step)) }
+        step = weaken (λ S h. of-name e (h .1) (h .0)) (fill (s.name id often (tyOf N ty) (x .parts)) (x .step)) }
   exists-use Γ id ws retired e o r f a p ε n R = absurd f
   exists-use Γ id ws free e o r f a p ε n R = absurd f
 

@@ -13,6 +13,8 @@ use Rattle.language.specs.Term as t
 use Rattle.language.specs.Term.{Term, Operation}
 use Rattle.language.specs.Typing.{operands}
 use Rattle.language.specs.declared.Numbers.{Numbers}
+use Rattle.language.specs.Weight.{useWeight}
+use Rattle.language.specs.Term.{Often}
 use Rattle.parts.specs.Rule.{values}
 use Rattle.procedures.specs.Environment.{beyond}
 use Rattle.procedures.specs.Written.{Written, Parameter, Writtens, Name}
@@ -87,7 +89,8 @@ module _ (N : Numbers) (ns : List Name) (R : ℕ → Option Row) where
         (λ k. unit k)
         (λ k. instance k (forms N ns Γ .count k) (forms N ns Γ .form k)
             (λ j. formed N ns (binders Γ) (forms N ns Γ) ws j))
-        (λ ty tys. plus (only 2) (formArgs N ns (binders Γ) (forms N ns Γ) ws tys))) (Given R ε ρ p) →
+        (λ often ty tys. plus (only (useWeight often)) (formArgs N ns (binders Γ) (forms N ns Γ) ws tys)))
+        (Given R ε ρ p) →
       ((q : List ℕ) → Stands N ns Γ ε ρ q → (j : ℕ) → j < length ps → 0 < uses N ns Δ ps body (0 + j) →
         Each (binders Γ) (formed N ns (binders Γ) (forms N ns Γ) ws j) (Given R ε ρ q) →
         Rep R Any q (rows (0 + j)) (resolved N ns (binders Γ) ρ (length q) ws j)) →
@@ -96,7 +99,7 @@ module _ (N : Numbers) (ns : List Name) (R : ℕ → Option Row) where
         (λ k. t.private (length p - suc (ρ .level k)))
         (λ k. ρ .passed k (length p))
         (λ k. ρ .body k (λ j l. resolved N ns (binders Γ) ρ l ws j) (length p))
-        (λ ty tys. t.name id (tyOf N ty) (resolveArgs N ns (binders Γ) ρ (length p) ws tys)))
+        (λ often ty tys. t.name id often (tyOf N ty) (resolveArgs N ns (binders Γ) ρ (length p) ws tys)))
   unfolding byMeaning Represents binders forms Stands uses with-rows
   rep-use Γ Δ ε id ty r tys ws ps body rows ρ p e x z a h y =
       let k : ℕ = length (binders Δ) in
@@ -130,7 +133,7 @@ module _ (N : Numbers) (ns : List Name) (R : ℕ → Option Row) where
         (λ i. t.private (length p - suc (ρ .level i)))
         (λ i. ρ .passed i (length p))
         (λ i. ρ .body i (λ j l. resolved N ns bs ρ l ws j) (length p))
-        (λ ty tys. t.name id (tyOf N ty) (resolveArgs N ns bs ρ (length p) ws tys)))
+        (λ often ty tys. t.name id often (tyOf N ty) (resolveArgs N ns bs ρ (length p) ws tys)))
   unfolding byMeaning Held-right
   rep-held ε ρ p n id k d bs φ ws e h g =
       let i : Held p (ρ .level k) (ε .block k) = rw e at g in
@@ -138,31 +141,31 @@ module _ (N : Numbers) (ns : List Name) (R : ℕ → Option Row) where
       rw e x
 
   -- a declared name
-  rep-named : (ρ : Terms) (p : List ℕ) (n id ty : ℕ) (tys : List ℕ) (bs : List Binder) (ws : Writtens) (xs : Parts) →
-      meaning ns bs id ≡ named ty tys → R n ≡ some (s.name id (tyOf N ty) xs) →
+  rep-named : (ρ : Terms) (p : List ℕ) (n id ty : ℕ) (often : Often) (tys : List ℕ) (bs : List Binder) (ws : Writtens)
+      (xs : Parts) → meaning ns bs id ≡ named often ty tys → R n ≡ some (s.name id often (tyOf N ty) xs) →
       Reps R Any p xs (resolveArgs N ns bs ρ (length p) ws tys) →
       Rep R Any p n (byMeaning (meaning ns bs id) t.diverge
         (λ i. t.private (length p - suc (ρ .level i)))
         (λ i. ρ .passed i (length p))
         (λ i. ρ .body i (λ j l. resolved N ns bs ρ l ws j) (length p))
-        (λ ty tys. t.name id (tyOf N ty) (resolveArgs N ns bs ρ (length p) ws tys)))
+        (λ often ty tys. t.name id often (tyOf N ty) (resolveArgs N ns bs ρ (length p) ws tys)))
   unfolding byMeaning
-  rep-named ρ p n id ty tys bs ws xs e h a =
-      let x : Rep R Any p n (t.name id (tyOf N ty) (resolveArgs N ns bs ρ (length p) ws tys)) = rep-name h a in
+  rep-named ρ p n id ty often tys bs ws xs e h a =
+      let x : Rep R Any p n (t.name id often (tyOf N ty) (resolveArgs N ns bs ρ (length p) ws tys)) = rep-name h a in
       rw e x
 
-  name-args : (bs : List Binder) (φ : Forms) (id ty : ℕ) (tys : List ℕ) (ws : Writtens) {P : ℕ → Type 0} →
-      meaning ns bs id ≡ named ty tys →
+  name-args : (bs : List Binder) (φ : Forms) (id ty : ℕ) (often : Often) (tys : List ℕ) (ws : Writtens)
+      {P : ℕ → Type 0} → meaning ns bs id ≡ named often ty tys →
       Each bs (byMeaning (meaning ns bs id) (only 1)
         (λ k. only 2)
         (λ k. unit k)
         (λ k. instance k (φ .count k) (φ .form k) (λ j. formed N ns bs φ ws j))
-        (λ ty tys. plus (only 2) (formArgs N ns bs φ ws tys))) P →
+        (λ often ty tys. plus (only (useWeight often)) (formArgs N ns bs φ ws tys))) P →
       Each bs (formArgs N ns bs φ ws tys) P
   unfolding byMeaning
-  name-args bs φ id ty tys ws {P = P} e a =
-      let b : Each bs (plus (only 2) (formArgs N ns bs φ ws tys)) P = rw e at a in
-      each-right bs (only 2) (formArgs N ns bs φ ws tys) b
+  name-args bs φ id ty often tys ws {P = P} e a =
+      let b : Each bs (plus (only (useWeight often)) (formArgs N ns bs φ ws tys)) P = rw e at a in
+      each-right bs (only (useWeight often)) (formArgs N ns bs φ ws tys) b
 
   -- a new: its row on the path
   stands-new : (Γ : Context) (ε : Slots) (id d n : ℕ) (ρ : Terms) (p : List ℕ) → Stands N ns Γ ε ρ p →
@@ -218,9 +221,10 @@ module _ (N : Numbers) (ns : List Name) (R : ℕ → Option Row) where
     rep-expands (of-number h) ρ p z a = rep-const h
     rep-expands (of-private {Γ = Γ} {ε = ε} {n = n} {id = id} {k = k} {d = d} {ws = ws} e h) ρ p z a =
         rep-held ε ρ p n id k d (binders Γ) (forms N ns Γ) ws e h (stands-held N ns Γ ε ρ p z id)
-    rep-expands (of-name {Γ = Γ} {n = n} {id = id} {ty = ty} {tys = tys} {ws = ws} {xs = xs} e x h) ρ p z a =
-        rep-named ρ p n id ty tys (binders Γ) ws xs e h
-          (rep-args x ρ p z (name-args (binders Γ) (forms N ns Γ) id ty tys ws e a))
+    rep-expands (of-name {Γ = Γ} {n = n} {id = id} {ty = ty} {often = often} {tys = tys} {ws = ws} {xs = xs} e x h) ρ p
+        z a =
+        rep-named ρ p n id ty often tys (binders Γ) ws xs e h
+          (rep-args x ρ p z (name-args (binders Γ) (forms N ns Γ) id ty often tys ws e a))
     rep-expands (of-fetch x h) ρ p z a = rep-fetch h (rep-expands x ρ p z a)
     rep-expands (of-operate {Γ = Γ} {op = op} {x = x} {y = y} dx dy h) ρ p z a =
         let o : Operation = record { over = N; operator = op } in

@@ -9,6 +9,7 @@ use Rattle.language.specs.Weight.{weight}
 use Rattle.language.specs.Term.{Operation}
 use Rattle.language.specs.Typing.{operands}
 use Rattle.language.specs.declared.Numbers.{Numbers}
+use Rattle.language.specs.Weight.{useWeight}
 use Rattle.parts.specs.Rule.{values}
 use Rattle.procedures.specs.Environment.{beyond}
 use Rattle.procedures.specs.Written.{Written, skip, diverge, truth, number, call, fetch, operate, assign}
@@ -33,7 +34,7 @@ Forms-right φ bs ω (argument k ty) = (x : ℕ → ℕ) → value bs (unit k) x
 Forms-right φ bs ω (routine k ty tys) =
     (xs : ℕ → ℕ) → ω .body k xs
       ≡ value bs (lower k (φ .form k)) (ω .passed) + total (φ .count k) (λ j. φ .form k .of (k + j) * xs j)
-Forms-right φ bs ω (named ty tys) = Unit
+Forms-right φ bs ω (named often ty tys) = Unit
 Forms-right φ bs ω retired = Unit
 Forms-right φ bs ω free = Unit
 
@@ -53,7 +54,7 @@ right-agree n φ ψ bs ω χ (routine k ty tys) a b h = λ xs.
     rw (a .forms k b, a .counts k b, a .bodies k b,
         value-lower bs k (φ .form k) (χ .passed) (ω .passed) (λ s l. a .passeds s (omega arith)))
       (h xs)
-right-agree n φ ψ bs ω χ (named ty tys) a b h = tt
+right-agree n φ ψ bs ω χ (named often ty tys) a b h = tt
 right-agree n φ ψ bs ω χ retired a b h = tt
 right-agree n φ ψ bs ω χ free a b h = tt
 
@@ -63,14 +64,14 @@ unfolding Forms-right Below
 right-more φ c bs ω (private k d) b h = tt
 right-more φ c bs ω (argument k ty) b h = λ x. unit-more c bs k x b ∙ h x
 right-more φ c bs ω (routine k ty tys) b h = λ xs. rw (value-more c bs k (φ .form k) (ω .passed) (omega arith)) (h xs)
-right-more φ c bs ω (named ty tys) b h = tt
+right-more φ c bs ω (named often ty tys) b h = tt
 right-more φ c bs ω retired b h = tt
 right-more φ c bs ω free b h = tt
 
 pub right-declared : (φ : Forms) (bs : List Binder) (ω : Weights) (ns : List Name) (id : ℕ) →
     Forms-right φ bs ω (declared ns id)
 unfolding Forms-right
-right-declared φ bs ω ns id = all-declared (Forms-right φ bs ω) ns id (λ ty tys. tt) tt tt
+right-declared φ bs ω ns id = all-declared (Forms-right φ bs ω) ns id (λ often ty tys. tt) tt tt
 
 -- a binder that is no parameter adds nothing
 block-value : (id d : ℕ) (bs : List Binder) (f : Form) (x : ℕ → ℕ) → value (a-block id d ∷ bs) f x ≡ value bs f x
@@ -148,12 +149,12 @@ module _ (N : Numbers) (ns : List Name) where
         (λ k. 2)
         (λ k. ω .passed k)
         (λ k. ω .body k (λ j. weighed N ns bs ω ws j))
-        (λ ty tys. 2 + weighArgs N ns bs ω ws tys)
+        (λ often ty tys. useWeight often + weighArgs N ns bs ω ws tys)
       ≡ value bs (byMeaning m (only 1)
           (λ k. only 2)
           (λ k. unit k)
           (λ k. instance k (φ .count k) (φ .form k) (λ j. formed N ns bs φ ws j))
-          (λ ty tys. plus (only 2) (formArgs N ns bs φ ws tys))) (ω .passed)
+          (λ often ty tys. plus (only (useWeight often)) (formArgs N ns bs φ ws tys))) (ω .passed)
   unfolding Forms-right byMeaning
   form-use bs φ ω ws (private k d) h g l = sym (value-only bs 2 (ω .passed))
   form-use bs φ ω ws (argument k ty) h g l = sym (h (ω .passed))
@@ -163,8 +164,9 @@ module _ (N : Numbers) (ns : List Name) where
           value-instance bs k (φ .count k) f (λ j. formed N ns bs φ ws j) (ω .passed),
           total-same (φ .count k) (λ j. f .of (k + j) * weighed N ns bs ω ws j)
             (λ j. f .of (k + j) * value bs (formed N ns bs φ ws j) (ω .passed)) (λ j. rw (g j)))
-  form-use bs φ ω ws (named ty tys) h g l =
-      rw (value-plus bs (only 2) (formArgs N ns bs φ ws tys) (ω .passed), value-only bs 2 (ω .passed), l tys)
+  form-use bs φ ω ws (named often ty tys) h g l =
+      rw (value-plus bs (only (useWeight often)) (formArgs N ns bs φ ws tys) (ω .passed),
+        value-only bs (useWeight often) (ω .passed), l tys)
   form-use bs φ ω ws retired h g l = sym (value-only bs 1 (ω .passed))
   form-use bs φ ω ws free h g l = sym (value-only bs 1 (ω .passed))
 

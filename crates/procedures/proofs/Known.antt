@@ -88,7 +88,7 @@ module _ (N : Numbers) (ns : List Name) (s : ℕ → Bool) where
   known-use bs ws (private k d) h g = subst (AllKnown ns s) (sym h) tt
   known-use bs ws (argument k ty) h g = subst (AllKnown ns s) (sym h) tt
   known-use bs ws (routine k ty tys) h g = g tys h
-  known-use bs ws (named ty tys) h g = g tys h
+  known-use bs ws (named often ty tys) h g = g tys h
   known-use bs ws retired h g = absurd h
   known-use bs ws free h g = absurd h
 

@@ -9,6 +9,7 @@ use borrow.Author.Tests.{eqb-true, eqb-false}
 use Rattle.language.specs.Term as t
 use Rattle.language.specs.Term.{Term}
 use Rattle.language.specs.declared.Numbers.{Numbers}
+use Rattle.language.specs.Term.{Often}
 use Rattle.procedures.specs.Written.{Written, skip, diverge, truth, number, call, fetch, operate, assign}
 use Rattle.procedures.specs.Written.{sequence, while, choose, new, procedure, Parameter, Writtens, none, more}
 use Rattle.procedures.specs.Written.{Name}
@@ -33,7 +34,7 @@ pub data Matches (ρ σ : Terms) : Meaning → Meaning → Type 0 where
   both-routine : {k l ty : ℕ} {tys : List ℕ} →
     ((xs ys : ℕ → ℕ → Term) → ((j n : ℕ) → xs j n ≡ ys j n) → (n : ℕ) → ρ .body k xs n ≡ σ .body l ys n) →
     Matches ρ σ (routine k ty tys) (routine l ty tys)
-  both-named : {ty : ℕ} {tys : List ℕ} → Matches ρ σ (named ty tys) (named ty tys)
+  both-named : {often : Often} {ty : ℕ} {tys : List ℕ} → Matches ρ σ (named often ty tys) (named often ty tys)
   both-retired : Matches ρ σ retired retired
   both-free : Matches ρ σ free free
 
@@ -45,7 +46,7 @@ matches-itself : (ρ : Terms) (m : Meaning) → Matches ρ ρ m m
 matches-itself ρ (private k d) = both-private refl
 matches-itself ρ (argument k ty) = both-argument (λ n. refl)
 matches-itself ρ (routine k ty tys) = both-routine (λ xs ys h n. same-body (ρ .body k) xs ys h n)
-matches-itself ρ (named ty tys) = both-named
+matches-itself ρ (named often ty tys) = both-named
 matches-itself ρ retired = both-retired
 matches-itself ρ free = both-free
 
@@ -193,12 +194,12 @@ module _ (N : Numbers) (ns : List Name) where
         (λ k. t.private (n - suc (ρ .level k)))
         (λ k. ρ .passed k n)
         (λ k. ρ .body k (λ j l. resolved N ns bs ρ l ws j) n)
-        (λ ty tys. t.name id (tyOf N ty) (resolveArgs N ns bs ρ n ws tys))
+        (λ often ty tys. t.name id often (tyOf N ty) (resolveArgs N ns bs ρ n ws tys))
       ≡ byMeaning w t.diverge
         (λ k. t.private (n - suc (σ .level k)))
         (λ k. σ .passed k n)
         (λ k. σ .body k (λ j l. resolved N ns cs σ l ws′ j) n)
-        (λ ty tys. t.name id (tyOf N ty) (resolveArgs N ns cs σ n ws′ tys))
+        (λ often ty tys. t.name id often (tyOf N ty) (resolveArgs N ns cs σ n ws′ tys))
   unfolding byMeaning
   reaches-use bs cs ρ σ n id ws ws′ (both-private e) g h = rw e
   reaches-use bs cs ρ σ n id ws ws′ (both-argument e) g h = e n

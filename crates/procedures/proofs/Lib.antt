@@ -34,6 +34,7 @@ pub mod Making
 pub mod Exchanging
 pub mod Leaving
 pub mod Ruling
+pub mod Asking
 pub mod Existing
 pub mod Lowest
 pub mod Known

@@ -141,7 +141,7 @@ left-put taken (suc n) b h e =
 pub unnamed-free : (ns : List Name) (j : ℕ) → isNamed ns j ≡ false → declared ns j ≡ free
 unfolding isNamed declared
 unnamed-free [] j e = refl
-unnamed-free (declare k ty tys ∷ ns) j e =
+unnamed-free (declare often k ty tys ∷ ns) j e =
     by-test (eqb k j)
     (λ t. true-false (eqb k j || isNamed ns j) (or-left (eqb k j) (isNamed ns j) t) e)
     (λ t. let e′ : isNamed ns j ≡ false = rw t at e in rw t (unnamed-free ns j e′))

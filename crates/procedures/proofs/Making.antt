@@ -7,6 +7,7 @@ use mathlib.Core.Option.{Option}
 use mathlib.Core.List.{List}
 use lib.ListN.{length}
 use Rattle.language.specs.declared.Numbers.{Numbers}
+use Rattle.language.specs.Term.{Often}
 use Rattle.procedures.specs.Written.{Written, Parameter, Writtens, none, more, Name, Sheet}
 use Rattle.procedures.specs.Meaning.{private, routine, named, meaning, inside, after, byMeaning}
 use Rattle.procedures.specs.Form.{Form, formOf, total}
@@ -73,7 +74,7 @@ module _ (N : Numbers) (ns : List Name) (R : ℕ → Option Row) where
         (λ k. 0)
         (λ k. makes N ns Γ k + total (forms N ns Γ .count k)
           (λ j. sign (forms N ns Γ .form k .of (k + j)) * mades N ns (binders Γ) (forms N ns Γ) (makes N ns Γ) ws j))
-        (λ ty tys. 1 + madeArgs N ns (binders Γ) (forms N ns Γ) (makes N ns Γ) ws tys)
+        (λ often ty tys. 1 + madeArgs N ns (binders Γ) (forms N ns Γ) (makes N ns Γ) ws tys)
   unfolding byMeaning uses
   made-use Γ Δ id ty n i m tys ws ps body e s x y =
       let k : ℕ = length (binders Δ) in
@@ -85,16 +86,17 @@ module _ (N : Numbers) (ns : List Name) (R : ℕ → Option Row) where
             (λ j. let z : 0 + j ≡ j = omega arith in rw z) in
       rw (e, sees-made N ns s, sees-count N ns s, sees-form N ns s) (omega (arith, t, x, y))
 
-  made-named : (Γ : Context) (id ty n m : ℕ) (tys : List ℕ) (ws : Writtens) → meaning ns (binders Γ) id ≡ named ty tys →
+  made-named : (Γ : Context) (id ty n m : ℕ) (often : Often) (tys : List ℕ) (ws : Writtens) →
+      meaning ns (binders Γ) id ≡ named often ty tys →
       m ≡ suc n + madeArgs N ns (binders Γ) (forms N ns Γ) (makes N ns Γ) ws tys →
       m ≡ n + byMeaning (meaning ns (binders Γ) id) 1
         (λ k. 1)
         (λ k. 0)
         (λ k. makes N ns Γ k + total (forms N ns Γ .count k)
           (λ j. sign (forms N ns Γ .form k .of (k + j)) * mades N ns (binders Γ) (forms N ns Γ) (makes N ns Γ) ws j))
-        (λ ty tys. 1 + madeArgs N ns (binders Γ) (forms N ns Γ) (makes N ns Γ) ws tys)
+        (λ often ty tys. 1 + madeArgs N ns (binders Γ) (forms N ns Γ) (makes N ns Γ) ws tys)
   unfolding byMeaning
-  made-named Γ id ty n m tys ws e x = rw e (omega arith)
+  made-named Γ id ty n m often tys ws e x = rw e (omega arith)
 
   made-private : (Γ : Context) (id k d n : ℕ) (ws : Writtens) → meaning ns (binders Γ) id ≡ private k d →
       suc n ≡ n + byMeaning (meaning ns (binders Γ) id) 1
@@ -102,7 +104,7 @@ module _ (N : Numbers) (ns : List Name) (R : ℕ → Option Row) where
         (λ k. 0)
         (λ k. makes N ns Γ k + total (forms N ns Γ .count k)
           (λ j. sign (forms N ns Γ .form k .of (k + j)) * mades N ns (binders Γ) (forms N ns Γ) (makes N ns Γ) ws j))
-        (λ ty tys. 1 + madeArgs N ns (binders Γ) (forms N ns Γ) (makes N ns Γ) ws tys)
+        (λ often ty tys. 1 + madeArgs N ns (binders Γ) (forms N ns Γ) (makes N ns Γ) ws tys)
   unfolding byMeaning
   made-private Γ id k d n ws e = rw e (omega arith)
 
@@ -146,8 +148,8 @@ module _ (N : Numbers) (ns : List Name) (R : ℕ → Option Row) where
     expands-made (of-truth h) = omega arith
     expands-made (of-number h) = omega arith
     expands-made (of-private {Γ = Γ} {n = n} {id = id} {k = k} {d = d} {ws = ws} e h) = made-private Γ id k d n ws e
-    expands-made (of-name {Γ = Γ} {n = n} {m = m} {id = id} {ty = ty} {tys = tys} {ws = ws} e x h) =
-        made-named Γ id ty n m tys ws e (args-made x)
+    expands-made (of-name {Γ = Γ} {n = n} {m = m} {id = id} {ty = ty} {often = often} {tys = tys} {ws = ws} e x h) =
+        made-named Γ id ty n m often tys ws e (args-made x)
     expands-made (of-fetch x h) = omega (arith, expands-made x)
     expands-made (of-operate x y h) = omega (arith, expands-made x, expands-made y)
     expands-made (of-assign x y h) = omega (arith, expands-made x, expands-made y)

@@ -14,6 +14,7 @@ use lib.Bits.{bitAnd, and-step, and-zero-r}
 use lib.Count.{ones, ones-step, trailingZeros, trailing-of-zero, under}
 use lib.Pow.{pow-pos, shr-shr}
 use Rattle.language.specs.Choice.{pick}
+use Rattle.language.specs.Term.{Often}
 use Rattle.procedures.specs.Written.{Written, skip, diverge, truth, number, call, fetch, operate, assign}
 use Rattle.procedures.specs.Written.{sequence, while, choose, new, procedure, Parameter, Writtens, none, more}
 use Rattle.procedures.specs.Written.{Name, declare, retire, Sheet}
@@ -127,16 +128,17 @@ module _ (ns : List Name) where
 
 -- what is a name has its types
 record Typed (m : Meaning) : Type 0 where
+  often : Often
   result : ℕ
   arguments : List ℕ
-  means : m ≡ named result arguments
+  means : m ≡ named often result arguments
 
 name-typed : (m : Meaning) → isName m ≡ true → Typed m
 unfolding isName
 name-typed (private k d) e = absurd (false≢true e)
 name-typed (argument k ty) e = absurd (false≢true e)
 name-typed (routine k ty tys) e = absurd (false≢true e)
-name-typed (named ty tys) e = record { result = ty; arguments = tys; means = refl }
+name-typed (named often ty tys) e = record { often = often; result = ty; arguments = tys; means = refl }
 name-typed retired e = absurd (false≢true e)
 name-typed free e = absurd (false≢true e)
 
@@ -145,7 +147,8 @@ touched S id e =
     let F = found (S .names) id [] (S .term) e in
     let T = name-typed (meaning (S .names) (F .around) id) (F .name) in
     record {
-      binders = F .around; found = F .found-in; type = T .result; types = T .arguments; means = T .means }
+      binders = F .around; found = F .found-in; often = T .often; type = T .result; types = T .arguments;
+      means = T .means }
 
 touches-name : (S : Sheet) (id : ℕ) → Touched S id → uses (S .names) id [] (S .term) ≡ true
 unfolding isName
@@ -190,8 +193,9 @@ no-bits (suc i) e = no-bits i (ap (λ k. k % 2) (shr-shr 0 1 i ∙ ap (λ k. 0 /
 bits-mark : (S : Sheet) (ns : List Name) (i : ℕ) → (bits (isUsed S) ns / 2 ^ i) % 2 ≡ 1 → UsedRecord S (recordAt i ns)
 unfolding bits recordAt isUsed UsedRecord
 bits-mark S [] i e = no-bits i e
-bits-mark S (declare id ty tys ∷ ns) zero e =
-    touched S id (bit-set _ (sym (lowest-bit (bits (isUsed S) (declare id ty tys ∷ ns)) ∙ bit-odd _ (bits (isUsed S) ns)) ∙ e))
+bits-mark S (declare often id ty tys ∷ ns) zero e =
+    touched S id (bit-set _ (sym (lowest-bit (bits (isUsed S) (declare often id ty tys ∷ ns))
+      ∙ bit-odd _ (bits (isUsed S) ns)) ∙ e))
 bits-mark S (retire id ∷ ns) zero e =
     false≢true (bit-set _ (sym (lowest-bit (bits (isUsed S) (retire id ∷ ns)) ∙ bit-odd false (bits (isUsed S) ns)) ∙ e))
 bits-mark S (n ∷ ns) (suc i) e = bits-mark S ns i (sym (bits-next (isUsed S) n ns i) ∙ e)
@@ -199,9 +203,9 @@ bits-mark S (n ∷ ns) (suc i) e = bits-mark S ns i (sym (bits-next (isUsed S) n
 mark-bits : (S : Sheet) (ns : List Name) (i : ℕ) → UsedRecord S (recordAt i ns) → (bits (isUsed S) ns / 2 ^ i) % 2 ≡ 1
 unfolding bits recordAt isUsed UsedRecord bit
 mark-bits S [] i u = absurd u
-mark-bits S (declare id ty tys ∷ ns) zero u =
-    lowest-bit (bits (isUsed S) (declare id ty tys ∷ ns))
-    ∙ (bit-odd (isUsed S (declare id ty tys)) (bits (isUsed S) ns) ∙ ap bit (touches-name S id u))
+mark-bits S (declare often id ty tys ∷ ns) zero u =
+    lowest-bit (bits (isUsed S) (declare often id ty tys ∷ ns))
+    ∙ (bit-odd (isUsed S (declare often id ty tys)) (bits (isUsed S) ns) ∙ ap bit (touches-name S id u))
 mark-bits S (retire id ∷ ns) zero u = absurd u
 mark-bits S (n ∷ ns) (suc i) u = bits-next (isUsed S) n ns i ∙ mark-bits S ns i u
 

@@ -12,6 +12,7 @@ use Rattle.procedures.specs.Written.{Name, declare, retire}
 use Rattle.procedures.specs.Meaning.{Binder, a-block, a-parameter, a-procedure, Meaning, private, argument}
 use Rattle.procedures.specs.Meaning.{routine, named, retired, free, declared, idOf, meant, meaning}
 use Rattle.procedures.proofs.Tests.{by-test}
+use Rattle.language.specs.Term.{Often}
 
 -- below k an environment stays, from k on it is what is given
 pub beyond-below {ℓ} : {X : Type ℓ} (k : ℕ) (f g : ℕ → X) (j : ℕ) → j < k → beyond k f g j ≡ f j
@@ -55,7 +56,7 @@ unfoldable pub Below : ℕ → Meaning → Type 0
 Below k (private j d) = j < k
 Below k (argument j ty) = j < k
 Below k (routine j ty tys) = j < k
-Below k (named ty tys) = Unit
+Below k (named often ty tys) = Unit
 Below k retired = Unit
 Below k free = Unit
 
@@ -64,22 +65,22 @@ unfolding Below
 below-more k l (private j d) h b = omega arith
 below-more k l (argument j d) h b = omega arith
 below-more k l (routine j ty tys) h b = omega arith
-below-more k l (named ty tys) h b = tt
+below-more k l (named often ty tys) h b = tt
 below-more k l retired h b = tt
 below-more k l free h b = tt
 
 -- what holds of every name, of what is retired and of what is free holds of all that is declared
-pub all-declared : (P : Meaning → Type 0) (ns : List Name) (id : ℕ) → ((ty : ℕ) (tys : List ℕ) → P (named ty tys)) →
-    P retired → P free → P (declared ns id)
+pub all-declared : (P : Meaning → Type 0) (ns : List Name) (id : ℕ) → ((often : Often) (ty : ℕ) (tys : List ℕ) →
+    P (named often ty tys)) → P retired → P free → P (declared ns id)
 unfolding declared
 all-declared P [] id n r f = f
-all-declared P (declare j ty tys ∷ ns) id n r f =
-    by-test (eqb j id) (λ t. rw t (n ty tys)) (λ t. rw t (all-declared P ns id n r f))
+all-declared P (declare often j ty tys ∷ ns) id n r f =
+    by-test (eqb j id) (λ t. rw t (n often ty tys)) (λ t. rw t (all-declared P ns id n r f))
 all-declared P (retire j ∷ ns) id n r f = by-test (eqb j id) (λ t. rw t r) (λ t. rw t (all-declared P ns id n r f))
 
 below-declared : (ns : List Name) (id : ℕ) → Below 0 (declared ns id)
 unfolding Below
-below-declared ns id = all-declared (Below 0) ns id (λ ty tys. tt) tt tt
+below-declared ns id = all-declared (Below 0) ns id (λ often ty tys. tt) tt tt
 
 below-meant : (k : ℕ) (b : Binder) → Below (suc k) (meant k b)
 unfolding Below meant

@@ -11,6 +11,7 @@ use borrow.Author.Tests.{ltb-true, ltb-false, lt-ltb, le-ltb, ne-eqb}
 use Rattle.language.specs.declared.Numbers.{Numbers}
 use Rattle.language.specs.Ty.{questions, answers}
 use Rattle.language.specs.Typing.{operands}
+use Rattle.language.specs.Weight.{useWeight}
 use Rattle.parts.specs.Rule.{values}
 use Rattle.procedures.specs.Environment.{beyond}
 use Rattle.procedures.specs.Written.{Written, skip, diverge, truth, number, call, fetch, operate, assign}
@@ -48,14 +49,14 @@ through-bound k (suc s) n g h l =
 
 come-use : (ns : List Name) (bs : List Binder) (κ : ℕ → ℕ) (ws : Writtens) (m : Meaning) → Below (length bs) m →
     ((j : ℕ) → comes ns bs κ ws j ≤ length bs + depths ws) →
-    byMeaning m 0 (λ k. 0) (λ k. suc k) (λ k. through k (κ k) (λ j. comes ns bs κ ws j)) (λ ty tys. 0)
+    byMeaning m 0 (λ k. 0) (λ k. suc k) (λ k. through k (κ k) (λ j. comes ns bs κ ws j)) (λ often ty tys. 0)
     ≤ length bs + (1 + depths ws)
 unfolding byMeaning Below
 come-use ns bs κ ws (private k d) b l = omega arith
 come-use ns bs κ ws (argument k ty) b l = omega arith
 come-use ns bs κ ws (routine k ty tys) b l =
     omega (arith, through-bound k (κ k) (length bs + depths ws) (λ j. comes ns bs κ ws j) (omega arith) l)
-come-use ns bs κ ws (named ty tys) b l = omega arith
+come-use ns bs κ ws (named often ty tys) b l = omega arith
 come-use ns bs κ ws retired b l = omega arith
 come-use ns bs κ ws free b l = omega arith
 
@@ -158,15 +159,16 @@ module _ (N : Numbers) (ns : List Name) where
         (λ k. unit k)
         (λ k. instance k (forms N ns Γ .count k) (forms N ns Γ .form k)
           (λ j. formed N ns (binders Γ) (forms N ns Γ) ws j))
-        (λ ty tys. plus (only 2) (formArgs N ns (binders Γ) (forms N ns Γ) ws tys)) .of s ≡ 0
+        (λ often ty tys. plus (only (useWeight often)) (formArgs N ns (binders Γ) (forms N ns Γ) ws tys)) .of s ≡ 0
   unfolding byMeaning Found-right Argument-right
   idle-use Γ ws s (private k d) F A I n g l = only-none 2 s
   idle-use Γ ws s (argument k ty) F A I n g l = unit-none k s (λ e. n (rw e A))
   idle-use Γ ws s (routine k ty tys) F A I n g l =
       instance-none k (forms N ns Γ .count k) (forms N ns Γ .form k)
         (λ j. formed N ns (binders Γ) (forms N ns Γ) ws j) s (λ b. idle-found Γ k tys s I F n b) g
-  idle-use Γ ws s (named ty tys) F A I n g l =
-      plus-none (only 2) (formArgs N ns (binders Γ) (forms N ns Γ) ws tys) s (only-none 2 s) (l tys)
+  idle-use Γ ws s (named often ty tys) F A I n g l =
+      plus-none (only (useWeight often)) (formArgs N ns (binders Γ) (forms N ns Γ) ws tys) s
+        (only-none (useWeight often) s) (l tys)
   idle-use Γ ws s retired F A I n g l = only-none 1 s
   idle-use Γ ws s free F A I n g l = only-none 1 s
 

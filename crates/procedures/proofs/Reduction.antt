@@ -8,7 +8,7 @@ use lib.ListN.{length}
 use Rattle.language.specs.Ty.{Question, run, ask, read, write, Answer, done, ok, value, Answers}
 use Rattle.language.specs.Move as mv
 use Rattle.language.specs.Move.{question, answer, at, move, Word}
-use Rattle.language.specs.Play.{Plays, PlaysArg, Complete, VarPair, Star, Use, Stable, kept, hide}
+use Rattle.language.specs.Play.{Plays, PlaysArg, Complete, VarPair, Star, AsOften, Use, Stable, kept, hide}
 use Rattle.language.specs.Term as t
 use Rattle.language.specs.Term.{Term}
 use Rattle.language.specs.declared.Numbers.{Numbers}
@@ -22,7 +22,7 @@ use Rattle.procedures.specs.Meaning as m
 use Rattle.procedures.specs.Playing.{Language, Playing, no-plays, with-level, with-body, with-passed, PlaysIn}
 use Rattle.procedures.specs.Playing.{PlaysArgs, PlaysPassed, CompleteIn}
 use Rattle.procedures.proofs.Numbering.{beyond-both}
-use Rattle.procedures.proofs.Languages.{cat-same, star-same, use-same, sum-same, new-same}
+use Rattle.procedures.proofs.Languages.{cat-same, star-same, uses-same, use-same, sum-same, new-same}
 
 -- a language is that of a term
 abbrev pub Of : Language → Term → Type 0
@@ -87,22 +87,22 @@ module _ (N : Numbers) (ns : List Name) where
           ∷ move (mv.private (n - suc (π .level k))) (answer a) ∷ []))
         (λ k. π .passed k n q a u)
         (λ k. π .body k (λ j l p b x. PlaysPassed N ns bs π l ws j p b x) n q a u)
-        (λ ty tys. Answers (tyOf N ty) q a
-          × (v : Word) × Star (Use id (λ j p b x. PlaysArgs N ns bs π n ws tys j p b x)) v
+        (λ often ty tys. Answers (tyOf N ty) q a
+          × (v : Word) × AsOften often (Use id (λ j p b x. PlaysArgs N ns bs π n ws tys j p b x)) v
           × (u ≡ move (at id 0) (question q) ∷ (v ++ (move (at id 0) (answer a) ∷ []))))
       ↔ Plays (byMeaning s t.diverge
           (λ k. t.private (n - suc (ρ .level k)))
           (λ k. ρ .passed k n)
           (λ k. ρ .body k (λ j l. resolved N ns bs ρ l ws j) n)
-          (λ ty tys. t.name id (tyOf N ty) (resolveArgs N ns bs ρ n ws tys))) q a u
+          (λ often ty tys. t.name id often (tyOf N ty) (resolveArgs N ns bs ρ n ws tys))) q a u
   unfolding byMeaning Plays
   reduce-use bs π ρ n id ws (private k d) h g l q a u = rw (h .level k) (λ x. x, λ x. x)
   reduce-use bs π ρ n id ws (argument k ty) h g l q a u = h .passed k n q a u
   reduce-use bs π ρ n id ws (routine k ty tys) h g l q a u =
       h .body k (λ j i p b x. PlaysPassed N ns bs π i ws j p b x) (λ j i. resolved N ns bs ρ i ws j) g n q a u
-  reduce-use bs π ρ n id ws (named ty tys) h g l q a u =
-      (λ (e, v, s, f). (e, v, star-same (use-same id (l tys)) v .0 s, f),
-       λ (e, v, s, f). (e, v, star-same (use-same id (l tys)) v .1 s, f))
+  reduce-use bs π ρ n id ws (named often ty tys) h g l q a u =
+      (λ (e, v, s, f). (e, v, uses-same often (use-same id (l tys)) v .0 s, f),
+       λ (e, v, s, f). (e, v, uses-same often (use-same id (l tys)) v .1 s, f))
   reduce-use bs π ρ n id ws retired h g l q a u = (λ x. x, λ x. x)
   reduce-use bs π ρ n id ws free h g l q a u = (λ x. x, λ x. x)
 

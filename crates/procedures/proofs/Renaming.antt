@@ -49,18 +49,18 @@ module _ (N : Numbers) (ns : List Name) where
         (λ k. t.private (n - suc (ρ .level k)))
         (λ k. ρ .passed k n)
         (λ k. ρ .body k (λ j l. resolved N ns bs ρ l ws j) n)
-        (λ ty tys. t.name id (tyOf N ty) (resolveArgs N ns bs ρ n ws tys))
+        (λ often ty tys. t.name id often (tyOf N ty) (resolveArgs N ns bs ρ n ws tys))
       ≡ byMeaning m t.diverge
         (λ k. t.private (n - suc (ρ .level k)))
         (λ k. ρ .passed k n)
         (λ k. ρ .body k (λ j l. resolved N ns cs ρ l ws′ j) n)
-        (λ ty tys. t.name id′ (tyOf N ty) (resolveArgs N ns cs ρ n ws′ tys))
+        (λ often ty tys. t.name id′ often (tyOf N ty) (resolveArgs N ns cs ρ n ws′ tys))
   unfolding byMeaning IsNamed
   like-use bs cs ρ n id id′ ws ws′ (private k d) h g l = refl
   like-use bs cs ρ n id id′ ws ws′ (argument k ty) h g l = refl
   like-use bs cs ρ n id id′ ws ws′ (routine k ty tys) h g l =
       ap (λ (xs : ℕ → ℕ → Term). ρ .body k xs n) (fun-ext (λ j. fun-ext (λ i. g j i)))
-  like-use bs cs ρ n id id′ ws ws′ (named ty tys) h g l = rw (h tt, l tys)
+  like-use bs cs ρ n id id′ ws ws′ (named often ty tys) h g l = rw (h tt, l tys)
   like-use bs cs ρ n id id′ ws ws′ retired h g l = refl
   like-use bs cs ρ n id id′ ws ws′ free h g l = refl
 
@@ -83,7 +83,7 @@ module _ (N : Numbers) (ns : List Name) where
             (λ i. t.private (n - suc (ρ .level i)))
             (λ i. ρ .passed i n)
             (λ i. ρ .body i (λ j l. resolved N ns bs ρ l ws j) n)
-            (λ ty tys. t.name id (tyOf N ty) (resolveArgs N ns bs ρ n ws tys))) e
+            (λ often ty tys. t.name id often (tyOf N ty) (resolveArgs N ns bs ρ n ws tys))) e
         ∙ like-use bs cs ρ n id id′ ws ws′ (meaning ns cs id′) (λ x. h (rw e x))
             (λ j l. like-resolved a k ρ l j) (λ tys. like-args a k ρ n tys)
     like-resolve (like-fetch x) k ρ n = rw (like-resolve x k ρ n)

@@ -57,7 +57,7 @@ unfolding FineUse
 fine-use (private k d) P P′ Q Q′ f g h = f h
 fine-use (argument k ty) P P′ Q Q′ f g h = f h
 fine-use (routine k ty tys) P P′ Q Q′ f g h = g tys h
-fine-use (named ty tys) P P′ Q Q′ f g h = g tys h
+fine-use (named often ty tys) P P′ Q Q′ f g h = g tys h
 fine-use retired P P′ Q Q′ f g h = h
 fine-use free P P′ Q Q′ f g h = h
 

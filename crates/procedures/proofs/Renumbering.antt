@@ -59,7 +59,7 @@ mutual
 named-declared : (ns : List Name) (j : ℕ) → isNamed ns j ≡ true → declared ns j ≡ free → ⊥
 unfolding isNamed declared
 named-declared [] j e g = true-false false e refl
-named-declared (declare k ty tys ∷ ns) j e g =
+named-declared (declare often k ty tys ∷ ns) j e g =
     by-test (eqb k j)
     (λ t. let g′ = rw t at g in let z : _≡_ {A = ℕ} 0 1 = cc in absurd (omega arith))
     (λ t. named-declared ns j (rw t at e) (rw t at g))

@@ -11,6 +11,7 @@ use Rattle.language.specs.Term as t
 use Rattle.language.specs.Term.{Term, Operation}
 use Rattle.language.specs.Typing.{operands}
 use Rattle.language.specs.declared.Numbers.{Numbers}
+use Rattle.language.specs.Weight.{useWeight}
 use Rattle.parts.specs.Rule.{values}
 use Rattle.procedures.specs.Environment.{beyond}
 use Rattle.procedures.specs.Written.{Written, skip, diverge, truth, number, call, fetch, operate, assign}
@@ -42,7 +43,7 @@ Rows-right φ μ bs ρ (routine k ty tys) =
     (ν ν′ : ℕ → ℕ) (xs : ℕ → ℕ → Term) → ((s n : ℕ) → s < k → ν s ≤ nodes (ρ .passed s n)) → Least ν′ xs → (n : ℕ) →
     μ k + (value bs (lower k (signs (φ .form k))) ν + total (φ .count k) (λ j. sign (φ .form k .of (k + j)) * ν′ j))
     ≤ nodes (ρ .body k xs n)
-Rows-right φ μ bs ρ (named ty tys) = Unit
+Rows-right φ μ bs ρ (named often ty tys) = Unit
 Rows-right φ μ bs ρ retired = Unit
 Rows-right φ μ bs ρ free = Unit
 
@@ -62,7 +63,7 @@ right-agree n φ ψ μ μ′ bs ρ σ (argument k ty) a b h = h
 right-agree n φ ψ μ μ′ bs ρ σ (routine k ty tys) a b h = λ ν ν′ xs p q i.
     rw (a .forms k b, a .counts k b, a .bodies k b, a .rows k b)
       (h ν ν′ xs (λ s j l. rw (a .passeds s (omega arith)) at (p s j l)) q i)
-right-agree n φ ψ μ μ′ bs ρ σ (named ty tys) a b h = tt
+right-agree n φ ψ μ μ′ bs ρ σ (named often ty tys) a b h = tt
 right-agree n φ ψ μ μ′ bs ρ σ retired a b h = tt
 right-agree n φ ψ μ μ′ bs ρ σ free a b h = tt
 
@@ -73,14 +74,14 @@ right-more φ μ c bs ρ (private k d) b h = tt
 right-more φ μ c bs ρ (argument k ty) b h = λ x. unit-more c bs k x b ∙ h x
 right-more φ μ c bs ρ (routine k ty tys) b h = λ ν ν′ xs p q i.
     rw (value-more c bs k (signs (φ .form k)) ν (omega arith)) (h ν ν′ xs p q i)
-right-more φ μ c bs ρ (named ty tys) b h = tt
+right-more φ μ c bs ρ (named often ty tys) b h = tt
 right-more φ μ c bs ρ retired b h = tt
 right-more φ μ c bs ρ free b h = tt
 
 pub right-declared : (φ : Forms) (μ : ℕ → ℕ) (bs : List Binder) (ρ : Terms) (ns : List Name) (id : ℕ) →
     Rows-right φ μ bs ρ (declared ns id)
 unfolding Rows-right
-right-declared φ μ bs ρ ns id = all-declared (Rows-right φ μ bs ρ) ns id (λ ty tys. tt) tt tt
+right-declared φ μ bs ρ ns id = all-declared (Rows-right φ μ bs ρ) ns id (λ often ty tys. tt) tt tt
 
 -- the value of signs at binders that are no parameters
 block-value : (id d : ℕ) (bs : List Binder) (f : Form) (x : ℕ → ℕ) → value (a-block id d ∷ bs) f x ≡ value bs f x
@@ -173,17 +174,17 @@ module _ (N : Numbers) (ns : List Name) where
         (λ k. 1)
         (λ k. 0)
         (λ k. μ k + total (φ .count k) (λ j. sign (φ .form k .of (k + j)) * mades N ns bs φ μ ws j))
-        (λ ty tys. 1 + madeArgs N ns bs φ μ ws tys)
+        (λ often ty tys. 1 + madeArgs N ns bs φ μ ws tys)
       + value bs (signs (byMeaning m (only 1)
           (λ k. only 2)
           (λ k. unit k)
           (λ k. instance k (φ .count k) (φ .form k) (λ j. formed N ns bs φ ws j))
-          (λ ty tys. plus (only 2) (formArgs N ns bs φ ws tys)))) ν
+          (λ often ty tys. plus (only (useWeight often)) (formArgs N ns bs φ ws tys)))) ν
       ≤ nodes (byMeaning m t.diverge
           (λ k. t.private (n - suc (ρ .level k)))
           (λ k. ρ .passed k n)
           (λ k. ρ .body k (λ j l. resolved N ns bs ρ l ws j) n)
-          (λ ty tys. t.name id (tyOf N ty) (resolveArgs N ns bs ρ n ws tys)))
+          (λ often ty tys. t.name id often (tyOf N ty) (resolveArgs N ns bs ρ n ws tys)))
   unfolding byMeaning Rows-right nodes
   rows-use bs φ μ ρ ν n id ws (private k d) h l g a = omega (arith, signs-only bs 2 ν)
   rows-use bs φ μ ρ ν n id ws (argument k ty) h l g a = omega (arith, signs-unit bs k ν, h ν, l k n)
@@ -195,8 +196,9 @@ module _ (N : Numbers) (ns : List Name) where
         signs-instance bs k (φ .count k) (φ .form k) (λ j. formed N ns bs φ ws j) ν,
         total-plus (φ .count k) c v w,
         h ν (λ j. v j + w j) (λ j i. resolved N ns bs ρ i ws j) (λ s i b. l s i) g n)
-  rows-use bs φ μ ρ ν n id ws (named ty tys) h l g a =
-      omega (arith, signs-plus bs (only 2) (formArgs N ns bs φ ws tys) ν, signs-only bs 2 ν, a tys)
+  rows-use bs φ μ ρ ν n id ws (named often ty tys) h l g a =
+      omega (arith, signs-plus bs (only (useWeight often)) (formArgs N ns bs φ ws tys) ν,
+        signs-only bs (useWeight often) ν, a tys)
   rows-use bs φ μ ρ ν n id ws retired h l g a = omega (arith, signs-only bs 1 ν)
   rows-use bs φ μ ρ ν n id ws free h l g a = omega (arith, signs-only bs 1 ν)
 

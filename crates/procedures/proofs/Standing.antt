@@ -76,13 +76,13 @@ unfoldable pub Held-right : Slots → Terms → List ℕ → Meaning → Type 0
 Held-right ε ρ p (private k d) = Held p (ρ .level k) (ε .block k)
 Held-right ε ρ p (argument k ty) = Unit
 Held-right ε ρ p (routine k ty tys) = Unit
-Held-right ε ρ p (named ty tys) = Unit
+Held-right ε ρ p (named often ty tys) = Unit
 Held-right ε ρ p retired = Unit
 Held-right ε ρ p free = Unit
 
 held-declared : (ε : Slots) (ρ : Terms) (p : List ℕ) (ns : List Name) (id : ℕ) → Held-right ε ρ p (declared ns id)
 unfolding Held-right
-held-declared ε ρ p ns id = all-declared (Held-right ε ρ p) ns id (λ ty tys. tt) tt tt
+held-declared ε ρ p ns id = all-declared (Held-right ε ρ p) ns id (λ often ty tys. tt) tt tt
 
 held-agree : (k : ℕ) (ε : Slots) (ρ σ : Terms) (p : List ℕ) (m : Meaning) → Agree k ρ σ → Below k m →
     Held-right ε ρ p m → Held-right ε σ p m
@@ -90,7 +90,7 @@ unfolding Held-right Below
 held-agree k ε ρ σ p (private j d) a b h = rw (a .levels j b) h
 held-agree k ε ρ σ p (argument j ty) a b h = tt
 held-agree k ε ρ σ p (routine j ty tys) a b h = tt
-held-agree k ε ρ σ p (named ty tys) a b h = tt
+held-agree k ε ρ σ p (named often ty tys) a b h = tt
 held-agree k ε ρ σ p retired a b h = tt
 held-agree k ε ρ σ p free a b h = tt
 

@@ -12,6 +12,7 @@ use Rattle.language.specs.Term as t
 use Rattle.language.specs.Term.{Term, Operation}
 use Rattle.language.specs.Typing.{operands}
 use Rattle.language.specs.declared.Numbers.{Numbers}
+use Rattle.language.specs.Weight.{useWeight}
 use Rattle.parts.specs.Rule.{values}
 use Rattle.procedures.specs.Environment.{beyond}
 use Rattle.procedures.specs.Written.{Written, skip, diverge, truth, number, call, fetch, operate, assign}
@@ -137,17 +138,17 @@ module _ (N : Numbers) (ns : List Name) where
           (λ k. only 2)
           (λ k. unit k)
           (λ k. instance k (φ .count k) (φ .form k) (λ j. formed N ns bs φ ws j))
-          (λ ty tys. plus (only 2) (formArgs N ns bs φ ws tys))) ρ σ →
+          (λ often ty tys. plus (only (useWeight often)) (formArgs N ns bs φ ws tys))) ρ σ →
       byMeaning m t.diverge
         (λ k. t.private (n - suc (ρ .level k)))
         (λ k. ρ .passed k n)
         (λ k. ρ .body k (λ j l. resolved N ns bs ρ l ws j) n)
-        (λ ty tys. t.name id (tyOf N ty) (resolveArgs N ns bs ρ n ws tys))
+        (λ often ty tys. t.name id often (tyOf N ty) (resolveArgs N ns bs ρ n ws tys))
       ≡ byMeaning m t.diverge
         (λ k. t.private (n - suc (σ .level k)))
         (λ k. σ .passed k n)
         (λ k. σ .body k (λ j l. resolved N ns bs σ l ws′ j) n)
-        (λ ty tys. t.name id (tyOf N ty) (resolveArgs N ns bs σ n ws′ tys))
+        (λ often ty tys. t.name id often (tyOf N ty) (resolveArgs N ns bs σ n ws′ tys))
   unfolding byMeaning Alike-right unit instance lower plus usedBy
   unused-use bs φ ρ σ n id ws ws′ (private k d) h g l a = rw h
   unused-use bs φ ρ σ n id ws ws′ (argument k ty) h g l a = a k h (rw (eq-eqb k k refl) (omega arith)) n
@@ -162,8 +163,8 @@ module _ (N : Numbers) (ns : List Name) where
               s j b p q)))
           i)
         n
-  unused-use bs φ ρ σ n id ws ws′ (named ty tys) h g l a =
-      rw (l (λ j. omega arith) tys (each-right bs (only 2) (formArgs N ns bs φ ws tys) a))
+  unused-use bs φ ρ σ n id ws ws′ (named often ty tys) h g l a =
+      rw (l (λ j. omega arith) tys (each-right bs (only (useWeight often)) (formArgs N ns bs φ ws tys) a))
   unused-use bs φ ρ σ n id ws ws′ retired h g l a = refl
   unused-use bs φ ρ σ n id ws ws′ free h g l a = refl
 

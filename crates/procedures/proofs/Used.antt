@@ -13,6 +13,7 @@ use Rattle.language.specs.Term as t
 use Rattle.language.specs.Term.{Term, Args, Operation}
 use Rattle.language.specs.Typing.{operands}
 use Rattle.language.specs.declared.Numbers.{Numbers}
+use Rattle.language.specs.Weight.{useWeight}
 use Rattle.parts.specs.Rule.{values}
 use Rattle.procedures.specs.Environment.{beyond}
 use Rattle.procedures.specs.Written.{Written, skip, diverge, truth, number, call, fetch, operate, assign}
@@ -69,7 +70,7 @@ Used-right φ ρ (argument k ty) = Unit
 Used-right φ ρ (routine k ty tys) =
     ((s : ℕ) → s < k → 0 < φ .form k .of s → (xs : ℕ → ℕ → Term) (n : ℕ) → In (ρ .passed s) (ρ .body k xs n))
     × ((j : ℕ) → 0 < φ .form k .of (k + j) → (xs : ℕ → ℕ → Term) (n : ℕ) → In (xs j) (ρ .body k xs n))
-Used-right φ ρ (named ty tys) = Unit
+Used-right φ ρ (named often ty tys) = Unit
 Used-right φ ρ retired = Unit
 Used-right φ ρ free = Unit
 
@@ -87,13 +88,13 @@ used-agree n φ ψ ρ σ (argument k ty) a b h = tt
 used-agree n φ ψ ρ σ (routine k ty tys) a b h =
     (λ s l p xs i. rw (a .bodies k b, a .passeds s (omega arith)) (h .0 s l (rw (a .forms k b) at p) xs i),
      λ j p xs i. rw (a .bodies k b) (h .1 j (rw (a .forms k b) at p) xs i))
-used-agree n φ ψ ρ σ (named ty tys) a b h = tt
+used-agree n φ ψ ρ σ (named often ty tys) a b h = tt
 used-agree n φ ψ ρ σ retired a b h = tt
 used-agree n φ ψ ρ σ free a b h = tt
 
 pub used-declared : (φ : Forms) (ρ : Terms) (ns : List Name) (id : ℕ) → Used-right φ ρ (declared ns id)
 unfolding Used-right
-used-declared φ ρ ns id = all-declared (Used-right φ ρ) ns id (λ ty tys. tt) tt tt
+used-declared φ ρ ns id = all-declared (Used-right φ ρ) ns id (λ often ty tys. tt) tt tt
 
 -- where a coefficient above 0 comes from
 from-plus : (f g : Form) (s : ℕ) {P : Type 0} → 0 < plus f g .of s → (0 < f .of s → P) → (0 < g .of s → P) → P
@@ -192,13 +193,13 @@ module _ (N : Numbers) (ns : List Name) where
           (λ k. only 2)
           (λ k. unit k)
           (λ k. instance k (φ .count k) (φ .form k) (λ j. formed N ns bs φ ws j))
-          (λ ty tys. plus (only 2) (formArgs N ns bs φ ws tys)) .of s →
+          (λ often ty tys. plus (only (useWeight often)) (formArgs N ns bs φ ws tys)) .of s →
       In (ρ .passed s)
         (byMeaning m t.diverge
           (λ k. t.private (n - suc (ρ .level k)))
           (λ k. ρ .passed k n)
           (λ k. ρ .body k (λ j l. resolved N ns bs ρ l ws j) n)
-          (λ ty tys. t.name id (tyOf N ty) (resolveArgs N ns bs ρ n ws tys)))
+          (λ often ty tys. t.name id often (tyOf N ty) (resolveArgs N ns bs ρ n ws tys)))
   unfolding byMeaning Used-right instance
   used-use bs φ ρ n id s ws (private k d) h g l p = from-only 2 s p
   used-use bs φ ρ n id s ws (argument k ty) h g l p = (n, rw (from-unit k s p) whole)
@@ -212,8 +213,8 @@ module _ (N : Numbers) (ns : List Name) where
           let y = h .1 (z .which) (z .times-some) xs n in
           let x = g (z .which) (z .some) (y .0) in
           (x .0, part-part (x .1) (y .1)))
-  used-use bs φ ρ n id s ws (named ty tys) h g l p =
-      from-plus (only 2) (formArgs N ns bs φ ws tys) s p (λ q. from-only 2 s q)
+  used-use bs φ ρ n id s ws (named often ty tys) h g l p =
+      from-plus (only (useWeight often)) (formArgs N ns bs φ ws tys) s p (λ q. from-only (useWeight often) s q)
         (λ q. let z = l tys q in (z .0, in-name (z .1)))
   used-use bs φ ρ n id s ws retired h g l p = from-only 1 s p
   used-use bs φ ρ n id s ws free h g l p = from-only 1 s p

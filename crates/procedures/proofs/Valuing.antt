@@ -74,12 +74,12 @@ module _ (N : Numbers) (ns : List Name) (z : 0 < N .z) where
         (λ k. t.private (n - suc (ρ .level k)))
         (λ k. ρ .passed k n)
         (λ k. ρ .body k (λ j l. resolved N ns bs ρ l ws j) n)
-        (λ ty tys. t.name id (tyOf N ty) (resolveArgs N ns bs ρ n ws tys)))
+        (λ often ty tys. t.name id often (tyOf N ty) (resolveArgs N ns bs ρ n ws tys)))
   unfolding byMeaning Valued
   valued-use bs ρ n id ws (private k d) h g l = tt
   valued-use bs ρ n id ws (argument k ty) h g l = h .passed k n
   valued-use bs ρ n id ws (routine k ty tys) h g l = h .body k (λ j i. resolved N ns bs ρ i ws j) g n
-  valued-use bs ρ n id ws (named ty tys) h g l = l tys
+  valued-use bs ρ n id ws (named often ty tys) h g l = l tys
   valued-use bs ρ n id ws retired h g l = tt
   valued-use bs ρ n id ws free h g l = tt
 

@@ -7,6 +7,7 @@ use Rattle.language.specs.Term as t
 use Rattle.language.specs.Term.{Term}
 use Rattle.language.specs.Weight.{weight, weightArgs}
 use Rattle.language.specs.declared.Numbers.{Numbers}
+use Rattle.language.specs.Weight.{useWeight}
 use Rattle.procedures.specs.Written.{Written, skip, diverge, truth, number, call, fetch, operate, assign}
 use Rattle.procedures.specs.Written.{sequence, while, choose, new, procedure, Writtens, none, more, Name, Sheet}
 use Rattle.procedures.specs.Meaning.{Binder, a-block, Meaning, private, argument, routine, named, retired, free}
@@ -62,18 +63,18 @@ module _ (N : Numbers) (ns : List Name) where
           (λ k. t.private (n - suc (ρ .level k)))
           (λ k. ρ .passed k n)
           (λ k. ρ .body k (λ j l. resolved N ns bs ρ l ws j) n)
-          (λ ty tys. t.name id (tyOf N ty) (resolveArgs N ns bs ρ n ws tys)))
+          (λ often ty tys. t.name id often (tyOf N ty) (resolveArgs N ns bs ρ n ws tys)))
       ≡ byMeaning s 1
           (λ k. 2)
           (λ k. ω .passed k)
           (λ k. ω .body k (λ j. weighed N ns bs ω ws j))
-          (λ ty tys. 2 + weighArgs N ns bs ω ws tys)
+          (λ often ty tys. useWeight often + weighArgs N ns bs ω ws tys)
   unfolding byMeaning weight
   weigh-use bs ρ ω n id ws (private k d) h g l = refl
   weigh-use bs ρ ω n id ws (argument k ty) h g l = h .passed k n
   weigh-use bs ρ ω n id ws (routine k ty tys) h g l =
       h .body k (λ j i. resolved N ns bs ρ i ws j) (λ j. weighed N ns bs ω ws j) g n
-  weigh-use bs ρ ω n id ws (named ty tys) h g l = ap (2 +_) (l tys)
+  weigh-use bs ρ ω n id ws (named often ty tys) h g l = ap (useWeight often +_) (l tys)
   weigh-use bs ρ ω n id ws retired h g l = refl
   weigh-use bs ρ ω n id ws free h g l = refl
 

@@ -30,13 +30,13 @@ use Rattle.procedures.proofs.Numbering.{beyond-below, beyond-above, bey
 -- the result types of names
 unfoldable pub KnownNames : List Name → Type 0
 KnownNames [] = Unit
-KnownNames (declare id ty tys ∷ ns) = (ty < 5) × KnownNames ns
+KnownNames (declare often id ty tys ∷ ns) = (ty < 5) × KnownNames ns
 KnownNames (retire id ∷ ns) = KnownNames ns
 
 pub fine-known : (earlier ns : List Name) → FineNames earlier ns → KnownNames ns
 unfolding FineNames KnownNames
 fine-known earlier [] f = tt
-fine-known earlier (declare id ty tys ∷ ns) f = (f .2, fine-known (declare id ty tys ∷ earlier) ns (f .5))
+fine-known earlier (declare often id ty tys ∷ ns) f = (f .2, fine-known (declare often id ty tys ∷ earlier) ns (f .5))
 fine-known earlier (retire id ∷ ns) f = fine-known (retire id ∷ earlier) ns (f .2)
 
 -- more blocks around
@@ -82,7 +82,7 @@ module _ (N : Numbers) where
   Right ρ v (routine k ty tys) =
       (ty < 5) × ((w : List ℕ) (xs : ℕ → ℕ → term.Term) → Deeper v w → Passed w tys xs →
         Typed w (ρ .body k xs (length w)) (tyOf N ty))
-  Right ρ v (named ty tys) = ty < 5
+  Right ρ v (named often ty tys) = ty < 5
   Right ρ v retired = Unit
   Right ρ v free = Unit
 
@@ -100,14 +100,14 @@ module _ (N : Numbers) where
   right-deeper k ρ σ v w (argument j ty) a e b h = rw (a .passeds j b) (h .0, λ u f. h .1 u (further e f))
   right-deeper k ρ σ v w (routine j ty tys) a e b h =
       rw (a .bodies j b) (h .0, λ u xs f p. h .1 u xs (further e f) p)
-  right-deeper k ρ σ v w (named ty tys) a e b h = h
+  right-deeper k ρ σ v w (named often ty tys) a e b h = h
   right-deeper k ρ σ v w retired a e b h = tt
   right-deeper k ρ σ v w free a e b h = tt
 
   pub right-declared : (ρ : Terms) (v : List ℕ) (ns : List Name) (id : ℕ) → KnownNames ns → Right ρ v (declared ns id)
   unfolding Right KnownNames declared
   right-declared ρ v [] id k = tt
-  right-declared ρ v (declare j ty tys ∷ ns) id k =
+  right-declared ρ v (declare often j ty tys ∷ ns) id k =
       by-test (eqb j id) (λ t. rw t (k .0)) (λ t. rw t (right-declared ρ v ns id (k .1)))
   right-declared ρ v (retire j ∷ ns) id k = by-test (eqb j id) (λ t. rw t tt) (λ t. rw t (right-declared ρ v ns id k))
 
@@ -116,7 +116,7 @@ module _ (N : Numbers) where
   use-below ρ v (private k d) h = omega (arith, h .2)
   use-below ρ v (argument k ty) h = h .0
   use-below ρ v (routine k ty tys) h = h .0
-  use-below ρ v (named ty tys) h = h
+  use-below ρ v (named often ty tys) h = h
   use-below ρ v retired h = omega arith
   use-below ρ v free h = omega arith
 
@@ -241,7 +241,7 @@ module _ (N : Numbers) (ns : List Name) where
           (λ k. term.private (length v - suc (ρ .level k)))
           (λ k. ρ .passed k (length v))
           (λ k. ρ .body k (λ j l. resolved N ns bs ρ l ws j) (length v))
-          (λ ty tys. term.name id (tyOf N ty) (resolveArgs N ns bs ρ (length v) ws tys)))
+          (λ often ty tys. term.name id often (tyOf N ty) (resolveArgs N ns bs ρ (length v) ws tys)))
         (tyOf N (useType m))
   unfolding Right FineUse byMeaning useType Held
   typed-use bs ρ v id ws (private k d) (h, l, l′) f g p =
@@ -249,7 +249,7 @@ module _ (N : Numbers) (ns : List Name) where
       rw (ty-variable N (2 + d) (omega arith), e, values-up N d l l′) (a-private (h .1))
   typed-use bs ρ v id ws (argument k ty) h f g p = h .1 v same
   typed-use bs ρ v id ws (routine k ty tys) h f g p = h .1 v (λ j l. resolved N ns bs ρ l ws j) same (p tys f)
-  typed-use bs ρ v id ws (named ty tys) h f g p = a-name (g tys f)
+  typed-use bs ρ v id ws (named often ty tys) h f g p = a-name (g tys f)
   typed-use bs ρ v id ws retired h f g p = absurd f
   typed-use bs ρ v id ws free h f g p = absurd f
 

@@ -13,6 +13,7 @@ use Rattle.procedures.specs.Hiding.{isHeld}
 use Rattle.procedures.specs.Renumber.{isNamed, isBound, takenAtFirst, lowestFrom, lowest, Change, Renumbering}
 use Rattle.procedures.specs.Renumber.{renumbered, none-left, over, before, next, changed, renumberId, withId}
 use Rattle.procedures.specs.Renumber.{renumberParameters, renumber, renumberAll, renumberSheet}
+use Rattle.language.specs.Term.{freely}
 
 unfoldable sheet : List Name → Written → Sheet
 sheet ns W = record { numbers = record { z = 1; rule = 0 }; names = ns; term = W }
@@ -43,7 +44,7 @@ unfolding Written-as sheet by set change renumberSheet renumber renumberAll renu
 nested = (refl, refl)
 
 -- ids declared, retired, and bound to the right are not given
-passed-over : Written-as (renumberSheet (sheet (declare 0 0 [] ∷ retire 1 ∷ [])
+passed-over : Written-as (renumberSheet (sheet (declare freely 0 0 [] ∷ retire 1 ∷ [])
       (new 9 1 (sequence (new 9 1 (set 9)) (sequence (by 0) (new 2 1 (set 9)))))))
     (new 9 1 (sequence (new 3 1 (set 3)) (sequence (by 0) (new 2 1 (set 9))))) (change 17 9 3 ∷ [])
 unfolding Written-as sheet by set change renumberSheet renumber renumberAll renumberId changed over before next

@@ -23,7 +23,7 @@ unfoldable mutual
   come ns bs κ (number b) = 0
   come ns bs κ (call id ws) =
       byMeaning (meaning ns bs id) 0 (λ k. 0) (λ k. suc k) (λ k. through k (κ k) (λ j. comes ns bs κ ws j))
-          (λ ty tys. 0)
+          (λ often ty tys. 0)
   come ns bs κ (fetch v) = 0
   come ns bs κ (operate op l r) = 0
   come ns bs κ (assign v e) = 0

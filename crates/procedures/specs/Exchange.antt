@@ -12,7 +12,7 @@ use Rattle.procedures.specs.Form.{Forms, with-form, formOf}
 
 -- whether argument j is used: those of declared names are, those of a procedure by their parameters' coefficients
 unfoldable pub usedBy : Forms → Meaning → ℕ → ℕ
-usedBy φ m j = byMeaning m 1 (λ k. 1) (λ k. 1) (λ k. φ .form k .of (k + j)) (λ ty tys. 1)
+usedBy φ m j = byMeaning m 1 (λ k. 1) (λ k. 1) (λ k. φ .form k .of (k + j)) (λ often ty tys. 1)
 
 mutual
   pub data Exchanged (N : Numbers) (ns : List Name) : List Binder → Forms → Written → Written → Type 0 where

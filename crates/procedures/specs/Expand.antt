@@ -11,6 +11,7 @@ use Rattle.language.specs.Ty.{Ty}
 use Rattle.language.specs.Term.{Operation}
 use Rattle.language.specs.Typing.{operands}
 use Rattle.language.specs.declared.Numbers.{Numbers}
+use Rattle.language.specs.Term.{Often}
 use Rattle.parts.specs.Rule.{values}
 use Rattle.procedures.specs.Environment.{beyond}
 use Rattle.procedures.specs.Written.{Written, skip, diverge, truth, number, call, fetch, operate, assign}
@@ -62,9 +63,9 @@ module _ (N : Numbers) (ns : List Name) (R : ℕ → Option Row) where
         Expands Γ ε (number b) n n (suc n)
       of-private : {Γ : Context} {ε : Slots} {n id k d : ℕ} {ws : Writtens} → meaning ns (binders Γ) id ≡ private k d →
         R n ≡ some (s.private (ε .block k)) → Expands Γ ε (call id ws) n n (suc n)
-      of-name : {Γ : Context} {ε : Slots} {n m id ty : ℕ} {tys : List ℕ} {ws : Writtens} {xs : Parts} →
-        meaning ns (binders Γ) id ≡ named ty tys → ExpandsArgs Γ ε ws tys (suc n) xs m →
-        R n ≡ some (s.name id (tyOf N ty) xs) → Expands Γ ε (call id ws) n n m
+      of-name : {Γ : Context} {ε : Slots} {n m id ty : ℕ} {often : Often} {tys : List ℕ} {ws : Writtens} {xs : Parts} →
+        meaning ns (binders Γ) id ≡ named often ty tys → ExpandsArgs Γ ε ws tys (suc n) xs m →
+        R n ≡ some (s.name id often (tyOf N ty) xs) → Expands Γ ε (call id ws) n n m
       of-fetch : {Γ : Context} {ε : Slots} {n a m : ℕ} {x : Written} → Expands Γ ε x (suc n) a m →
         R n ≡ some (s.fetch a) → Expands Γ ε (fetch x) n n m
       of-operate : {Γ : Context} {ε : Slots} {n a i b m op : ℕ} {x y : Written} →

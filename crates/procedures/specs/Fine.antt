@@ -45,7 +45,7 @@ unfoldable pub FineUse : Meaning → Type 0 → (List ℕ → Type 0) → Type 0
 FineUse (private k d) P Q = P
 FineUse (argument k ty) P Q = P
 FineUse (routine k ty tys) P Q = Q tys
-FineUse (named ty tys) P Q = Q tys
+FineUse (named often ty tys) P Q = Q tys
 FineUse retired P Q = ⊥
 FineUse free P Q = ⊥
 
@@ -104,9 +104,9 @@ AllTypes (ty ∷ tys) = (ty < types) × AllTypes tys
 -- name records, after those in earlier, the last first
 unfoldable pub FineNames : List Name → List Name → Type 0
 FineNames earlier [] = Unit
-FineNames earlier (declare id ty tys ∷ ns) =
+FineNames earlier (declare often id ty tys ∷ ns) =
     (id < ids) × (declared earlier id ≡ free) × (ty < types) × (length tys < counts) × AllTypes tys
-    × FineNames (declare id ty tys ∷ earlier) ns
+    × FineNames (declare often id ty tys ∷ earlier) ns
 FineNames earlier (retire id ∷ ns) =
     (id < ids) × (declared earlier id ≡ free) × FineNames (retire id ∷ earlier) ns
 

@@ -9,6 +9,7 @@ use Rattle.language.specs.Ty.{questions, answers}
 use Rattle.language.specs.Term.{Operation}
 use Rattle.language.specs.Typing.{operands}
 use Rattle.language.specs.declared.Numbers.{Numbers}
+use Rattle.language.specs.Weight.{useWeight}
 use Rattle.parts.specs.Rule.{values}
 use Rattle.procedures.specs.Environment.{beyond}
 use Rattle.procedures.specs.Written.{Written, skip, diverge, truth, number, call, fetch, operate, assign}
@@ -69,7 +70,7 @@ unfoldable mutual
         (λ k. only 2)
         (λ k. unit k)
         (λ k. instance k (φ .count k) (φ .form k) (λ j. formed N ns bs φ ws j))
-        (λ ty tys. plus (only 2) (formArgs N ns bs φ ws tys))
+        (λ often ty tys. plus (only (useWeight often)) (formArgs N ns bs φ ws tys))
   formOf N ns bs φ (fetch v) = formOf N ns bs φ v
   formOf N ns bs φ (operate op l r) =
       let o : Operation = record { over = N; operator = op } in

@@ -20,6 +20,7 @@ pub mod Represent
 pub mod Exchange
 pub mod LeaveOut
 pub mod Rules
+pub mod Asking
 pub mod Mapped
 pub mod PartKind
 pub mod Table

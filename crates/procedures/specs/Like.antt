@@ -13,7 +13,7 @@ unfoldable pub IsNamed : Meaning → Type 0
 IsNamed (private k d) = ⊥
 IsNamed (argument k ty) = ⊥
 IsNamed (routine k ty tys) = ⊥
-IsNamed (named ty tys) = Unit
+IsNamed (named often ty tys) = Unit
 IsNamed retired = ⊥
 IsNamed free = ⊥
 

@@ -31,7 +31,7 @@ unfoldable mutual
         (λ k. 1)
         (λ k. 0)
         (λ k. μ k + total (φ .count k) (λ j. sign (φ .form k .of (k + j)) * mades N ns bs φ μ ws j))
-        (λ ty tys. 1 + madeArgs N ns bs φ μ ws tys)
+        (λ often ty tys. 1 + madeArgs N ns bs φ μ ws tys)
   made N ns bs φ μ (fetch v) = 1 + made N ns bs φ μ v
   made N ns bs φ μ (operate op x y) = 1 + made N ns bs φ μ x + made N ns bs φ μ y
   made N ns bs φ μ (assign x y) = 1 + made N ns bs φ μ x + made N ns bs φ μ y

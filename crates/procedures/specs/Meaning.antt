@@ -12,7 +12,7 @@ use Rattle.language.specs.Choice.{pick}
 use Rattle.language.specs.Number.{numbers, code, fromByte}
 use Rattle.language.specs.Ty.{Ty, command, expression, variable}
 use Rattle.language.specs.Term as t
-use Rattle.language.specs.Term.{Term, Args, Operation}
+use Rattle.language.specs.Term.{Term, Often, Args, Operation}
 use Rattle.language.specs.Typing.{operands}
 use Rattle.language.specs.declared.Numbers.{Numbers}
 use Rattle.parts.specs.Rule.{values, resultType}
@@ -38,13 +38,13 @@ pub data Meaning : Type 0 where
   argument : ℕ → ℕ → Meaning
   -- a procedure: its number, its result type and the types of its parameters
   routine : ℕ → ℕ → List ℕ → Meaning
-  -- a declared name: the result type and the argument types
-  named : ℕ → List ℕ → Meaning
+  -- a declared name: how often it asks in a call, the result type and the argument types
+  named : Often → ℕ → List ℕ → Meaning
   retired free : Meaning
 
 unfoldable pub declared : List Name → ℕ → Meaning
 declared [] id = free
-declared (declare k ty tys ∷ ns) id = pick (eqb k id) (named ty tys) (declared ns id)
+declared (declare often k ty tys ∷ ns) id = pick (eqb k id) (named often ty tys) (declared ns id)
 declared (retire k ∷ ns) id = pick (eqb k id) retired (declared ns id)
 
 unfoldable pub idOf : Binder → ℕ
@@ -86,7 +86,7 @@ unfoldable pub useType : Meaning → ℕ
 useType (private k d) = 2 + d
 useType (argument k ty) = ty
 useType (routine k ty tys) = ty
-useType (named ty tys) = ty
+useType (named often ty tys) = ty
 useType retired = 0
 useType free = 0
 
@@ -117,11 +117,12 @@ some-value N ty = go (eqb ty 1) (eqb ty 3)
     go false false = omega arith
 
 -- a use by what its id means; an accepted sheet uses no id that is retired or free
-unfoldable pub byMeaning {ℓ} : {X : Type ℓ} → Meaning → X → (ℕ → X) → (ℕ → X) → (ℕ → X) → (ℕ → List ℕ → X) → X
+unfoldable pub byMeaning {ℓ} : {X : Type ℓ} → Meaning → X → (ℕ → X) → (ℕ → X) → (ℕ → X) → (Often → ℕ → List ℕ → X) →
+  X
 byMeaning (private k d) o v a r g = v k
 byMeaning (argument k ty) o v a r g = a k
 byMeaning (routine k ty tys) o v a r g = r k
-byMeaning (named ty tys) o v a r g = g ty tys
+byMeaning (named often ty tys) o v a r g = g often ty tys
 byMeaning retired o v a r g = o
 byMeaning free o v a r g = o
 
@@ -161,7 +162,7 @@ unfoldable mutual
         (λ k. t.private (n - suc (ρ .level k)))
         (λ k. ρ .passed k n)
         (λ k. ρ .body k (λ j l. resolved N ns bs ρ l ws j) n)
-        (λ ty tys. t.name id (tyOf N ty) (resolveArgs N ns bs ρ n ws tys))
+        (λ often ty tys. t.name id often (tyOf N ty) (resolveArgs N ns bs ρ n ws tys))
   resolve N ns bs ρ n (fetch v) = t.fetch (resolve N ns bs ρ n v)
   resolve N ns bs ρ n (operate op l r) =
       let o : Operation = record { over = N; operator = op } in

@@ -11,7 +11,7 @@ unfoldable mutual
   nodes diverge = 1
   nodes (const v) = 1
   nodes (private i) = 1
-  nodes (name i T args) = 1 + nodesArgs args
+  nodes (name i o T args) = 1 + nodesArgs args
   nodes (fetch X) = 1 + nodes X
   nodes (operate m o L R) = 1 + nodes L + nodes R
   nodes (assign m X E) = 1 + nodes X + nodes E
@@ -30,7 +30,7 @@ unfoldable mutual
   deep diverge = 1
   deep (const v) = 1
   deep (private i) = 1
-  deep (name i T args) = 1 + deepArgs args
+  deep (name i o T args) = 1 + deepArgs args
   deep (fetch X) = 1 + deep X
   deep (operate m o L R) = 1 + max (deep L) (deep R)
   deep (assign m X E) = 1 + max (deep X) (deep E)
@@ -50,7 +50,7 @@ unfoldable mutual
   Valued diverge = Unit
   Valued (const v) = Unit
   Valued (private i) = Unit
-  Valued (name i T args) = ValuedArgs args
+  Valued (name i o T args) = ValuedArgs args
   Valued (fetch X) = Valued X
   Valued (operate m o L R) = (0 < m) × Valued L × Valued R
   Valued (assign m X E) = (0 < m) × Valued X × Valued E

@@ -6,7 +6,7 @@ use mathlib.Core.List.{List, [], _∷_}
 use lib.ListN.{length}
 use Rattle.language.specs.Ty.{Ty}
 use Rattle.language.specs.Term.{Term, name, fetch, operate, assign, seq, while}
-use Rattle.language.specs.Term.{cond, new, Args, arg, Operation}
+use Rattle.language.specs.Term.{cond, new, Often, Args, arg, Operation}
 use Rattle.procedures.specs.Meaning.{Binder, a-block, a-parameter, a-procedure}
 use Rattle.procedures.specs.Form.{Form}
 
@@ -14,7 +14,7 @@ use Rattle.procedures.specs.Form.{Form}
 mutual
   pub data Part (P : Term) : Term → Type 0 where
     whole : Part P P
-    in-name : {i : ℕ} {T : Ty} {args : Args} → PartArgs P args → Part P (name i T args)
+    in-name : {i : ℕ} {o : Often} {T : Ty} {args : Args} → PartArgs P args → Part P (name i o T args)
     in-fetch : {X : Term} → Part P X → Part P (fetch X)
     in-left : {m : ℕ} {o : Operation} {L R : Term} → Part P L → Part P (operate m o L R)
     in-right : {m : ℕ} {o : Operation} {L R : Term} → Part P R → Part P (operate m o L R)

@@ -69,9 +69,16 @@ DETAIL = 4
 abbrev pub PARTS : ℕ
 PARTS = 5
 
--- the detail of a name is its id and this many times the number of its arguments
+-- the detail of a name is its id and this many times the number of its arguments, which is below COUNTS; where the name
+-- asks once, it has ONCE besides
 abbrev pub IDS : ℕ
 IDS = 256
+
+abbrev pub COUNTS : ℕ
+COUNTS = 8
+
+abbrev pub ONCE : ℕ
+ONCE = 2048
 
 -- the detail of a use of a procedure is the place of the procedure's record and this many times the number of arguments
 abbrev pub PLACES : ℕ

@@ -11,7 +11,7 @@ use lib.ListN.{length}
 use Rattle.language.specs.Number.{code, fromByte}
 use Rattle.language.specs.Ty.{Question, run, ask, read, write, Answer, done, ok, value, Answers}
 use Rattle.language.specs.Move.{question, answer, at, private, move, Word}
-use Rattle.language.specs.Play.{Val, Cat, Star, kept, hide, Stable, VarPair, Use, whole}
+use Rattle.language.specs.Play.{Val, Cat, Star, kept, hide, Stable, VarPair, AsOften, Use, whole}
 use Rattle.language.specs.Term.{Operation, apply}
 use Rattle.language.specs.Typing.{operands}
 use Rattle.language.specs.declared.Numbers.{Numbers}
@@ -59,8 +59,8 @@ unfoldable mutual
           ∷ move (private (n - suc (π .level k))) (answer a) ∷ []))
         (λ k. π .passed k n q a u)
         (λ k. π .body k (λ j l p b x. PlaysPassed N ns bs π l ws j p b x) n q a u)
-        (λ ty tys. Answers (tyOf N ty) q a
-          × (v : Word) × Star (Use id (λ j p b x. PlaysArgs N ns bs π n ws tys j p b x)) v
+        (λ often ty tys. Answers (tyOf N ty) q a
+          × (v : Word) × AsOften often (Use id (λ j p b x. PlaysArgs N ns bs π n ws tys j p b x)) v
           × (u ≡ move (at id 0) (question q) ∷ (v ++ (move (at id 0) (answer a) ∷ []))))
   PlaysIn N ns bs π n (fetch v) q a u = PlaysIn N ns bs π n v read a u
   PlaysIn N ns bs π n (operate op l r) q a u =

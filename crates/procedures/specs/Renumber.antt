@@ -20,7 +20,7 @@ use Rattle.procedures.specs.Hiding.{isHeld}
 -- "declared, retired"
 unfoldable pub isNamed : List Name → ℕ → Bool
 isNamed [] id = false
-isNamed (declare k ty tys ∷ ns) id = eqb k id || isNamed ns id
+isNamed (declare often k ty tys ∷ ns) id = eqb k id || isNamed ns id
 isNamed (retire k ∷ ns) id = eqb k id || isNamed ns id
 
 -- "bound anywhere in the sheet"

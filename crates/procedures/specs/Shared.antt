@@ -6,7 +6,7 @@ use mathlib.Core.Option.{Option, none, some}
 use mathlib.Core.List.{List, _∷_}
 use Rattle.language.specs.Ty.{Ty}
 use Rattle.language.specs.Term as t
-use Rattle.language.specs.Term.{Term, Args, Operation}
+use Rattle.language.specs.Term.{Term, Often, Args, Operation}
 use Rattle.language.specs.Typing.{Scope}
 
 -- parts by their rows; for arguments also the type
@@ -19,7 +19,7 @@ pub data Row : Type 0 where
   const : ℕ → Row
   -- the row of its new
   private : ℕ → Row
-  name : ℕ → Ty → Parts → Row
+  name : ℕ → Often → Ty → Parts → Row
   fetch : ℕ → Row
   operate : ℕ → Operation → ℕ → ℕ → Row
   assign : ℕ → ℕ → ℕ → Row
@@ -36,8 +36,8 @@ module _ (R : ℕ → Option Row) (Q : List ℕ → ℕ → Type 0) where
       rep-diverge : {p : List ℕ} {r : ℕ} → R r ≡ some diverge → Rep p r t.diverge
       rep-const : {p : List ℕ} {r v : ℕ} → R r ≡ some (const v) → Rep p r (t.const v)
       rep-private : {p : List ℕ} {r i v : ℕ} → R r ≡ some (private v) → Scope p i v → Rep p r (t.private i)
-      rep-name : {p : List ℕ} {r i : ℕ} {T : Ty} {xs : Parts} {args : Args} → R r ≡ some (name i T xs) →
-        Reps p xs args → Rep p r (t.name i T args)
+      rep-name : {p : List ℕ} {r i : ℕ} {o : Often} {T : Ty} {xs : Parts} {args : Args} → R r ≡ some (name i o T xs) →
+        Reps p xs args → Rep p r (t.name i o T args)
       rep-fetch : {p : List ℕ} {r a : ℕ} {X : Term} → R r ≡ some (fetch a) → Rep p a X → Rep p r (t.fetch X)
       rep-operate : {p : List ℕ} {r m a b : ℕ} {o : Operation} {L M : Term} → R r ≡ some (operate m o a b) → Rep p a L →
         Rep p b M → Rep p r (t.operate m o L M)
@@ -75,7 +75,7 @@ heightRow f (some skip) = 1
 heightRow f (some diverge) = 1
 heightRow f (some (const v)) = 1
 heightRow f (some (private v)) = 1
-heightRow f (some (name i T xs)) = 1 + heightParts f xs
+heightRow f (some (name i o T xs)) = 1 + heightParts f xs
 heightRow f (some (fetch a)) = 1 + f a
 heightRow f (some (operate m o a b)) = 1 + max (f a) (f b)
 heightRow f (some (assign m a b)) = 1 + max (f a) (f b)

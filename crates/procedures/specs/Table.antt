@@ -4,15 +4,16 @@
 -- The row of the part at a place: 0 kind (18 for every constant, 128 to 130 for uses of private variables, parameters and
 -- procedures), 1 the place after the part, 2 class of its type (0 command, 1 expression, 2 variable), 3 number of values
 -- of its data, 4 detail, 5 to 8 places of its parts. The detail of a constant is its code, of an operation its operator,
--- of a new the number of values of its variable, of a name its id and 256 times the number of its arguments, of a private
--- variable or a parameter the number of its binder, of a use of a procedure the place of the procedure's record and 4,096
--- times the number of its arguments, of a procedure its number.
+-- of a new the number of values of its variable, of a name its id, 256 times the number of its arguments and, where it
+-- asks once, 2,048, of a private variable or a parameter the number of its binder, of a use of a procedure the place of
+-- the procedure's record and 4,096 times the number of its arguments, of a procedure its number.
 use Prim.Native.Nat.{ℕ, suc, _+_, _*_, _≤_, _<_}
 use mathlib.Core.Path.{_≡_}
 use mathlib.Core.List.{List, [], _∷_}
 use lib.ListN.{length}
 use Rattle.language.specs.Number.{code, fromByte}
 use Rattle.language.specs.declared.Numbers.{Numbers}
+use Rattle.language.specs.Term.{Often, onces}
 use Rattle.records.specs.Limits.{most-bytes}
 use Rattle.parts.specs.Rule.{values}
 use Rattle.part_rows.specs.Row.{word, classOf}
@@ -25,14 +26,15 @@ use Rattle.procedures.specs.Fine.{depth}
 use Rattle.procedures.specs.Context.{Context, whole, in-block, in-procedure, in-scope, binders}
 use Rattle.procedures.specs.PartKind.{SKIP, DIVERGE, CONSTANT, NAME, FETCH, OPERATE, ASSIGN, SEQUENCE, IF, WHILE}
 use Rattle.procedures.specs.PartKind.{NEW, PROCEDURE, PRIVATE, PARAMETER, USE, KIND, END, CLASS, VALUES, DETAIL}
-use Rattle.procedures.specs.PartKind.{PARTS, IDS, PLACES}
+use Rattle.procedures.specs.PartKind.{PARTS, IDS, COUNTS, PLACES}
 
 -- the place of a procedure's record and how many arguments a use of it has
 unfoldable pub useDetail : ℕ → ℕ → ℕ
 useDetail place count = place + PLACES * count
 
-unfoldable pub nameDetail : ℕ → ℕ → ℕ
-nameDetail id count = id + IDS * count
+-- the id of a name, how many arguments it has, and whether it asks once
+unfoldable pub nameDetail : ℕ → ℕ → Often → ℕ
+nameDetail id count often = id + IDS * (count + COUNTS * onces often)
 
 module _ (N : Numbers) (ns : List Name) (t : List ℕ) where
   -- the row of the part W, of a kind, from a place up to another
@@ -63,9 +65,9 @@ module _ (N : Numbers) (ns : List Name) (t : List ℕ) where
         meaning ns (binders Γ) id ≡ routine k ty tys → PartRow Γ USE (call id ws) at end →
         word t at DETAIL ≡ useDetail (π k) (length tys) → length tys ≤ 4 → at < from →
         ShownArgs Γ π at 0 from end ws tys → Shown Γ π at end (call id ws)
-      shown-name : {Γ : Context} {π : ℕ → ℕ} {at from end id ty : ℕ} {tys : List ℕ} {ws : Writtens} →
-        meaning ns (binders Γ) id ≡ named ty tys → PartRow Γ NAME (call id ws) at end →
-        word t at DETAIL ≡ nameDetail id (length tys) → length tys ≤ 4 → at < from →
+      shown-name : {Γ : Context} {π : ℕ → ℕ} {at from end id ty : ℕ} {often : Often} {tys : List ℕ} {ws : Writtens} →
+        meaning ns (binders Γ) id ≡ named often ty tys → PartRow Γ NAME (call id ws) at end →
+        word t at DETAIL ≡ nameDetail id (length tys) often → length tys ≤ 4 → at < from →
         ShownArgs Γ π at 0 from end ws tys → Shown Γ π at end (call id ws)
       shown-fetch : {Γ : Context} {π : ℕ → ℕ} {at a end : ℕ} {x : Written} → PartRow Γ FETCH (fetch x) at end →
         word t at PARTS ≡ a → at < a → Shown Γ π a end x → Shown Γ π at end (fetch x)

@@ -9,6 +9,7 @@ use mathlib.Core.List.{List, [], _∷_}
 use mathlib.Core.Option.{Option, none as nothing, some}
 use lib.Dec.{eqb}
 use Rattle.language.specs.Choice.{pick}
+use Rattle.language.specs.Term.{Often}
 use Rattle.procedures.specs.Written.{Written, skip, diverge, truth, number, call, fetch, operate, assign}
 use Rattle.procedures.specs.Written.{sequence, while, choose, new, procedure, Parameter, Writtens, none, more}
 use Rattle.procedures.specs.Written.{Name, declare, retire, Sheet}
@@ -20,7 +21,7 @@ unfoldable pub isName : Meaning → Bool
 isName (private k d) = false
 isName (argument k ty) = false
 isName (routine k ty tys) = false
-isName (named ty tys) = true
+isName (named often ty tys) = true
 isName retired = false
 isName free = false
 
@@ -48,11 +49,11 @@ unfoldable mutual
 
 -- whether a record declares a name, and whether the routine uses it: a retired one is never used
 unfoldable pub isDeclared : Name → Bool
-isDeclared (declare id ty tys) = true
+isDeclared (declare often id ty tys) = true
 isDeclared (retire id) = false
 
 unfoldable pub isUsed : Sheet → Name → Bool
-isUsed S (declare id ty tys) = uses (S .names) id [] (S .term)
+isUsed S (declare often id ty tys) = uses (S .names) id [] (S .term)
 isUsed S (retire id) = false
 
 -- a bit: 1 where something holds
@@ -128,9 +129,10 @@ mutual
 pub record Touched (S : Sheet) (id : ℕ) : Type 0 where
   pub binders : List Binder
   pub found : UseIn [] (S .term) binders id
+  pub often : Often
   pub type : ℕ
   pub types : List ℕ
-  pub means : meaning (S .names) binders id ≡ named type types
+  pub means : meaning (S .names) binders id ≡ named often type types
 
 -- record i of a heading, counted from 0
 unfoldable pub recordAt : ℕ → List Name → Option Name
@@ -141,7 +143,7 @@ recordAt (suc i) (n ∷ ns) = recordAt i ns
 -- the record declares a name that some use in the sheet means
 unfoldable pub UsedRecord : Sheet → Option Name → Type 0
 UsedRecord S nothing = ⊥
-UsedRecord S (some (declare id ty tys)) = Touched S id
+UsedRecord S (some (declare often id ty tys)) = Touched S id
 UsedRecord S (some (retire id)) = ⊥
 
 -- "set exactly if some use in the sheet means that name": bit i of the mark

@@ -8,6 +8,7 @@ use Rattle.language.specs.Ty.{questions, answers}
 use Rattle.language.specs.Term.{Operation}
 use Rattle.language.specs.Typing.{operands}
 use Rattle.language.specs.declared.Numbers.{Numbers}
+use Rattle.language.specs.Weight.{useWeight}
 use Rattle.parts.specs.Rule.{values}
 use Rattle.procedures.specs.Environment.{beyond}
 use Rattle.procedures.specs.Written.{Written, skip, diverge, truth, number, call, fetch, operate, assign}
@@ -41,7 +42,7 @@ unfoldable mutual
         (λ k. 2)
         (λ k. ω .passed k)
         (λ k. ω .body k (λ j. weighed N ns bs ω ws j))
-        (λ ty tys. 2 + weighArgs N ns bs ω ws tys)
+        (λ often ty tys. useWeight often + weighArgs N ns bs ω ws tys)
   weigh N ns bs ω (fetch v) = weigh N ns bs ω v
   weigh N ns bs ω (operate op l r) =
       let o : Operation = record { over = N; operator = op } in

@@ -28,7 +28,7 @@ unfoldable mutual
   widths (more w ws) = width w + widths ws
 
 unfoldable pub nameWidth : Name → ℕ
-nameWidth (declare id ty tys) = 8
+nameWidth (declare often id ty tys) = 8
 nameWidth (retire id) = 2
 
 unfoldable pub namesWidth : List Name → ℕ

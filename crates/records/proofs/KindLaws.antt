@@ -102,7 +102,7 @@ module _ (k body parts : ℕ) (R : Rule) where
   pub shape-known : shapeOf k ≡ Part body parts R → Fits k body parts R
   unfolding shapeOf
   shape-known =
-      try 1 none (try 2 none′
+      try 1 (none 0) (try 2 none′ (try 3 (none 1)
       (try 16 (part 16 0 0 Skip (refl, refl, refl))
       (try 17 (part 17 1 0 Diverge (refl, refl, refl))
       (try 18 (part 18 1 0 Truth (refl, refl, refl))
@@ -115,10 +115,10 @@ module _ (k body parts : ℕ) (R : Rule) where
       (try 25 (part 25 0 3 If (refl, refl, refl))
       (try 26 (part 26 0 2 While (refl, refl, refl))
       (try 27 (part 27 2 1 New (refl, refl, refl))
-      (try 28 (part 28 11 2 Procedure (refl, refl, refl)) none″))))))))))))))
+      (try 28 (part 28 11 2 Procedure (refl, refl, refl)) none″)))))))))))))))
     where
-      none : {P : Type 0} → Declare 7 ≡ Part body parts R → P
-      none h = let z : _≡_ {A = ℕ} 0 1 = cc in absurd (omega arith)
+      none : {P : Type 0} (once : ℕ) → Declare 7 once ≡ Part body parts R → P
+      none once h = let z : _≡_ {A = ℕ} 0 1 = cc in absurd (omega arith)
 
       none′ : {P : Type 0} → Retire 1 ≡ Part body parts R → P
       none′ h = let z : _≡_ {A = ℕ} 0 1 = cc in absurd (omega arith)
@@ -132,9 +132,9 @@ pub body-part : (k body parts r : ℕ) (rule : Rule) → shapeOf k ≡ Part body
 unfolding bodyIn
 body-part k body parts r rule e i = rw (e, i) refl
 
-pub body-declare : (k body r : ℕ) → shapeOf k ≡ Declare body → r ≡ body → r ≡ bodyIn (shapeOf k)
+pub body-declare : (k body once r : ℕ) → shapeOf k ≡ Declare body once → r ≡ body → r ≡ bodyIn (shapeOf k)
 unfolding bodyIn
-body-declare k body r e i = rw (e, i) refl
+body-declare k body once r e i = rw (e, i) refl
 
 pub body-retire : (k body r : ℕ) → shapeOf k ≡ Retire body → r ≡ body → r ≡ bodyIn (shapeOf k)
 unfolding bodyIn
@@ -149,9 +149,9 @@ pub parts-part : (k body parts r : ℕ) (rule : Rule) → shapeOf k ≡ Part bod
 unfolding partsIn
 parts-part k body parts r rule e i = rw (e, i) refl
 
-pub parts-declare : (k body : ℕ) → shapeOf k ≡ Declare body → 0 ≡ partsIn (shapeOf k)
+pub parts-declare : (k body once : ℕ) → shapeOf k ≡ Declare body once → 0 ≡ partsIn (shapeOf k)
 unfolding partsIn
-parts-declare k body e = rw e refl
+parts-declare k body once e = rw e refl
 
 pub parts-retire : (k body : ℕ) → shapeOf k ≡ Retire body → 0 ≡ partsIn (shapeOf k)
 unfolding partsIn

@@ -21,47 +21,47 @@ module _ (c : ℕ) where
   unfolding standingOf
   is-retired e = rw (ne-eqb c 0 (λ z. omega arith), eq-eqb c 1 e)
 
-  pub is-declared : 2 ≤ c → c < 8192 → standingOf c ≡ Declared (c - 256)
+  pub is-declared : 2 ≤ c → c < 12288 → standingOf c ≡ Declared ((c - 256) / 2) ((c - 256) % 2)
   unfolding standingOf
-  is-declared l h = rw (ne-eqb c 0 (λ z. omega arith), ne-eqb c 1 (λ z. omega arith), lt-ltb c 8192 h)
+  is-declared l h = rw (ne-eqb c 0 (λ z. omega arith), ne-eqb c 1 (λ z. omega arith), lt-ltb c 12288 h)
 
-  pub is-first-declared : 2 ≤ c → c < 256 → standingOf c ≡ Declared 0
-  is-first-declared l h = is-declared l (omega arith) ∙ ap (λ p. Declared p) (omega arith)
+  pub is-first-declared : 2 ≤ c → c < 256 → standingOf c ≡ Declared 0 0
+  is-first-declared l h = is-declared l (omega arith) ∙ ap₂ (λ p o. Declared p o) (omega arith) (omega arith)
 
-  pub is-variable : 8192 ≤ c → c < 16384 → standingOf c ≡ Variable ((c - 8192) / 4) ((c - 8192) % 4)
+  pub is-variable : 12288 ≤ c → c < 16384 → standingOf c ≡ Variable ((c - 12288) / 4) ((c - 12288) % 4)
   unfolding standingOf
   is-variable l h =
-      rw (ne-eqb c 0 (λ z. omega arith), ne-eqb c 1 (λ z. omega arith), le-ltb c 8192 l, lt-ltb c 16384 h)
+      rw (ne-eqb c 0 (λ z. omega arith), ne-eqb c 1 (λ z. omega arith), le-ltb c 12288 l, lt-ltb c 16384 h)
 
   pub is-parameter : 16384 ≤ c → c < 32768 → standingOf c ≡ Parameter ((c - 16384) / 8) ((c - 16384) % 8)
   unfolding standingOf
   is-parameter l h =
-      rw (ne-eqb c 0 (λ z. omega arith), ne-eqb c 1 (λ z. omega arith), le-ltb c 8192 (omega arith),
+      rw (ne-eqb c 0 (λ z. omega arith), ne-eqb c 1 (λ z. omega arith), le-ltb c 12288 (omega arith),
         le-ltb c 16384 l, lt-ltb c 32768 h)
 
   pub is-procedure : 32768 ≤ c → standingOf c ≡ Procedure ((c - 32768) % 128) ((c - 32768) / 128)
   unfolding standingOf
   is-procedure l =
-      rw (ne-eqb c 0 (λ z. omega arith), ne-eqb c 1 (λ z. omega arith), le-ltb c 8192 (omega arith),
+      rw (ne-eqb c 0 (λ z. omega arith), ne-eqb c 1 (λ z. omega arith), le-ltb c 12288 (omega arith),
         le-ltb c 16384 (omega arith), le-ltb c 32768 l)
 
   -- enclosing binders have the standings from those of variables on
-  pub held-below : c < 8192 → false ≡ isHeld (standingOf c)
+  pub held-below : c < 12288 → false ≡ isHeld (standingOf c)
   unfolding standingOf isHeld
-  held-below h = rw (lt-ltb c 8192 h) (go (eqb c 0) (eqb c 1))
+  held-below h = rw (lt-ltb c 12288 h) (go (eqb c 0) (eqb c 1))
     where
-      go : (a b : Bool) → false ≡ isHeld (pick a Free (pick b Retired (Declared (c - 256))))
+      go : (a b : Bool) → false ≡ isHeld (pick a Free (pick b Retired (Declared ((c - 256) / 2) ((c - 256) % 2))))
       go true b = refl
       go false true = refl
       go false false = refl
 
-  pub held-from : 8192 ≤ c → true ≡ isHeld (standingOf c)
+  pub held-from : 12288 ≤ c → true ≡ isHeld (standingOf c)
   unfolding standingOf isHeld
   held-from l =
-      rw (ne-eqb c 0 (λ z. omega arith), ne-eqb c 1 (λ z. omega arith), le-ltb c 8192 l)
+      rw (ne-eqb c 0 (λ z. omega arith), ne-eqb c 1 (λ z. omega arith), le-ltb c 12288 l)
         (go (ltb c 16384) (ltb c 32768))
     where
-      go : (a b : Bool) → true ≡ isHeld (pick a (Variable ((c - 8192) / 4) ((c - 8192) % 4))
+      go : (a b : Bool) → true ≡ isHeld (pick a (Variable ((c - 12288) / 4) ((c - 12288) % 4))
         (pick b (Parameter ((c - 16384) / 8) ((c - 16384) % 8)) (Procedure ((c - 32768) % 128) ((c - 32768) / 128))))
       go true b = refl
       go false true = refl
@@ -71,7 +71,7 @@ module _ (c : ℕ) where
 abbrev holdsOf : Standing → ℕ
 holdsOf Free = 0
 holdsOf Retired = 0
-holdsOf (Declared place) = 0
+holdsOf (Declared place once) = 0
 holdsOf (Variable number holds) = holds
 holdsOf (Parameter number ty) = 0
 holdsOf (Procedure number place) = 0
@@ -84,8 +84,8 @@ holds-below : (c : ℕ) → holdsOf (standingOf c) < 4
 unfolding standingOf
 holds-below c =
     either (eqb c 0) Free _ (omega arith) (either (eqb c 1) Retired _ (omega arith)
-      (either (ltb c 8192) (Declared (c - 256)) _ (omega arith)
-      (either (ltb c 16384) (Variable ((c - 8192) / 4) ((c - 8192) % 4)) _ (omega arith)
+      (either (ltb c 12288) (Declared ((c - 256) / 2) ((c - 256) % 2)) _ (omega arith)
+      (either (ltb c 16384) (Variable ((c - 12288) / 4) ((c - 12288) % 4)) _ (omega arith)
       (either (ltb c 32768) (Parameter ((c - 16384) / 8) ((c - 16384) % 8))
         (Procedure ((c - 32768) % 128) ((c - 32768) / 128)) (omega arith) (omega arith)))))
 
@@ -93,16 +93,18 @@ pub holds-small : (c number holds : ℕ) → standingOf c ≡ Variable number ho
 holds-small c number holds h = rw h at (holds-below c)
 
 -- each standing is read back as it was made
-pub declared-again : (place : ℕ) → place < 7936 → standingOf (declaredStanding place) ≡ Declared place
+pub declared-again : (place once : ℕ) → place < 4098 → once < 2 →
+    standingOf (declaredStanding place once) ≡ Declared place once
 unfolding declaredStanding
-declared-again place h =
-    is-declared (256 + place) (omega arith) (omega arith) ∙ ap (λ p. Declared p) (omega arith)
+declared-again place once h l =
+    is-declared (256 + 2 * place + once) (omega arith) (omega arith) ∙
+      ap₂ (λ p o. Declared p o) (omega arith) (omega arith)
 
 pub variable-again :
-    (number holds : ℕ) → number < 2048 → holds < 4 → standingOf (variableStanding number holds) ≡ Variable number holds
+    (number holds : ℕ) → number < 1024 → holds < 4 → standingOf (variableStanding number holds) ≡ Variable number holds
 unfolding variableStanding
 variable-again number holds h l =
-    is-variable (8192 + 4 * number + holds) (omega arith) (omega arith) ∙
+    is-variable (12288 + 4 * number + holds) (omega arith) (omega arith) ∙
       ap₂ (λ n d. Variable n d) (omega arith) (omega arith)
 
 pub parameter-again :

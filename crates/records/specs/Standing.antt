@@ -1,9 +1,10 @@
 -- The standing of an id. Document 01, "Required forms by place": "An array [0; 255] holds each id's standing: free, retired,
 -- declared record or enclosing variable"; document 02 [1]: an enclosing procedure or parameter too. SHEETS 2.6.
 --
--- A standing is a number, which says whether the id is free, retired, declared by the record at a place, or held by an
--- enclosing binder: the variable of a new with its data (1 truth, 2 number), a parameter with its type, a procedure with
--- the place of its record. Enclosing binders are numbered from the outermost, which is 0; there are at most 128.
+-- A standing is a number, which says whether the id is free, retired, declared by the record at a place (with 1 where
+-- the name asks once, document 02 [5], else 0), or held by an enclosing binder: the variable of a new with its data (1
+-- truth, 2 number), a parameter with its type, a procedure with the place of its record. Enclosing binders are numbered
+-- from the outermost, which is 0; there are at most 128.
 use Prim.Native.Nat.{ℕ, _+_, _-_, _*_, _/_, _%_}
 use mathlib.Core.Bool.{Bool, true, false}
 use lib.Dec.{eqb, ltb}
@@ -25,7 +26,7 @@ abbrev pub declared : ℕ
 declared = 256
 
 abbrev pub variables : ℕ
-variables = 8192
+variables = 12288
 
 abbrev pub parameters : ℕ
 parameters = 16384
@@ -33,8 +34,8 @@ parameters = 16384
 abbrev pub procedures : ℕ
 procedures = 32768
 
-unfoldable pub declaredStanding : ℕ → ℕ
-declaredStanding place = declared + place
+unfoldable pub declaredStanding : ℕ → ℕ → ℕ
+declaredStanding place once = declared + 2 * place + once
 
 unfoldable pub variableStanding : ℕ → ℕ → ℕ
 variableStanding number holds = variables + 4 * number + holds
@@ -50,7 +51,7 @@ unfoldable pub standingOf : ℕ → Standing
 standingOf c =
     pick (eqb c free) Free
     (pick (eqb c retired) Retired
-    (pick (ltb c variables) (Declared (c - declared))
+    (pick (ltb c variables) (Declared ((c - declared) / 2) ((c - declared) % 2))
     (pick (ltb c parameters) (Variable ((c - variables) / 4) ((c - variables) % 4))
     (pick (ltb c procedures) (Parameter ((c - parameters) / 8) ((c - parameters) % 8))
     (Procedure ((c - procedures) % 128) ((c - procedures) / 128))))))
@@ -59,7 +60,7 @@ standingOf c =
 unfoldable pub isNamed : Standing → Bool
 isNamed Free = false
 isNamed Retired = true
-isNamed (Declared place) = true
+isNamed (Declared place once) = true
 isNamed (Variable number holds) = false
 isNamed (Parameter number ty) = false
 isNamed (Procedure number place) = false
@@ -68,7 +69,7 @@ isNamed (Procedure number place) = false
 unfoldable pub isHeld : Standing → Bool
 isHeld Free = false
 isHeld Retired = false
-isHeld (Declared place) = false
+isHeld (Declared place once) = false
 isHeld (Variable number holds) = true
 isHeld (Parameter number ty) = true
 isHeld (Procedure number place) = true
@@ -77,7 +78,7 @@ isHeld (Procedure number place) = true
 unfoldable pub resultOf : List ℕ → Standing → ℕ
 resultOf s Free = 0
 resultOf s Retired = 0
-resultOf s (Declared place) = getD s (place + 2) 0
+resultOf s (Declared place once) = getD s (place + 2) 0
 resultOf s (Variable number holds) = 2 + holds
 resultOf s (Parameter number ty) = ty
 resultOf s (Procedure number place) = getD s (place + 2) 0
@@ -87,7 +88,7 @@ resultOf s (Procedure number place) = getD s (place + 2) 0
 unfoldable pub countOf : List ℕ → Standing → ℕ
 countOf s Free = 0
 countOf s Retired = 0
-countOf s (Declared place) = getD s (place + 3) 0
+countOf s (Declared place once) = getD s (place + 3) 0
 countOf s (Variable number holds) = 0
 countOf s (Parameter number ty) = 0
 countOf s (Procedure number place) = getD s (place + 3) 0
@@ -95,7 +96,7 @@ countOf s (Procedure number place) = getD s (place + 3) 0
 unfoldable pub argumentOf : List ℕ → Standing → ℕ → ℕ
 argumentOf s Free j = 0
 argumentOf s Retired j = 0
-argumentOf s (Declared place) j = getD s (place + 4 + j) 0
+argumentOf s (Declared place once) j = getD s (place + 4 + j) 0
 argumentOf s (Variable number holds) j = 0
 argumentOf s (Parameter number ty) j = 0
 argumentOf s (Procedure number place) j = getD s (place + 5 + 2 * j) 0

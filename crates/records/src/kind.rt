@@ -8,6 +8,8 @@ pub const DECLARE: u8 = 1;
 
 pub const RETIRE: u8 = 2;
 
+pub const DECLARE_ONCE: u8 = 3;
+
 pub const SKIP: u8 = 16;
 
 pub const DIVERGE: u8 = 17;
@@ -65,10 +67,11 @@ pub enum Rule {
     Procedure,
 }
 
-// The shape of a kind: the length of the body and, of a part of a term, the number of its parts and its rule.
+// The shape of a kind: the length of the body and, of a declaration, 1 where the name asks once, else 0; of a part of a
+// term, the number of its parts and its rule.
 pub enum Shape {
     Part { body: u8, parts: u8, rule: Rule },
-    Declare { body: u8 },
+    Declare { body: u8, once: u8 },
     Retire { body: u8 },
     Unknown,
 }
@@ -85,9 +88,10 @@ pub fn shape_of(kind: u8) -> Shape
     ensures { λ r. ⌜ r ≡ shapeOf kind ⌝ }
 {
     match kind {
-        0 | 3..=15 | 29..=255 => Shape::Unknown,
-        DECLARE => Shape::Declare { body: 7 },
+        0 | 4..=15 | 29..=255 => Shape::Unknown,
+        DECLARE => Shape::Declare { body: 7, once: 0 },
         RETIRE => Shape::Retire { body: 1 },
+        DECLARE_ONCE => Shape::Declare { body: 7, once: 1 },
         SKIP => part(0, 0, Rule::Skip),
         DIVERGE => part(1, 0, Rule::Diverge),
         TRUTH => part(1, 0, Rule::Truth),
@@ -115,7 +119,7 @@ pub fn body_of(kind: u8) -> usize
             parts: _,
             rule: _,
         } => body as usize,
-        Shape::Declare { body } => body as usize,
+        Shape::Declare { body, once: _ } => body as usize,
         Shape::Retire { body } => body as usize,
         Shape::Unknown => 0,
     }
@@ -132,7 +136,7 @@ pub fn parts_of(kind: u8) -> usize
             parts,
             rule: _,
         } => parts as usize,
-        Shape::Declare { body: _ } => 0,
+        Shape::Declare { body: _, once: _ } => 0,
         Shape::Retire { body: _ } => 0,
         Shape::Unknown => 0,
     }

@@ -16,13 +16,16 @@ pub const RETIRED: u32 = 1;
 // The first standings of declared ids, of variables, of parameters and of procedures.
 pub const DECLARED: u32 = 256;
 
-pub const VARIABLES: u32 = 8192;
+pub const VARIABLES: u32 = 12288;
 
 pub const PARAMETERS: u32 = 16384;
 
 pub const PROCEDURES: u32 = 32768;
 
-// By what the number of a variable or a parameter and the place of a procedure are multiplied in a standing.
+// By what the place of a name's record, the number of a variable or a parameter and the place of a procedure are
+// multiplied in a standing.
+const DECLARED_STEP: u32 = 2;
+
 const VARIABLE_STEP: u32 = 4;
 
 const PARAMETER_STEP: u32 = 8;
@@ -32,23 +35,23 @@ const PROCEDURE_STEP: u32 = 128;
 // The type of a variable is its data and this.
 const VARIABLE_TYPE: u8 = 2;
 
-// What a standing says: the place of the record that declares the id; of a binder its number, and the data of a
-// variable, the type of a parameter, the place of a procedure's record.
+// What a standing says: the place of the record that declares the id, and 1 where the name asks once; of a binder its
+// number, and the data of a variable, the type of a parameter, the place of a procedure's record.
 pub enum Standing {
     Free,
     Retired,
-    Declared { place: u32 },
+    Declared { place: u32, once: u8 },
     Variable { number: u16, holds: u8 },
     Parameter { number: u16, ty: u8 },
     Procedure { number: u16, place: u32 },
 }
 
-// Declared by the record at a place.
-pub fn declared_standing(place: usize) -> u32
+// Declared by the record at a place; once is 1 where the name asks once, else 0.
+pub fn declared_standing(place: usize, once: u8) -> u32
     requires { ⌜ place ≤ 4096 ⌝ }
-    ensures { λ r. ⌜ r ≡ declaredStanding place ⌝ }
+    ensures { λ r. ⌜ r ≡ declaredStanding place once ⌝ }
 {
-    DECLARED + place as u32
+    DECLARED + DECLARED_STEP * (place as u32) + once as u32
 }
 
 // The variable of a new that `number` binders enclose; it holds truths, 1, or numbers, 2.
@@ -85,11 +88,13 @@ pub fn meaning_of(c: u32) -> Standing
         return Standing::Retired;
     }
     if c < DECLARED {
-        return Standing::Declared { place: 0 };
+        return Standing::Declared { place: 0, once: 0 };
     }
     if c < VARIABLES {
+        let rest = c - DECLARED;
         return Standing::Declared {
-            place: c - DECLARED,
+            place: rest / DECLARED_STEP,
+            once: (rest % DECLARED_STEP) as u8,
         };
     }
     if c < PARAMETERS {
@@ -121,7 +126,7 @@ pub fn is_named(c: u32) -> bool
     match standing {
         Standing::Free => false,
         Standing::Retired => true,
-        Standing::Declared { place: _ } => true,
+        Standing::Declared { place: _, once: _ } => true,
         Standing::Variable {
             number: _,
             holds: _,
@@ -152,7 +157,7 @@ pub fn result_of(s: &[u8], c: u32) -> u8
     match standing {
         Standing::Free => 0,
         Standing::Retired => 0,
-        Standing::Declared { place } => byte_at(s, place as usize + RESULT),
+        Standing::Declared { place, once: _ } => byte_at(s, place as usize + RESULT),
         Standing::Variable { number: _, holds } => VARIABLE_TYPE + holds,
         Standing::Parameter { number: _, ty } => ty,
         Standing::Procedure { number: _, place } => byte_at(s, place as usize + RESULT),
@@ -167,7 +172,7 @@ pub fn count_of(s: &[u8], c: u32) -> u8
     match standing {
         Standing::Free => 0,
         Standing::Retired => 0,
-        Standing::Declared { place } => byte_at(s, place as usize + COUNT),
+        Standing::Declared { place, once: _ } => byte_at(s, place as usize + COUNT),
         Standing::Variable {
             number: _,
             holds: _,
@@ -185,7 +190,10 @@ pub fn argument_of(s: &[u8], c: u32, j: u8) -> u8
     match standing {
         Standing::Free => 0,
         Standing::Retired => 0,
-        Standing::Declared { place } => byte_at(s, place as usize + ARGUMENT_TYPES + j as usize),
+        Standing::Declared { place, once: _ } => byte_at(
+            s,
+            place as usize + ARGUMENT_TYPES + j as usize,
+        ),
         Standing::Variable {
             number: _,
             holds: _,

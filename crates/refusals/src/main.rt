@@ -1,5 +1,5 @@
-// Document 01's examples of what check refuses, sheets at the ends of Z, sheets with procedures, and ids that enclosing
-// binders hold, through the service check.
+// Document 01's examples of what check refuses, sheets at the ends of Z, sheets with procedures, ids that enclosing
+// binders hold, and names that ask once, through the service check.
 use judge::check::Checked;
 use judge::check::check;
 use libc::STDOUT_FILENO;
@@ -264,6 +264,31 @@ fn free() {
     named(&inner);
 }
 
+// Document 02, [5]: the bytes of a name record of kind 3, which are judged as those of kind 1.
+fn once() {
+    // Cut short.
+    show(b"\x01\x00\x03");
+    // The id, the result type, the number of arguments and an argument type out of range.
+    show(b"\x01\x00\x03\xff");
+    show(b"\x01\x00\x03\x07\x05");
+    show(b"\x01\x00\x03\x07\x00\x05");
+    show(b"\x01\x00\x03\x07\x00\x01\x05");
+    // An unused argument type that is not 255, before the end and at the end.
+    show(b"\x01\x00\x03\x07\x00\x01\x00\xff\x00");
+    show(b"\x01\x00\x03\x07\x00\x03\x00\x00\x00\xfe");
+    // An id that kind 1 declares, one that kind 3 declares, and a new on such a one.
+    show(b"\x01\x00\x01\x07\x00\x00\xff\xff\xff\xff\x03\x07");
+    show(b"\x01\x00\x03\x07\x00\x00\xff\xff\xff\xff\x01\x07");
+    show(b"\x01\x00\x03\x07\x00\x00\xff\xff\xff\xff\x1b\x07");
+    // An argument of the wrong type.
+    show(b"\x01\x00\x03\x07\x00\x01\x00\xff\xff\xff\x14\x07\x13\x01");
+    // Inside the term, kind 3 is unknown.
+    show(b"\x01\x00\x18\x03\x07\x10");
+    // Accepted, without arguments and with one.
+    show(b"\x01\x00\x03\x07\x00\x00\xff\xff\xff\xff\x14\x07");
+    show(b"\x01\x00\x03\x07\x00\x01\x00\xff\xff\xff\x14\x07\x10");
+}
+
 fn main() {
     show(b"");
     show(b"\x00");
@@ -283,4 +308,5 @@ fn main() {
     blocks();
     inner();
     free();
+    once();
 }

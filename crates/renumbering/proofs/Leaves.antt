@@ -66,13 +66,13 @@ pub becomes-free : (e id : ℕ) → e < 2048 → id ≡ becomesIn e id
 unfolding becomesIn
 becomes-free e id h = rw (lt-leb 2048 e h) refl
 
-pub entry-declared : (kind count r : ℕ) → kind ≡ 1 → r ≡ namedEntry count → r ≡ nameEntry kind count
+pub entry-declared : (kind count r : ℕ) → (kind ≡ 2 → ⊥) → r ≡ namedEntry count → r ≡ nameEntry kind count
 unfolding nameEntry
-entry-declared kind count r k e = rw (eq-eqb kind 1 k) e
+entry-declared kind count r n e = rw (ne-eqb kind 2 n) e
 
-pub entry-retired : (kind count : ℕ) → (kind ≡ 1 → ⊥) → 0 ≡ nameEntry kind count
+pub entry-retired : (kind count : ℕ) → kind ≡ 2 → 0 ≡ nameEntry kind count
 unfolding nameEntry
-entry-retired kind count k = rw (ne-eqb kind 1 k) refl
+entry-retired kind count e = rw e refl
 
 -- the search of an id
 pub lowest-first : (k : List ℕ) → lowest (marked k) ≡ lowestFrom (marked k) 0 (255 - 0)

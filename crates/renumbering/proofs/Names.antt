@@ -7,6 +7,7 @@ use mathlib.Core.List.{List, [], _∷_}
 use lib.ListN.{length, getD, set, drop, length-set, length-append}
 use lib.Seq.{getD-set-same, getD-set-other}
 use lib.Dec.{eqb, leb}
+use Rattle.language.specs.Term.{Often, freely, once}
 use borrow.Author.Tests.{eq-eqb, ne-eqb, lt-leb}
 use Rattle.records.specs.Kind.{shapeOf, bodyIn}
 use Rattle.procedures.specs.Written.{Name, declare, retire, Sheet}
@@ -17,7 +18,7 @@ use Rattle.procedures.specs.Mapped.{put}
 use Rattle.procedures.specs.Width.{nameWidth}
 use Rattle.procedures.specs.Renumber.{isNamed}
 use Rattle.procedures.proofs.Lowest.{by-id, put-here, put-past}
-use Rattle.sheet.specs.Encoding.{encode, encodeName, encodeNames, encodeSheet, headingLength}
+use Rattle.sheet.specs.Encoding.{encode, declareKind, encodeName, encodeNames, encodeSheet, headingLength}
 use Rattle.sheet.specs.Reader.{accepted}
 use Rattle.records.specs.declared.edition.Edition.the-variants.{Earlier}
 use Rattle.sheet.proofs.Right.{gives}
@@ -35,7 +36,7 @@ pub orElse : Meaning → Meaning → Meaning
 orElse (private j d) m = private j d
 orElse (argument j ty) m = argument j ty
 orElse (routine j ty tys) m = routine j ty tys
-orElse (named ty tys) m = named ty tys
+orElse (named often ty tys) m = named often ty tys
 orElse retired m = retired
 orElse free m = m
 
@@ -44,7 +45,7 @@ unfolding orElse
 or-free (private j d) = refl
 or-free (argument j ty) = refl
 or-free (routine j ty tys) = refl
-or-free (named ty tys) = refl
+or-free (named often ty tys) = refl
 or-free retired = refl
 or-free free = refl
 
@@ -143,6 +144,17 @@ module _ (S : Sheet) (s : List ℕ) (root : ℕ) (k scope : List ℕ) (at : ℕ)
         (λ t. rw t (q ∙ D id))
         (λ z. ap₂ orElse (o j z) (sym (o′ j z)) ∙ D j) }
 
+-- both kinds of declare records
+entry-often : (often : Often) (c : ℕ) → nameEntry (declareKind often) c ≡ namedEntry c
+unfolding nameEntry declareKind
+entry-often freely c = refl
+entry-often once c = refl
+
+body-often : (often : Often) → bodyIn (shapeOf (declareKind often)) ≡ 7
+unfolding bodyIn shapeOf declareKind
+body-often freely = refl
+body-often once = refl
+
 -- a turn of the loop
 pub name-again : (S : Sheet) (s : List ℕ) (root : ℕ) (k scope k′ scope′ : List ℕ) (at kind id c e body next : ℕ) →
     Naming S s root k scope at → at < root → kind ≡ getD s at 0 → id ≡ getD s (at + 1) 0 → k′ ≡ set k id 1 →
@@ -158,18 +170,18 @@ name-again S s root k scope k′ scope′ at kind id c e body next G h i j u v w
         ((id : ℕ) → orElse (declared earlier id) (declared rest id) ≡ declared (S .names) id) →
         Naming S s root k′ scope′ next
     go earlier [] F L E T C A D = absurd (omega (arith, E, h))
-    go earlier (declare a ty tys ∷ rest) F L E T C A D =
-        let q : kind ≡ 1 = i ∙ lies-head s (encodeNames (declare a ty tys ∷ rest)) at L in
-        let p : id ≡ a = j ∙ lies-get s (encodeNames (declare a ty tys ∷ rest)) at 1 L in
-        let m : c ≡ length tys = v ∙ lies-get s (encodeNames (declare a ty tys ∷ rest)) at 3 L in
-        let w′ : e ≡ namedEntry c = rw q at w in
-        let y′ : body ≡ 7 = rw q at y in
+    go earlier (declare often a ty tys ∷ rest) F L E T C A D =
+        let q : kind ≡ declareKind often = i ∙ lies-head s (encodeNames (declare often a ty tys ∷ rest)) at L in
+        let p : id ≡ a = j ∙ lies-get s (encodeNames (declare often a ty tys ∷ rest)) at 1 L in
+        let m : c ≡ length tys = v ∙ lies-get s (encodeNames (declare often a ty tys ∷ rest)) at 3 L in
+        let w′ : e ≡ namedEntry c = w ∙ (ap (λ (x : ℕ). nameEntry x c) q ∙ entry-often often c) in
+        let y′ : body ≡ 7 = y ∙ (ap (λ (x : ℕ). bodyIn (shapeOf x)) q ∙ body-often often) in
         let N : Naming S s root (set k a 1) (set scope a (namedEntry (length tys))) next =
-          name-more S s root k scope at earlier rest T C (declare a ty tys) a (length tys) next (F .0)
+          name-more S s root k scope at earlier rest T C (declare often a ty tys) a (length tys) next (F .0)
             (omega (arith, F .3)) (F .1) (rw (eq-eqb a a refl) refl) refl (λ t. refl)
             (λ t n. rw (ne-eqb a t (λ g. n (sym g))) refl) (λ t n. rw (ne-eqb a t (λ g. n (sym g))) refl)
             (rw (eq-eqb a a refl, F .1) refl) (F .5) L E A D
-            (omega (arith, z, y′, wide-name (declare a ty tys))) in
+            (omega (arith, z, y′, wide-name (declare often a ty tys))) in
         rw (u, x, p, w′, m) N
     go earlier (retire a ∷ rest) F L E T C A D =
         let q : kind ≡ 2 = i ∙ lies-head s (encodeNames (retire a ∷ rest)) at L in
@@ -199,7 +211,7 @@ name-first S s root ty n k scope e r T C =
 
 name-some : (n : Name) (ns : List Name) → 0 < length (encodeNames (n ∷ ns))
 unfolding encodeNames encodeName
-name-some (declare id ty tys) ns = omega arith
+name-some (declare often id ty tys) ns = omega arith
 name-some (retire id) ns = omega arith
 
 pub name-last : (S : Sheet) (s : List ℕ) (root : ℕ) (k scope : List ℕ) (at : ℕ) → Naming S s root k scope at → root ≤

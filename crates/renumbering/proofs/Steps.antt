@@ -196,7 +196,7 @@ unfolding FineUse arity
 use-arity N ns bs ws (private j d) F = use-none N ns bs ws F
 use-arity N ns bs ws (argument j ty) F = use-none N ns bs ws F
 use-arity N ns bs ws (routine j ty tys) F = use-args N ns bs ws tys F
-use-arity N ns bs ws (named ty tys) F = use-args N ns bs ws tys F
+use-arity N ns bs ws (named often ty tys) F = use-args N ns bs ws tys F
 use-arity N ns bs ws retired F = absurd F
 use-arity N ns bs ws free F = absurd F
 

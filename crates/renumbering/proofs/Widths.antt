@@ -50,7 +50,7 @@ padded-length (suc n) (ty ∷ tys) = ap suc (padded-length n tys)
 
 pub wide-name : (n : Name) → length (encodeName n) ≡ nameWidth n
 unfolding encodeName nameWidth
-wide-name (declare id ty tys) = omega (arith, padded-length 4 tys)
+wide-name (declare often id ty tys) = omega (arith, padded-length 4 tys)
 wide-name (retire id) = refl
 
 wide-names : (ns : List Name) → length (encodeNames ns) ≡ namesWidth ns

@@ -48,7 +48,7 @@ namedEntry count = ARGUMENTS * count
 
 -- that of a name record of a kind
 unfoldable pub nameEntry : ℕ → ℕ → ℕ
-nameEntry kind count = pick (eqb kind 1) (namedEntry count) 0
+nameEntry kind count = pick (eqb kind 2) 0 (namedEntry count)
 
 unfoldable pub boundEntry : ℕ → ℕ → ℕ
 boundEntry given count = HELD + ARGUMENTS * count + given
@@ -67,7 +67,7 @@ unfoldable pub arity : Meaning → ℕ
 arity (private k d) = 0
 arity (argument k ty) = 0
 arity (routine k ty tys) = length tys
-arity (named ty tys) = length tys
+arity (named often ty tys) = length tys
 arity retired = 0
 arity free = 0
 

@@ -5,11 +5,11 @@ use crate::bytes::put_word;
 use crate::scope::named_entry;
 use forms::set::least;
 use records::kind::COUNT;
-use records::kind::DECLARE;
 use records::kind::ID;
 use records::kind::NEW;
 use records::kind::PARAMETER_IDS;
 use records::kind::PROCEDURE;
+use records::kind::RETIRE;
 use records::kind::body_of;
 use records::read::byte_at;
 ghost use mathlib.Core.Path.{_≡_};
@@ -97,10 +97,10 @@ fn name_entry(kind: u8, count: usize) -> usize
     requires { ⌜ count < 256 ⌝ }
     ensures { λ r. ⌜ (r ≡ nameEntry kind count) × (r < 65536) ⌝ }
 {
-    if kind == DECLARE {
-        return named_entry(count);
+    if kind == RETIRE {
+        return 0;
     }
-    0
+    named_entry(count)
 }
 
 // Takes the ids that the records from the root on bind.

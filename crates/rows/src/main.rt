@@ -1,6 +1,6 @@
 // Sheets worked through: document 01's table, document 001's examples for every range and rule, document 02's
-// remainders and procedures, sheets for each refusal, and what the services are lent. The answers, made by the same
-// function as the program's, go to standard output.
+// remainders, procedures and names that ask once, sheets for each refusal, and what the services are lent. The answers,
+// made by the same function as the program's, go to standard output.
 
 // Titles, sheets and reports.
 mod show;
@@ -14,6 +14,8 @@ mod examples;
 mod remainders;
 // Document 02's procedures.
 mod routines;
+// Document 02's names that ask once.
+mod once;
 // Refusals.
 mod refused;
 // Words and bytes lent, and follow.
@@ -41,4 +43,5 @@ fn main() {
     routines::ids();
     routines::parameters();
     routines::expressions();
+    once::rows();
 }

@@ -372,7 +372,7 @@ module _ (ed : Edition) (N : Numbers) (s : List ℕ) (ns : List Name) where
         (rw (y, q) (v .bytes .result))
         (complete-args left bs π st at (length tys) a (getD st a 0) R M k ws tys 0 0 (at + 1 + 1) rest f w d (o .2)
           (λ j i. rw (y, zero-add j) (v .bytes .argument j i)))
-  complete-call left bs π st at a ws rest R l d e M k w (named ty tys) q f v =
+  complete-call left bs π st at a ws rest R l d e M k w (named often ty tys) q f v =
       let o = open-one s at 20 a _ e in
       let y = naming-says v (M .short) in
       complete-using ed N s ns left bs st at a ws tys (o .0) (o .1) l (naming-taken v) (rw y (v .bytes .count))

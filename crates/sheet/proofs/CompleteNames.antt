@@ -7,6 +7,7 @@ use lib.ListN.{length, getD, set, drop, length-append}
 use lib.Dec.{eqb·suc-zero}
 use borrow.Author.Tests.{lt-leb}
 use Rattle.language.specs.declared.Numbers.{Numbers}
+use Rattle.language.specs.Term.{Often, freely, once, onces}
 use Rattle.records.specs.Kind.{shapeOf}
 use Rattle.records.specs.Standing.{declaredStanding}
 use Rattle.records.specs.declared.edition.Edition.{Edition}
@@ -14,13 +15,13 @@ use Rattle.records.specs.declared.edition.Edition.the-variants.{Present}
 use Rattle.records.specs.declared.kind.Rule.{Rule}
 use Rattle.records.specs.declared.kind.Rule.the-variants.{Skip, Diverge, Truth, Number, Use, Fetch, Operate, Assign}
 use Rattle.records.specs.declared.kind.Rule.the-variants.{Sequence, If, While, New, Procedure}
-use Rattle.records.specs.declared.kind.Shape.the-variants.{Part}
+use Rattle.records.specs.declared.kind.Shape.the-variants.{Part, Declare}
 use Rattle.procedures.specs.Written.{Written, skip, diverge, truth, number, call, fetch, operate, assign, sequence}
 use Rattle.procedures.specs.Written.{while, choose, new, procedure, Name, declare, retire}
 use Rattle.procedures.specs.Meaning.{typed}
 use Rattle.procedures.specs.Fine.{depth, Fine, FineNames}
 use Rattle.procedures.specs.Hiding.{Apart}
-use Rattle.sheet.specs.Encoding.{encode, padded, encodeName, encodeNames}
+use Rattle.sheet.specs.Encoding.{encode, padded, declareKind, encodeName, encodeNames}
 use Rattle.sheet.specs.Heading.{retireAt}
 use Rattle.sheet.specs.Reader.{Tree, Answer, got, bind, onJudged, Whole, whole, withName, wholeOfShape, nameOf}
 use Rattle.sheet.specs.Reader.{namesStep, namesOf, written}
@@ -102,25 +103,31 @@ module _ (ed : Edition) (N : Numbers) (s : List ℕ) (π : ℕ → ℕ) (names :
         root = at; tree = R .tree; reads = rw (lt-leb (length s) at (b .0), b .1, K .shape, R .reads) refl;
         writes = R .writes }
 
+  -- the shape of a declare record
+  declare-shape : (often : Often) → shapeOf (declareKind often) ≡ Declare 7 (onces often)
+  unfolding shapeOf declareKind onces
+  declare-shape freely = refl
+  declare-shape once = refl
+
   -- the rest after a name record
   complete-declare :
-      (rec : List ℕ → ℕ → Answer Whole) (n : ℕ) (st : List ℕ) (at id ty : ℕ) (tys : List ℕ) (ns : List Name) →
-      Declared s at id ty tys (encodeNames ns ++ encode W) → Declaration s st at → length tys < 5 →
-      Rest ns (rec (set st id (declaredStanding at)) (at + 1 + 7)) (at + 1 + 7) →
-      Rest (declare id ty tys ∷ ns) (namesStep ed rec (suc n) N s st at) at
-  unfolding namesStep wholeOfShape shapeOf nameOf onJudged bind withName encodeNames encodeName
-  complete-declare rec n st at id ty tys ns D G c R =
+      (rec : List ℕ → ℕ → Answer Whole) (n : ℕ) (st : List ℕ) (at : ℕ) (often : Often) (id ty : ℕ) (tys : List ℕ)
+      (ns : List Name) → Declared s at often id ty tys (encodeNames ns ++ encode W) → Declaration s st at →
+      length tys < 5 → Rest ns (rec (set st id (declaredStanding at (onces often))) (at + 1 + 7)) (at + 1 + 7) →
+      Rest (declare often id ty tys ∷ ns) (namesStep ed rec (suc n) N s st at) at
+  unfolding namesStep wholeOfShape nameOf onJudged bind withName encodeNames encodeName
+  complete-declare rec n st at often id ty tys ns D G c R =
       let ty′ = typed names [] W in
       let e : at + 1 + 7 + length (encodeNames ns ++ encode W)
-            ≡ at + length ((encodeName (declare id ty tys) ++ encodeNames ns) ++ encode W) =
+            ≡ at + length ((encodeName (declare often id ty tys) ++ encodeNames ns) ++ encode W) =
           omega (arith, ap length (append-assoc (padded 4 tys) (encodeNames ns) (encode W)),
             length-append (padded 4 tys) (encodeNames ns ++ encode W), padded-length 4 tys) in
       record {
         root = R .root; tree = R .tree; writes = R .writes;
         reads =
-            rw (lt-leb (length s) at (D .kind .0), D .kind .1, eqb·suc-zero n, declare-is s st at G, D .id-byte .1,
-          declared-is s st at id ty tys _ D c, R .reads)
-          (ap (λ (x : ℕ). got (whole (declare id ty tys ∷ ns) (R .root) (R .tree)) ty′ x) e) }
+            rw (lt-leb (length s) at (D .kind .0), D .kind .1, declare-shape often, eqb·suc-zero n,
+          declare-is s st at G, D .id-byte .1, declared-is s st at often id ty tys _ D c, R .reads)
+          (ap (λ (x : ℕ). got (whole (declare often id ty tys ∷ ns) (R .root) (R .tree)) ty′ x) e) }
 
   complete-retire :
       (rec : List ℕ → ℕ → Answer Whole) (n : ℕ) (st : List ℕ) (at id : ℕ) (ns : List Name) →
@@ -148,14 +155,17 @@ module _ (ed : Edition) (N : Numbers) (s : List ℕ) (π : ℕ → ℕ) (names :
   complete-names [] (suc n) earlier st at M E f l e =
       complete-term _ (suc n) st at (matches-same (extends-last E) M) e
   complete-names (nm ∷ ns) zero earlier st at M E f l e = absurd (omega arith)
-  complete-names (declare id ty tys ∷ ns) (suc n) earlier st at M E f l e =
-      let D = declared-there s at id ty tys (encodeNames ns ++ encode W)
-        (e ∙ append-assoc (encodeName (declare id ty tys)) (encodeNames ns) (encode W)) in
-      let G = declared-good s st at id ty tys _ D (f .0) (free-standing M id (f .0) (f .1)) (f .2) (f .3) (f .4) in
-      complete-declare (namesOf ed n N s) n st at id ty tys ns D G (f .3)
-        (complete-names ns n (declare id ty tys ∷ earlier) (set st id (declaredStanding at)) (at + 1 + 7)
-          (matches-declare M (f .0) (declared-declares s st at id ty tys _ D (f .2) (f .3)))
-          (extends-declare id ty tys ns (f .1) E) (f .5) (omega arith) (declared-past s st at id ty tys _ D))
+  complete-names (declare often id ty tys ∷ ns) (suc n) earlier st at M E f l e =
+      let D = declared-there s at often id ty tys (encodeNames ns ++ encode W)
+        (e ∙ append-assoc (encodeName (declare often id ty tys)) (encodeNames ns) (encode W)) in
+      let G = declared-good s st at often id ty tys _ D (f .0) (free-standing M id (f .0) (f .1)) (f .2) (f .3)
+          (f .4) in
+      complete-declare (namesOf ed n N s) n st at often id ty tys ns D G (f .3)
+        (complete-names ns n (declare often id ty tys ∷ earlier) (set st id (declaredStanding at (onces often)))
+          (at + 1 + 7)
+          (matches-declare often M (f .0) (declared-declares s st at often id ty tys _ D (f .2) (f .3)))
+          (extends-declare often id ty tys ns (f .1) E) (f .5) (omega arith)
+          (declared-past s st at often id ty tys _ D))
   complete-names (retire id ∷ ns) (suc n) earlier st at M E f l e =
       let o = open-one s at 2 id (encodeNames ns ++ encode W)
         (e ∙ append-assoc (encodeName (retire id)) (encodeNames ns) (encode W)) in

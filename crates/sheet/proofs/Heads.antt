@@ -33,8 +33,9 @@ use Rattle.sheet.proofs.Bodies.{Body, procedure-all, procedure-is}
 
 -- a kind byte and its shape
 pub data Shaped (k : ℕ) : Shape → Type 0 where
-  s-declare : k ≡ 1 → Shaped k (Declare 7)
+  s-declare : k ≡ 1 → Shaped k (Declare 7 0)
   s-retire : k ≡ 2 → Shaped k (Retire 1)
+  s-once : k ≡ 3 → Shaped k (Declare 7 1)
   s-skip : k ≡ 16 → Shaped k (Part 0 0 Skip)
   s-diverge : k ≡ 17 → Shaped k (Part 1 0 Diverge)
   s-truth : k ≡ 18 → Shaped k (Part 1 0 Truth)
@@ -53,9 +54,10 @@ pub data Shaped (k : ℕ) : Shape → Type 0 where
 pub shaped : (k : ℕ) → Shaped k (shapeOf k)
 unfolding shapeOf
 shaped k =
-    or 1 s-declare (or 2 s-retire (or 16 s-skip (or 17 s-diverge (or 18 s-truth (or 19 s-number (or 20 s-use
+    or 1 s-declare (or 2 s-retire (or 3 s-once (or 16 s-skip (or 17 s-diverge
+    (or 18 s-truth (or 19 s-number (or 20 s-use
     (or 21 s-fetch (or 22 s-operate (or 23 s-assign (or 24 s-sequence (or 25 s-if (or 26 s-while (or 27 s-new
-    (or 28 s-procedure s-unknown))))))))))))))
+    (or 28 s-procedure s-unknown)))))))))))))))
   where
     or : {a b : Shape} (n : ℕ) → (k ≡ n → Shaped k a) → Shaped k b → Shaped k (pick (eqb k n) a b)
     or n f g = pick-all (Shaped k) (eqb k n) (λ e. f (eqb-true k n e)) (λ e. g)
@@ -144,6 +146,7 @@ module _ (ed : Edition) (s st : List ℕ) (N : Numbers) (at : ℕ) where
       Fit (headOfShape x at (λ body parts rule. bodyOf ed rule s st N (blank at (getD s at 0) body parts rule)))
   unfolding HeadAll headOfShape bodyOf limited blank withBody
   body-fit x l (s-declare e) = tt
+  body-fit x l (s-once e) = tt
   body-fit x l (s-retire e) = tt
   body-fit x l (s-skip e) = h-skip (l, e)
   body-fit x l (s-diverge e) = byte-all _ s (at + 1) 5 _ (λ a b l′. h-diverge (l, e) b l′)

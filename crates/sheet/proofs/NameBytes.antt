@@ -5,16 +5,23 @@ use mathlib.Core.Path.{_≡_, refl, sym, ap, ap₂, _∙_}
 use mathlib.Core.List.{List, _∷_, _++_}
 use lib.ListN.{length, getD, take, drop, length-append, length-drop, take-append-drop}
 use lib.Seq.{length-take-le, drop-drop, drop-at, getD-drop, getD-take}
+use Rattle.language.specs.Term.{Often, freely, once, onces}
 use Rattle.procedures.specs.Written.{declare}
-use Rattle.sheet.specs.Encoding.{padded, encodeName}
+use Rattle.sheet.specs.Encoding.{padded, declareKind, encodeName}
 use Rattle.procedures.specs.Fine.{AllTypes}
-use Rattle.sheet.specs.Heading.{declareAt, retireAt}
+use Rattle.sheet.specs.Heading.{oftenOf, declareAt, retireAt}
 use Rattle.sheet.proofs.Parsed.{Byte}
 use Rattle.sheet.proofs.Judgement.{Fresh, Declaration}
 use Rattle.sheet.proofs.Padding.{padded-take, padded-length, padded-known, padded-unused, padded-of, types-all}
 use Rattle.sheet.proofs.Padding.{all-types}
 use Rattle.sheet.proofs.Standings.{Declares}
 use Rattle.sheet.proofs.Bytes.{two-bytes, byte-there, past-one}
+
+-- how often a name asks, from the number and back
+pub often-again : (o : Often) → oftenOf (onces o) ≡ o
+unfolding oftenOf onces
+often-again freely = refl
+often-again once = refl
 
 -- the argument types of the declare record at a place
 abbrev pub typesAt : List ℕ → ℕ → List ℕ
@@ -51,18 +58,19 @@ module _ (s st : List ℕ) (at : ℕ) (D : Declaration s st at) where
           (λ j k h. getD-drop (at + 4) s j 0 ∙ D .arguments j h .padding k)))
         (drop-drop 4 (at + 4) s ∙ ap (λ (x : ℕ). drop x s) n)
 
-  pub good-bytes : Byte s at 1 → drop at s ≡ encodeName (declareAt s at) ++ drop (at + 1 + 7) s
+  pub good-bytes : (often : Often) → Byte s at (declareKind often) →
+      drop at s ≡ encodeName (declareAt s at (onces often)) ++ drop (at + 1 + 7) s
   unfolding encodeName declareAt
-  good-bytes b =
+  good-bytes often b =
       let n : at + 2 + 1 ≡ at + 3 = omega arith in
       let n′ : at + 2 + 2 ≡ at + 4 = omega arith in
       let ty = getD s (at + 2) 0 in
       let c = getD s (at + 3) 0 in
       let count : Byte s (at + 2 + 1) c = rw n (D .count-inside, refl) in
-      two-bytes s at 1 (getD s (at + 1) 0) b (D .id .inside, refl)
-      ∙ ap (λ (x : List ℕ). 1 ∷ getD s (at + 1) 0 ∷ x)
+      rw (often-again often) (two-bytes s at (declareKind often) (getD s (at + 1) 0) b (D .id .inside, refl)
+      ∙ ap (λ (x : List ℕ). declareKind often ∷ getD s (at + 1) 0 ∷ x)
         (two-bytes s (at + 2) ty c (D .type-inside, refl) count
-        ∙ ap₂ (λ (x : ℕ) (y : List ℕ). ty ∷ x ∷ y) (sym types-length) (ap (λ (x : ℕ). drop x s) n′ ∙ types-bytes))
+        ∙ ap₂ (λ (x : ℕ) (y : List ℕ). ty ∷ x ∷ y) (sym types-length) (ap (λ (x : ℕ). drop x s) n′ ∙ types-bytes)))
 
 -- a retire record that is judged good
 pub retire-bytes :
@@ -74,31 +82,33 @@ retire-bytes s st at F b =
     two-bytes s at 2 (getD s (at + 1) 0) b (F .inside, refl) ∙ ap (λ (x : ℕ). 2 ∷ getD s (at + 1) 0 ∷ drop x s) n
 
 -- the bytes of a declare record, and what follows
-pub record Declared (s : List ℕ) (at id ty : ℕ) (tys rest : List ℕ) : Type 0 where
-  pub kind : Byte s at 1
+pub record Declared (s : List ℕ) (at : ℕ) (often : Often) (id ty : ℕ) (tys rest : List ℕ) : Type 0 where
+  pub kind : Byte s at (declareKind often)
   pub id-byte : Byte s (at + 1) id
   pub type-byte : Byte s (at + 2) ty
   pub count-byte : Byte s (at + 3) (length tys)
   pub types-are : drop (at + 4) s ≡ padded 4 tys ++ rest
 
 pub declared-there :
-    (s : List ℕ) (at id ty : ℕ) (tys rest : List ℕ) → drop at s ≡ encodeName (declare id ty tys) ++ rest →
-    Declared s at id ty tys rest
+    (s : List ℕ) (at : ℕ) (often : Often) (id ty : ℕ) (tys rest : List ℕ) →
+    drop at s ≡ encodeName (declare often id ty tys) ++ rest → Declared s at often id ty tys rest
 unfolding encodeName
-declared-there s at id ty tys rest e =
+declared-there s at often id ty tys rest e =
     let n : at + 1 + 1 ≡ at + 2 = omega arith in
     let n′ : at + 2 + 1 ≡ at + 3 = omega arith in
     let n″ : at + 3 + 1 ≡ at + 4 = omega arith in
-    let e₁ = past-one s at 1 _ e in
+    let e₁ = past-one s at (declareKind often) _ e in
     let e₂ = rw n at (past-one s (at + 1) id _ e₁) in
     let e₃ = rw n′ at (past-one s (at + 2) ty _ e₂) in
     record {
-      kind =
-          byte-there s at 1 _ e; id-byte = byte-there s (at + 1) id _ e₁; type-byte = byte-there s (at + 2) ty _ e₂;
+      kind = byte-there s at (declareKind often) _ e;
+      id-byte = byte-there s (at + 1) id _ e₁;
+      type-byte = byte-there s (at + 2) ty _ e₂;
       count-byte = byte-there s (at + 3) (length tys) _ e₃;
       types-are = rw n″ at (past-one s (at + 3) (length tys) _ e₃) }
 
-module _ (s st : List ℕ) (at id ty : ℕ) (tys rest : List ℕ) (D : Declared s at id ty tys rest) where
+module _ (s st : List ℕ) (at : ℕ) (often : Often) (id ty : ℕ) (tys rest : List ℕ)
+    (D : Declared s at often id ty tys rest) where
   inside-four : at + 8 ≤ length s
   inside-four =
       omega (arith, sym (length-drop (at + 4) s) ∙ ap length (D .types-are) ∙ length-append (padded 4 tys) rest,
@@ -127,10 +137,11 @@ module _ (s st : List ℕ) (at id ty : ℕ) (tys rest : List ℕ) (D : Declared 
       argument = λ j h. argument-at j ∙ padded-known 4 tys rest j (omega arith) h; known = k; few = c;
       inside = D .kind .0 }
 
-  pub declared-is : length tys < 5 → declareAt s at ≡ declare id ty tys
+  pub declared-is : length tys < 5 → declareAt s at (onces often) ≡ declare often id ty tys
   unfolding declareAt
   declared-is c =
-      rw (D .id-byte .1, D .type-byte .1, D .count-byte .1, D .types-are, padded-take 4 tys rest (omega arith)) refl
+      rw (often-again often, D .id-byte .1, D .type-byte .1, D .count-byte .1, D .types-are,
+        padded-take 4 tys rest (omega arith)) refl
 
   pub declared-past : drop (at + 1 + 7) s ≡ rest
   declared-past =

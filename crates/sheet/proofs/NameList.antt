@@ -7,6 +7,7 @@ use lib.ListN.{length, getD, drop}
 use lib.Dec.{eqb, leb}
 use borrow.Author.Tests.{eqb-true, eqb-false, leb-false}
 use Rattle.language.specs.declared.Numbers.{Numbers}
+use Rattle.language.specs.Term.{Often, freely, once, onces}
 use Rattle.records.specs.Kind.{shapeOf}
 use Rattle.records.specs.Standing.{declaredStanding}
 use Rattle.records.specs.declared.edition.Edition.{Edition}
@@ -16,7 +17,7 @@ use Rattle.heads.specs.declared.judgement.Judged.{Judged}
 use Rattle.procedures.specs.Written.{Name, declare, retire}
 use Rattle.procedures.specs.Meaning.{Meaning, private, argument, routine, named, retired, free, declared, meaning}
 use Rattle.procedures.specs.Fine.{FineNames}
-use Rattle.sheet.specs.Encoding.{encodeName, encodeNames}
+use Rattle.sheet.specs.Encoding.{declareKind, encodeName, encodeNames}
 use Rattle.sheet.specs.Heading.{declareOf, retireOf, declareAt, retireAt}
 use Rattle.sheet.specs.Reader.{Tree, Answer, got, refused, bind, onJudged, readPart, Whole, whole, withName}
 use Rattle.sheet.specs.Reader.{wholeOfShape, nameOf, namesStep, namesOf}
@@ -24,17 +25,17 @@ use Rattle.sheet.proofs.Parsed.{Byte, Parsed}
 use Rattle.sheet.proofs.Standings.{by-test, Agrees, Matches, matches-declare, matches-retire, variable-taken}
 use Rattle.sheet.proofs.Standings.{passed-taken, routine-taken, naming-taken}
 use Rattle.sheet.proofs.Answers.{All, one, none′, all-holds, Holds, pick-all, bind-all}
-use Rattle.sheet.proofs.Heads.{Shaped, s-declare, s-retire, shaped}
+use Rattle.sheet.proofs.Heads.{Shaped, s-declare, s-once, s-retire, shaped}
 use Rattle.sheet.proofs.Parse.{parse-all}
 use Rattle.sheet.proofs.Judgement.{JudgedAll, good, bad, declare-all, retire-all}
-use Rattle.sheet.proofs.NameBytes.{good-declares, good-types, good-bytes, retire-bytes}
+use Rattle.sheet.proofs.NameBytes.{often-again, good-declares, good-types, good-bytes, retire-bytes}
 
 -- what an id means by earlier name records, else by later ones
 unfoldable pub orElse : Meaning → Meaning → Meaning
 orElse (private i h) m = private i h
 orElse (argument i ty) m = argument i ty
 orElse (routine i ty tys) m = routine i ty tys
-orElse (named ty tys) m = named ty tys
+orElse (named often ty tys) m = named often ty tys
 orElse retired m = retired
 orElse free m = m
 
@@ -51,7 +52,7 @@ unfolding orElse
 or-free (private i h) = refl
 or-free (argument i ty) = refl
 or-free (routine i ty tys) = refl
-or-free (named ty tys) = refl
+or-free (named often ty tys) = refl
 or-free retired = refl
 or-free free = refl
 
@@ -61,10 +62,10 @@ unfolding declared
 extends-last {names} {earlier} E id = E .same id ∙ or-free (declared earlier id)
 
 pub extends-declare :
-    {names earlier : List Name} (k ty : ℕ) (tys : List ℕ) (ns : List Name) → declared earlier k ≡ free →
-    Extends names earlier (declare k ty tys ∷ ns) → Extends names (declare k ty tys ∷ earlier) ns
+    {names earlier : List Name} (often : Often) (k ty : ℕ) (tys : List ℕ) (ns : List Name) → declared earlier k ≡ free →
+    Extends names earlier (declare often k ty tys ∷ ns) → Extends names (declare often k ty tys ∷ earlier) ns
 unfolding orElse declared
-extends-declare {names} {earlier} k ty tys ns f E = record { same = λ id.
+extends-declare {names} {earlier} often k ty tys ns f E = record { same = λ id.
     by-test (eqb k id)
     (λ t. let g : declared earlier id ≡ free = subst (λ (x : ℕ). declared earlier x ≡ free) (eqb-true k id t) f in
       rw t (rw (t, g) at (E .same id)))
@@ -98,7 +99,7 @@ module _ {s st : List ℕ} {ns : List Name} {π : ℕ → ℕ} (M : Matches s ns
       go (private i h) v = absurd (variable-taken v .0 e)
       go (argument i ty) v = absurd (passed-taken v .0 e)
       go (routine i ty tys) v = absurd (routine-taken v .0 e)
-      go (named ty tys) v = absurd (naming-taken v .0 e)
+      go (named often ty tys) v = absurd (naming-taken v .0 e)
       go retired v = absurd (omega arith)
       go free v = refl
 
@@ -156,10 +157,11 @@ module _ (ed : Edition) (N : Numbers) (s : List ℕ) (π : ℕ → ℕ) where
     abbrev Here : Whole → ℕ → ℕ → Type 0
     Here x ty end = NamesRead ed N s π n earlier at x ty end
 
-    reads-declare :
-        Byte s at 1 → All Here (nameOf rec n s st at 7 (declaredStanding at) (declareOf s st at) (declareAt s at))
+    reads-declare : (often : Often) → Byte s at (declareKind often) →
+        All Here (nameOf rec n s st at 7 (declaredStanding at (onces often)) (declareOf s st at)
+          (declareAt s at (onces often)))
     unfolding nameOf declareAt FineNames
-    reads-declare b =
+    reads-declare often b =
         pick-all (All Here) (eqb n 0) (λ e. none′) (λ e.
           let z = eqb-false n 0 e in
           let k : n ≡ suc (n - 1) = omega arith in
@@ -167,11 +169,11 @@ module _ (ed : Edition) (N : Numbers) (s : List ℕ) (π : ℕ → ℕ) where
             let F = D .id in
             let f = standing-free M (getD s (at + 1) 0) (F .below) (F .free) in
             bind-all _ Here _ _
-              (sub (n - 1) k (declareAt s at ∷ earlier) _ (at + 1 + 7)
-                (matches-declare M (F .below) (good-declares s st at D)))
-              (λ x ty end q. one (with-name (declareAt s at) k (good-bytes s st at D b)
+              (sub (n - 1) k (declareAt s at (onces often) ∷ earlier) _ (at + 1 + 7)
+                (rw (often-again often) (matches-declare often M (F .below) (good-declares s st at D))))
+              (λ x ty end q. one (with-name (declareAt s at (onces often)) k (good-bytes s st at D often b)
                 (λ ns q. (F .below, f, D .type-known, good-declares s st at D .few, good-types s st at D, q))
-                (λ names ns E. extends-declare _ _ _ ns f E) q))))
+                (λ names ns E. extends-declare _ _ _ _ ns f E) q))))
 
     reads-retire : Byte s at 2 → All Here (nameOf rec n s st at 1 1 (retireOf s st at) (retireAt s at))
     unfolding nameOf retireAt FineNames
@@ -202,12 +204,13 @@ module _ (ed : Edition) (N : Numbers) (s : List ℕ) (π : ℕ → ℕ) where
         (λ e. go (shapeOf (getD s at 0)) (leb-false (length s) at e) (shaped (getD s at 0)))
       where
         go : (x : Shape) → at < length s → Shaped (getD s at 0) x → All Here (wholeOfShape x
-          (λ body. nameOf rec n s st at body (declaredStanding at) (declareOf s st at) (declareAt s at))
+          (λ body asks. nameOf rec n s st at body (declaredStanding at asks) (declareOf s st at) (declareAt s at asks))
           (λ body. nameOf rec n s st at body 1 (retireOf s st at) (retireAt s at))
           (bind (readPart ed 32 N s st 0 at) (λ t ty end. got (whole [] at t) ty end))
           (refused 3 at))
         go (Part body parts rule) l h = reads-term
-        go (Declare body) l (s-declare e) = reads-declare (l, e)
+        go (Declare body asks) l (s-declare e) = unfold onces declareKind in reads-declare freely (l, e)
+        go (Declare body asks) l (s-once e) = unfold onces declareKind in reads-declare once (l, e)
         go (Retire body) l (s-retire e) = reads-retire (l, e)
         go Unknown l h = none′
 

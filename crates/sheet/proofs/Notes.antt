@@ -20,14 +20,14 @@ standing-low zero h = refl
 standing-low (suc zero) h = refl
 standing-low (suc (suc c)) h = absurd (omega arith)
 
-pub standing-high : (c : ℕ) → 1 < c → ltb c 8192 ≡ isNameStanding (standingOf c)
+pub standing-high : (c : ℕ) → 1 < c → ltb c 12288 ≡ isNameStanding (standingOf c)
 unfolding standingOf isNameStanding
 standing-high c h =
     rw (ne-eqb c 0 (λ e. omega arith), ne-eqb c 1 (λ e. omega arith))
-      (go (ltb c 8192) (ltb c 16384) (ltb c 32768))
+      (go (ltb c 12288) (ltb c 16384) (ltb c 32768))
   where
-    go : (a b d : Bool) → a ≡ isNameStanding (pick a (Declared (c - 256))
-        (pick b (Variable ((c - 8192) / 4) ((c - 8192) % 4))
+    go : (a b d : Bool) → a ≡ isNameStanding (pick a (Declared ((c - 256) / 2) ((c - 256) % 2))
+        (pick b (Variable ((c - 12288) / 4) ((c - 12288) % 4))
         (pick d (Parameter ((c - 16384) / 8) ((c - 16384) % 8)) (Procedure ((c - 32768) % 128) ((c - 32768) / 128)))))
     go true b d = refl
     go false true d = refl

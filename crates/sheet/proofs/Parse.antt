@@ -10,6 +10,7 @@ use lib.ListN.{length, getD, drop}
 use borrow.Author.Tests.{eqb-true, leb-true}
 use Rattle.language.specs.Number.{inRange}
 use Rattle.language.specs.declared.Numbers.{Numbers}
+use Rattle.language.specs.Term.{Often}
 use Rattle.records.specs.Standing.{standingOf, countOf, resultOf, argumentOf}
 use Rattle.parts.specs.Rule.{operandType, acceptsPart, partType}
 use Rattle.heads.specs.Head.{headOf}
@@ -172,11 +173,11 @@ module _
             (reads-args (length tys) a c (at + 2) tys 0 0 (at + 2) (λ j u. rw (zero-add j) (f j u)))))
 
     reads-name :
-        (c a : ℕ) {ty : ℕ} {tys : List ℕ} → Byte s at 20 → Byte s (at + 1) a → a < 255 → length s ≤ 4096 →
-        meaning ns bs a ≡ named ty tys → Naming s ty tys c →
+        (c a : ℕ) {ty : ℕ} {often : Often} {tys : List ℕ} → Byte s at 20 → Byte s (at + 1) a → a < 255 →
+        length s ≤ 4096 → meaning ns bs a ≡ named often ty tys → Naming s often ty tys c →
         Reading (made s at Use (countOf s (standingOf c)) a c (at + 1 + 1))
     unfolding countOf resultOf argumentOf
-    reads-name c a {ty} {tys} h b l n e v =
+    reads-name c a {ty} {often} {tys} h b l n e v =
         let o = naming-says v n in
         reads-call a c (rw o (v .bytes .count)) (rw o (v .bytes .result)) (λ j u. rw o (v .bytes .argument j u))
           (λ ts end q. p-name (stands 1 h (omega arith)) b l e (v .bytes .known) refl (v .bytes .few)

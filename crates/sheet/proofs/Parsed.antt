@@ -6,6 +6,7 @@ use mathlib.Core.List.{List, [], _∷_, _++_}
 use lib.ListN.{length, getD, drop}
 use Rattle.language.specs.Number.{inRange}
 use Rattle.language.specs.declared.Numbers.{Numbers}
+use Rattle.language.specs.Term.{Often, onces}
 use Rattle.records.specs.Standing.{variableStanding, parameterStanding, procedureStanding, declaredStanding}
 use Rattle.parts.specs.Rule.{operandType, resultType}
 use Rattle.records.specs.declared.edition.Edition.{Edition}
@@ -71,9 +72,10 @@ module _ (ed : Edition) (N : Numbers) (s : List ℕ) (ns : List Name) where
         ty < 5 → r .parts ≡ length tys → length tys < 5 → k < 128 → π k < 4096 → r .b ≡ procedureStanding k (π k) →
         ParsedArgs left bs π (at + 2) ts tys next →
         Parsed (suc left) bs π at (node r ty (length bs) next ts) ty next
-      p-name : {left at place ty next : ℕ} {tys : List ℕ} {bs : List Binder} {π : ℕ → ℕ} {r : Record} {ts : Trees} →
-        Stands s r at 20 1 Use → Byte s (at + 1) (r .a) → r .a < 255 → meaning ns bs (r .a) ≡ named ty tys → ty < 5 →
-        r .parts ≡ length tys → length tys < 5 → place < 4096 → r .b ≡ declaredStanding place →
+      p-name : {left at place ty next : ℕ} {often : Often} {tys : List ℕ} {bs : List Binder} {π : ℕ → ℕ} {r : Record}
+        {ts : Trees} → Stands s r at 20 1 Use → Byte s (at + 1) (r .a) → r .a < 255 →
+        meaning ns bs (r .a) ≡ named often ty tys → ty < 5 → r .parts ≡ length tys → length tys < 5 →
+        place < 4096 → r .b ≡ declaredStanding place (onces often) →
         ParsedArgs left bs π (at + 2) ts tys next →
         Parsed (suc left) bs π at (node r ty (length bs) next ts) ty next
       p-fetch : {left at ty next : ℕ} {bs : List Binder} {π : ℕ → ℕ} {r : Record} {t : Tree} →

@@ -7,6 +7,7 @@ use mathlib.Core.List.{List, [], _∷_, _++_}
 use lib.ListN.{length, drop, getD}
 use Rattle.language.specs.Number.{inRange}
 use Rattle.language.specs.declared.Numbers.{Numbers}
+use Rattle.language.specs.Term.{Often}
 use Rattle.parts.specs.Rule.{operandType, resultType}
 use Rattle.records.specs.declared.edition.Edition.{Edition}
 use Rattle.records.specs.declared.edition.Edition.the-variants.{Present}
@@ -110,11 +111,11 @@ module _ (ed : Edition) (N : Numbers) (s : List ℕ) (ns : List Name) (left : �
       shallow = omega (arith, A .shallow); known = k′ }
 
   sound-name :
-      {a ty next : ℕ} {ws : Writtens} {tys : List ℕ} → Byte s at 20 → Byte s (at + 1) a → a < 255 →
-      meaning ns bs a ≡ named ty tys → ty < 5 → SoundArgs ed N s ns left bs (at + 2) ws tys next →
+      {a ty next : ℕ} {often : Often} {ws : Writtens} {tys : List ℕ} → Byte s at 20 → Byte s (at + 1) a → a < 255 →
+      meaning ns bs a ≡ named often ty tys → ty < 5 → SoundArgs ed N s ns left bs (at + 2) ws tys next →
       Whole (call a ws) ty next
   unfolding encode Fine Apart FineUse typed useType depth
-  sound-name {a} {ty} {next} {ws} {tys} b c l e k A = record {
+  sound-name {a} {ty} {next} {often} {ws} {tys} b c l e k A = record {
       forward = omega (arith, A .forward); inside = A .inside (omega arith);
       bytes = two-bytes s at 20 a b c ∙ ap (λ (x : List ℕ). 20 ∷ a ∷ x) (A .bytes);
       fine = (l, rw e (A .fine)); apart = A .apart; types = rw e refl;

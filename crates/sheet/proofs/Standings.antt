@@ -10,6 +10,8 @@ use lib.Seq.{getD-set-same, getD-set-other}
 use lib.Dec.{eqb}
 use borrow.Author.Tests.{eqb-true, eqb-false, eq-eqb, lt-ltb, le-ltb}
 use Rattle.language.specs.Choice.{pick}
+use Rattle.language.specs.Term.{Often, onces}
+use Rattle.language.proofs.AskOnceLaws.{onces-below}
 use Rattle.records.specs.Standing.{declaredStanding, variableStanding, parameterStanding, procedureStanding, standingOf}
 use Rattle.records.specs.Standing.{isNamed, isHeld as isTaken}
 use Rattle.parts.specs.Scope.{entered, passed, usable}
@@ -76,9 +78,9 @@ pub record Routine (s : List ℕ) (π : ℕ → ℕ) (n : ℕ) (d : Meaning) (k 
   pub unnamed : d ≡ free
 
 -- the standing c of a name
-pub record Naming (s : List ℕ) (ty : ℕ) (tys : List ℕ) (c : ℕ) : Type 0 where
+pub record Naming (s : List ℕ) (often : Often) (ty : ℕ) (tys : List ℕ) (c : ℕ) : Type 0 where
   pub place : ℕ
-  pub stands : c ≡ declaredStanding place
+  pub stands : c ≡ declaredStanding place (onces often)
   pub bytes : Declares s place ty tys
 
 -- the standing c of an id, by what the id means
@@ -86,7 +88,7 @@ unfoldable pub Agrees : List ℕ → (ℕ → ℕ) → ℕ → Meaning → Meani
 Agrees s π n d (private k h) c = Variable n d k h c
 Agrees s π n d (argument k ty) c = Passed n d k ty c
 Agrees s π n d (routine k ty tys) c = Routine s π n d k ty tys c
-Agrees s π n d (named ty tys) c = Naming s ty tys c
+Agrees s π n d (named often ty tys) c = Naming s often ty tys c
 Agrees s π n d retired c = c ≡ 1
 Agrees s π n d free c = c ≡ 0
 
@@ -125,16 +127,17 @@ set-standing s π st n k c d m l b h f id b′ =
 
 -- a name record more
 pub matches-declare :
-    {s st tys : List ℕ} {ns : List Name} {π : ℕ → ℕ} {id ty p : ℕ} → Matches s ns [] π st → id < 255 →
-    Declares s p ty tys → Matches s (declare id ty tys ∷ ns) [] π (set st id (declaredStanding p))
+    {s st tys : List ℕ} {ns : List Name} {π : ℕ → ℕ} {id ty p : ℕ} (often : Often) → Matches s ns [] π st →
+    id < 255 → Declares s p ty tys →
+    Matches s (declare often id ty tys ∷ ns) [] π (set st id (declaredStanding p (onces often)))
 unfolding Agrees meaning declared
-matches-declare {s} {st} {tys} {ns} {π} {id} {ty} {p} M b D =
-    let d : ℕ → Meaning = declared (declare id ty tys ∷ ns) in
+matches-declare {s} {st} {tys} {ns} {π} {id} {ty} {p} often M b D =
+    let d : ℕ → Meaning = declared (declare often id ty tys ∷ ns) in
     record {
       sized = length-set st id _ ∙ M .sized;
       short = M .short;
       nested = M .nested;
-      standing = set-standing s π st 0 id (declaredStanding p) d d (M .sized) b
+      standing = set-standing s π st 0 id (declaredStanding p (onces often)) d d (M .sized) b
         (rw (eq-eqb id id refl) (record { place = p; stands = refl; bytes = D }))
         (λ k b′ t. rw t (M .standing k b′)) }
 
@@ -165,7 +168,7 @@ agrees-inwards s π π′ n n′ d (routine k ty tys) c l f v =
     let e : π′ k ≡ π k = f k (v .outer) in
     record {
       outer = omega (arith, v .outer); stands = rw e (v .stands); bytes = rw e (v .bytes); unnamed = v .unnamed }
-agrees-inwards s π π′ n n′ d (named ty tys) c l f v = v
+agrees-inwards s π π′ n n′ d (named often ty tys) c l f v = v
 agrees-inwards s π π′ n n′ d retired c l f v = v
 agrees-inwards s π π′ n n′ d free c l f v = v
 
@@ -252,7 +255,7 @@ pub data Used (s : List ℕ) (π : ℕ → ℕ) (n : ℕ) (d : Meaning) (c : ℕ
   used-private : {k h : ℕ} → Variable n d k h c → Used s π n d c (private k h)
   used-parameter : {k ty : ℕ} → Passed n d k ty c → Used s π n d c (argument k ty)
   used-routine : {k ty : ℕ} {tys : List ℕ} → Routine s π n d k ty tys c → Used s π n d c (routine k ty tys)
-  used-name : {ty : ℕ} {tys : List ℕ} → Naming s ty tys c → Used s π n d c (named ty tys)
+  used-name : {often : Often} {ty : ℕ} {tys : List ℕ} → Naming s often ty tys c → Used s π n d c (named often ty tys)
 
 pub used-id :
     (s : List ℕ) (π : ℕ → ℕ) (n : ℕ) (d m : Meaning) (c : ℕ) → Agrees s π n d m c → (c ≡ 0 → ⊥) → (c ≡ 1 → ⊥) →
@@ -261,15 +264,17 @@ unfolding Agrees
 used-id s π n d (private k h) c a f g = used-private a
 used-id s π n d (argument k ty) c a f g = used-parameter a
 used-id s π n d (routine k ty tys) c a f g = used-routine a
-used-id s π n d (named ty tys) c a f g = used-name a
+used-id s π n d (named often ty tys) c a f g = used-name a
 used-id s π n d retired c a f g = absurd (g a)
 used-id s π n d free c a f g = absurd (f a)
 
 -- what the standings say
 pub naming-says :
-    {s : List ℕ} {c ty : ℕ} {tys : List ℕ} (v : Naming s ty tys c) → length s ≤ 4096 →
-    standingOf c ≡ Declared (v .place)
-naming-says v l = ap standingOf (v .stands) ∙ declared-again (v .place) (omega (arith, v .bytes .inside))
+    {s : List ℕ} {c ty : ℕ} {often : Often} {tys : List ℕ} (v : Naming s often ty tys c) → length s ≤ 4096 →
+    standingOf c ≡ Declared (v .place) (onces often)
+naming-says {often = often} v l =
+    ap standingOf (v .stands)
+    ∙ declared-again (v .place) (onces often) (omega (arith, v .bytes .inside)) (onces-below often)
 
 pub variable-says : {n k h c : ℕ} {d : Meaning} → Variable n d k h c → n ≤ 128 → standingOf c ≡ Holding k h
 variable-says {n} {k} {h} v l =
@@ -296,7 +301,7 @@ binder-id {s} {st} {ns} {bs} {π} M id b f = go (meaning ns bs id) refl (M .stan
     go (private k h) e a = a .unnamed
     go (argument k ty) e a = a .unnamed
     go (routine k ty tys) e a = a .unnamed
-    go (named ty tys) e a =
+    go (named often ty tys) e a =
         let h : isNamed (standingOf (getD st id 0)) ≡ true = rw (naming-says a (M .short)) refl in
         let z : true ≡ false = sym h ∙ f in
         let z′ : _≡_ {A = ℕ} 0 1 = cc in absurd (omega arith)
@@ -311,7 +316,7 @@ unfoldable Unnamed : Meaning → Type 0
 Unnamed (private k h) = Unit
 Unnamed (argument k ty) = Unit
 Unnamed (routine k ty tys) = Unit
-Unnamed (named ty tys) = ⊥
+Unnamed (named often ty tys) = ⊥
 Unnamed retired = ⊥
 Unnamed free = Unit
 
@@ -341,7 +346,7 @@ binder-standing {s} {st} {ns} {bs} {π} M id b e =
     go (private k h) u v = rw (variable-says v (M .nested)) refl
     go (argument k ty) u v = rw (passed-says v (M .nested)) refl
     go (routine k ty tys) u v = rw (routine-says v (M .nested)) refl
-    go (named ty tys) u v = absurd u
+    go (named often ty tys) u v = absurd u
     go retired u v = absurd u
     go free u v = rw (is-free _ v) refl
 
@@ -350,7 +355,7 @@ unfoldable isBinding : Meaning → Bool
 isBinding (private k h) = true
 isBinding (argument k ty) = true
 isBinding (routine k ty tys) = true
-isBinding (named ty tys) = false
+isBinding (named often ty tys) = false
 isBinding retired = false
 isBinding free = false
 
@@ -363,7 +368,7 @@ binding-meant k (a-procedure id ty tys) = refl
 binding-declared : (ns : List Name) (id : ℕ) → isBinding (declared ns id) ≡ false
 unfolding isBinding declared
 binding-declared [] id = refl
-binding-declared (declare k ty tys ∷ ns) id =
+binding-declared (declare often k ty tys ∷ ns) id =
     by-test (eqb k id) (λ t. rw t refl) (λ t. rw t (binding-declared ns id))
 binding-declared (retire k ∷ ns) id = by-test (eqb k id) (λ t. rw t refl) (λ t. rw t (binding-declared ns id))
 
@@ -385,7 +390,7 @@ held-standing {s} {st} {ns} {bs} {π} M id b = go (meaning ns bs id) (M .standin
     go (private k h) v = rw (variable-says v (M .nested)) refl
     go (argument k ty) v = rw (passed-says v (M .nested)) refl
     go (routine k ty tys) v = rw (routine-says v (M .nested)) refl
-    go (named ty tys) v = rw (naming-says v (M .short)) refl
+    go (named often ty tys) v = rw (naming-says v (M .short)) refl
     go retired v = rw (is-retired _ v) refl
     go free v = rw (is-free _ v) refl
 
@@ -418,6 +423,7 @@ pub routine-taken :
 unfolding procedureStanding
 routine-taken v = (λ z. omega (arith, v .stands), λ z. omega (arith, v .stands))
 
-pub naming-taken : {s : List ℕ} {ty c : ℕ} {tys : List ℕ} → Naming s ty tys c → (c ≡ 0 → ⊥) × (c ≡ 1 → ⊥)
+pub naming-taken : {s : List ℕ} {ty c : ℕ} {often : Often} {tys : List ℕ} → Naming s often ty tys c →
+    (c ≡ 0 → ⊥) × (c ≡ 1 → ⊥)
 unfolding declaredStanding
 naming-taken v = (λ z. omega (arith, v .stands), λ z. omega (arith, v .stands))

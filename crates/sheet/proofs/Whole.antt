@@ -83,11 +83,11 @@ module _ (ed : Edition) (N : Numbers) (n : ℕ) (s st : List ℕ) (at : ℕ) whe
   unfolding namesStep wholeOfShape
   names-term h e R = rw (names-step, lt-leb _ _ h, e) R
 
-  pub names-declare : {body c : ℕ} {judged : Judged} {x : Reading} {t u : List ℕ} → at < length s →
-      shapeOf (getD s at 0) ≡ Declare body → judged ≡ declareOf s st at → c ≡ declaredStanding at →
+  pub names-declare : {body asks c : ℕ} {judged : Judged} {x : Reading} {t u : List ℕ} → at < length s →
+      shapeOf (getD s at 0) ≡ Declare body asks → judged ≡ declareOf s st at → c ≡ declaredStanding at asks →
       ((name : Name) → ReadsSheet N (After body c judged name) x t u) → Names x t u
   unfolding namesStep wholeOfShape
-  names-declare h e j k R = rw (names-step, lt-leb _ _ h, e) (rw (j, k) at (R (declareAt s at)))
+  names-declare {asks = asks} h e j k R = rw (names-step, lt-leb _ _ h, e) (rw (j, k) at (R (declareAt s at asks)))
 
   pub names-retire : {body : ℕ} {judged : Judged} {x : Reading} {t u : List ℕ} → at < length s →
       shapeOf (getD s at 0) ≡ Retire body → judged ≡ fresh s st (at + 1) →

@@ -1,8 +1,10 @@
--- The bytes of a sheet. Document 01, "The sheet, byte by byte", the table; document 02 [1] for procedures. SHEETS 2.
+-- The bytes of a sheet. Document 01, "The sheet, byte by byte", the table; document 02 [1] for procedures, [5] for
+-- names that ask once. SHEETS 2.
 use Prim.Native.Nat.{ℕ, zero, suc, _+_}
 use mathlib.Core.List.{List, [], _∷_, _++_}
 use lib.ListN.{length}
 use Rattle.language.specs.declared.Numbers.{Numbers}
+use Rattle.language.specs.Term.{Often, freely, once}
 use Rattle.procedures.specs.Written.{Written, skip, diverge, truth, number, call, fetch, operate, assign, sequence}
 use Rattle.procedures.specs.Written.{while, choose, new, procedure, Parameter, Writtens, none, more, Name, declare}
 use Rattle.procedures.specs.Written.{retire, Sheet}
@@ -40,8 +42,13 @@ padded zero tys = []
 padded (suc n) [] = 255 ∷ padded n []
 padded (suc n) (ty ∷ tys) = ty ∷ padded n tys
 
+-- the kind of a declare record
+unfoldable pub declareKind : Often → ℕ
+declareKind freely = 1
+declareKind once = 3
+
 unfoldable pub encodeName : Name → List ℕ
-encodeName (declare id ty tys) = 1 ∷ id ∷ ty ∷ length tys ∷ padded 4 tys
+encodeName (declare often id ty tys) = declareKind often ∷ id ∷ ty ∷ length tys ∷ padded 4 tys
 encodeName (retire id) = 2 ∷ id ∷ []
 
 unfoldable pub encodeNames : List Name → List ℕ

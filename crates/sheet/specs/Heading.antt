@@ -1,10 +1,11 @@
--- The judgement of name records. Document 01, "The sheet, byte by byte", kinds 1 and 2, and "Three services", the order.
--- SHEETS 2.3 and 9.2.
-use Prim.Native.Nat.{ℕ, _+_}
+-- The judgement of name records. Document 01, "The sheet, byte by byte", kinds 1 and 2, and "Three services", the
+-- order; document 02 [5] for kind 3, "Refused: as for kind 1". SHEETS 2.3 and 9.2.
+use Prim.Native.Nat.{ℕ, zero, suc, _+_}
 use mathlib.Core.List.{List}
 use lib.ListN.{getD, take, drop}
 use lib.Dec.{eqb, ltb}
 use Rattle.language.specs.Choice.{pick}
+use Rattle.language.specs.Term.{Often, freely, once}
 use Rattle.records.specs.Limits.{ids, types, counts}
 use Rattle.records.specs.Refusal.{refusal, id-taken}
 use Rattle.heads.specs.Judge.{andThen, below, unused}
@@ -34,9 +35,15 @@ declareOf s st at =
 unfoldable pub retireOf : List ℕ → List ℕ → ℕ → Judged
 retireOf s st at = fresh s st (at + 1)
 
+-- how often a name asks, by the number that the shape of its record has
+unfoldable pub oftenOf : ℕ → Often
+oftenOf zero = freely
+oftenOf (suc n) = once
+
 -- the records themselves
-unfoldable pub declareAt : List ℕ → ℕ → Name
-declareAt s at = declare (getD s (at + 1) 0) (getD s (at + 2) 0) (take (getD s (at + 3) 0) (drop (at + 4) s))
+unfoldable pub declareAt : List ℕ → ℕ → ℕ → Name
+declareAt s at asks =
+    declare (oftenOf asks) (getD s (at + 1) 0) (getD s (at + 2) 0) (take (getD s (at + 3) 0) (drop (at + 4) s))
 
 unfoldable pub retireAt : List ℕ → ℕ → Name
 retireAt s at = retire (getD s (at + 1) 0)

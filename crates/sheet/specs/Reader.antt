@@ -109,8 +109,8 @@ unfoldable pub withName : Name → Whole → Whole
 withName n (whole ns root t) = whole (n ∷ ns) root t
 
 unfoldable pub wholeOfShape :
-    Shape → (ℕ → Answer Whole) → (ℕ → Answer Whole) → Answer Whole → Answer Whole → Answer Whole
-wholeOfShape (Declare body) d r p u = d body
+    Shape → (ℕ → ℕ → Answer Whole) → (ℕ → Answer Whole) → Answer Whole → Answer Whole → Answer Whole
+wholeOfShape (Declare body asks) d r p u = d body asks
 wholeOfShape (Retire body) d r p u = r body
 wholeOfShape (Part body parts rule) d r p u = p
 wholeOfShape Unknown d r p u = u
@@ -127,7 +127,7 @@ unfoldable pub namesStep : Edition → (List ℕ → ℕ → Answer Whole) → �
 namesStep ed rec n N s st at =
     pick (leb (length s) at) (refused cut-short (length s))
     (wholeOfShape (shapeOf (getD s at 0))
-      (λ body. nameOf rec n s st at body (declaredStanding at) (declareOf s st at) (declareAt s at))
+      (λ body asks. nameOf rec n s st at body (declaredStanding at asks) (declareOf s st at) (declareAt s at asks))
       (λ body. nameOf rec n s st at body retired (retireOf s st at) (retireAt s at))
       (bind (readPart ed greatest-depth N s st 0 at) (λ t ty end. got (whole [] at t) ty end))
       (refused out-of-range at))

@@ -75,9 +75,9 @@ pub(crate) fn read_names(
             parts: _,
             rule: _,
         } => read_term(edition, s, st, t, n, at),
-        Shape::Declare { body } => {
+        Shape::Declare { body, once } => {
             let judged = judge_declare(s, st, at);
-            let c = declared_standing(at);
+            let c = declared_standing(at, once);
             read_after(edition, s, st, t, n, left, at, body, c, judged)
         }
         Shape::Retire { body } => {

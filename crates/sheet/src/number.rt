@@ -16,7 +16,7 @@ fn number_in(c: u32) -> u16
     match standing {
         Standing::Free => 0,
         Standing::Retired => 0,
-        Standing::Declared { place: _ } => 0,
+        Standing::Declared { place: _, once: _ } => 0,
         Standing::Variable {
             number: _,
             holds: _,

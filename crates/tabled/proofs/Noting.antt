@@ -9,6 +9,8 @@ use lib.Seq.{getD-set-same, getD-set-other}
 use lib.Dec.{eqb, ltb}
 use borrow.Author.Tests.{eqb-true, eqb-false, eq-eqb, ne-eqb}
 use Rattle.language.specs.Choice.{pick}
+use Rattle.language.specs.Term.{onces}
+use Rattle.language.proofs.AskOnceLaws.{onces-below}
 use Rattle.language.specs.declared.Numbers.{Numbers}
 use Rattle.records.specs.Standing.{standingOf}
 use Rattle.part_rows.specs.Row.{cell, rowKind, classOf, detail, rowWritten, linked}
@@ -235,8 +237,8 @@ module _ (N : Numbers) (s : List ℕ) (ns : List Name) (short : length s ≤ 409
           (other r (st .kinded) q refl)
           (xs (r .place) 0 t (low st) (omega arith) l
           ∙ rw m (or-other (eqb (r .a) k) (someUses ns k bs (writtens s ts)) (isNoted t k)))
-    | p-name {place = p} {bs = bs} {r = r} {ts = ts} st b g m u e few small c (ds → xs) ↦ λ t l.
-        let q = ap standingOf c ∙ declared-again p (omega arith) in
+    | p-name {place = p} {often = often} {bs = bs} {r = r} {ts = ts} st b g m u e few small c (ds → xs) ↦ λ t l.
+        let q = ap standingOf c ∙ declared-again p (onces often) (omega arith) (onces-below often) in
         name-notes bs r _ _ _ ts (w.call (r .a) (writtens s ts)) t (low st) (rw (st .ruled) refl)
           (other r (st .kinded) q refl) g l
           (ap (λ z. eqb (r .a) k || z) (xs (r .place) 0 t (low st) (omega arith) l)

@@ -4,6 +4,8 @@ use native.Mathlib.Omega.{arith}
 use mathlib.Core.Path.{_≡_, refl, sym, ap, _∙_, subst}
 use mathlib.Core.List.{List, [], _∷_}
 use lib.ListN.{length}
+use Rattle.language.specs.Term.{onces}
+use Rattle.language.proofs.AskOnceLaws.{onces-below}
 use Rattle.language.specs.declared.Numbers.{Numbers}
 use Rattle.records.specs.Standing.{standingOf}
 use Rattle.part_rows.specs.Row.{rowKind, useKind, detail, classOf}
@@ -97,7 +99,8 @@ module _ (N : Numbers) (s : List ℕ) (ns : List Name) (U : List ℕ) (short : l
   pub shows : {ed : Edition} {left at ty next : ℕ} {bs : List Binder} {π : ℕ → ℕ} {t : Tree} →
       Parsed ed N s ns left bs π at t ty next → (Γ : Context) → binders Γ ≡ bs → Told s ns bs at t ty next → Stored N U at t →
       Shown N ns U Γ π at next (written s t)
-  unfolding written writtens build first rest typed rowKind detail useKind row.useDetail useDetail nameDetail binders
+  unfolding written writtens build first rest typed rowKind detail useKind row.useDetail row.declaredDetail useDetail
+    nameDetail binders
   shows d =
     elim d as
       (λ left bs π at t ty next d. (Γ : Context) → binders Γ ≡ bs → Told s ns bs at t ty next → Stored N U at t →
@@ -137,12 +140,15 @@ module _ (N : Numbers) (s : List ℕ) (ns : List Name) (U : List ℕ) (short : l
           (row-of Γ 130 (w.call (r .a) (writtens s ts)) short e st (own S) (rw q refl) (T .before) (T .within)
             (rw (st .ruled) at (T .types)))
           (detail-of st (own S) ∙ (rw q refl ∙ h)) (omega arith) (omega arith) (xs Γ e at 0 (parts S)))
-    | p-name {at = at} {place = p} {tys = tys} {r = r} {ts = ts} st b g m l n few low c (ds → xs) ↦ λ Γ e T S.
-        let q = ap standingOf c ∙ declared-again p (omega arith) in
+    | p-name {at = at} {place = p} {often = often} {tys = tys} {r = r} {ts = ts} st b g m l n few low c (ds → xs) ↦
+        λ Γ e T S.
+        let q = ap standingOf c ∙ declared-again p (onces often) (omega arith) (onces-below often) in
+        let h : r .a + 256 * (r .parts % 8 + 8 * (onces often % 2)) ≡ r .a + 256 * (length tys + 8 * onces often) =
+            omega (arith, onces-below often) in
         rw (st .ruled) (shown-name {from = at + 2} (ap (λ u. meaning ns u (r .a)) e ∙ m)
           (row-of Γ 20 (w.call (r .a) (writtens s ts)) short e st (own S) (rw q (st .kinded)) (T .before) (T .within)
             (rw (st .ruled) at (T .types)))
-          (detail-of st (own S) ∙ (rw q refl ∙ ap (λ i. r .a + 256 * i) n)) (omega arith) (omega arith)
+          (detail-of st (own S) ∙ (rw q refl ∙ h)) (omega arith) (omega arith)
           (xs Γ e at 0 (parts S)))
     | p-fetch {t = t} st (d → x) h ↦ λ Γ e T S.
         let ps = parts S in

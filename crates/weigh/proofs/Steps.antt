@@ -25,7 +25,7 @@ start-parameter kind detail k row s t u n h p e =
     rw (ne-eqb kind USE n, eq-eqb kind PARAMETER h) (e ∙ ap (λ x. unitForm row x t) p)
 
 pub start-plain : (kind detail k row own : ℕ) (t u : List ℕ) → (kind ≡ USE → ⊥) → (kind ≡ PARAMETER → ⊥) →
-    own ≡ ownOf kind → u ≡ constantForm row own t → u ≡ started kind detail k row t
+    own ≡ ownOf kind detail → u ≡ constantForm row own t → u ≡ started kind detail k row t
 unfolding started
 start-plain kind detail k row own t u n m p e =
     rw (ne-eqb kind USE n, ne-eqb kind PARAMETER m) (e ∙ ap (λ x. constantForm row x t) p)

@@ -26,8 +26,13 @@ ghost use Prim.Native.Nat.{_<_};
 ghost use Rattle.weighing.specs.Plan.{partsOf, ownOf, factorOf, extraOf};
 ghost use Rattle.weighing.specs.Step.{started};
 
-// The detail of a name is its id and this many times the number of its arguments.
+// The detail of a name is its id and this many times the number of its arguments, which is below COUNTS; where the name
+// asks once, it has ONCE besides.
 const IDS: usize = 256;
+
+const COUNTS: usize = 8;
+
+const ONCE: usize = 2048;
 
 // The greatest number of arguments.
 const ARGUMENTS: usize = 4;
@@ -43,7 +48,7 @@ pub(crate) fn parts_of(kind: usize, detail: usize) -> usize
         return 0;
     }
     if kind == NAME {
-        return least(detail / IDS, ARGUMENTS);
+        return least(detail / IDS % COUNTS, ARGUMENTS);
     }
     if kind == FETCH {
         return 1;
@@ -66,15 +71,15 @@ pub(crate) fn parts_of(kind: usize, detail: usize) -> usize
     0
 }
 
-// The weight of a record without its parts.
-fn own_of(kind: usize) -> u32
-    ensures { λ r. ⌜ r ≡ ownOf kind ⌝ }
+// The weight of a record without its parts; a name that asks once weighs one more.
+fn own_of(kind: usize, detail: usize) -> u32
+    ensures { λ r. ⌜ r ≡ ownOf kind detail ⌝ }
 {
     if kind < NAME {
         return 1;
     }
     if kind == NAME {
-        return 2;
+        return 2 + (detail / ONCE % 2) as u32;
     }
     if kind == PRIVATE {
         return 2;
@@ -97,7 +102,7 @@ pub(crate) fn start(t: &mut [u16], row: usize, kind: usize, detail: usize, k: us
         set_unit(t, row, s);
         return;
     }
-    set_constant(t, row, own_of(kind));
+    set_constant(t, row, own_of(kind, detail));
 }
 
 // By what the form of part j, which is at a place, is multiplied.

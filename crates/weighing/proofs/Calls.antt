@@ -9,6 +9,9 @@ use borrow.Author.Tests.{lt-ltb, le-ltb, ne-eqb, ltb-true, ltb-false}
 use Rattle.language.specs.Choice.{pick}
 use Rattle.language.specs.Ty.{questions, answers}
 use Rattle.language.specs.declared.Numbers.{Numbers}
+use Rattle.language.specs.Term.{Often, onces}
+use Rattle.language.specs.Weight.{useWeight}
+use Rattle.language.proofs.AskOnceLaws.{onces-below}
 use Rattle.parts.specs.Rule.{values}
 use Rattle.part_rows.specs.Row.{classOf}
 use Rattle.procedures.specs.Environment.{beyond}
@@ -71,10 +74,11 @@ unfolding instance sums plus only
 same-none k f xs = record { constants = omega arith; coefficients = λ s. omega arith }
 
 module _ (N : Numbers) (ns : List Name) (t : List ℕ) where
-  call-named : (bs : List Binder) (φ : Forms) (id ty : ℕ) (tys : List ℕ) (ws : Writtens) →
-      meaning ns bs id ≡ named ty tys → formOf N ns bs φ (call id ws) ≡ plus (only 2) (formArgs N ns bs φ ws tys)
+  call-named : (bs : List Binder) (φ : Forms) (id ty : ℕ) (often : Often) (tys : List ℕ) (ws : Writtens) →
+      meaning ns bs id ≡ named often ty tys →
+      formOf N ns bs φ (call id ws) ≡ plus (only (useWeight often)) (formArgs N ns bs φ ws tys)
   unfolding formOf byMeaning
-  call-named bs φ id ty tys ws e = rw e
+  call-named bs φ id ty often tys ws e = rw e
 
   call-routine : (bs : List Binder) (φ : Forms) (id k ty : ℕ) (tys : List ℕ) (ws : Writtens) →
       meaning ns bs id ≡ routine k ty tys → formOf N ns bs φ (call id ws)
@@ -82,10 +86,10 @@ module _ (N : Numbers) (ns : List Name) (t : List ℕ) where
   unfolding formOf byMeaning
   call-routine bs φ id k ty tys ws e = rw e
 
-  come-named : (bs : List Binder) (κ : ℕ → ℕ) (id ty : ℕ) (tys : List ℕ) (ws : Writtens) →
-      meaning ns bs id ≡ named ty tys → come ns bs κ (call id ws) ≡ 0
+  come-named : (bs : List Binder) (κ : ℕ → ℕ) (id ty : ℕ) (often : Often) (tys : List ℕ) (ws : Writtens) →
+      meaning ns bs id ≡ named often ty tys → come ns bs κ (call id ws) ≡ 0
   unfolding come byMeaning
-  come-named bs κ id ty tys ws e = rw e
+  come-named bs κ id ty often tys ws e = rw e
 
   come-routine : (bs : List Binder) (κ : ℕ → ℕ) (id k ty : ℕ) (tys : List ℕ) (ws : Writtens) →
       meaning ns bs id ≡ routine k ty tys → come ns bs κ (call id ws) ≡ through k (κ k) (λ j. comes ns bs κ ws j)
@@ -127,23 +131,24 @@ module _ (N : Numbers) (ns : List Name) (t : List ℕ) where
           (name-jobs ws tys (suc j) b detail (plus (plus g (times q y)) (only a)) f r (x .2)
             (argument-first g q a y rest f S))
 
-    pub plan-name : (id ty from : ℕ) (tys : List ℕ) (ws : Writtens) → meaning ns (binders Γ) id ≡ named ty tys →
-        word t at DETAIL ≡ nameDetail id (length tys) → id < 256 → length tys ≤ 4 → at < from →
+    pub plan-name : (id ty from : ℕ) (often : Often) (tys : List ℕ) (ws : Writtens) →
+        meaning ns (binders Γ) id ≡ named often ty tys →
+        word t at DETAIL ≡ nameDetail id (length tys) often → id < 256 → length tys ≤ 4 → at < from →
         ShownArgs N ns t Γ π at 0 from end ws tys → FineArgs N ns (binders Γ) ws tys →
         Plan N ns t h k Γ π at end (call id ws) NAME (word t at DETAIL)
     unfolding partsOf partsIn PartsFormed ownOf comeOf Marked nameDetail
-    plan-name id ty from tys ws e d i n b s f =
+    plan-name id ty from often tys ws e d i n b s f =
         let m : many ws ≡ length tys = args-many ws tys 0 from s in
         record {
-          inner = Γ; from = from; first = only 2; parts = ws; counted = omega arith; parted = refl; four = omega arith;
-          after = b;
-          jobs = name-jobs ws tys 0 from (word t at DETAIL) (only 2)
+          inner = Γ; from = from; first = only (useWeight often); parts = ws; counted = omega (arith, onces-below often);
+          parted = refl; four = omega arith; after = b;
+          jobs = name-jobs ws tys 0 from (word t at DETAIL) (only (useWeight often))
             (formOf N ns (binders Γ) (forms N ns Γ) (call id ws)) s f
-            (same-path _ _ (sym (call-named (binders Γ) (forms N ns Γ) id ty tys ws e)));
-          begun = λ row g l. begun-plain t NAME (word t at DETAIL) k row 2 long l (λ x. omega arith)
-            (λ x. omega arith) refl;
+            (same-path _ _ (sym (call-named (binders Γ) (forms N ns Γ) id ty often tys ws e)));
+          begun = λ row g l. begun-plain t NAME (word t at DETAIL) k row (useWeight often) long l (λ x. omega arith)
+            (λ x. omega arith) (omega (arith, onces-below often));
           forming = λ x. x;
-          coming = λ x. sym (come-named (binders Γ) (downs ns Γ) id ty tys ws e);
+          coming = λ x. sym (come-named (binders Γ) (downs ns Γ) id ty often tys ws e);
           marking = λ t′ M x y. (x, y) }
 
     -- arguments of the procedure k, whose term has the form f

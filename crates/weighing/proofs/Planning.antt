@@ -5,6 +5,7 @@ use mathlib.Core.List.{List}
 use mathlib.Core.Path.{_≡_, refl, sym, ap, _∙_}
 use lib.ListN.{length}
 use Rattle.language.specs.declared.Numbers.{Numbers}
+use Rattle.language.specs.Term.{Often}
 use Rattle.parts.specs.Rule.{values}
 use Rattle.procedures.specs.Written.{Written, call, Writtens, Name}
 use Rattle.procedures.specs.Meaning.{meaning, routine, named}
@@ -31,10 +32,11 @@ module _ (N : Numbers) (ns : List Name) (t : List ℕ) (l h k : ℕ) (long : len
   at-kind r p = rw (r .kinded) p
 
   -- the arguments of a name are in order
-  named-args : (Γ : Context) (id ty : ℕ) (tys : List ℕ) (ws : Writtens) → meaning ns (binders Γ) id ≡ named ty tys →
-      Fine N ns (binders Γ) (call id ws) → (id < 256) × FineArgs N ns (binders Γ) ws tys
+  named-args : (Γ : Context) (id ty : ℕ) (often : Often) (tys : List ℕ) (ws : Writtens) →
+      meaning ns (binders Γ) id ≡ named often ty tys → Fine N ns (binders Γ) (call id ws) →
+      (id < 256) × FineArgs N ns (binders Γ) ws tys
   unfolding Fine FineUse
-  named-args Γ id ty tys ws e f = (omega (arith, f .0), rw e at (f .1))
+  named-args Γ id ty often tys ws e f = (omega (arith, f .0), rw e at (f .1))
 
   its-procedure : (Γ : Context) (id s ty : ℕ) (tys : List ℕ) → meaning ns (binders Γ) id ≡ routine s ty tys →
       Found Γ s tys
@@ -74,10 +76,11 @@ module _ (N : Numbers) (ns : List Name) (t : List ℕ) (l h k : ℕ) (long : len
       f d e g R j n =
       at-kind r (use-planned Γ π at end from id s ty tys ws m w c b a (omega arith) e g
         (omega (arith, r .before, r .within)) R (j id s ty ws tys refl m))
-  planned {Γ} {π} {at} {end} (shown-name {from = from} {id = id} {ty = ty} {tys = tys} {ws = ws} m r w c b a)
-      f d e g R j n =
-      at-kind r (plan-name N ns t h k Γ π at end long id ty from tys ws m w (named-args Γ id ty tys ws m f .0) c b a
-        (named-args Γ id ty tys ws m f .1))
+  planned {Γ} {π} {at} {end} (shown-name {from = from} {id = id} {ty = ty} {often = often} {tys = tys} {ws = ws} m r w c
+      b a) f d e g R j n =
+      at-kind r (plan-name N ns t h k Γ π at end long id ty from often tys ws m w
+        (named-args Γ id ty often tys ws m f .0) c b a
+        (named-args Γ id ty often tys ws m f .1))
   planned {Γ} {π} {at} {end} (shown-fetch {a = a} {x = x} r p b s) f d e g R j n =
       at-kind r (plan-fetch N ns t h k Γ π at end long a x p b s)
   planned {Γ} {π} {at} {end} (shown-operate {a = a} {b = b} {op = op} {x = x} {y = y} r w p q i s u) f d e g R j n =

@@ -64,12 +64,12 @@ module _ (N : Numbers) (ns : List Name) (t : List ℕ) where
 
 -- the form of a record that is no use of a parameter or of a procedure, without its parts
 pub begun-plain : (t : List ℕ) (kind detail k row c : ℕ) → length t ≡ 58313 → row < 100 → (kind ≡ USE → ⊥) →
-    (kind ≡ PARAMETER → ⊥) → ownOf kind ≡ c → Shaped t (started kind detail k row t) row (only c)
+    (kind ≡ PARAMETER → ⊥) → ownOf kind detail ≡ c → Shaped t (started kind detail k row t) row (only c)
 unfolding started
 begun-plain t kind detail k row c l b u q o =
     rw (ne-eqb kind USE u, ne-eqb kind PARAMETER q) (record {
-      shows = constant-formed t row (ownOf kind) c l b (ap held o);
-      only = constant-only t row (ownOf kind) l b })
+      shows = constant-formed t row (ownOf kind detail) c l b (ap held o);
+      only = constant-only t row (ownOf kind detail) l b })
 
 -- that of a parameter
 begun-parameter : (t : List ℕ) (detail k row s : ℕ) → length t ≡ 58313 → row < 100 → detail ≡ s → s < 128 →
@@ -85,7 +85,8 @@ module _ (N : Numbers) (ns : List Name) (t : List ℕ) (h k : ℕ) (Γ : Context
   PlanOf W kind = Plan N ns t h k Γ π at end W kind (word t at DETAIL)
 
   -- records without parts
-  leaf : (kind c : ℕ) (W : Written) → partsOf kind (word t at DETAIL) ≡ 0 → partsIn W ≡ 0 → ownOf kind ≡ c →
+  leaf : (kind c : ℕ) (W : Written) → partsOf kind (word t at DETAIL) ≡ 0 → partsIn W ≡ 0 →
+      ownOf kind (word t at DETAIL) ≡ c →
       (kind ≡ USE → ⊥) → (kind ≡ PARAMETER → ⊥) → formOf N ns (binders Γ) (forms N ns Γ) W ≡ only c →
       come ns (binders Γ) (downs ns Γ) W ≡ 0 → comeOf t (marksIn t) kind (word t at DETAIL) k at 0 ≡ 0 →
       ((t′ M : List ℕ) → getD M at 0 ≡ come ns (binders Γ) (downs ns Γ) W → Marked N ns t′ M Γ at W) →
@@ -156,7 +157,8 @@ module _ (N : Numbers) (ns : List Name) (t : List ℕ) (h k : ℕ) (Γ : Context
       marking = λ t′ M e m. (e, m .0) }
 
   -- two parts, each counted once
-  pair : (kind a b : ℕ) (W x y : Written) → partsOf kind (word t at DETAIL) ≡ 2 → partsIn W ≡ 2 → ownOf kind ≡ 0 →
+  pair : (kind a b : ℕ) (W x y : Written) → partsOf kind (word t at DETAIL) ≡ 2 → partsIn W ≡ 2 →
+      ownOf kind (word t at DETAIL) ≡ 0 →
       (kind ≡ USE → ⊥) → (kind ≡ PARAMETER → ⊥) →
       formOf N ns (binders Γ) (forms N ns Γ) W
         ≡ plus (formOf N ns (binders Γ) (forms N ns Γ) x) (formOf N ns (binders Γ) (forms N ns Γ) y) →

@@ -5,7 +5,7 @@ use lib.ListN.{getD}
 use lib.Dec.{eqb, ltb}
 use Rattle.language.specs.Choice.{pick}
 use Rattle.procedures.specs.PartKind.{NAME, FETCH, OPERATE, ASSIGN, IF, NEW, PRIVATE, PARAMETER, USE}
-use Rattle.procedures.specs.PartKind.{CLASS, VALUES, PARTS, IDS, PLACES}
+use Rattle.procedures.specs.PartKind.{CLASS, VALUES, PARTS, IDS, COUNTS, ONCE, PLACES}
 use Rattle.part_rows.specs.Row.{word}
 use Rattle.procedures.specs.Marks.{COMES, bits}
 use Rattle.weighing.specs.Stack.{slotOf, coefficientOf}
@@ -25,7 +25,7 @@ answersBy class values = pick (eqb class 0) 1 (pick (eqb class 2) (values + valu
 unfoldable pub partsOf : ℕ → ℕ → ℕ
 partsOf kind detail =
     pick (ltb kind NAME) 0
-    (pick (eqb kind NAME) (min (detail / IDS) 4)
+    (pick (eqb kind NAME) (min (detail / IDS % COUNTS) 4)
     (pick (eqb kind FETCH) 1
     (pick (ltb kind IF) 2
     (pick (eqb kind IF) 3
@@ -33,9 +33,10 @@ partsOf kind detail =
     (pick (eqb kind NEW) 1
     (pick (eqb kind USE) (min (detail / PLACES) 4) 0)))))))
 
--- the weight of a record without its parts
-unfoldable pub ownOf : ℕ → ℕ
-ownOf kind = pick (ltb kind NAME) 1 (pick (eqb kind NAME) 2 (pick (eqb kind PRIVATE) 2 0))
+-- the weight of a record without its parts; a name that asks once weighs one more
+unfoldable pub ownOf : ℕ → ℕ → ℕ
+ownOf kind detail =
+    pick (ltb kind NAME) 1 (pick (eqb kind NAME) (2 + detail / ONCE % 2) (pick (eqb kind PRIVATE) 2 0))
 
 -- where the term of the procedure stands that a use with the given detail means, and which form is its own
 unfoldable pub termPlace : List ℕ → ℕ → ℕ

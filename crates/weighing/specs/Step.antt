@@ -17,7 +17,7 @@ use Rattle.weighing.specs.Plan.{partsOf, ownOf, termForm, factorOf, extr
 unfoldable pub started : ℕ → ℕ → ℕ → ℕ → List ℕ → List ℕ
 started kind detail k row t =
     pick (eqb kind USE) (lowerForm row (termForm t detail) k t)
-    (pick (eqb kind PARAMETER) (unitForm row (min detail last-parameter) t) (constantForm row (ownOf kind) t))
+    (pick (eqb kind PARAMETER) (unitForm row (min detail last-parameter) t) (constantForm row (ownOf kind detail) t))
 
 -- part j of the record `at`, whose form is `first + j`, is added to a form
 unfoldable pub partAdded : ℕ → ℕ → ℕ → ℕ → ℕ → ℕ → ℕ → List ℕ → List ℕ

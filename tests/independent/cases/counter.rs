@@ -17,6 +17,8 @@ pub struct Counter {
     shows: [usize; 2],
     /// Whether it counts down from 0 with marks of the other sign. This makes no difference.
     pub down: bool,
+    /// Whether the name asks once.
+    once: bool,
 }
 
 impl Counter {
@@ -25,7 +27,7 @@ impl Counter {
         let z = random.between(1, if levels == 1 { 7 } else { 3 }) as i8;
         let marks = (0..levels).map(|_| mark(random, z)).collect();
         let shows = [random.below(4), random.below(3)];
-        Counter { z, wraps: random.one_in(2), marks, shows, down: random.one_in(2) }
+        Counter { z, wraps: random.one_in(2), marks, shows, down: random.one_in(2), once: random.one_in(5) }
     }
 
     /// Changes a mark or what is shown.
@@ -39,15 +41,16 @@ impl Counter {
     }
 
     pub fn sheet(&self) -> Vec<u8> {
-        let plain = |id| Record::Declare { id, result: Type::Command, arguments: vec![] };
-        let caller = Record::Declare { id: CALLER, result: Type::Command, arguments: vec![Type::Command; 2] };
+        let plain = |id| Record::Declare { once: false, id, result: Type::Command, arguments: vec![] };
+        let caller =
+            Record::Declare { once: self.once, id: CALLER, result: Type::Command, arguments: vec![Type::Command; 2] };
         let records = vec![caller, plain(SHOWN[0]), plain(SHOWN[1])];
         let heading = Heading { z: self.z, wraps: self.wraps, records };
         written(&heading, &self.term())
     }
 
     fn term(&self) -> Term {
-        let call = Kind::Name { id: CALLER, result: Type::Command };
+        let call = Kind::Name { id: CALLER, result: Type::Command, once: self.once };
         let body = Term::new(call, vec![self.step(0), self.look()]);
         (0..self.marks.len()).fold(body, |inside, level| {
             Term::new(Kind::New { id: variable_id(level), data: Data::Number }, vec![inside])
@@ -106,6 +109,6 @@ fn shown(what: usize) -> Term {
     match what {
         2 => Term::new(Kind::Skip, vec![]),
         3 => Term::new(Kind::Diverge(Type::Command), vec![]),
-        name => Term::new(Kind::Name { id: SHOWN[name], result: Type::Command }, vec![]),
+        name => Term::new(Kind::Name { id: SHOWN[name], result: Type::Command, once: false }, vec![]),
     }
 }

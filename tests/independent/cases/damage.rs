@@ -1,27 +1,45 @@
 //! Sheets and plays with something wrong in them.
 
 use super::heading_and_term;
-use super::limits::fill_records;
+use super::limits;
 use crate::random::Random;
-use crate::sheet::{written, Kind, Term};
+use crate::reader::read;
+use crate::sheet::{written, Kind, Record, Term};
 
 /// A sheet in which some record has an id that it may not have, more often than not.
 pub fn misnamed(random: &mut Random) -> Vec<u8> {
     let (mut heading, mut term) = heading_and_term(random);
     let retired = heading.records.len();
-    fill_records(&mut heading, retired + 1);
+    limits::fill_records(&mut heading, retired + 1, limits::retired);
     let record = if random.one_in(2) { heading.records[retired].clone() } else { random.choose(&heading.records) };
     let id = if random.one_in(5) { random.byte() } else { record.id() };
     let place = random.below(term.records());
     let named = record_at(&mut term, place);
     match &mut named.kind {
         Kind::Name { id: old, .. } | Kind::Private { id: old, .. } | Kind::New { id: old, .. } => *old = id,
-        kind => *kind = Kind::Name { id, result: named.gives },
+        kind => *kind = Kind::Name { id, result: named.gives, once: false },
     }
     if random.one_in(4) {
         heading.records.push(record);
     }
     written(&heading, &term)
+}
+
+/// The sheet with one of its names declared by the other kind.
+pub fn redeclared(random: &mut Random, bytes: Vec<u8>) -> Vec<u8> {
+    let Ok(mut sheet) = read(&bytes) else {
+        return bytes;
+    };
+    let kinds = sheet.heading.records.iter_mut().filter_map(|record| match record {
+        Record::Declare { once, .. } => Some(once),
+        Record::Retire { .. } => None,
+    });
+    let mut kinds: Vec<&mut bool> = kinds.collect();
+    if !kinds.is_empty() {
+        let at = random.below(kinds.len());
+        *kinds[at] ^= true;
+    }
+    written(&sheet.heading, &sheet.term)
 }
 
 /// The record with that number, counted from the whole term.

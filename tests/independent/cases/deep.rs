@@ -7,28 +7,35 @@ const TRUTH: Type = Type::Expression(Data::Truth);
 const NUMBER: Type = Type::Expression(Data::Number);
 const VARIABLE: Type = Type::Variable(Data::Number);
 
-/// The declared names: one of each type that is needed, one that takes a command and one that takes four.
-const NAMES: [(u8, Type, &[Type]); 6] = [
+/// The declared names: one of each type that is needed, one that takes a command and one that takes four; and one that
+/// takes a command and asks once.
+const NAMES: [(u8, Type, &[Type]); 7] = [
     (1, Type::Command, &[]),
     (2, TRUTH, &[]),
     (3, NUMBER, &[]),
     (4, VARIABLE, &[]),
     (5, Type::Command, &[Type::Command]),
     (6, Type::Command, &[Type::Command, TRUTH, VARIABLE, Type::Command]),
+    (ONCE, Type::Command, &[Type::Command]),
 ];
+const ONCE: u8 = 7;
 /// The first id of private variables.
 const PRIVATE: u8 = 10;
 
 fn heading(z: i8) -> Heading {
-    let declare =
-        |&(id, result, arguments): &(u8, Type, &[Type])| Record::Declare { id, result, arguments: arguments.to_vec() };
+    let declare = |&(id, result, arguments): &(u8, Type, &[Type])| Record::Declare {
+        once: id == ONCE,
+        id,
+        result,
+        arguments: arguments.to_vec(),
+    };
     Heading { z, wraps: false, records: NAMES.iter().map(declare).collect() }
 }
 
 /// A use of the first name with that result, which has no arguments.
 fn plain(wanted: Type) -> Term {
     let name = NAMES.iter().find(|name| name.1 == wanted).expect("there is a name of that type");
-    Term::new(Kind::Name { id: name.0, result: wanted }, vec![])
+    Term::new(Kind::Name { id: name.0, result: wanted, once: false }, vec![])
 }
 
 fn leaf(kind: Kind) -> Term {
@@ -47,7 +54,7 @@ fn sequence(first: Term, then: Term) -> Term {
 /// Uses, and commands that have commands inside.
 fn commands() -> Vec<(&'static str, Term)> {
     let command = || plain(Type::Command);
-    let used = |id: u8, parts| Term::new(Kind::Name { id, result: Type::Command }, parts);
+    let used = |id: u8, parts| Term::new(Kind::Name { id, result: Type::Command, once: id == ONCE }, parts);
     let four = |term| used(6, vec![command(), plain(TRUTH), plain(VARIABLE), term]);
     let branch = |term| Term::new(Kind::If, vec![plain(TRUTH), leaf(Kind::Skip), term]);
     let round = |term| Term::new(Kind::While, vec![plain(TRUTH), term]);
@@ -56,6 +63,7 @@ fn commands() -> Vec<(&'static str, Term)> {
         ("second parts of sequences", deepest(command(), 1, |term| sequence(command(), term))),
         ("first parts of sequences", deepest(command(), 1, |term| sequence(term, command()))),
         ("arguments", deepest(command(), 1, |term| used(5, vec![term]))),
+        ("arguments of names that ask once", deepest(command(), 1, |term| used(ONCE, vec![term]))),
         ("last of four arguments", deepest(command(), 1, four)),
         ("branches", deepest(command(), 1, branch)),
         ("rounds of loops", deepest(command(), 1, round)),

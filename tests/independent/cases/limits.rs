@@ -23,7 +23,8 @@ pub fn sheet_at_a_limit(random: &mut Random) -> Vec<u8> {
         3..=4 => too_deep(random, &heading, term),
         5 => heavy(random),
         _ => {
-            fill_records(&mut heading, 31 + beyond);
+            let make = random.choose(&[retired as fn(u8) -> Record, freely, once]);
+            fill_records(&mut heading, 31 + beyond, make);
             written(&heading, &term)
         }
     }
@@ -44,9 +45,9 @@ fn too_deep(random: &mut Random, heading: &Heading, term: Term) -> Vec<u8> {
 /// Truth variables around a few commands: the weight is a power of 2, up to 2 to the 32nd. Now and then they all have
 /// one id.
 fn heavy(random: &mut Random) -> Vec<u8> {
-    let record = Record::Declare { id: 1, result: Type::Command, arguments: vec![] };
+    let record = Record::Declare { once: false, id: 1, result: Type::Command, arguments: vec![] };
     let heading = Heading { z: 1, wraps: false, records: vec![record] };
-    let mut term = Term::new(Kind::Name { id: 1, result: Type::Command }, vec![]);
+    let mut term = Term::new(Kind::Name { id: 1, result: Type::Command, once: false }, vec![]);
     let hides = random.one_in(8);
     for i in 0..random.choose(&[8, 9, 10, 11, 15, 16, 24, 31, 31, 31]) {
         term = if random.one_in(16) {
@@ -75,11 +76,24 @@ fn deepened(random: &mut Random, mut term: Term, depth: usize) -> Term {
     term
 }
 
+/// A record of each kind, of which two declare a command.
+pub fn retired(id: u8) -> Record {
+    Record::Retire { id }
+}
+
+fn freely(id: u8) -> Record {
+    Record::Declare { once: false, id, result: Type::Command, arguments: vec![] }
+}
+
+fn once(id: u8) -> Record {
+    Record::Declare { once: true, id, result: Type::Command, arguments: vec![] }
+}
+
 /// Adds records with ids that nothing else has, up to that many records.
-pub fn fill_records(heading: &mut Heading, count: usize) {
+pub fn fill_records(heading: &mut Heading, count: usize, make: fn(u8) -> Record) {
     for id in (10..250).rev() {
         if heading.records.len() < count && heading.record(id).is_none() {
-            heading.records.push(Record::Retire { id });
+            heading.records.push(make(id));
         }
     }
 }

@@ -21,13 +21,17 @@ const NAMES: [(Type, &[Type]); 7] = [
 #[derive(Clone)]
 pub struct Long {
     heading: Heading,
+    /// Whether the names that take others ask once.
+    once: bool,
     items: Vec<Term>,
 }
 
 impl Long {
     /// A sheet of at most the size and the length, and close to one of them.
     pub fn random(random: &mut Random) -> Long {
+        let once = random.one_in(2);
         let declare = |(id, &(result, arguments)): (usize, &(Type, &[Type]))| Record::Declare {
+            once: once && !arguments.is_empty(),
             id: id as u8,
             result,
             arguments: arguments.to_vec(),
@@ -36,7 +40,7 @@ impl Long {
         let heading = Heading { z: random.between(1, 7) as i8, wraps: random.one_in(2), records };
         let fullness = random.choose(&[1, 1, 2, 4]);
         let menu: Vec<usize> = (0..random.between(1, 3)).map(|_| random.choose(&[0, 1, 4, 5, 6])).collect();
-        let mut long = Long { heading, items: vec![] };
+        let mut long = Long { heading, once, items: vec![] };
         let (mut size, mut length) = (3, 64);
         loop {
             let item = long.item(random.choose(&menu));
@@ -54,7 +58,7 @@ impl Long {
         let (result, arguments) = NAMES[name];
         let plain = |wanted: &Type| NAMES.iter().position(|n| n.0 == *wanted).expect("each type has a plain name");
         let parts = arguments.iter().map(|wanted| self.item(plain(wanted))).collect();
-        Term::new(Kind::Name { id: name as u8, result }, parts)
+        Term::new(Kind::Name { id: name as u8, result, once: self.once && !arguments.is_empty() }, parts)
     }
 
     /// Puts another use in the place of one, or takes one out.

@@ -81,7 +81,7 @@ fn record(random: &mut Random, id: u8, retires: bool) -> Record {
     }
     let count = random.choose(&[0, 0, 0, 1, 1, 2, 4]);
     let arguments = (0..count).map(|_| random.choose(&Type::ALL)).collect();
-    Record::Declare { id, result: random.choose(&Type::ALL), arguments }
+    Record::Declare { once: random.one_in(4), id, result: random.choose(&Type::ALL), arguments }
 }
 
 fn skip() -> Term {
@@ -189,24 +189,24 @@ impl User<'_> {
 
     /// A use of the name.
     fn name(&mut self, id: u8) -> Term {
-        let Some(Record::Declare { result, arguments, .. }) = self.heading.record(id) else {
+        let Some(Record::Declare { once, result, arguments, .. }) = self.heading.record(id) else {
             unreachable!("only declared ids are used");
         };
         let parts = arguments.iter().map(|&wanted| self.argument(wanted)).collect();
-        Term::new(Kind::Name { id, result: *result }, parts)
+        Term::new(Kind::Name { id, result: *result, once: *once }, parts)
     }
 
     /// A term of the type: a name without arguments, or one that uses none.
     fn argument(&mut self, wanted: Type) -> Term {
         let plain = self.heading.records.iter().filter_map(|record| match record {
-            Record::Declare { id, result, arguments } if *result == wanted && arguments.is_empty() => Some(*id),
+            Record::Declare { once, id, result, arguments } if *result == wanted && arguments.is_empty() => {
+                Some(Kind::Name { id: *id, result: *result, once: *once })
+            }
             _ => None,
         });
-        let plain: Vec<u8> = plain.collect();
+        let plain: Vec<Kind> = plain.collect();
         match wanted {
-            _ if !plain.is_empty() && self.random.one_in(2) => {
-                Term::new(Kind::Name { id: self.random.choose(&plain), result: wanted }, vec![])
-            }
+            _ if !plain.is_empty() && self.random.one_in(2) => Term::new(self.random.choose(&plain), vec![]),
             Type::Command => skip(),
             Type::Expression(data) => Term::new(Kind::Constant(data, 0), vec![]),
             Type::Variable(_) => Term::new(Kind::Diverge(wanted), vec![]),

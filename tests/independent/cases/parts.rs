@@ -2,7 +2,7 @@
 //! type; many stand in blocks, and some have procedures in them. Of some sheets the heading, the length or the size
 //! leaves no room for the sheet of a part.
 
-use super::limits::fill_records;
+use super::limits::{fill_records, retired};
 use super::renumber::in_sequence;
 use super::{heading, procedures, sheet, Case};
 use crate::generate::{Generator, Meaning};
@@ -62,9 +62,9 @@ fn accepted_sheet(random: &mut Random) -> Vec<u8> {
 fn in_blocks(random: &mut Random) -> Vec<u8> {
     let mut heading = Heading { z: random.choose(&[1, 1, 1, 2, 3]), ..heading(random) };
     let bell = (0..255).find(|&id| heading.record(id).is_none()).expect("there are few name records");
-    heading.records.push(Record::Declare { id: bell, result: Type::Command, arguments: vec![] });
+    heading.records.push(Record::Declare { once: false, id: bell, result: Type::Command, arguments: vec![] });
     if random.one_in(6) {
-        fill_records(&mut heading, random.between(MOST_RECORDS - 3, MOST_RECORDS));
+        fill_records(&mut heading, random.between(MOST_RECORDS - 3, MOST_RECORDS), retired);
     }
     let mut generator = generator(random, &heading);
     for _ in 0..generator.random.between(1, 4) {
@@ -100,7 +100,8 @@ fn told(generator: &mut Generator, data: Data, bell: u8) -> Option<Term> {
     let (variable, value) = (generator.private(data)?, generator.constant(data));
     let operator = if data == Data::Truth { Operator::Alike } else { Operator::Equal };
     let test = Term::new(Kind::Operate(operator), vec![Term::new(Kind::Fetch, vec![variable]), value]);
-    let [bell, skip] = [Kind::Name { id: bell, result: Type::Command }, Kind::Skip].map(|kind| Term::new(kind, vec![]));
+    let bell = Kind::Name { id: bell, result: Type::Command, once: false };
+    let [bell, skip] = [bell, Kind::Skip].map(|kind| Term::new(kind, vec![]));
     Some(Term::new(Kind::If, vec![test, bell, skip]))
 }
 

@@ -6,7 +6,7 @@ mod wires;
 
 use super::damage::{damaged, damaging_byte, random_bytes, record_at};
 use super::hiding::hidden;
-use super::limits::fill_records;
+use super::limits;
 use super::pairs::{fitting, swapped_at_random, Pair};
 use super::{compare_of, few_or_many, follow_of, whole_type, Case};
 use crate::generate::{self, Generator};
@@ -97,7 +97,7 @@ fn sheet_to_check(random: &mut Random) -> Vec<u8> {
 fn misnamed(random: &mut Random) -> Vec<u8> {
     let (mut heading, mut term) = heading_and_term(random);
     let retired = heading.records.len();
-    fill_records(&mut heading, retired + 1);
+    limits::fill_records(&mut heading, retired + 1, limits::retired);
     let id = if random.one_in(4) { random.byte() } else { random.choose(&heading.records).id() };
     for _ in 0..20 {
         let place = random.below(term.records());

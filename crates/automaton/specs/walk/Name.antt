@@ -1,5 +1,5 @@
--- Names: their positions are the question to them, the wait for their moves, the positions of their arguments, a
--- copy for each question, and the replies of their arguments.
+-- Names: their positions are the question to them, the wait for their moves, of a name that asks once the wait for its
+-- answer alone, the positions of their arguments, a copy for each question, and the replies of their arguments.
 use Prim.Native.Nat.{ℕ, zero, suc, _+_, _-_, _/_, _%_}
 use mathlib.Core.List.{List}
 use lib.Dec.{eqb, ltb, leb}
@@ -15,8 +15,8 @@ use Rattle.automaton.specs.walk.MoveKind.{DONE, OK, VALUE, NO-MOVE}
 use Rattle.automaton.specs.walk.Role.{ARGUMENT}
 use Rattle.automaton.specs.walk.Class.{COMMAND}
 use Rattle.automaton.specs.walk.Column.{CLASS, VALUES}
-use Rattle.automaton.specs.walk.Row.{partOf, partWeight, partClass, partValues, nameId, nameCount, sumOf}
-use Rattle.automaton.specs.walk.Row.{mulAddOf}
+use Rattle.automaton.specs.walk.Row.{partOf, partWeight, partClass, partValues, nameId, nameCount, nameSpent}
+use Rattle.automaton.specs.walk.Row.{sumOf, mulAddOf}
 use Rattle.automaton.specs.walk.Types.{questionsOf, answersOf, questionKind, questionValue, questionNumber}
 use Rattle.automaton.specs.walk.Types.{answerNumber}
 
@@ -24,7 +24,8 @@ use Rattle.automaton.specs.walk.Types.{answerNumber}
 abbrev pub noMove : Move
 noMove = record { kind = NO-MOVE; id = 0; arg = 0; value = 0 }
 
--- the first positions of a name: its question is put, its moves are waited for, its arguments begin
+-- the first positions of a name: its question is put, its moves are waited for; where it has no second wait, its
+-- arguments begin
 abbrev pub CALL : ℕ
 CALL = 0
 
@@ -34,9 +35,16 @@ WAIT = 1
 abbrev pub INNER : ℕ
 INNER = 2
 
--- a move is said, and the name waits
-abbrev pub saidOf : ℕ → ℕ → ℕ → ℕ → Out
-saidOf kind id arg value = Say (record { kind = kind; id = id; arg = arg; value = value }) WAIT
+-- where the arguments of a name begin, and where it waits after the answer of an argument
+unfoldable pub innerOf : List ℕ → ℕ → ℕ
+innerOf t at = sumOf INNER (nameSpent t at)
+
+unfoldable pub againOf : List ℕ → ℕ → ℕ
+againOf t at = sumOf WAIT (nameSpent t at)
+
+-- a move is said, and the name waits at a position
+abbrev pub saidOf : ℕ → ℕ → ℕ → ℕ → ℕ → Out
+saidOf kind id arg value next = Say (record { kind = kind; id = id; arg = arg; value = value }) next
 
 -- a frame
 abbrev pub framedOf : ℕ → ℕ → ℕ → ℕ → ℕ → ℕ → Frame
@@ -51,18 +59,19 @@ unfoldable pub argSpots : List ℕ → ℕ → ℕ → ℕ → ℕ
 argSpots t at j zero = 0
 argSpots t at j (suc n) = sumOf (copiesOf t at j) (argSpots t at (sumOf j 1) n)
 
--- the answer of number k of an argument
-unfoldable pub replyHere : ℕ → ℕ → ℕ → ℕ → ℕ → Out
-replyHere id class m arg k =
-    pick (eqb class COMMAND) (saidOf DONE id arg 0) (pick (leb m k) (saidOf OK id arg 0) (saidOf VALUE id arg k))
+-- the answer of number k of an argument, after which the name waits at the position `next`
+unfoldable pub replyHere : ℕ → ℕ → ℕ → ℕ → ℕ → ℕ → Out
+replyHere id class m arg k next =
+    pick (eqb class COMMAND) (saidOf DONE id arg 0 next)
+    (pick (leb m k) (saidOf OK id arg 0 next) (saidOf VALUE id arg k next))
 
 -- reply k of n arguments from argument j on
-unfoldable pub replyOf : List ℕ → ℕ → ℕ → ℕ → ℕ → ℕ → Out
-replyOf t id at j zero k = Stuck
-replyOf t id at j (suc n) k =
+unfoldable pub replyOf : List ℕ → ℕ → ℕ → ℕ → ℕ → ℕ → ℕ → Out
+replyOf t id at j zero k next = Stuck
+replyOf t id at j (suc n) k next =
     pick (leb (answersOf (partClass t at j) (partValues t at j)) k)
-    (replyOf t id at (sumOf j 1) n (k - answersOf (partClass t at j) (partValues t at j)))
-    (replyHere id (partClass t at j) (partValues t at j) (sumOf j 1) k)
+    (replyOf t id at (sumOf j 1) n (k - answersOf (partClass t at j) (partValues t at j)) next)
+    (replyHere id (partClass t at j) (partValues t at j) (sumOf j 1) k next)
 
 -- position k of an argument of weight w, whose positions begin at base and whose replies at after
 unfoldable pub argHere : ℕ → ℕ → ℕ → ℕ → ℕ → ℕ → ℕ → Spot
@@ -86,28 +95,38 @@ hearAnswer t at q x m =
     pick (eqb (answerNumber (word t at CLASS) (word t at VALUES) q x (m .kind) (m .value)) 0) Stuck
     (Exit (m .kind) (m .value) 0 0)
 
--- a move at argument j: a question enters its copy of the argument
-unfoldable pub hearQuestion : List ℕ → ℕ → ℕ → Move → Out
-hearQuestion t at j m =
+-- a move at argument j, where the first n may be asked: a question enters its copy of the argument
+unfoldable pub hearQuestion : List ℕ → ℕ → ℕ → ℕ → Move → Out
+hearQuestion t at n j m =
     let i = questionNumber (partClass t at j) (partValues t at j) (m .kind) (m .value) in
-    pick (leb (nameCount t at) j) Stuck
-    (pick (eqb i 0) Stuck (Go (mulAddOf (i - 1) (partWeight t at j) (sumOf INNER (argSpots t at 0 j))) 0 0))
+    pick (leb n j) Stuck
+    (pick (eqb i 0) Stuck (Go (mulAddOf (i - 1) (partWeight t at j) (sumOf (innerOf t at) (argSpots t at 0 j))) 0 0))
 
--- what follows a move at a name that waits
-unfoldable pub listenOf : List ℕ → ℕ → ℕ → ℕ → Move → Out
-listenOf t at q x m =
+-- what follows a move at a name that waits, whose first n arguments may be asked
+unfoldable pub listenOf : List ℕ → ℕ → ℕ → ℕ → ℕ → Move → Out
+listenOf t at q x n m =
     pick (eqb (m .id) (nameId t at))
-    (pick (eqb (m .arg) 0) (hearAnswer t at q x m) (hearQuestion t at (m .arg - 1) m)) Stuck
+    (pick (eqb (m .arg) 0) (hearAnswer t at q x m) (hearQuestion t at n (m .arg - 1) m)) Stuck
 
 -- a name that waits: for a move, or what follows the move that is given
-unfoldable pub atWait : List ℕ → ℕ → ℕ → ℕ → Move → Out
-atWait t at q x m = pick (eqb (m .kind) NO-MOVE) (Hear at q x) (listenOf t at q x m)
+unfoldable pub atWait : List ℕ → ℕ → ℕ → ℕ → ℕ → Move → Out
+atWait t at q x n m = pick (eqb (m .kind) NO-MOVE) (Hear at q x n) (listenOf t at q x n m)
+
+-- the second wait of a name with n arguments: none may be asked; without any it never comes there
+unfoldable pub spentOf : ℕ → ℕ → ℕ → ℕ → Out
+spentOf at q x n = pick (eqb n 0) Stuck (Hear at q x 0)
+
+unfoldable pub atSpent : List ℕ → ℕ → ℕ → ℕ → Move → Out
+atSpent t at q x m = pick (eqb (nameCount t at) 0) Stuck (atWait t at q x 0 m)
 
 -- position k of a name
 unfoldable pub inName : List ℕ → ℕ → ℕ → ℕ → ℕ → Move → Spot
 inName t at q x k m =
-    pick (eqb k CALL) (Here (saidOf q (nameId t at) 0 x))
-    (pick (eqb k WAIT) (Here (atWait t at q x m))
-    (pick (ltb (k - INNER) (argSpots t at 0 (nameCount t at)))
-    (inArgs t at 0 (nameCount t at) (k - INNER) INNER (sumOf INNER (argSpots t at 0 (nameCount t at))))
-    (Here (replyOf t (nameId t at) at 0 (nameCount t at) (k - INNER - argSpots t at 0 (nameCount t at))))))
+    pick (eqb k CALL) (Here (saidOf q (nameId t at) 0 x WAIT))
+    (pick (eqb k WAIT) (Here (atWait t at q x (nameCount t at) m))
+    (pick (ltb k (innerOf t at)) (Here (atSpent t at q x m))
+    (pick (ltb (k - innerOf t at) (argSpots t at 0 (nameCount t at)))
+    (inArgs t at 0 (nameCount t at) (k - innerOf t at) (innerOf t at)
+      (sumOf (innerOf t at) (argSpots t at 0 (nameCount t at))))
+    (Here (replyOf t (nameId t at) at 0 (nameCount t at) (k - innerOf t at - argSpots t at 0 (nameCount t at))
+      (againOf t at))))))

@@ -20,12 +20,26 @@ partClass t at j = word t (partOf t at j) CLASS
 unfoldable pub partValues : List ℕ → ℕ → ℕ → ℕ
 partValues t at j = word t (partOf t at j) VALUES
 
--- the id of a name, and how many arguments it has
+-- the detail of a name is its id and this many times the number of its arguments, which is below COUNTS; where the name
+-- asks once, it has ONCE besides
+abbrev pub IDS : ℕ
+IDS = 256
+
+abbrev pub COUNTS : ℕ
+COUNTS = 8
+
+abbrev pub ONCE : ℕ
+ONCE = 2048
+
+-- the id of a name, how many arguments it has, and how many second waits
 unfoldable pub nameId : List ℕ → ℕ → ℕ
-nameId t at = word t at DETAIL % 256
+nameId t at = word t at DETAIL % IDS
 
 unfoldable pub nameCount : List ℕ → ℕ → ℕ
-nameCount t at = word t at DETAIL / 256
+nameCount t at = word t at DETAIL / IDS % COUNTS
+
+unfoldable pub nameSpent : List ℕ → ℕ → ℕ
+nameSpent t at = word t at DETAIL / ONCE
 
 -- how many numbers a word of 16 bits can be
 abbrev pub SHORTS : ℕ

@@ -8,13 +8,13 @@ use lib.Dec.{eqb}
 use Rattle.language.specs.Choice.{pick}
 use Rattle.language.specs.Ty.{Ty, Question, run, ask, read, write, Answer, done, ok, value}
 use Rattle.language.specs.Move.{Event, question, answer, at, private, Move, move}
-use Rattle.language.specs.Term.{Term, Args, name}
+use Rattle.language.specs.Term.{Term, Often, Args, name}
 use Rattle.language.specs.declared.Numbers.{Numbers}
 use Rattle.machine.specs.Action.{Next, to, out, dead, Heard, Listen, calling, Hears, Action, go, say, hear}
 use Rattle.machine.specs.Edge.{edge-hear}
 use Rattle.machine.specs.Position.{Context, Store, types, State, Exit as ExitOf, StateArgs, ExitArgs}
 use Rattle.machine.specs.Numbering.{numbered, numberedArgs, numbered-replies}
-use Rattle.nodes.specs.Rep.{Rep}
+use Rattle.nodes.specs.Rep.{count, Rep}
 use Rattle.automaton.specs.walk.Row.{SHORTS}
 use Rattle.automaton.specs.declared.Move.{Move as Record}
 use Rattle.automaton.specs.walk.MoveKind.{RUN, DONE, ASK, READ, OK, VALUE, WRITE, NO-MOVE}
@@ -104,18 +104,26 @@ module _ (n : Context) (M : Term) (vs : Variables) where
   ShowsSaid x (out e) o = ⊥
   ShowsSaid x dead o = ⊥
 
+-- the arguments that a name may ask, by their types and their number: all of them, or none after the one question
+pub data Takes (args : Args) : List Ty → ℕ → Type 0 where
+  takes-all : Takes args (types args) (count args)
+  takes-none : Takes args [] 0
+
 -- whom a position waits for: the name at a place of the table, which has been asked the question of this kind and
--- value
-pub record Awaits (K : Numbers) (t : List ℕ) (l : Listen) (node kind value : ℕ) : Type 0 where
+-- value and may ask so many arguments
+pub record Awaits (K : Numbers) (t : List ℕ) (l : Listen) (node kind value number : ℕ) : Type 0 where
   pub left : ℕ
   pub rows : List ℕ
   pub within : Context
   pub id : ℕ
+  pub often : Often
   pub result : Ty
   pub args : Args
-  pub part : Rep K t left node rows within (name id result args) result
+  pub part : Rep K t left node rows within (name id often result args) result
   pub asked : Question
-  pub listens : l ≡ calling id (types args) result asked
+  pub asks : List Ty
+  pub takes : Takes args asks number
+  pub listens : l ≡ calling id asks result asked
   pub kinded : kind ≡ kindQ asked
   pub valued : value ≡ valueQ asked
 
@@ -124,7 +132,7 @@ module _ (K : Numbers) (t : List ℕ) (n : Context) (M : Term) (vs : Variables) 
   -- the move
   pub data ShowsHeard (m : Record) (l : Listen) (k : (r : Heard) → Hears l r → Next (State n M) (ExitOf n))
     (o : Did) : Type 0 where
-    waits : {node q x : ℕ} → m .kind ≡ NO-MOVE → Awaits K t l node q x → o ≡ Hear node q x → ShowsHeard m l k o
+    waits : {node q x c : ℕ} → m .kind ≡ NO-MOVE → Awaits K t l node q x c → o ≡ Hear node q x c → ShowsHeard m l k o
     leads : (i j : ℕ) (e : Event) → m ≡ moveOf (move (at i j) e) →
       ShowsNext n M vs (edge-hear l k (move (at i j) e)) o → ShowsHeard m l k o
 
@@ -150,7 +158,7 @@ module _ (n : Context) (args : Args) (base after : ℕ) (vs : Variables) where
 module _ (K : Numbers) (t : List ℕ) (n : Context) (args : Args) (base after : ℕ) (vs : Variables) where
   pub data ArgsHeard (m : Record) (l : Listen)
     (k : (r : Heard) → Hears l r → Next (StateArgs n args) (ExitArgs n (types args))) (o : Did) : Type 0 where
-    a-waits : {node q x : ℕ} → m .kind ≡ NO-MOVE → Awaits K t l node q x → o ≡ Hear node q x → ArgsHeard m l k o
+    a-waits : {node q x c : ℕ} → m .kind ≡ NO-MOVE → Awaits K t l node q x c → o ≡ Hear node q x c → ArgsHeard m l k o
     a-leads : (i j : ℕ) (e : Event) → m ≡ moveOf (move (at i j) e) →
       ArgsNext n args base after vs (edge-hear l k (move (at i j) e)) o → ArgsHeard m l k o
 

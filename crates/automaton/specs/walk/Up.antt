@@ -86,5 +86,5 @@ unfoldable pub riseOf : Numbers → Frame → Out → Out
 riseOf N f (Go next block set) = goesOf f next block set
 riseOf N f (Exit kind value block set) = exitsOf N f kind value block set
 riseOf N f (Say m next) = Say m (sumOf (f .base) next)
-riseOf N f (Hear at kind value) = Hear at kind value
+riseOf N f (Hear at kind value count) = Hear at kind value count
 riseOf N f Stuck = Stuck

@@ -18,9 +18,9 @@ use Rattle.automaton.specs.walk.Shows.{moveOf, Awaits}
 use Rattle.part_path.specs.States.{WHOLE}
 
 -- whom a state waits for: a name at a place of the table, or the asker of the whole term, which is at the root
-pub data Waits (N : Numbers) (t : List ℕ) : Listen → ℕ → ℕ → ℕ → Type 0 where
-  calls : {l : Listen} {node q x : ℕ} → Awaits N t l node q x → Waits N t l node q x
-  opens : {T : Ty} {root : ℕ} → TyRow t root T → Waits N t (opening WHOLE T) root OPENING 0
+pub data Waits (N : Numbers) (t : List ℕ) : Listen → ℕ → ℕ → ℕ → ℕ → Type 0 where
+  calls : {l : Listen} {node q x c : ℕ} → Awaits N t l node q x c → Waits N t l node q x c
+  opens : {T : Ty} {root : ℕ} → TyRow t root T → Waits N t (opening WHOLE T) root OPENING 0 0
 
 -- where a silent step or a move that is heard leads
 unfoldable pub Leads : {K : ℕ} → Next (Index K) (Unit {0}) → Out → Type 0
@@ -38,7 +38,7 @@ module _ (N : Numbers) (t : List ℕ) {K : ℕ} where
   -- a wait: where no move is given the state says whom it waits for, and where one is given it shows what follows it
   pub data Listens (m : Record) (l : Listen) (k : (r : Heard) → Hears l r → Next (Index K) (Unit {0})) (o : Out) :
       Type 0 where
-    waits : {node q x : ℕ} → m .kind ≡ NO-MOVE → Waits N t l node q x → o ≡ Hear node q x → Listens m l k o
+    waits : {node q x c : ℕ} → m .kind ≡ NO-MOVE → Waits N t l node q x c → o ≡ Hear node q x c → Listens m l k o
     leads : (i j : ℕ) (e : Event) → m ≡ moveOf (move (at i j) e) → Leads (edge-hear l k (move (at i j) e)) o →
       Listens m l k o
 

@@ -14,7 +14,7 @@ use Rattle.automaton.specs.declared.Out.the-variants.{Go, Exit, Say, Hear, Stuc
 use Rattle.automaton.specs.walk.MoveKind.{RUN, DONE, ASK, READ, OK, VALUE, WRITE, OPENING}
 use Rattle.automaton.specs.walk.Class.{COMMAND, EXPRESSION}
 use Rattle.automaton.specs.walk.Column.{CLASS, VALUES}
-use Rattle.automaton.specs.walk.Row.{SHORTS, sumOf, nameId, nameCount, partClass, partValues}
+use Rattle.automaton.specs.walk.Row.{SHORTS, sumOf, nameId, partClass, partValues}
 use Rattle.automaton.specs.walk.Types.{questionLimit}
 use Rattle.automaton.specs.walk.Name.{noMove}
 use Rattle.explicit.specs.declared.Wait.{Wait}
@@ -51,15 +51,15 @@ limitOf t e kind arg =
     pick (eqb (e .kind) OPENING)
     (pick (eqb arg 0) (questionLimit (word t (e .at) CLASS) (word t (e .at) VALUES) kind) 0)
     (pick (eqb arg 0) (answerLimit (word t (e .at) CLASS) (word t (e .at) VALUES) (e .kind) (e .value) kind)
-    (pick (ltb (nameCount t (e .at)) arg) 0
+    (pick (ltb (e .count) arg) 0
     (questionLimit (partClass t (e .at) (arg - 1)) (partValues t (e .at) (arg - 1)) kind)))
 
--- how many arguments of a name have moves: at most four
+-- how many arguments of a name have moves, where so many may be asked: at most four
 abbrev pub ARGUMENTS : ℕ
 ARGUMENTS = 4
 
-unfoldable pub askingOf : List ℕ → ℕ → ℕ
-askingOf t at = pick (ltb ARGUMENTS (nameCount t at)) ARGUMENTS (nameCount t at)
+unfoldable pub askingOf : ℕ → ℕ
+askingOf count = pick (ltb ARGUMENTS count) ARGUMENTS count
 
 -- the places of moves, the name itself and its arguments, and all pairs of a kind of move and such a place
 abbrev pub PLACES : ℕ
@@ -69,17 +69,17 @@ abbrev pub BLOCKS : ℕ
 BLOCKS = 35
 
 -- whom the state k waits for
-unfoldable pub waitOf : List ℕ → ℕ → ℕ → ℕ → ℕ → Wait
-waitOf t state at kind value =
-    pick (eqb kind OPENING) (record { state = state; id = WHOLE; at = at; kind = kind; value = value })
-    (record { state = state; id = nameId t at; at = at; kind = kind; value = value })
+unfoldable pub waitOf : List ℕ → ℕ → ℕ → ℕ → ℕ → ℕ → Wait
+waitOf t state at kind value count =
+    pick (eqb kind OPENING) (record { state = state; id = WHOLE; at = at; kind = kind; value = value; count = count })
+    (record { state = state; id = nameId t at; at = at; kind = kind; value = value; count = count })
 
 -- whether a state makes or takes a move
 unfoldable pub visibleOf : Out → Bool
 visibleOf (Go next level set) = false
 visibleOf (Exit kind value level set) = false
 visibleOf (Say said next) = true
-visibleOf (Hear at kind value) = true
+visibleOf (Hear at kind value count) = true
 visibleOf Stuck = false
 
 -- the silent word of a state: 0 where it makes or takes a move, else 1 more than the state to which it goes
@@ -127,7 +127,7 @@ module _ (t : List ℕ) (N : Numbers) (s : Site) where
   edgesOf k (Go next level set) = []
   edgesOf k (Exit kind value level set) = []
   edgesOf k (Say said next) = record { letter = letterOf N said; target = sumOf (s .o) next } ∷ []
-  edgesOf k (Hear at kind value) = heardEdges (waitOf t k at kind value) BLOCKS
+  edgesOf k (Hear at kind value count) = heardEdges (waitOf t k at kind value count) BLOCKS
   edgesOf k Stuck = []
 
   -- the row of a state that does so, and of the state k

@@ -6,7 +6,7 @@ use Rattle.language.specs.declared.Numbers.{Numbers}
 use Rattle.automaton.specs.declared.Move.{Move}
 use Rattle.automaton.specs.declared.Out.the-variants.{Exit}
 use Rattle.automaton.specs.walk.MoveKind.{OPENING}
-use Rattle.automaton.specs.walk.Row.{nameId, nameCount}
+use Rattle.automaton.specs.walk.Row.{nameId}
 use Rattle.part_path.specs.declared.Site.{Site}
 use Rattle.part_path.specs.States.{sheetAt, targetOf}
 use Rattle.part_path.specs.Path.{riseAll}
@@ -18,7 +18,7 @@ use Rattle.explicit.specs.declared.Wait.{Wait}
 pub record Listening (t : List ℕ) (N : Numbers) (root : ℕ) (p : List ℕ) (c : ℕ) (e : Wait) : Type 0 where
   pub sound : Sound p c
   pub hears : (m : Move) → sheetAt t N root (e .state) m ≡
-    riseAll N (framesOf p c) (waitAt t root (e .state) (e .at) (e .kind) (e .value) m)
+    riseAll N (framesOf p c) (waitAt t root (e .state) (e .at) (e .kind) (e .value) (e .count) m)
   pub first : e .state ≡ 0 → e .kind ≡ OPENING
   pub named : (e .kind ≡ OPENING → ⊥) → e .id ≡ nameId t (e .at)
 
@@ -26,13 +26,13 @@ pub record Listening (t : List ℕ) (N : Numbers) (root : ℕ) (p : List ℕ) (c
 abbrev pub Calling : Wait → Type 0
 Calling e = e .kind ≡ OPENING → ⊥
 
--- a number of arguments of the name that a state waits for, and one of its arguments
-pub record Arguments (t : List ℕ) (e : Wait) (count : ℕ) : Type 0 where
+-- a number of arguments that the name for which a state waits may ask, and one of these
+pub record Arguments (e : Wait) (count : ℕ) : Type 0 where
   pub calls : Calling e
-  pub within : count ≤ nameCount t (e .at)
+  pub within : count ≤ e .count
 
-pub record Argument (t : List ℕ) (e : Wait) (arg : ℕ) : Type 0 where
-  pub within : Arguments t e arg
+pub record Argument (e : Wait) (arg : ℕ) : Type 0 where
+  pub within : Arguments e arg
   pub some : 0 < arg
 
 -- an answer below the limit of the name that a state waits for is an exit of the innermost level

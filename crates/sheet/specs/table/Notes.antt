@@ -28,7 +28,7 @@ pub record Blank (t : List ℕ) : Type 0 where
 unfoldable pub isNameStanding : Standing → Bool
 isNameStanding Free = false
 isNameStanding Retired = false
-isNameStanding (Declared place) = true
+isNameStanding (Declared place once) = true
 isNameStanding (Variable number holds) = false
 isNameStanding (Parameter number ty) = false
 isNameStanding (Procedure number place) = false
@@ -45,12 +45,16 @@ noted r t = pick (usesName r) (set t (notes + r .a) 1) t
 unfoldable pub isNoted : List ℕ → ℕ → Bool
 isNoted t id = eqb (getD t (notes + id) 0) 1
 
+-- whether a kind is that of a declaration
+unfoldable pub isDeclaration : ℕ → Bool
+isDeclaration kind = pick (eqb kind 1) true (eqb kind 3)
+
 -- a bit for each of at most so many name records from a place on, the first lowest: set where f holds of the id that
--- the record declares; 1 is the kind of a declaration, of eight bytes, 2 that of a retirement, of two
+-- the record declares; a declaration has eight bytes, a retirement, whose kind is 2, two
 unfoldable pub mask : (ℕ → Bool) → ℕ → List ℕ → ℕ → ℕ
 mask f zero s at = 0
 mask f (suc left) s at =
-    pick (eqb (getD s at 0) 1) (bit (f (getD s (at + 1) 0)) + 2 * mask f left s (at + 8))
+    pick (isDeclaration (getD s at 0)) (bit (f (getD s (at + 1) 0)) + 2 * mask f left s (at + 8))
     (pick (eqb (getD s at 0) 2) (2 * mask f left s (at + 2)) 0)
 
 -- every id

@@ -11,7 +11,7 @@ use Rattle.records.specs.declared.standing.Standing.the-variants.{Procedure}
 unfoldable pub numberIn : Standing → ℕ
 numberIn Free = 0
 numberIn Retired = 0
-numberIn (Declared place) = 0
+numberIn (Declared place once) = 0
 numberIn (Variable number holds) = 0
 numberIn (Parameter number ty) = 0
 numberIn (Procedure number place) = number

@@ -82,10 +82,10 @@ module _ (N : Numbers) (s : List ℕ) (ns : List Name) (short : length s ≤ 409
         called N s ns short (p-use st b g m u q few small o c ds) Γ e st g
           (the-routine N s ns Γ (r .a) (writtens s ts) (usedNumber r) n ty tys e m k)
           (X .0) (omega arith) (omega (arith, X .1))
-    | p-name {ty = ty} {tys = tys} {r = r} {ts = ts} st b g m u q few small c (ds → xs) ↦ λ Γ e.
+    | p-name {ty = ty} {often = often} {tys = tys} {r = r} {ts = ts} st b g m u q few small c (ds → xs) ↦ λ Γ e.
         let X = xs Γ e in
         called N s ns short (p-name st b g m u q few small c ds) Γ e st g
-          (no-routine N s ns Γ (r .a) (writtens s ts) (usedNumber r) (named ty tys) e m
+          (no-routine N s ns Γ (r .a) (writtens s ts) (usedNumber r) (named often ty tys) e m
             (λ i j tys′ q′. let z : _≡_ {A = ℕ} 0 1 = cc in omega arith))
           (X .0) (omega arith) (omega (arith, X .1))
     | p-fetch {t = x} st (d → f) h ↦ λ Γ e.

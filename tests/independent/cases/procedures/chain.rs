@@ -89,7 +89,7 @@ impl Chain {
         match self.base {
             Base::Itself => parameter(),
             Base::Nothing => leaf(Kind::Skip),
-            Base::After => sequence(leaf(Kind::Name { id: NAME, result: Type::Command }), parameter()),
+            Base::After => sequence(leaf(Kind::Name { id: NAME, result: Type::Command, once: false }), parameter()),
             Base::Twice => sequence(parameter(), parameter()),
             Base::Round => rounds(never, parameter()),
             Base::Guard => rounds(sequence(parameter(), never), leaf(Kind::Skip)),
@@ -98,9 +98,9 @@ impl Chain {
     }
 
     pub fn heading_and_term(&self) -> (Heading, Term) {
-        let record = Record::Declare { id: NAME, result: Type::Command, arguments: vec![] };
+        let record = Record::Declare { once: false, id: NAME, result: Type::Command, arguments: vec![] };
         let heading = Heading { z: 1, wraps: true, records: vec![record] };
-        let mut term = leaf(Kind::Name { id: NAME, result: Type::Command });
+        let mut term = leaf(Kind::Name { id: NAME, result: Type::Command, once: false });
         for i in (0..self.length).filter(|i| self.uses >> i & 1 == 1) {
             term = call(FIRST + i as u8, term);
         }

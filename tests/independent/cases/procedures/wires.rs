@@ -19,9 +19,9 @@ struct Wires<'a> {
 
 /// A sheet of commands: procedures that only hand on, and uses of them with names.
 pub fn wired(random: &mut Random) -> (Heading, Term) {
-    let declare = |id| Record::Declare { id, result: Type::Command, arguments: vec![] };
+    let declare = |id| Record::Declare { once: false, id, result: Type::Command, arguments: vec![] };
     let heading = Heading { z: 1, wraps: false, records: NAMES.map(declare).to_vec() };
-    let scope = NAMES.map(|id| (id, Kind::Name { id, result: Type::Command }, 0)).to_vec();
+    let scope = NAMES.map(|id| (id, Kind::Name { id, result: Type::Command, once: false }, 0)).to_vec();
     let (procedures, hides) = (random.between(1, 8), random.one_in(8));
     let term = Wires { random, hides, scope }.procedures(procedures);
     (heading, term)

@@ -58,7 +58,7 @@ module _ (t : ℕ) where
 
   reply-returns-2 : reply-lts.Need-returns-2 (reply-calls t) (reply-at t) reply.Post
   reply-returns-2 c =
-      rw (reply-step _ _ _ _ _ _ (c .before .before .before .before .before .before .if1 .left)) (simp (← c .before
+      rw (reply-step _ _ _ _ _ _ _ (c .before .before .before .before .before .before .if1 .left)) (simp (← c .before
       .before .before .before .before .part-class .ensures, ← c .before .before .before .before .part-values .ensures,
       ← c .before .before .before .answers .ensures, ← c .before .sum .ensures, ← c .reply .ensures, le-leb _ _
       (c .before .before .if2 .taken)))
@@ -71,7 +71,7 @@ module _ (t : ℕ) where
 
   reply-returns-3 : reply-lts.Need-returns-3 (reply-calls t) (reply-at t) reply.Post
   reply-returns-3 c =
-      rw (reply-step _ _ _ _ _ _ (c .before .before .before .before .before .before .if1 .left)) (simp (← c .before
+      rw (reply-step _ _ _ _ _ _ _ (c .before .before .before .before .before .before .if1 .left)) (simp (← c .before
       .before .before .before .before .part-class .ensures, ← c .before .before .before .before .part-values .ensures,
       ← c .before .before .before .answers .ensures, ← c .before .sum2 .ensures, ← c .reply-here .ensures, lt-leb _ _
       (c .before .before .if2 .left)))

@@ -5,12 +5,9 @@ use Rattle.automaton.specs.walk.Name.{hearQuestion}
 use Rattle.automaton.proofs.name.hear_question.Statement.{statement}
 use Rattle.automaton.proofs.name.hear_question.Tie as tie
 
-name-count-requires : tie.Need-name-count-requires
-name-count-requires c κs = search needs
-
 returns : tie.Need-returns
 unfolding hearQuestion
-returns c = simp (← c .before .name-count .ensures, le-leb _ _ (c .if1 .taken))
+returns c = simp (le-leb _ _ (c .if1 .taken))
 
 part-class-requires : tie.Need-part-class-requires
 part-class-requires c κs = search needs
@@ -24,9 +21,12 @@ question-number-requires c κs = search needs
 returns-2 : tie.Need-returns-2
 unfolding hearQuestion
 returns-2 c =
-    simp (← c .before .before .before .before .before .name-count .ensures, ← c .before .before .before .part-class
-    .ensures, ← c .before .before .part-values .ensures, ← c .before .question-number .ensures, lt-leb _ _
-    (c .before .before .before .before .if1 .left), eq-eqb _ _ (c .if2 .taken))
+    simp (← c .before .before .before .part-class .ensures, ← c .before .before .part-values .ensures, ← c .before
+      .question-number .ensures, lt-leb _ _ (c .before .before .before .before .if1 .left), eq-eqb _ _ (c .if2
+      .taken))
+
+inner-requires : tie.Need-inner-requires
+inner-requires c κs = search needs
 
 spots-requires : tie.Need-spots-requires
 spots-requires c κs = search needs
@@ -46,14 +46,14 @@ mul-add-requires c κs = search needs
 returns-3 : tie.Need-returns-3
 unfolding hearQuestion
 returns-3 c =
-    simp (← c .before .before .before .before .before .before .before .before .before .name-count .ensures, ← c
-    .before .before .before .before .before .before .before .part-class .ensures, ← c .before .before .before .before
-    .before .before .part-values .ensures, ← c .before .before .before .before .before .question-number .ensures, ← c
-    .before .before .before .spots .ensures, ← c .before .before .sum .ensures, ← c .before .part-weight .ensures, ← c
-    .mul-add .ensures, lt-leb _ _ (c .before .before .before .before .before .before .before .before .if1 .left), ne-eqb
-    _ _ (c .before .before .before .before .if2 .left))
+    simp (← c .before .before .before .before .before .before .before .before .part-class .ensures, ← c .before
+      .before .before .before .before .before .before .part-values .ensures, ← c .before .before .before .before
+      .before .before .question-number .ensures, ← c .before .before .before .before .inner .ensures, ← c .before
+      .before .before .spots .ensures, ← c .before .before .sum .ensures, ← c .before .part-weight .ensures, ← c
+      .mul-add .ensures, lt-leb _ _ (c .before .before .before .before .before .before .before .before .before .if1
+      .left), ne-eqb _ _ (c .before .before .before .before .before .if2 .left))
 
 pub hear-question-spec : {M : Type 1} → statement M
 hear-question-spec =
-    tie.close (tie.spec name-count-requires returns part-class-requires part-values-requires question-number-requires
-    returns-2 spots-requires sum-requires sub-mul-add part-weight-requires mul-add-requires returns-3)
+    tie.close (tie.spec returns part-class-requires part-values-requires question-number-requires returns-2
+      inner-requires spots-requires sum-requires sub-mul-add part-weight-requires mul-add-requires returns-3)

@@ -46,9 +46,9 @@ wait-of-requires : tie.Need-wait-of-requires
 wait-of-requires c κs = search needs
 
 hear-requires : tie.Need-hear-requires
-hear-requires c κs = row-listens _ _ _ _ _ _ _ _ _ _ _ (c .before .before .before .before .before .before .before
+hear-requires c κs = row-listens _ _ _ _ _ _ _ _ _ _ _ _ (c .before .before .before .before .before .before .before
     .before .before .before .before .before .before .pre) (c .before .before .before .o2 .given .1)
-        (c .wait-of .ensures)
+    (c .before .wait-of .ensures)
 
 enum-told-3 : tie.Need-enum-told-3
 enum-told-3 c = search needs
@@ -97,10 +97,9 @@ returns-4 c = row-hears _ _ _ _ _ _ _ _ (c .before .before .before .before .befo
     .before .before .before .before .before .before .before .pre) _ _ _ _ (c .before .before .before .before .before
     .before .before .before .before .before .before .silent-at .ensures) (c .before .before .before .before .before
     .before .before .before .before .before .before .before .sum .ensures) (c .before .before .before .before .before
-    .before .before .before .before .before .write-head .ensures) _ _ _ _ _ _ (c .before .before .before .before .before
-    .before .o2 .given .1) (c .before .before .before .wait-of .ensures) (c .before .before .hear .ensures .0)
-        (c .before
-    .before .hear .ensures .1)
+    .before .before .before .before .before .write-head .ensures) _ _ _ _ _ _ _ (c .before .before .before .before
+    .before .before .o2 .given .1) (c .before .before .before .before .wait-of .ensures) (c .before .before .hear
+    .ensures .0) (c .before .before .hear .ensures .1)
 
 same-length-5 : tie.Need-same-length-5
 same-length-5 c = search needs

@@ -4,14 +4,11 @@ use Rattle.explicit.proofs.HeardQuestions.{asking-most, asking-few}
 use Rattle.explicit.proofs.hear.asking.Statement.{statement}
 use Rattle.explicit.proofs.hear.asking.Tie as tie
 
-name-count-requires : tie.Need-name-count-requires
-name-count-requires c κs = search needs
-
 returns : tie.Need-returns
-returns c = asking-most _ _ _ (c .before .name-count .ensures) (c .if1 .taken)
+returns c = asking-most _ (c .if1 .taken)
 
 returns-2 : tie.Need-returns-2
-returns-2 c = asking-few _ _ _ (c .before .name-count .ensures) (c .if1 .left)
+returns-2 c = asking-few _ (c .if1 .left)
 
 pub asking-spec : {M : Type 1} → statement M
-asking-spec = tie.close (tie.spec name-count-requires returns returns-2)
+asking-spec = tie.close (tie.spec returns returns-2)

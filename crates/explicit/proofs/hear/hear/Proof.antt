@@ -14,9 +14,6 @@ same-length c = search needs
 returns : tie.Need-returns
 returns c = c .before .before .hear-all .ensures
 
-name-count-requires : tie.Need-name-count-requires
-name-count-requires c κs = search needs
-
 cell-requires : tie.Need-cell-requires
 cell-requires c κs = search needs
 
@@ -24,22 +21,21 @@ answer-kind-requires : tie.Need-answer-kind-requires
 answer-kind-requires c κs = search needs
 
 hear-answers-requires : tie.Need-hear-answers-requires
-hear-answers-requires c κs = ((c .before .before .before .before .before .before .before .before .before .pre), c
-    .before .before .before .before .before .if1 .left)
+hear-answers-requires c κs = (c .before .before .before .before .before .before .before .before .before .pre,
+    c .before .before .before .before .before .if1 .left)
 
 same-length-2 : tie.Need-same-length-2
 same-length-2 c = search needs
 
 returns-2 : tie.Need-returns-2
-returns-2 c = plain-told _ _ _ _ _ _ _ _ _ _ _ (c .before .before .before .before .before .before .before .before .if1
-    .left) (c .before .before .before .before .before .before .before .name-count .ensures) (c .before .before .before
-    .before .before .before .if2 .taken) (c .before .before .before .before .before .cell .ensures) (c .before .before
-    .before .before .answer-kind .ensures) (wrote (c .before .before .hear-answers .ensures .0) (c .before .before
-    .hear-answers .ensures .1))
+returns-2 c = plain-told _ _ _ _ _ _ _ _ _ _ (c .before .before .before .before .before .before .before .before .if1
+    .left) (c .before .before .before .before .before .before .if2 .taken)
+    (c .before .before .before .before .before .cell .ensures) (c .before .before .before .before .answer-kind .ensures)
+    (wrote (c .before .before .hear-answers .ensures .0) (c .before .before .hear-answers .ensures .1))
 
 hear-called-requires : tie.Need-hear-called-requires
-hear-called-requires c κs = ((c .before .before .before .before .before .before .before .pre), c .before .before .before
-    .if1 .left)
+hear-called-requires c κs = (c .before .before .before .before .before .before .before .pre,
+    c .before .before .before .if1 .left)
 
 same-length-3 : tie.Need-same-length-3
 same-length-3 c = search needs
@@ -48,5 +44,5 @@ returns-3 : tie.Need-returns-3
 returns-3 c = c .before .before .hear-called .ensures
 
 pub hear-spec : {M : Type 1} → statement M
-hear-spec = tie.close (tie.spec hear-all-requires same-length returns name-count-requires cell-requires
+hear-spec = tie.close (tie.spec hear-all-requires same-length returns cell-requires
     answer-kind-requires hear-answers-requires same-length-2 returns-2 hear-called-requires same-length-3 returns-3)

@@ -17,7 +17,7 @@ asking-requires : tie.Need-asking-requires
 asking-requires c κs = search needs
 
 hear-kinds-requires : tie.Need-hear-kinds-requires
-hear-kinds-requires c κs = (c .before .before .before .before .before .before .pre .0, (arguments _ _ _ (c .before
+hear-kinds-requires c κs = (c .before .before .before .before .before .before .pre .0, (arguments _ _ (c .before
     .before .before .before .before .before .pre .1) (c .before .asking .ensures), omega arith))
 
 hear-block-requires : tie.Need-hear-block-requires
@@ -32,7 +32,7 @@ add-hear-kinds-2 c = search needs
 
 hear-kinds-requires-2 : tie.Need-hear-kinds-requires-2
 hear-kinds-requires-2 c κs = (c .before .before .before .before .before .before .before .before .before .before .before
-    .before .before .before .pre .0, (arguments _ _ _ (c .before .before .before .before .before .before .before .before
+    .before .before .before .pre .0, (arguments _ _ (c .before .before .before .before .before .before .before .before
     .before .before .before .before .before .before .pre .1) (c .before .before .before .before .before .before .before
     .before .before .asking .ensures), omega (arith, own-small _ _ _ (c .before .before .before .before .before .before
     .before .before .before .before .answer-kind .ensures))))

@@ -24,7 +24,7 @@ add-arg : tie.Need-add-arg Inv-loop μ-loop
 add-arg c = search needs
 
 hear-argument-requires : tie.Need-hear-argument-requires Inv-loop μ-loop
-hear-argument-requires c κs = (c .before .before .before .before .before .pre .0, argument _ _ _ _ (c .before .before
+hear-argument-requires c κs = (c .before .before .before .before .before .pre .0, argument _ _ _ (c .before .before
     .before .before .before .pre .1) (c .before .loop-test .taken))
 
 loop-less : tie.Need-loop-less Inv-loop μ-loop

@@ -39,14 +39,10 @@ returns-3 c =
     simp (← c .before .before .cell3 .ensures, ← c .before .cell4 .ensures, ← c .answer-limit .ensures, ne-eqb _ _ (c
     .before .before .before .before .if1 .left), eq-eqb _ _ (c .before .before .before .if3 .taken))
 
-name-count-requires : tie.Need-name-count-requires
-name-count-requires c κs = search needs
-
 returns-4 : tie.Need-returns-4
 unfolding limitOf
-returns-4 c =
-    simp (← c .before .name-count .ensures, ne-eqb _ _ (c .before .before .before .if1 .left), ne-eqb _ _ (c .before
-    .before .if3 .left), lt-ltb _ _ (c .if4 .taken))
+returns-4 c = simp (ne-eqb _ _ (c .before .before .before .if1 .left), ne-eqb _ _ (c .before .before .if3 .left),
+    lt-ltb _ _ (c .if4 .taken))
 
 sub-part-class : tie.Need-sub-part-class
 sub-part-class c = search needs
@@ -66,13 +62,13 @@ question-limit-requires-2 c κs = search needs
 returns-5 : tie.Need-returns-5
 unfolding limitOf
 returns-5 c =
-    simp (← c .before .before .before .before .name-count .ensures, ← c .before .before .part-class .ensures, ← c
-    .before .part-values .ensures, ← c .question-limit2 .ensures, ne-eqb _ _ (c .before .before .before .before
-    .before .before .if1 .left), ne-eqb _ _ (c .before .before .before .before .before .if3 .left), le-ltb _ _ (c
-    .before .before .before .if4 .left))
+    simp (← c .before .before .part-class .ensures, ← c .before .part-values .ensures, ← c .question-limit2 .ensures,
+    ne-eqb _ _ (c .before .before .before .before .before .before .if1 .left),
+    ne-eqb _ _ (c .before .before .before .before .before .if3 .left),
+    le-ltb _ _ (c .before .before .before .if4 .left))
 
 pub limit-spec : {M : Type 1} → statement M
 limit-spec = tie.close
     (tie.spec cell-requires cell-requires-2 question-limit-requires returns returns-2 cell-requires-3 cell-requires-4
-    answer-limit-requires returns-3 name-count-requires returns-4 sub-part-class part-class-requires sub-part-values
+    answer-limit-requires returns-3 returns-4 sub-part-class part-class-requires sub-part-values
     part-values-requires question-limit-requires-2 returns-5)

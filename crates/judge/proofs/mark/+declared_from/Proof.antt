@@ -9,6 +9,7 @@ use Rattle.judge.proofs.Masking.{mask-fits, mask-none, mask-set, mask-r
 use Rattle.judge.proofs.mark.declared_from.Reads as declared-from
 use Rattle.judge.proofs.mark.declared_from.Kinds as declared-from-kinds
 use Rattle.judge.proofs.mark.+declared_from.Lts-declared_from as declared-from-lts
+use Rattle.judge.proofs.mark.declares.Reads as declares-reads
 use Rattle.records.proofs.read.byte_at.Reads as byte-at-reads
 use Rattle.judge.proofs.mark.+declared_from.{statement}
 use Rattle.judge.proofs.mark.+declared_from.Tie.{close}
@@ -25,7 +26,8 @@ declared-from-below t = and 1 declared-from-kinds.ps
     (falls 1 declared-from-kinds.ps _<_ μ-declared-from t) declared-from.Pre
 
 abbrev declared-from-calls : ℕ → declared-from-lts.Claims
-declared-from-calls t = (byte-at-reads.Asked, byte-at-reads.Learnt, declared-from-below t, declared-from.Post)
+declared-from-calls t = (byte-at-reads.Asked, byte-at-reads.Learnt, declares-reads.Asked, declares-reads.Learnt,
+    declared-from-below t, declared-from.Post)
 
 module _ (t : ℕ) where
   declared-from-returns : declared-from-lts.Need-returns (declared-from-calls t) (declared-from-at t) declared-from.Post
@@ -34,6 +36,10 @@ module _ (t : ℕ) where
   declared-from-byte-at-requires : declared-from-lts.Need-byte-at-requires (declared-from-calls t)
       (declared-from-at t) declared-from.Post
   declared-from-byte-at-requires c κs = search needs
+
+  declared-from-declares-requires : declared-from-lts.Need-declares-requires (declared-from-calls t)
+      (declared-from-at t) declared-from.Post
+  declared-from-declares-requires c κs = search needs
 
   declared-from-sub-declared-from : declared-from-lts.Need-sub-declared-from (declared-from-calls t)
       (declared-from-at t) declared-from.Post
@@ -50,17 +56,18 @@ module _ (t : ℕ) where
   declared-from-mul-result : declared-from-lts.Need-mul-result (declared-from-calls t)
       (declared-from-at t) declared-from.Post
   declared-from-mul-result c = let h = mask-fits _ _ _ _ (c .declared-from .ensures)
-      (c .before .before .before .before .before .pre .1 .0) in omega arith
+      (c .before .before .before .before .before .before .pre .1 .0) in omega arith
 
   declared-from-add-result : declared-from-lts.Need-add-result (declared-from-calls t)
       (declared-from-at t) declared-from.Post
   declared-from-add-result c = let h = mask-fits _ _ _ _ (c .declared-from .ensures)
-      (c .before .before .before .before .before .pre .1 .0) in omega arith
+      (c .before .before .before .before .before .before .pre .1 .0) in omega arith
 
   declared-from-returns-2 : declared-from-lts.Need-returns-2 (declared-from-calls t)
       (declared-from-at t) declared-from.Post
-  declared-from-returns-2 c = mask-set _ _ _ (c .before .before .before .if1 .left)
-      (c .before .before .byte-at .ensures) (c .before .if2 .taken) (c .declared-from .ensures) refl refl refl
+  declared-from-returns-2 c = mask-set _ _ _ (c .before .before .before .before .if1 .left)
+      (c .before .before .before .byte-at .ensures) (c .before .before .declares .ensures) (c .before .if2 .taken)
+      (c .declared-from .ensures) refl refl refl
 
   declared-from-sub-declared-from-2 : declared-from-lts.Need-sub-declared-from-2 (declared-from-calls t)
       (declared-from-at t) declared-from.Post
@@ -77,23 +84,24 @@ module _ (t : ℕ) where
   declared-from-mul-result-2 : declared-from-lts.Need-mul-result-2 (declared-from-calls t)
       (declared-from-at t) declared-from.Post
   declared-from-mul-result-2 c = let h = mask-fits _ _ _ _ (c .declared-from2 .ensures)
-      (c .before .before .before .before .before .before .pre .1 .0) in omega arith
+      (c .before .before .before .before .before .before .before .pre .1 .0) in omega arith
 
   declared-from-returns-3 : declared-from-lts.Need-returns-3 (declared-from-calls t)
       (declared-from-at t) declared-from.Post
-  declared-from-returns-3 c = mask-retired _ _ _ (c .before .before .before .before .if1 .left)
-      (c .before .before .before .byte-at .ensures) (c .before .if3 .taken) (c .declared-from2 .ensures)
+  declared-from-returns-3 c = mask-retired _ _ _ (c .before .before .before .before .before .if1 .left)
+      (c .before .before .before .before .byte-at .ensures) (c .before .if3 .taken) (c .declared-from2 .ensures)
 
   declared-from-returns-4 : declared-from-lts.Need-returns-4 (declared-from-calls t)
       (declared-from-at t) declared-from.Post
-  declared-from-returns-4 c = mask-ended _ _ _ _ (c .before .before .byte-at .ensures) (c .before .if2 .left)
-      (c .if3 .left)
+  declared-from-returns-4 c = mask-ended _ _ _ _ (c .before .before .before .byte-at .ensures)
+      (c .before .before .declares .ensures) (c .before .if2 .left) (c .if3 .left)
 
 pub +declared-from-spec : {M : Type 1} → statement M
 +declared-from-spec = close μ-declared-from λ t. declared-from-lts.spec (declared-from-calls t)
     (declared-from-at t) declared-from.Post
     (declared-from-returns t)
     (declared-from-byte-at-requires t)
+    (declared-from-declares-requires t)
     (declared-from-sub-declared-from t)
     (declared-from-add-declared-from t)
     (declared-from-declared-from-requires t)

@@ -8,6 +8,7 @@ use Rattle.judge.proofs.Masking.{mask-fits, mask-none, mask-set, mask-u
 use Rattle.judge.proofs.mark.mark_from.Reads as mark-from
 use Rattle.judge.proofs.mark.mark_from.Kinds as mark-from-kinds
 use Rattle.judge.proofs.mark.+mark_from.Lts-mark_from as mark-from-lts
+use Rattle.judge.proofs.mark.declares.Reads as declares-reads
 use Rattle.records.proofs.read.byte_at.Reads as byte-at-reads
 use Rattle.sheet.proofs.note.is_noted.Reads as is-noted-reads
 use Rattle.judge.proofs.mark.+mark_from.{statement}
@@ -24,8 +25,8 @@ abbrev mark-from-below : ℕ → In 2 mark-from-kinds.ps
 mark-from-below t = and 2 mark-from-kinds.ps (falls 2 mark-from-kinds.ps _<_ μ-mark-from t) mark-from.Pre
 
 abbrev mark-from-calls : ℕ → mark-from-lts.Claims
-mark-from-calls t = (byte-at-reads.Asked, byte-at-reads.Learnt, mark-from-below t, mark-from.Post, is-noted-reads.Asked,
-    is-noted-reads.Learnt)
+mark-from-calls t = (byte-at-reads.Asked, byte-at-reads.Learnt, declares-reads.Asked, declares-reads.Learnt,
+    mark-from-below t, mark-from.Post, is-noted-reads.Asked, is-noted-reads.Learnt)
 
 module _ (t : ℕ) where
   mark-from-returns : mark-from-lts.Need-returns (mark-from-calls t) (mark-from-at t) mark-from.Post
@@ -33,6 +34,10 @@ module _ (t : ℕ) where
 
   mark-from-byte-at-requires : mark-from-lts.Need-byte-at-requires (mark-from-calls t) (mark-from-at t) mark-from.Post
   mark-from-byte-at-requires c κs = search needs
+
+  mark-from-declares-requires : mark-from-lts.Need-declares-requires (mark-from-calls t) (mark-from-at t)
+      mark-from.Post
+  mark-from-declares-requires c κs = search needs
 
   mark-from-sub-mark-from : mark-from-lts.Need-sub-mark-from (mark-from-calls t) (mark-from-at t) mark-from.Post
   mark-from-sub-mark-from c = search needs
@@ -56,25 +61,27 @@ module _ (t : ℕ) where
 
   mark-from-mul-result : mark-from-lts.Need-mul-result (mark-from-calls t) (mark-from-at t) mark-from.Post
   mark-from-mul-result c = let h = mask-fits _ _ _ _ (c .before .before .before .mark-from .ensures)
-      (c .before .before .before .before .before .before .before .before .before .pre .1 .0) in omega arith
+      (c .before .before .before .before .before .before .before .before .before .before .pre .1 .0) in omega arith
 
   mark-from-add-result : mark-from-lts.Need-add-result (mark-from-calls t) (mark-from-at t) mark-from.Post
   mark-from-add-result c = let h = mask-fits _ _ _ _ (c .before .before .before .mark-from .ensures)
-      (c .before .before .before .before .before .before .before .before .before .pre .1 .0) in omega arith
+      (c .before .before .before .before .before .before .before .before .before .before .pre .1 .0) in omega arith
 
   mark-from-returns-2 : mark-from-lts.Need-returns-2 (mark-from-calls t) (mark-from-at t) mark-from.Post
-  mark-from-returns-2 c = mask-set _ _ _ (c .before .before .before .before .before .before .if1 .left)
-      (c .before .before .before .before .before .byte-at .ensures) (c .before .before .before .before .if2 .taken)
+  mark-from-returns-2 c = mask-set _ _ _ (c .before .before .before .before .before .before .before .if1 .left)
+      (c .before .before .before .before .before .before .byte-at .ensures)
+      (c .before .before .before .before .before .declares .ensures) (c .before .before .before .before .if2 .taken)
       (c .before .before .before .mark-from .ensures) (c .before .before .byte-at2 .ensures)
       (c .before .is-noted .ensures) (c .if3 .taken)
 
   mark-from-mul-result-2 : mark-from-lts.Need-mul-result-2 (mark-from-calls t) (mark-from-at t) mark-from.Post
   mark-from-mul-result-2 c = let h = mask-fits _ _ _ _ (c .before .before .before .mark-from .ensures)
-      (c .before .before .before .before .before .before .before .before .before .pre .1 .0) in omega arith
+      (c .before .before .before .before .before .before .before .before .before .before .pre .1 .0) in omega arith
 
   mark-from-returns-3 : mark-from-lts.Need-returns-3 (mark-from-calls t) (mark-from-at t) mark-from.Post
-  mark-from-returns-3 c = mask-unset _ _ _ (c .before .before .before .before .before .before .if1 .left)
-      (c .before .before .before .before .before .byte-at .ensures) (c .before .before .before .before .if2 .taken)
+  mark-from-returns-3 c = mask-unset _ _ _ (c .before .before .before .before .before .before .before .if1 .left)
+      (c .before .before .before .before .before .before .byte-at .ensures)
+      (c .before .before .before .before .before .declares .ensures) (c .before .before .before .before .if2 .taken)
       (c .before .before .before .mark-from .ensures) (c .before .before .byte-at2 .ensures)
       (c .before .is-noted .ensures) (c .if3 .left)
 
@@ -90,19 +97,21 @@ module _ (t : ℕ) where
 
   mark-from-mul-result-3 : mark-from-lts.Need-mul-result-3 (mark-from-calls t) (mark-from-at t) mark-from.Post
   mark-from-mul-result-3 c = let h = mask-fits _ _ _ _ (c .mark-from2 .ensures)
-      (c .before .before .before .before .before .before .before .pre .1 .0) in omega arith
+      (c .before .before .before .before .before .before .before .before .pre .1 .0) in omega arith
 
   mark-from-returns-4 : mark-from-lts.Need-returns-4 (mark-from-calls t) (mark-from-at t) mark-from.Post
-  mark-from-returns-4 c = mask-retired _ _ _ (c .before .before .before .before .if1 .left)
-      (c .before .before .before .byte-at .ensures) (c .before .if4 .taken) (c .mark-from2 .ensures)
+  mark-from-returns-4 c = mask-retired _ _ _ (c .before .before .before .before .before .if1 .left)
+      (c .before .before .before .before .byte-at .ensures) (c .before .if4 .taken) (c .mark-from2 .ensures)
 
   mark-from-returns-5 : mark-from-lts.Need-returns-5 (mark-from-calls t) (mark-from-at t) mark-from.Post
-  mark-from-returns-5 c = mask-ended _ _ _ _ (c .before .before .byte-at .ensures) (c .before .if2 .left) (c .if4 .left)
+  mark-from-returns-5 c = mask-ended _ _ _ _ (c .before .before .before .byte-at .ensures)
+      (c .before .before .declares .ensures) (c .before .if2 .left) (c .if4 .left)
 
 pub +mark-from-spec : {M : Type 1} → statement M
 +mark-from-spec = close μ-mark-from λ t. mark-from-lts.spec (mark-from-calls t) (mark-from-at t) mark-from.Post
     (mark-from-returns t)
     (mark-from-byte-at-requires t)
+    (mark-from-declares-requires t)
     (mark-from-sub-mark-from t)
     (mark-from-add-mark-from t)
     (mark-from-mark-from-requires t)

@@ -46,7 +46,7 @@ returns-3 c = reach-say _ _ _ _ _ _ _ _ (c .before .before .before .pre) (c .bef
     (c .dead .ensures)
 
 returns-4 : tie.Need-returns-4
-returns-4 c = reach-hear _ _ _ _ _ _ _ _ _ (c .before .enum-told2 .given .1) (c .dead2 .ensures)
+returns-4 c = reach-hear _ _ _ _ _ _ _ _ _ _ (c .before .enum-told2 .given .1) (c .dead2 .ensures)
 
 returns-5 : tie.Need-returns-5
 returns-5 c = reach-stuck _ _ _ _ _ _ (c .before .enum-told3 .given .1) (c .dead3 .ensures)

@@ -20,20 +20,20 @@ enum-told-2 c = search needs
 name-detail-requires-2 : tie.Need-name-detail-requires-2
 name-detail-requires-2 c κs = search needs
 
-enum-told-3 : tie.Need-enum-told-3
-enum-told-3 c = search needs
+enum-known-standing : tie.Need-enum-known-standing
+enum-known-standing c = search needs
 
 name-detail-requires-3 : tie.Need-name-detail-requires-3
 name-detail-requires-3 c κs = search needs
-
-enum-known-standing : tie.Need-enum-known-standing
-enum-known-standing c = search needs
 
 enum-known-standing-2 : tie.Need-enum-known-standing-2
 enum-known-standing-2 c = search needs
 
 enum-known-standing-3 : tie.Need-enum-known-standing-3
 enum-known-standing-3 c = search needs
+
+enum-known-standing-4 : tie.Need-enum-known-standing-4
+enum-known-standing-4 c = search needs
 
 cast-result : tie.Need-cast-result
 cast-result c = search needs
@@ -68,25 +68,25 @@ returns-2 c =
 returns-3 : tie.Need-returns-3
 unfolding useDetail
 returns-3 c =
-    simp (sym (c .before .before .before .meaning-of .ensures) ∙ c .before .enum-told3 .given .1, ← c .name-detail3
-      .ensures)
+    simp (sym (c .before .before .before .before .meaning-of .ensures) ∙ c .before .before .standing .given .1,
+      ← c .name-detail3 .ensures)
 
 returns-4 : tie.Need-returns-4
 unfolding useDetail
-returns-4 c = simp (sym (c .before .before .before .meaning-of .ensures) ∙ c .before .standing .given .1)
+returns-4 c = simp (sym (c .before .before .before .meaning-of .ensures) ∙ c .before .standing2 .given .1)
 
 returns-5 : tie.Need-returns-5
 unfolding useDetail
-returns-5 c = simp (sym (c .before .before .before .meaning-of .ensures) ∙ c .before .standing2 .given .1)
+returns-5 c = simp (sym (c .before .before .before .meaning-of .ensures) ∙ c .before .standing3 .given .1)
 
 returns-6 : tie.Need-returns-6
 unfolding useDetail
 returns-6 c =
-    simp (sym (c .before .before .before .before .meaning-of .ensures) ∙ c .before .before .standing3 .given .1)
+    simp (sym (c .before .before .before .before .meaning-of .ensures) ∙ c .before .before .standing4 .given .1)
 
 pub use-detail-spec : {M : Type 1} → statement M
 use-detail-spec =
     tie.close (tie.spec meaning-of-requires enum-told name-detail-requires enum-told-2 name-detail-requires-2
-    enum-told-3 name-detail-requires-3 enum-known-standing enum-known-standing-2 enum-known-standing-3 cast-result
-    rem-result cast-result-2 cast-result-3 mul-result add-result returns returns-2 returns-3 returns-4 returns-5
-    returns-6)
+    enum-known-standing name-detail-requires-3 enum-known-standing-2 enum-known-standing-3 enum-known-standing-4
+    cast-result rem-result cast-result-2 cast-result-3 mul-result add-result returns returns-2 returns-3 returns-4
+    returns-5 returns-6)

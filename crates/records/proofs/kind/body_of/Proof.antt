@@ -37,7 +37,7 @@ returns c =
 
 returns-2 : tie.Need-returns-2
 returns-2 c =
-    (body-declare (c .before .before .before .before .args .kind) _ _ (sym (c .before .before .before .shape-of
+    (body-declare (c .before .before .before .before .args .kind) _ _ _ (sym (c .before .before .before .shape-of
     .ensures) ∙ c .before .shape2 .given .1) refl, omega arith)
 
 returns-3 : tie.Need-returns-3

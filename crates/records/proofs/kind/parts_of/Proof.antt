@@ -31,7 +31,7 @@ returns c =
 
 returns-2 : tie.Need-returns-2
 returns-2 c =
-    (parts-declare (c .before .before .before .args .kind) _ (sym (c .before .before .shape-of .ensures) ∙ c
+    (parts-declare (c .before .before .before .args .kind) _ _ (sym (c .before .before .shape-of .ensures) ∙ c
     .enum-told .given .1), omega arith)
 
 returns-3 : tie.Need-returns-3

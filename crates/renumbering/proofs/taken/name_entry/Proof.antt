@@ -5,14 +5,14 @@ use borrow.Author.Needs.{needs}
 use Rattle.renumbering.proofs.taken.name_entry.Statement.{statement}
 use Rattle.renumbering.proofs.taken.name_entry.Tie as tie
 
+returns : tie.Need-returns
+returns c = (entry-retired _ _ (c .if1 .taken), omega arith)
+
 named-entry-requires : tie.Need-named-entry-requires
 named-entry-requires c κs = search needs
 
-returns : tie.Need-returns
-returns c = (entry-declared _ _ _ (c .before .if1 .taken) (c .named-entry .ensures .0), c .named-entry .ensures .1)
-
 returns-2 : tie.Need-returns-2
-returns-2 c = (entry-retired _ _ (c .if1 .left), omega arith)
+returns-2 c = (entry-declared _ _ _ (c .before .if1 .left) (c .named-entry .ensures .0), c .named-entry .ensures .1)
 
 pub name-entry-spec : {M : Type 1} → statement M
-name-entry-spec = tie.close (tie.spec named-entry-requires returns returns-2)
+name-entry-spec = tie.close (tie.spec returns named-entry-requires returns-2)
