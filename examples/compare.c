@@ -1,4 +1,5 @@
-/* Compares two routines: skip, and f(skip) where f may or may not call its argument; then follows the play shown. */
+/* Compares two routines, f(skip) and f(diverge), where f may or may not call its argument: looks through four moves
+ * first, then compares them whole, then follows the play shown. */
 #include <stdio.h>
 
 #include "negyvosal.h"
@@ -13,6 +14,11 @@ int main(void) {
     uint8_t space[2040];
     uint32_t out[NEGYVOSAL_WORDS];
     size_t bytes = 0;
+
+    negyvosal_look(old_sheet, sizeof old_sheet, new_sheet, sizeof new_sheet, 4, words, 16384, space, sizeof space, out,
+                   NEGYVOSAL_WORDS);
+    if (out[0] != NEGYVOSAL_SO_FAR) return 1;
+    printf("same so far %llu\n", (unsigned long long)NEGYVOSAL_WHOLE(out[2], out[3]));
 
     negyvosal_compare(old_sheet, sizeof old_sheet, new_sheet, sizeof new_sheet, words, 16384, space, sizeof space, out,
                       NEGYVOSAL_WORDS);

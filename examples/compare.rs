@@ -1,4 +1,5 @@
-//! Compares two routines: c; c against c; says how many names each uses; then follows the play shown.
+//! Compares two routines: c; c against c; says how many names each uses; then follows the play shown. First it looks
+//! through three moves only.
 
 /// How many words an answer has, and which of them say how many names the old and the new sheet use.
 const WORDS: usize = 11;
@@ -8,6 +9,7 @@ const NEW_USED: usize = 9;
 /// The kinds of answers that are met here.
 const FOLLOWS: u32 = 2;
 const APART: u32 = 4;
+const SO_FAR: u32 = 6;
 
 extern "C" {
     fn negyvosal_follow(
@@ -18,6 +20,10 @@ extern "C" {
         old: *const u8, old_length: usize, new: *const u8, new_length: usize, words: *mut u32, words_length: usize,
         space: *mut u8, space_length: usize, out: *mut u32, out_length: usize,
     ) -> u32;
+    fn negyvosal_look(
+        old: *const u8, old_length: usize, new: *const u8, new_length: usize, limit: u64, words: *mut u32,
+        words_length: usize, space: *mut u8, space_length: usize, out: *mut u32, out_length: usize,
+    ) -> u32;
 }
 
 fn compare(old: &[u8], new: &[u8], words: &mut [u32], space: &mut [u8]) -> [u32; WORDS] {
@@ -27,6 +33,18 @@ fn compare(old: &[u8], new: &[u8], words: &mut [u32], space: &mut [u8]) -> [u32;
         negyvosal_compare(
             old.as_ptr(), old.len(), new.as_ptr(), new.len(), words.as_mut_ptr(), words.len(), space.as_mut_ptr(),
             space.len(), out.as_mut_ptr(), out.len(),
+        );
+    }
+    out
+}
+
+fn look(old: &[u8], new: &[u8], limit: u64, words: &mut [u32], space: &mut [u8]) -> [u32; WORDS] {
+    let mut out = [0; WORDS];
+    // SAFETY: as above.
+    unsafe {
+        negyvosal_look(
+            old.as_ptr(), old.len(), new.as_ptr(), new.len(), limit, words.as_mut_ptr(), words.len(),
+            space.as_mut_ptr(), space.len(), out.as_mut_ptr(), out.len(),
         );
     }
     out
@@ -55,6 +73,9 @@ fn main() {
     let old = [&heading[..], &[24, 20, 8, 20, 8]].concat();
     let new = [&heading[..], &[20, 8]].concat();
     let (mut words, mut space) = (vec![0; 16384], [0; 2040]);
+    let [kind, _, low, high, ..] = look(&old, &new, 3, &mut words, &mut space);
+    assert_eq!(kind, SO_FAR, "no play of three moves tells the sheets apart");
+    println!("same so far {}", whole(low, high));
     let answer = compare(&old, &new, &mut words, &mut space);
     let [kind, sheet, low, high, ..] = answer;
     assert_eq!(kind, APART, "the sheets are apart");

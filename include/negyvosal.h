@@ -1,4 +1,5 @@
-/* Negyvosal: checks, follows, compares and renumbers routines written as sheets. For C and C++; link libabi.a. */
+/* Negyvosal: checks, follows, compares, looks through and renumbers routines written as sheets. For C and C++; link
+ * libabi.a. */
 #ifndef NEGYVOSAL_H
 #define NEGYVOSAL_H
 
@@ -16,8 +17,10 @@ extern "C" {
  *   NEGYVOSAL_ACCEPTED (1)   type       size         0            0             check
  *   NEGYVOSAL_FOLLOWS (2)    complete   count low    count high   0             follow
  *   NEGYVOSAL_SAME (3)       0          0            0            0             compare
- *   NEGYVOSAL_APART (4)      sheet      moves low    moves high   0             compare
+ *   NEGYVOSAL_SAME (3)       0          looked low   looked high  0             look
+ *   NEGYVOSAL_APART (4)      sheet      moves low    moves high   0             compare, look
  *   NEGYVOSAL_RENUMBERED (5) changes    0            0            0             renumber
+ *   NEGYVOSAL_SO_FAR (6)     0          looked low   looked high  0             look
  *
  * Words 5 to 7 tell of the names that the sheet checked or the old sheet uses, words 8 to 10 of those of the new sheet:
  *
@@ -25,6 +28,7 @@ extern "C" {
  *   NEGYVOSAL_ACCEPTED (1)   mark, used, unused       0, 0, 0
  *   NEGYVOSAL_SAME (3)       mark, used, unused       mark, used, unused
  *   NEGYVOSAL_APART (4)      mark, used, unused       mark, used, unused
+ *   NEGYVOSAL_SO_FAR (6)     mark, used, unused       mark, used, unused
  *   any other                0, 0, 0                  0, 0, 0
  *
  * number:   the cause of the refusal, 1 to 17.
@@ -35,15 +39,17 @@ extern "C" {
  * count:    how many moves at the start of the play begin some complete play of the sheet.
  * complete: 1 where the whole play is a complete play of the sheet, else 0.
  * moves:    how many moves the play has that one sheet has and the other has not.
+ * looked:   how many moves were looked through: where they are the same s + t - 1, for sheets of sizes s and t; where
+ *           they are the same so far the caller's limit. Where they are apart it is the play's own number, moves.
  * changes:  how many ids that a new, a procedure or a parameter binds are others in the sheet written, at most 254.
  * mark:     a bit for each name record of the sheet, the first record lowest, set where some use in the sheet means that
  *           name. A retirement has a bit too, which is never set.
  * used:     how many bits of the mark are set.
  * unused:   the number of the first declared record whose bit is not set, counted from 0, or 32.
  *
- * A place, a count and a number of moves are 64-bit: the low and the high half, in that order. NEGYVOSAL_WHOLE puts them
- * together. A place in a sheet is at most 4,096 and a number of moves at most 8,191; in a play of 4 GiB and more a place and
- * a count may need both.
+ * A place, a count, a number of moves and one of moves looked through are 64-bit: the low and the high half, in that
+ * order. NEGYVOSAL_WHOLE puts them together. A place in a sheet is at most 4,096, a number of moves and one of moves
+ * looked through at most 8,191; in a play of 4 GiB and more a place and a count may need both.
  */
 #define NEGYVOSAL_WORDS 11
 #define NEGYVOSAL_WHOLE(low, high) ((uint64_t)(high) << 32 | (low))
@@ -78,13 +84,14 @@ extern "C" {
 #define NEGYVOSAL_SAME 3
 #define NEGYVOSAL_APART 4
 #define NEGYVOSAL_RENUMBERED 5
+#define NEGYVOSAL_SO_FAR 6
 
 #define NEGYVOSAL_OLD 0
 #define NEGYVOSAL_NEW 1
 #define NEGYVOSAL_BOTH 2
 
-/* Working words that follow needs for a sheet of size s, and compare for sheets of sizes s and t; and the bytes of play
- * space that compare needs. */
+/* Working words that follow needs for a sheet of size s, and compare and look for sheets of sizes s and t; and the
+ * bytes of play space that compare and look need. */
 #define NEGYVOSAL_FOLLOW_WORDS(s) (32 * ((size_t)(s) + 1))
 #define NEGYVOSAL_COMPARE_WORDS(s, t) (32 * ((size_t)(s) + (t) + 1))
 #define NEGYVOSAL_COMPARE_SPACE(s, t) (4 * ((size_t)(s) + (t) - 1))
@@ -115,6 +122,14 @@ uint32_t negyvosal_follow(const uint8_t *sheet, size_t sheet_length, const uint8
 uint32_t negyvosal_compare(const uint8_t *old_sheet, size_t old_length, const uint8_t *new_sheet, size_t new_length,
                            uint32_t *words, size_t words_length, uint8_t *space, size_t space_length, uint32_t *out,
                            size_t out_length);
+
+/* Looks through the plays of two sheets of at most `limit` moves; any limit is fine, 0 too. Where one of them tells the
+ * sheets apart, the answer is that of compare, with the play in `space`. Else they are the same, if `limit` is at least
+ * s + t - 1 for sheets of sizes s and t, and the same so far, if it is less; `space` is untouched. A larger limit never
+ * changes "same" or "apart". What compare refuses is refused, whatever the limit. */
+uint32_t negyvosal_look(const uint8_t *old_sheet, size_t old_length, const uint8_t *new_sheet, size_t new_length,
+                        uint64_t limit, uint32_t *words, size_t words_length, uint8_t *space, size_t space_length,
+                        uint32_t *out, size_t out_length);
 
 /* Renumbers a sheet in which a new, a procedure or a parameter may hide an enclosing one: each that does gets the
  * lowest id that is neither declared, retired nor bound anywhere in the sheet, as read or as changed so far, and its

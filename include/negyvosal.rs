@@ -5,8 +5,9 @@
 /// sheets use.
 pub const WORDS: usize = 11;
 
-/// The words that tell of the names of the sheet that check accepts, or of the old one of two that are compared: its
-/// mark, how many names it uses, and the first declared record that it does not use, or 32. The same of the new one.
+/// The words that tell of the names of the sheet that check accepts, or of the old one of two that are compared or
+/// looked through: its mark, how many names it uses, and the first declared record that it does not use, or 32. The
+/// same of the new one.
 /// Where there are none, as in a refusal, they are 0.
 pub const OLD_MARK: usize = 5;
 pub const OLD_USED: usize = 6;
@@ -22,6 +23,8 @@ pub const FOLLOWS: u32 = 2;
 pub const SAME: u32 = 3;
 pub const APART: u32 = 4;
 pub const RENUMBERED: u32 = 5;
+/// The same so far: of a look only.
+pub const SO_FAR: u32 = 6;
 
 extern "C" {
     pub fn negyvosal_check(sheet: *const u8, sheet_length: usize, out: *mut u32, out_length: usize) -> u32;
@@ -42,6 +45,21 @@ extern "C" {
         old_length: usize,
         new: *const u8,
         new_length: usize,
+        words: *mut u32,
+        words_length: usize,
+        space: *mut u8,
+        space_length: usize,
+        out: *mut u32,
+        out_length: usize,
+    ) -> u32;
+
+    /// `limit` is the number of moves that are looked through at most.
+    pub fn negyvosal_look(
+        old: *const u8,
+        old_length: usize,
+        new: *const u8,
+        new_length: usize,
+        limit: u64,
         words: *mut u32,
         words_length: usize,
         space: *mut u8,

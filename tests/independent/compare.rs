@@ -19,7 +19,7 @@ pub enum Difference {
 }
 
 /// A state of each machine; none where the machine has left all its complete plays.
-type Pair = (Option<usize>, Option<usize>);
+pub type Pair = (Option<usize>, Option<usize>);
 
 struct Visit {
     pair: Pair,
@@ -53,7 +53,7 @@ pub fn first_difference(old: &Machine, new: &Machine, most: usize) -> Difference
 }
 
 /// The pairs that one move leads to, in the order of moves.
-fn successors(old: &Machine, new: &Machine, (p, q): Pair) -> Vec<(Move, Pair)> {
+pub fn successors(old: &Machine, new: &Machine, (p, q): Pair) -> Vec<(Move, Pair)> {
     let leaving_old = p.map_or(&[][..], |state| old.moves(state));
     let leaving_new = q.map_or(&[][..], |state| new.moves(state));
     let (mut i, mut j) = (0, 0);

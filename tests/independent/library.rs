@@ -1,8 +1,8 @@
 //! The proved library through its C boundary. Every call tests that the library changes nothing but what it may.
 
 pub use crate::boundary::WORDS;
-use crate::boundary::{negyvosal_check, negyvosal_compare, negyvosal_follow, negyvosal_renumber};
-use crate::boundary::{ACCEPTED, APART, FOLLOWS, REFUSED, RENUMBERED, SAME};
+use crate::boundary::{negyvosal_check, negyvosal_compare, negyvosal_follow, negyvosal_look, negyvosal_renumber};
+use crate::boundary::{ACCEPTED, APART, FOLLOWS, REFUSED, RENUMBERED, SAME, SO_FAR};
 use crate::boundary::{NEW_MARK, NEW_UNUSED, NEW_USED, OLD_MARK, OLD_UNUSED, OLD_USED};
 use crate::mark::Mark;
 use crate::services::{listed, records, Answer};
@@ -124,7 +124,7 @@ pub fn follow(sheet: &[u8], play: &[u8], words: usize, room: usize) -> Result<Wo
     Ok(got)
 }
 
-/// What compare gives: the words of its answer, and play space.
+/// What compare and look give: the words of the answer, and play space.
 pub struct Compared {
     pub words: Words,
     space: Lent<u8>,
@@ -155,6 +155,35 @@ pub fn compare(old: &[u8], new: &[u8], words: usize, space: usize, room: usize) 
             old.length(),
             new.start(),
             new.length(),
+            words.start_mut(),
+            words.length(),
+            space.start_mut(),
+            space.length(),
+            out.start_mut(),
+            out.length(),
+        )
+    };
+    old.expect(&[])?;
+    new.expect(&[])?;
+    let got = answer(told, &out)?;
+    expect_words(&words, got[0] != REFUSED)?;
+    Ok(Compared { words: got, space })
+}
+
+pub fn look(old: &[u8], new: &[u8], limit: u64, words: usize, space: usize, room: usize) -> Result<Compared, String> {
+    let old = lent_bytes("old", old);
+    let new = lent_bytes("new", new);
+    let mut words = lent_words("words", words);
+    let mut space = lent_space("space", space);
+    let mut out = lent_words("out", room);
+    // SAFETY: every pointer is to as many elements as its length says, and none overlap.
+    let told = unsafe {
+        negyvosal_look(
+            old.start(),
+            old.length(),
+            new.start(),
+            new.length(),
+            limit,
             words.start_mut(),
             words.length(),
             space.start_mut(),
@@ -236,6 +265,10 @@ pub fn words_of(answer: &Answer) -> Words {
         Answer::Apart { sheet, play, marks } => {
             let [low, high] = halves(play.len());
             words([APART, sheet.word(), low, high, 0], marks)
+        }
+        Answer::Looked { through, same, marks } => {
+            let [low, high] = halves(*through as usize);
+            words([if *same { SAME } else { SO_FAR }, 0, low, high, 0], marks)
         }
         Answer::Renumbered { changes, .. } => words([RENUMBERED, changes.len() as u32, 0, 0, 0], &[]),
         Answer::Unknown => [u32::MAX; WORDS],

@@ -19,6 +19,7 @@ mod generate;
 mod inline;
 mod landing;
 mod library;
+mod look;
 mod machine;
 mod mark;
 mod moves;

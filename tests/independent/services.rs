@@ -1,7 +1,8 @@
-//! The three services of document 01 and the renumbering of document 02: their refusals in order, their answers, and how
-//! they are printed.
+//! The three services of document 01, and renumber and look of document 02: their refusals in order, their answers, and
+//! how they are printed.
 
 use crate::compare::{first_difference, Difference};
+use crate::look::{walk, Sight};
 use crate::machine::{Machine, Move};
 use crate::mark::Mark;
 use crate::reader::{read, read_under, Fault, Rule, Sheet};
@@ -55,6 +56,12 @@ pub enum Answer {
     Apart {
         sheet: Which,
         play: Vec<Move>,
+        marks: Marks,
+    },
+    /// Of a look: "same", or else "same so far".
+    Looked {
+        through: u64,
+        same: bool,
         marks: Marks,
     },
     Renumbered {
@@ -172,6 +179,45 @@ pub fn compare_machines(old: &Machine, new: &Machine, marks: Marks, most_pairs: 
     }
 }
 
+/// A look through plays of at most `limit` moves, of two sheets that compare accepts. Beyond S + T - 1 there is nothing
+/// to be seen, so it looks no further.
+pub fn look_machines(old: &Machine, new: &Machine, whole: u64, limit: u64, marks: Marks, most_steps: usize) -> Answer {
+    match walk(old, new, limit.min(whole) as usize, most_steps) {
+        Sight::Nothing => Answer::Looked { through: limit.min(whole), same: limit >= whole, marks },
+        Sight::TooMany => Answer::Unknown,
+        Sight::Apart { in_old, play } => {
+            Answer::Apart { sheet: if in_old { Which::Old } else { Which::New }, play, marks }
+        }
+    }
+}
+
+/// A look through plays of at most `limit` moves.
+pub fn look(old: &[u8], new: &[u8], limit: u64, words: usize, space: usize) -> Answer {
+    match read_both(old, new, words, space) {
+        Err(answer) => answer,
+        Ok((a, b)) => {
+            let (old, new) = (Machine::of(&a), Machine::of(&b));
+            look_machines(&old, &new, a.size + b.size - 1, limit, marks_of(&a, &b), usize::MAX)
+        }
+    }
+}
+
+/// The lines that show a look: the sizes, the moves looked through, the answer.
+pub fn look_text(old: &[u8], new: &[u8], limit: u64, words: usize, space: usize) -> String {
+    match read_both(old, new, words, space) {
+        Err(answer) => text(&answer),
+        Ok((a, b)) => {
+            let answer = look(old, new, limit, words, space);
+            let through = match &answer {
+                Answer::Looked { through, .. } => *through,
+                Answer::Apart { play, .. } => play.len() as u64,
+                other => unreachable!("{other:?} is no answer of look"),
+            };
+            format!("old {} new {}\nlooked {through}\n{}", a.size, b.size, text(&answer))
+        }
+    }
+}
+
 /// `output` and `list` are the bytes lent for the sheet and for the list of changes.
 pub fn renumber(bytes: &[u8], output: usize, list: usize) -> Answer {
     let sheet = match read_under(Rule::Earlier, bytes) {
@@ -209,7 +255,8 @@ pub fn text(answer: &Answer) -> String {
         Answer::Followed { count, complete } => {
             format!("follows {count} complete {}\n", if *complete { "yes" } else { "no" })
         }
-        Answer::Same { .. } => "same\n".to_string(),
+        Answer::Same { .. } | Answer::Looked { same: true, .. } => "same\n".to_string(),
+        Answer::Looked { .. } => "same so far\n".to_string(),
         Answer::Apart { sheet, play, .. } => {
             let head = format!("apart in {} {}\n", sheet.name(), play.len());
             play.iter().fold(head, |lines, m| lines + &move_text(m))

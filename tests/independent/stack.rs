@@ -11,6 +11,12 @@ use crate::services::{self, space_to_compare, words_to_compare, words_to_follow,
 /// Bytes of the small stack: what a thread of Rust has where nothing is said.
 const STACK: usize = 2 << 20;
 
+/// The moves of a short look.
+const FEW: u64 = 10;
+
+/// Bytes of play space for a move: S + T - 1 moves have just room in what is lent here.
+const MOVE: u64 = 4;
+
 /// What the library answers in a thread with the small stack.
 fn answered<T: Send>(ask: impl FnOnce() -> Result<T, String> + Send) -> Result<T, String> {
     std::thread::scope(|scope| {
@@ -39,7 +45,7 @@ fn shortest(machine: &Machine) -> Vec<Move> {
     play
 }
 
-/// Runs the services on a sheet; compare with the sheet itself.
+/// Runs the services on a sheet; compare and look with the sheet itself.
 fn run_sheet(sheet: &[u8]) -> Result<(), String> {
     run_renumber(sheet)?;
     expect("check", &services::check(sheet), answered(|| library::check(sheet, WORDS))?)?;
@@ -64,7 +70,23 @@ fn run_pair(old: &[u8], new: &[u8], words: usize, space: usize) -> Result<(), St
     let answer = services::compare(old, new, words, space, usize::MAX);
     let got = answered(|| library::compare(old, new, words, space, WORDS))?;
     expect("compare", &answer, got.words)?;
-    got.expect_space(&bytes_of(&answer))
+    got.expect_space(&bytes_of(&answer))?;
+    run_looks(old, new, words, space, answer)
+}
+
+/// Looks through a few moves, and through all, of two sheets of which compare gives that answer.
+fn run_looks(old: &[u8], new: &[u8], words: usize, space: usize, compared: Answer) -> Result<(), String> {
+    let all = match compared {
+        Answer::Same { marks } => Answer::Looked { through: space as u64 / MOVE, same: true, marks },
+        other => other,
+    };
+    let within = services::look(old, new, FEW, words, space);
+    for (limit, answer) in [(FEW, within), (u64::MAX, all)] {
+        let got = answered(|| library::look(old, new, limit, words, space, WORDS))?;
+        expect("look", &answer, got.words)?;
+        got.expect_space(&bytes_of(&answer))?;
+    }
+    Ok(())
 }
 
 /// Runs the deepest sheets and those of the files; whether all answers are right.

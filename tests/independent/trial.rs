@@ -22,6 +22,9 @@ const RETIRED: u32 = 6;
 /// The most pairs that one comparison visits.
 const MOST_PAIRS: usize = 300_000;
 
+/// The most steps that one look walks.
+const MOST_STEPS: usize = 100_000;
+
 /// How often each thing happened.
 #[derive(Default)]
 struct Counts {
@@ -40,6 +43,8 @@ struct Counts {
     refused: [usize; 18],
     /// Sheets that check refuses and that the rule before request [3] accepts.
     turned_away: usize,
+    /// Looks: apart, same, same so far, and those walked in part only.
+    looks: [usize; 4],
     renumbered: usize,
     most_changes: usize,
     unaltered: usize,
@@ -83,6 +88,7 @@ impl Counts {
                 self.unlike_marks += (old != new) as usize;
                 self.longest_play = self.longest_play.max(play.len());
             }
+            Answer::Looked { .. } => {}
             Answer::Renumbered { changes, .. } => {
                 self.renumbered += 1;
                 self.most_changes = self.most_changes.max(changes.len());
@@ -108,6 +114,8 @@ impl Counts {
         println!("compare: {} with over {MOST_PAIRS} pairs, tried in part only", self.capped);
         println!("compare: up to {} states, {} times with a silent loop", self.most_states, self.rounds);
         println!("compare: {} with both sizes {} or more", self.near, near::SMALLEST);
+        let [apart, same, so_far, capped] = self.looks;
+        println!("look: {apart} apart, {same} same, {so_far} same so far; {capped} walked in part only");
         println!("renumber: {} renumbered, {} of them unaltered", self.renumbered, self.unaltered);
         println!("renumber: up to {} changes", self.most_changes);
         self.parts.print();
@@ -176,10 +184,15 @@ fn run_case(case: &Case, room: usize, counts: &mut Counts) -> Result<(), String>
             match services::read_both(old, new, *words, *space) {
                 Ok((a, b)) => {
                     run_compare(&a, &b, *alike, &got, counts)?;
-                    expect_once(&a, &b, &got, room, counts)
+                    expect_once(&a, &b, &got, room, counts)?;
+                    let call = |limit| library::look(old, new, limit, *words, *space, room);
+                    run_looks(&a, &b, &got, call, counts)
                 }
                 Err(answer) => {
                     counts.note(&answer);
+                    expect_words(&answer, got.words)?;
+                    got.expect_space(&[])?;
+                    let got = library::look(old, new, *words as u64, *words, *space, room)?;
                     expect_words(&answer, got.words)?;
                     got.expect_space(&[])
                 }
@@ -307,6 +320,51 @@ fn asking_once(sheet: &Sheet) -> Vec<u8> {
         }
     }
     written(&heading, &sheet.term)
+}
+
+/// Looks through two sheets that compare accepts: by the walk here, where it is short enough, and by what compare
+/// gives.
+fn run_looks(
+    a: &Sheet,
+    b: &Sheet,
+    compared: &Compared,
+    call: impl Fn(u64) -> Result<Compared, String>,
+    counts: &mut Counts,
+) -> Result<(), String> {
+    let (old, new) = (Machine::of(a), Machine::of(b));
+    let marks = services::marks_of(a, b);
+    let whole = a.size + b.size - 1;
+    let apart = compared.words[0] == words_of(&Answer::Apart { sheet: Which::Old, play: vec![], marks })[0];
+    let moves = compared.words[2] as u64;
+    let mut limits = vec![0, 2, 5, 12, whole - 1, whole, u64::MAX];
+    if apart {
+        limits.extend([moves - 1, moves, moves + 1]);
+    }
+    for limit in limits {
+        let got = call(limit)?;
+        let by_compare = match apart && moves <= limit {
+            true => {
+                let play = services::first_moves(compared.space(), moves as usize).ok_or("no play in play space")?;
+                let sheet = if compared.words[1] == 0 { Which::Old } else { Which::New };
+                Answer::Apart { sheet, play, marks }
+            }
+            false => Answer::Looked { through: limit.min(whole), same: limit >= whole, marks },
+        };
+        counts.looks[match by_compare {
+            Answer::Apart { .. } => 0,
+            _ if limit >= whole => 1,
+            _ => 2,
+        }] += 1;
+        let by_walk = services::look_machines(&old, &new, whole, limit, marks, MOST_STEPS);
+        if by_walk == Answer::Unknown {
+            counts.looks[3] += 1;
+        } else if by_walk != by_compare {
+            return Err(format!("within {limit} moves the walk finds {by_walk:?}, and compare {by_compare:?}"));
+        }
+        expect_words(&by_compare, got.words).map_err(|what| format!("look {limit}: {what}"))?;
+        got.expect_space(&bytes_of(&by_compare)).map_err(|what| format!("look {limit}: {what}"))?;
+    }
+    Ok(())
 }
 
 /// The reckoned size bounds the states in which a move is due.

@@ -154,6 +154,10 @@ fn outcome(case: &Case) -> Result<String, String> {
             let (words, space) = (number(case, "words")?, number(case, "space")?);
             Ok(services::compare_text(&part("old")?, &part("new")?, words, space))
         }
+        "look" => {
+            let (limit, words, space) = (number(case, "limit")?, number(case, "words")?, number(case, "space")?);
+            Ok(services::look_text(&part("old")?, &part("new")?, limit as u64, words, space))
+        }
         "renumber" => {
             let (output, list) = (number(case, "out")?, number(case, "list")?);
             Ok(services::text(&services::renumber(&part("sheet")?, output, list)))

@@ -6,12 +6,15 @@ use lib.ListN.{length}
 use borrow.Author.Tests.{le-ltb}
 use Rattle.judge.specs.declared.check.Checked.{Checked}
 use Rattle.comparer.specs.Promise.{FollowPromise, ComparePromise}
+use Rattle.comparer.specs.Look.{LookPromise}
 use Rattle.comparer.specs.declared.Following.{Following}
 use Rattle.comparer.specs.declared.Comparison.{Comparison}
+use Rattle.comparer.specs.declared.Looking.{Looking}
 use Rattle.renumbering.specs.Outcome.{RenumberPromise}
 use Rattle.renumbering.specs.declared.renumber.Renumbered.{Renumbered}
-use Rattle.answers.specs.Words.{answer-words, checkWords, followWords, compareWords, renumberWords, answered, status}
-use Rattle.abi.specs.Returned.{FollowReturned, CompareReturned, RenumberReturned, answers}
+use Rattle.answers.specs.Words.{answer-words, checkWords, followWords, compareWords, lookWords, renumberWords}
+use Rattle.answers.specs.Words.{answered, status}
+use Rattle.abi.specs.Returned.{FollowReturned, CompareReturned, LookReturned, RenumberReturned, answers}
 
 -- check's answer, by what check gives
 pub check-returned : (out out′ : List ℕ) (r y : Checked) (x : ℕ) → r ≡ y → x ≡ status out →
@@ -31,6 +34,13 @@ pub compare-returned : (old new ws space out ws′ space′ out′ : List ℕ) (
   out′ ≡ answered (compareWords a) out → CompareReturned old new ws space out x ws′ space′ out′
 unfolding status answered
 compare-returned old new ws space out ws′ space′ out′ x a h p t w =
+    answers a h (rw (le-ltb (length out) answer-words h) at t) p (rw (le-ltb (length out) answer-words h) at w)
+
+pub look-returned : (old new : List ℕ) (limit : ℕ) (ws space out ws′ space′ out′ : List ℕ) (x : ℕ) (a : Looking) →
+  answer-words ≤ length out → LookPromise old new limit ws space a ws′ space′ → x ≡ status out →
+  out′ ≡ answered (lookWords a) out → LookReturned old new limit ws space out x ws′ space′ out′
+unfolding status answered
+look-returned old new limit ws space out ws′ space′ out′ x a h p t w =
     answers a h (rw (le-ltb (length out) answer-words h) at t) p (rw (le-ltb (length out) answer-words h) at w)
 
 pub renumber-returned : (s output list out output′ list′ out′ : List ℕ) (x : ℕ) (a : Renumbered) →

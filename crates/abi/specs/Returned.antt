@@ -1,15 +1,17 @@
--- What the boundary promises of follow, compare and renumber: where fewer words are lent than an answer has, 0, and
+-- What the boundary promises of follow, compare, look and renumber: where fewer words are lent than an answer has, 0, and
 -- nothing changes; else 1, the answer in the first words of `out`, and what the service promises of all else.
 use mathlib.Core.Path.{_≡_}
 use mathlib.Core.List.{List, _++_}
 use Prim.Native.Nat.{ℕ, _≤_, _<_}
 use lib.ListN.{length, drop}
 use Rattle.comparer.specs.Promise.{FollowPromise, ComparePromise}
+use Rattle.comparer.specs.Look.{LookPromise}
 use Rattle.comparer.specs.declared.Following.{Following}
 use Rattle.comparer.specs.declared.Comparison.{Comparison}
+use Rattle.comparer.specs.declared.Looking.{Looking}
 use Rattle.renumbering.specs.Outcome.{RenumberPromise}
 use Rattle.renumbering.specs.declared.renumber.Renumbered.{Renumbered}
-use Rattle.answers.specs.Words.{answer-words, followWords, compareWords, renumberWords}
+use Rattle.answers.specs.Words.{answer-words, followWords, compareWords, lookWords, renumberWords}
 
 pub data FollowReturned (s play ws out : List ℕ) (r : ℕ) (ws′ out′ : List ℕ) : Type 0 where
   no-room : length out < answer-words → r ≡ 0 → ws′ ≡ ws → out′ ≡ out → FollowReturned s play ws out r ws′ out′
@@ -21,6 +23,13 @@ pub data CompareReturned (old new ws space out : List ℕ) (r : ℕ) (ws′ spac
     CompareReturned old new ws space out r ws′ space′ out′
   answers : (a : Comparison) → answer-words ≤ length out → r ≡ 1 → ComparePromise old new ws space a ws′ space′ →
     out′ ≡ compareWords a ++ drop answer-words out → CompareReturned old new ws space out r ws′ space′ out′
+
+pub data LookReturned (old new : List ℕ) (limit : ℕ) (ws space out : List ℕ) (r : ℕ) (ws′ space′ out′ : List ℕ) :
+    Type 0 where
+  no-room : length out < answer-words → r ≡ 0 → ws′ ≡ ws → space′ ≡ space → out′ ≡ out →
+    LookReturned old new limit ws space out r ws′ space′ out′
+  answers : (a : Looking) → answer-words ≤ length out → r ≡ 1 → LookPromise old new limit ws space a ws′ space′ →
+    out′ ≡ lookWords a ++ drop answer-words out → LookReturned old new limit ws space out r ws′ space′ out′
 
 pub data RenumberReturned (s output list out : List ℕ) (r : ℕ) (output′ list′ out′ : List ℕ) : Type 0 where
   no-room : length out < answer-words → r ≡ 0 → output′ ≡ output → list′ ≡ list → out′ ≡ out →

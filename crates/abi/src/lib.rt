@@ -2,18 +2,20 @@
 use answers::check::answer_check;
 use answers::compare::answer_compare;
 use answers::follow::answer_follow;
+use answers::look::answer_look;
 use answers::renumber::answer_renumber;
 use answers::write::NO_ROOM;
 use answers::write::WORDS;
 use comparer::compare::compare;
 use comparer::follow::follow;
+use comparer::look::look;
 use judge::check::check;
 use renumbering::renumber::renumber;
 ghost use mathlib.Core.Path.{_≡_};
 ghost use Rattle.sheet.specs.Reader.{readSheet};
 ghost use Rattle.judge.specs.Check.{checkedOf};
 ghost use Rattle.answers.specs.Words.{checkWords, answered, status};
-ghost use Rattle.abi.specs.Returned.{FollowReturned, CompareReturned, RenumberReturned};
+ghost use Rattle.abi.specs.Returned.{FollowReturned, CompareReturned, LookReturned, RenumberReturned};
 
 // The service check: the answer in the first eleven words of out, and 1; or 0, with out as it was, where it has fewer.
 #[no_mangle]
@@ -62,6 +64,27 @@ pub extern "C" fn negyvosal_compare(
     }
     let r = compare(old, new, words, space);
     answer_compare(out, r)
+}
+
+// The service look: likewise.
+#[no_mangle]
+pub extern "C" fn negyvosal_look(
+    old: &[u8],
+    new: &[u8],
+    limit: u64,
+    words: &mut [u32],
+    space: &mut [u8],
+    out: &mut [u32],
+) -> u32
+    ensures { λ r. ⌜ LookReturned (now (old .entry)) (now (new .entry)) limit (now (words .entry)) (now (space .entry))
+        (now (out .entry)) r (now (words .exit)) (now (space .exit)) (now (out .exit)) ⌝ }
+{
+    if out.len() < WORDS {
+        return NO_ROOM;
+    }
+    let most = limit as usize;
+    let r = look(old, new, most, words, space);
+    answer_look(out, r)
 }
 
 // The service renumber: likewise.

@@ -11,11 +11,13 @@ use Rattle.comparer.specs.declared.Following.{Following}
 use Rattle.comparer.specs.declared.Following.the-variants.{Follows, Refused as NotFollowed}
 use Rattle.comparer.specs.declared.Comparison.{Comparison}
 use Rattle.comparer.specs.declared.Comparison.the-variants.{Same, Apart, Refused as NotCompared}
+use Rattle.comparer.specs.declared.Looking.{Looking}
+use Rattle.comparer.specs.declared.Looking.the-variants as looking
 use Rattle.renumbering.specs.declared.renumber.Renumbered.{Renumbered}
 use Rattle.renumbering.specs.declared.renumber.Renumbered.the-variants.{Changed, Refused as NotRenumbered}
 use Rattle.answers.specs.Words.{kind-refused, kind-accepted, kind-follows, kind-same, kind-apart, kind-renumbered}
 use Rattle.answers.specs.Words.{lowHalf, highHalf, usesWords, no-uses, refusalWords, checkWords, followWords}
-use Rattle.answers.specs.Words.{compareWords, renumberWords, answered, status}
+use Rattle.answers.specs.Words.{compareWords, kind-so-far, lookWords, renumberWords, answered, status}
 
 -- an answer by other words for the same
 pub returned-as : (out out′ ws ws₂ : List ℕ) (x : ℕ) → ws ≡ ws₂ → x ≡ status out → out′ ≡ answered ws out →
@@ -67,6 +69,30 @@ words-apart r sheet moves low high old new e p q = rw (e, p, q) refl
 pub words-not-compared : (r : Comparison) (x : Cause) → r ≡ NotCompared x → refusalWords x ≡ compareWords r
 unfolding compareWords
 words-not-compared r x e = rw e refl
+
+pub words-depth : (kind a looked low high : ℕ) (old new : Uses) → low ≡ lowHalf looked → high ≡ highHalf looked →
+  ((kind ∷ a ∷ low ∷ high ∷ 0 ∷ []) ++ usesWords old ++ usesWords new) ≡
+  ((kind ∷ a ∷ lowHalf looked ∷ highHalf looked ∷ 0 ∷ []) ++ usesWords old ++ usesWords new)
+words-depth kind a looked low high old new p q = rw (p, q) refl
+
+pub words-looked-same : (r : Looking) (looked : ℕ) (old new : Uses) → r ≡ looking.Same looked old new →
+  ((kind-same ∷ 0 ∷ lowHalf looked ∷ highHalf looked ∷ 0 ∷ []) ++ usesWords old ++ usesWords new) ≡ lookWords r
+unfolding lookWords
+words-looked-same r looked old new e = rw e refl
+
+pub words-looked-apart : (r : Looking) (sheet looked : ℕ) (old new : Uses) → r ≡ looking.Apart sheet looked old new →
+  ((kind-apart ∷ sheet ∷ lowHalf looked ∷ highHalf looked ∷ 0 ∷ []) ++ usesWords old ++ usesWords new) ≡ lookWords r
+unfolding lookWords
+words-looked-apart r sheet looked old new e = rw e refl
+
+pub words-looked-so-far : (r : Looking) (looked : ℕ) (old new : Uses) → r ≡ looking.SoFar looked old new →
+  ((kind-so-far ∷ 0 ∷ lowHalf looked ∷ highHalf looked ∷ 0 ∷ []) ++ usesWords old ++ usesWords new) ≡ lookWords r
+unfolding lookWords
+words-looked-so-far r looked old new e = rw e refl
+
+pub words-not-looked : (r : Looking) (x : Cause) → r ≡ looking.Refused x → refusalWords x ≡ lookWords r
+unfolding lookWords
+words-not-looked r x e = rw e refl
 
 pub words-renumbered : (r : Renumbered) (changes : ℕ) → r ≡ Changed changes →
   ((kind-renumbered ∷ changes ∷ 0 ∷ 0 ∷ 0 ∷ []) ++ no-uses ++ no-uses) ≡ renumberWords r

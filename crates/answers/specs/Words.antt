@@ -3,7 +3,8 @@
 -- Document 01, "Three services": "Check takes a sheet and gives its type and size"; follow gives "the greatest number
 -- of moves" and "whether the whole given play is complete"; compare gives ""same", or "apart" with the sheet that has
 -- the play, its number of moves"; "A refusal carries its number, which sheet, and the place". Document 02, [4]: of
--- renumber "the number of changes is given"; [6]: "Compare passes on both sheets' marks".
+-- renumber "the number of changes is given"; [6]: "Compare passes on both sheets' marks"; [9]: look "reports how many moves
+-- were looked through".
 use Prim.Native.Nat.{ℕ, _+_, _*_, _/_, _%_}
 use mathlib.Core.Path.{_≡_}
 use mathlib.Core.List.{List, [], _∷_, _++_}
@@ -18,6 +19,8 @@ use Rattle.comparer.specs.declared.Following.{Following}
 use Rattle.comparer.specs.declared.Following.the-variants.{Follows, Refused as NotFollowed}
 use Rattle.comparer.specs.declared.Comparison.{Comparison}
 use Rattle.comparer.specs.declared.Comparison.the-variants.{Same, Apart, Refused as NotCompared}
+use Rattle.comparer.specs.declared.Looking.{Looking}
+use Rattle.comparer.specs.declared.Looking.the-variants as looking
 use Rattle.renumbering.specs.declared.renumber.Renumbered.{Renumbered}
 use Rattle.renumbering.specs.declared.renumber.Renumbered.the-variants.{Changed, Refused as NotRenumbered}
 
@@ -39,6 +42,9 @@ kind-apart = 4
 
 abbrev pub kind-renumbered : ℕ
 kind-renumbered = 5
+
+abbrev pub kind-so-far : ℕ
+kind-so-far = 6
 
 -- how many numbers a word of 32 bits can be
 abbrev pub word-values : ℕ
@@ -89,6 +95,17 @@ compareWords (Same old new) = (kind-same ∷ 0 ∷ 0 ∷ 0 ∷ 0 ∷ []) ++ uses
 compareWords (Apart sheet moves old new) =
     (kind-apart ∷ sheet ∷ lowHalf moves ∷ highHalf moves ∷ 0 ∷ []) ++ usesWords old ++ usesWords new
 compareWords (NotCompared x) = refusalWords x
+
+-- looked through: same, apart with the sheet, or same so far; how many moves were looked through, and the names that both
+-- sheets use
+unfoldable pub lookWords : Looking → List ℕ
+lookWords (looking.Same looked old new) =
+    (kind-same ∷ 0 ∷ lowHalf looked ∷ highHalf looked ∷ 0 ∷ []) ++ usesWords old ++ usesWords new
+lookWords (looking.Apart sheet looked old new) =
+    (kind-apart ∷ sheet ∷ lowHalf looked ∷ highHalf looked ∷ 0 ∷ []) ++ usesWords old ++ usesWords new
+lookWords (looking.SoFar looked old new) =
+    (kind-so-far ∷ 0 ∷ lowHalf looked ∷ highHalf looked ∷ 0 ∷ []) ++ usesWords old ++ usesWords new
+lookWords (looking.Refused x) = refusalWords x
 
 -- renumbered: how many changes
 unfoldable pub renumberWords : Renumbered → List ℕ

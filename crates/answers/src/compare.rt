@@ -12,7 +12,15 @@ ghost use mathlib.Core.List.{[], _∷_, _++_};
 ghost use Rattle.answers.specs.Words.{usesWords, compareWords, answered, status};
 
 // Writes an answer that tells of the names of two sheets.
-fn answer_names(out: &mut [u32], kind: u32, a: u32, b: u32, c: u32, old: Uses, new: Uses) -> u32
+pub(crate) fn answer_names(
+    out: &mut [u32],
+    kind: u32,
+    a: u32,
+    b: u32,
+    c: u32,
+    old: Uses,
+    new: Uses,
+) -> u32
     ensures returned { λ x. ⌜ x ≡ status (now (out .entry)) ⌝ }
     ensures written { λ x. ⌜ now (out .exit)
         ≡ answered ((kind ∷ a ∷ b ∷ c ∷ 0 ∷ []) ++ usesWords old ++ usesWords new) (now (out .entry)) ⌝ }

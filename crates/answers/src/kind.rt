@@ -10,3 +10,5 @@ pub(crate) const SAME: u32 = 3;
 pub(crate) const APART: u32 = 4;
 
 pub(crate) const RENUMBERED: u32 = 5;
+
+pub(crate) const SO_FAR: u32 = 6;

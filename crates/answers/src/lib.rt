@@ -14,5 +14,7 @@ pub mod check;
 pub mod follow;
 // The answer of compare.
 pub mod compare;
+// The answer of look.
+pub mod look;
 // The answer of renumber.
 pub mod renumber;

@@ -1,20 +1,20 @@
--- What compare answers, from what its callees answer: its refusals, and its verdict on two sheets.
+-- What examine answers, from what its callees answer: its refusals, and its verdict on two sheets.
 use mathlib.Core.Path.{_≡_, refl, sym, ap, ap₂, _∙_}
 use mathlib.Core.Logic.{_↔_}
 use mathlib.Core.Bool.{Bool, true, false}
 use mathlib.Core.List.{List}
 use mathlib.Core.Option.{Option, none, some}
-use Prim.Native.Nat.{ℕ, zero, suc, _+_, _*_, _-_, _≤_, _<_, min}
+use Prim.Native.Nat.{ℕ, zero, suc, _+_, _*_, _-_, _≤_, _<_}
 use native.Mathlib.Omega.{arith}
 use lib.ListN.{length, getD, replicate}
 use lib.Dec.{eqb, ltb}
-use borrow.Author.Tests.{eqb-true, ltb-true, ltb-false, lt-ltb, le-ltb}
+use borrow.Author.Tests.{eqb-true, ltb-true, ltb-false}
 use Rattle.language.specs.Choice.{pick}
 use Rattle.language.specs.declared.Numbers.{Numbers}
 use Rattle.language.specs.Ty.{Ty}
 use Rattle.language.specs.Move.{Word}
 use Rattle.language.specs.Play.{Complete}
-use Rattle.automaton.specs.walk.Shows.{Words}
+use Rattle.language.specs.Weight.{size}
 use Rattle.explicit.specs.inner.Ready.{Ready}
 use Rattle.records.specs.Refusal.{cause, both-sheets}
 use Rattle.records.specs.declared.refusal.Refusal.{Refusal as Wrong}
@@ -23,28 +23,29 @@ use Rattle.procedures.specs.Written.{Sheet}
 use Rattle.procedures.specs.Meaning.{tyOf, termOf, typeOf}
 use Rattle.sheet.specs.Reader.{numbersAt, readSheet, rejected}
 use Rattle.load.specs.Loaded as load
-use Rattle.load.specs.Loaded.{LoadedBy}
 use Rattle.load.specs.declared.load.Loaded.{Loaded}
 use Rattle.load.specs.declared.load.Loaded.the-variants as loaded
 use Rattle.comparer.specs.Plays.{Alike, Only}
 use Rattle.comparer.specs.Refusals.{refusing, sameFirst, matching, onRead, pairRefusal}
 use Rattle.comparer.specs.Refusals.{compareRefusal}
-use Rattle.comparer.specs.Promise.{Decided, same, apart, ComparedBy, ComparePromise}
+use Rattle.comparer.specs.Plays.{reckoned}
+use Rattle.comparer.specs.Look.{Found, nothing, first, FoundIn, decisionOf, spaceAfter, wholeDepth}
 use Rattle.build.specs.Built.{TwoReady, TwoBuilt}
-use Rattle.comparer.specs.inner.Deciding.{Deciding, OnlyTerm, Verdicts, alike, differ, answerOf}
+use Rattle.comparer.specs.inner.Deciding.{Deciding, OnlyTerm, Verdicts, alike, differ}
+use Rattle.comparer.specs.inner.Deciding.{ExaminedBy, ExaminePromise}
 use Rattle.comparer.specs.inner.Causes.{causeOf, numberOf}
 use Rattle.judge.specs.Mark.{usesOf}
 use Rattle.judge.specs.declared.mark.Uses.{Uses}
 use Rattle.comparer.specs.declared.Decision.{Decision}
-use Rattle.comparer.specs.declared.Comparison.{Comparison}
-use Rattle.comparer.specs.declared.Comparison.the-variants.{Refused}
+use Rattle.comparer.specs.declared.Examined.the-variants.{Known, Refused}
 use Rattle.comparer.proofs.ReadSheets.{heading-after, Fit, fit-as, fit-held, fit-type, fit-ready, fit-used}
 
 -- a refusal leaves everything as it was
-refuses : (old new ws space : List ℕ) {x q : Cause} → compareRefusal old new (length ws) (length space) ≡ some x →
-    q ≡ x → ComparePromise old new ws space (Refused q) ws space
-unfolding ComparedBy
-refuses old new ws space e f = rw e (ap Refused f, (refl, refl))
+refuses : (old new ws space : List ℕ) (most : ℕ) {x q : Cause} →
+    compareRefusal old new (length ws) (length space) ≡ some x → q ≡ x →
+    ExaminePromise old new most ws space (Refused q) ws space
+unfolding ExaminedBy
+refuses old new ws space most e f = rw e (ap Refused f, (refl, refl))
 
 -- the refusal of a sheet, handed on
 handed-on : {x : Loaded} {z : Wrong} {sheet : ℕ} {q : Cause} → x ≡ loaded.Refused z → q ≡ causeOf x sheet →
@@ -53,18 +54,18 @@ unfolding causeOf
 handed-on e f = f ∙ rw e
 
 -- the old sheet is refused
-pub refused-old : (old new ws space : List ℕ) {x : Loaded} {z : Wrong} {q : Cause} →
+pub refused-old : (old new ws space : List ℕ) (most : ℕ) {x : Loaded} {z : Wrong} {q : Cause} →
     readSheet old ≡ rejected (z .number) (z .place) → x ≡ loaded.Refused z → q ≡ causeOf x 0 →
-    ComparePromise old new ws space (Refused q) ws space
+    ExaminePromise old new most ws space (Refused q) ws space
 unfolding compareRefusal onRead
-refused-old old new ws space h e f = refuses old new ws space (rw h) (handed-on e f)
+refused-old old new ws space most h e f = refuses old new ws space most (rw h) (handed-on e f)
 
 -- the old sheet is read, and the new one refused
-pub refused-new : (old new ws space : List ℕ) {root row ty size : ℕ} {v : Uses} {t : List ℕ} {y : Loaded}
+pub refused-new : (old new ws space : List ℕ) (most : ℕ) {root row ty size : ℕ} {v : Uses} {t : List ℕ} {y : Loaded}
     {z : Wrong} {q : Cause} → load.Ready old root row ty size v t → readSheet new ≡ rejected (z .number) (z .place) →
-    y ≡ loaded.Refused z → q ≡ causeOf y 1 → ComparePromise old new ws space (Refused q) ws space
+    y ≡ loaded.Refused z → q ≡ causeOf y 1 → ExaminePromise old new most ws space (Refused q) ws space
 unfolding compareRefusal onRead
-refused-new old new ws space A h e f = refuses old new ws space (rw (A .accepts, h)) (handed-on e f)
+refused-new old new ws space most A h e f = refuses old new ws space most (rw (A .accepts, h)) (handed-on e f)
 
 -- equal first bytes
 same-byte : (n : ℕ) (s u : List ℕ) → sameFirst n s u ≡ true → (i : ℕ) → i < n → getD s i 0 ≡ getD u i 0
@@ -105,6 +106,13 @@ as-one {old} {new} {root} {ty} {b} other after e f =
     by true false r d g h = let z : _≡_ {A = ℕ} 0 1 = cc in absurd (omega arith)
     by false q r d g h = let z : _≡_ {A = ℕ} 0 1 = cc in absurd (omega arith)
 
+-- what is found of two sheets, decided and written
+pub record Seen (S T : Sheet) (most : ℕ) (space : List ℕ) (d : Decision) (space′ : List ℕ) : Type 0 where
+  pub found : Found
+  pub decided : d ≡ decisionOf found
+  pub found-in : FoundIn most S T found
+  pub after : space′ ≡ spaceAfter (S .numbers) found space
+
 -- a verdict on the terms of two sheets is one on the sheets
 module _ (S T : Sheet) {N : Numbers} {X : Ty} (e : S .numbers ≡ N) (f : tyOf (S .numbers) (typeOf S) ≡ X)
     (g : tyOf (T .numbers) (typeOf T) ≡ X) where
@@ -120,16 +128,20 @@ module _ (S T : Sheet) {N : Numbers} {X : Ty} (e : S .numbers ≡ N) (f : tyOf (
   only-as (suc (suc k)) u h = absurd h
 
   -- the whole verdict
-  decided-as : {space : List ℕ} {d : Decision} {r : Comparison} {space′ : List ℕ} →
-      Verdicts N X (termOf S) (termOf T) space d space′ → r ≡ answerOf d (usesOf S) (usesOf T) →
-      Decided S T space r space′
-  unfolding answerOf
-  decided-as (alike a p k) m =
-      same (record { answer = m ∙ rw a refl; plays = λ u. alike-as u (p u); space-kept = k })
-  decided-as (differ which play a o h l w) m = apart (record
-    { which = which; play = play; answer = m ∙ rw a refl
-    ; first = record { only = only-as which play o; earlier = λ v b. alike-as v (h v (rw e at b)) }
-    ; short = rw (f, g) l; written = rw e w })
+  decided-as : {most : ℕ} {space : List ℕ} {d : Decision} {space′ : List ℕ} →
+      Verdicts N X (termOf S) (termOf T) most space d space′ → Seen S T most space d space′
+  unfolding FoundIn spaceAfter decisionOf
+  decided-as (alike a p k) =
+      record { found = nothing; decided = a; found-in = λ u l. alike-as u (p u l); after = k }
+  decided-as (differ which play a o h l w) = record
+    { found = first which play; decided = a
+    ; found-in = (record { only = only-as which play o; earlier = λ v b. alike-as v (h v (rw e at b)) }, l)
+    ; after = rw e w }
+
+-- what is told of equal things is equal
+known-as : {d d₂ : Decision} {n n₂ : ℕ} {v v₂ w w₂ : Uses} → d ≡ d₂ → n ≡ n₂ → v ≡ v₂ → w ≡ w₂ →
+    Known d n v w ≡ Known d₂ n₂ v₂ w₂
+known-as e f g h = rw (e, f, g, h) refl
 
 -- two sheets that fit, of one type, and the names that they use
 pub record Both (N : Numbers) (old new : List ℕ) (row other all more : ℕ) (v w : Uses) (t u : List ℕ) : Type 0 where
@@ -180,22 +192,35 @@ module _ {N : Numbers} {old new : List ℕ} {row other all more : ℕ} {v w : Us
     ; sized = F .sized; other-sized = F′ .sized; small = F .small; other-small = F′ .small; room = omega arith
     ; space-room = l; built = b (two-ready ws h) }
 
+  -- their sizes
+  sizes : all + more - 1 ≡ wholeDepth (F .sheet) (F′ .sheet)
+  sizes =
+      let e : reckoned (F .sheet) ≡ all = ap (λ X. size X (termOf (F .sheet))) (fit-type F) ∙ F .sized in
+      let f : reckoned (F′ .sheet) ≡ more = ap (λ X. size X (termOf (F′ .sheet))) (fit-type F′) ∙ F′ .sized in
+      ap₂ (λ a b. a + b - 1) (sym e) (sym f)
+
   -- the answer to an accepted call
-  pub compared : (ws ws₁ ws₂ ws₃ space space′ : List ℕ) (d : Decision) (r : Comparison)
+  pub examined : (most : ℕ) (ws ws₁ ws₂ ws₃ space space′ : List ℕ) (d : Decision)
       (h : 32 * (all + more + 1) ≤ length ws)
       (e : length ws₁ ≡ length ws) (l : 4 * (all + more - 1) ≤ length space)
       (b : (R : TwoReady N t u row other all more ws) →
         TwoBuilt N (R .type) (R .term) (R .other-term) (all + more + 1) ws₁) →
       ((D : Deciding ws₁ space all more) →
-        Verdicts (D .numbers) (D .type) (D .term) (D .other-term) space d space′) →
-      r ≡ answerOf d v w → length ws₂ ≡ length ws₁ → ws₃ ≡ replicate (length ws₂) 0 →
-      compareRefusal old new (length ws) (length space) ≡ none → ComparePromise old new ws space r ws₃ space′
-  unfolding ComparedBy deciding
-  compared ws ws₁ ws₂ ws₃ space space′ d r h e l b f m j k n = rw n (record
-    { first-sheet = F .sheet; second-sheet = F′ .sheet; first-held = fit-held F; second-held = fit-held F′
-    ; decided = decided-as (F .sheet) (F′ .sheet) (F .numbers) (fit-type F) (fit-type F′)
-        (f (deciding ws ws₁ space h e l b)) (m ∙ ap₂ (answerOf d) (P .first-used) (P .second-used))
-    ; cleared = k ∙ ap (λ i. replicate i 0) (j ∙ e) })
+        Verdicts (D .numbers) (D .type) (D .term) (D .other-term) most space d space′) →
+      length ws₂ ≡ length ws₁ → ws₃ ≡ replicate (length ws₂) 0 →
+      compareRefusal old new (length ws) (length space) ≡ none →
+      ExaminePromise old new most ws space (Known d (all + more - 1) v w) ws₃ space′
+  unfolding ExaminedBy deciding
+  examined most ws ws₁ ws₂ ws₃ space space′ d h e l b f j k n =
+      let s : Seen (F .sheet) (F′ .sheet) most space d space′ =
+            decided-as (F .sheet) (F′ .sheet) (F .numbers) (fit-type F) (fit-type F′) (f (deciding ws ws₁ space h e l b))
+            in
+      rw n (record
+        { looked = record
+          { first-sheet = F .sheet; second-sheet = F′ .sheet; first-held = fit-held F; second-held = fit-held F′
+          ; found = s .found; found-in = s .found-in; space-after = s .after
+          ; cleared = k ∙ ap (λ i. replicate i 0) (j ∙ e) }
+        ; answer = known-as (s .decided) sizes (P .first-used) (P .second-used) })
 
 -- by the three tests
 abbrev judgement : Bool → Bool → Bool → Option Cause
@@ -239,10 +264,10 @@ module _ (old new ws space : List ℕ) {root row ty all other other-row b more :
     judged-as = judged ∙ rw (← e) refl
 
     -- they are refused together
-    pub refused-pair : {q : Cause} → (number ≡ 0 → ⊥) → q ≡ cause number both-sheets 0 →
-        ComparePromise old new ws space (Refused q) ws space
-    refused-pair h f =
-        refuses old new ws space
+    pub refused-pair : (most : ℕ) {q : Cause} → (number ≡ 0 → ⊥) → q ≡ cause number both-sheets 0 →
+        ExaminePromise old new most ws space (Refused q) ws space
+    refused-pair most h f =
+        refuses old new ws space most
           (judged-as ∙
             stopped-by fit (ltb (length ws) (32 * (all + more + 1))) (ltb (length space) (4 * (all + more - 1))) n h)
           f

@@ -23,7 +23,7 @@ use Rattle.dfa.specs.Word.{accepting, after}
 use Rattle.difference.specs.declared.Task.{Task}
 use Rattle.difference.specs.declared.Verdict.{Verdict}
 use Rattle.difference.specs.declared.Verdict.the-variants as verdict
-use Rattle.dfa.proofs.laws.Reading.{reversed-reversed, walk-reversed, first-word}
+use Rattle.dfa.proofs.laws.Reading.{reversed-length, reversed-reversed, walk-reversed, first-word}
 use Rattle.silent.proofs.laws.Settled.{settled-graph}
 use Rattle.explicit.specs.Explicit.{Explicit}
 use Rattle.explicit.specs.Letter.{AllSmall}
@@ -36,8 +36,8 @@ use Rattle.comparer.proofs.TwoPlays.{FoundPlay, ends, same-plays, first
 use Rattle.play.proofs.WritingPlays.{records-written}
 
 -- the comparison of the first states of two automata of `all` and `more` states with their ends
-abbrev pub task : ℕ → ℕ → Task
-task all more = record { n = all + more + 1; p = 0; q = all; f = all - 1; g = all + more - 1 }
+abbrev pub task : ℕ → ℕ → ℕ → Task
+task all more most = record { n = all + more + 1; p = 0; q = all; f = all - 1; g = all + more - 1; most = most }
 
 -- the word of an entry is its only one
 pub spelled-unique : {n : ℕ} {ws : List ℕ} {k : ℕ} {x y : List ℕ} → Spelled n ws k x → Spelled n ws k y → x ≡ y
@@ -80,8 +80,8 @@ module _ (ws space : List ℕ) (all more : ℕ) (D : Deciding ws space all more)
   more-is = sym (D .other-sized) ∙ sym (spots-size T M′)
 
   -- what first_difference asks for
-  pub setting : Setting G (task all more) × (5 * n ≤ length ws)
-  setting =
+  pub setting : (most : ℕ) → Setting G (task all more most) × (5 * n ≤ length ws)
+  setting most =
       (record
         { graph = settled-graph (B .silent-words) (B .unsettled) G n (B .graph) (B .quiet) (B .settled)
         ; p-lt = omega arith; q-lt = omega (arith, more-is) },
@@ -104,23 +104,25 @@ module _ (ws space : List ℕ) (all more : ℕ) (D : Deciding ws space all more)
   second-start : (w : List ℕ) → ends T M M′ (walk (δ G n) all w) ≡ ends T M M′ (walk (δ G n) (spots T M + 1) w)
   second-start w = ap (λ p. ends T M M′ (walk (δ G n) p w)) all-is
 
-  -- where no word tells the first states apart, the terms have the same plays
-  pub decided-same : (ws₁ : List ℕ) (v : Verdict) → v ≡ verdict.Same → Outcome G (task all more) ws₁ v →
-      Verdicts N T M M′ space Same space
-  decided-same ws₁ v e o = alike refl (same-plays (D .z-below) (D .typed) (D .other-typed) (B .shows) shows-second
-      (B .graph) (B .settled) (D .type-in) (D .term-in) (D .other-in) agree) refl
+  -- where no word of at most so many letters tells the first states apart, the terms have the same plays of at most so
+  -- many moves
+  pub decided-same : (most : ℕ) (ws₁ : List ℕ) (v : Verdict) → v ≡ verdict.Same →
+      Outcome G (task all more most) ws₁ v → Verdicts N T M M′ most space Same space
+  decided-same most ws₁ v e o = alike refl (same-plays (D .z-below) (D .typed) (D .other-typed) (B .shows) shows-second
+      (B .graph) (B .settled) (D .type-in) (D .term-in) (D .other-in) most agree) refl
     where
-      told : Outcome G (task all more) ws₁ verdict.Same
-      told = subst (λ v. Outcome G (task all more) ws₁ v) e o
+      told : Outcome G (task all more most) ws₁ verdict.Same
+      told = subst (λ v. Outcome G (task all more most) ws₁ v) e o
       read : (p : ℕ) (w : List ℕ) → ends T M M′ (walk (δ G n) p w) ≡
           accepting (all - 1) (all + more - 1) (after (δ G n) p (reversed w))
       read p w = sym (fin-is (walk (δ G n) p w)) ∙ ap (accepting (all - 1) (all + more - 1))
           (ap (walk (δ G n) p) (sym (reversed-reversed w)) ∙ walk-reversed (δ G n) p (reversed w))
-      agree : (w : List ℕ) → ends T M M′ (walk (δ G n) 0 w) ≡ ends T M M′ (walk (δ G n) (spots T M + 1) w)
-      agree w = read 0 w ∙ told (reversed w) ∙ sym (read all w) ∙ second-start w
+      agree : (w : List ℕ) → length w ≤ most →
+          ends T M M′ (walk (δ G n) 0 w) ≡ ends T M M′ (walk (δ G n) (spots T M + 1) w)
+      agree w l = read 0 w ∙ told (reversed w) (omega (arith, reversed-length w)) ∙ sym (read all w) ∙ second-start w
 
   -- what tells the terms apart
-  module _ (ws₁ : List ℕ) (k : ℕ) (told : ToldApart G (task all more) (take (5 * n) ws₁) k) where
+  module _ (most : ℕ) (ws₁ : List ℕ) (k : ℕ) (told : ToldApart G (task all more most) (take (5 * n) ws₁) k) where
     -- the play found
     found : FoundPlay N T M M′ (after (δ G n) 0 (told .word)) (reversed (told .word))
     found =
@@ -168,11 +170,11 @@ module _ (ws space : List ℕ) (all more : ℕ) (D : Deciding ws space all more)
 
     -- the play shown is the first play of exactly one of the terms
     pub decided-apart : {r : Decision} {space′ : List ℕ} → Shown n k (all - 1) ws₁ space r space′ →
-        Verdicts N T M M′ space r space′
+        Verdicts N T M M′ most space r space′
     decided-apart {r} {space′} s =
         differ (pick (eqb (getD ws₁ (n + 4 * k) 0) (all - 1)) 0 1) (found .word)
           (rw (found .moves, ← same-letters) (s .answer)) (found-only (getD ws₁ (n + 4 * k) 0) ends-there)
-          (found .earlier) (rw (D .sized, D .other-sized) found-short)
+          (found .earlier) (omega (arith, found .moves, reversed-length (told .word), told .within))
           (s .written ∙ rw (same-letters, ← found .spells)
             (records-written N (D .z-below) (found .word) found-small space
               (omega (arith, found-short, D .space-room))))

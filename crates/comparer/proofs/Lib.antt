@@ -24,3 +24,6 @@ pub mod FollowPlays
 pub mod FollowAnswers
 pub mod Numbers
 pub mod Exactly
+pub mod LookSteps
+pub mod LookPlays
+pub mod LookRuling

@@ -1,4 +1,4 @@
--- Demand 1, of the numbers: check, follow and compare refuse by the numbers of documents 01 and 02 and no
+-- Demand 1, of the numbers: check, follow, compare and look refuse by the numbers of documents 01 and 02 and no
 -- others.
 use Prim.Native.Nat.{ℕ, _+_, _-_, _*_}
 use mathlib.Core.Path.{_≡_, refl}
@@ -6,16 +6,21 @@ use mathlib.Core.Bool.{Bool, true, false}
 use mathlib.Core.Logic.{_⊎_, inl, inr}
 use mathlib.Core.List.{List}
 use mathlib.Core.Option.{Option, none, some}
+use native.Mathlib.Omega.{arith}
 use lib.Dec.{ltb}
+use lib.ListN.{length}
 use Rattle.language.specs.Choice.{pick}
 use Rattle.records.specs.declared.edition.Edition.the-variants.{Present}
 use Rattle.records.specs.declared.refusal.Cause.{Cause}
 use Rattle.sheet.specs.Encoding.{headingLength}
 use Rattle.sheet.specs.Reader.{Checks, accepted, rejected, readSheet}
 use Rattle.judge.proofs.Places.{check-refused}
+use Rattle.judge.specs.declared.mark.Uses.{Uses}
 use Rattle.play.specs.Records.{Given, moves, bad, parse}
 use Rattle.comparer.specs.Refusals.{refusing, matching, onRead, onGiven, followRefusal}
 use Rattle.comparer.specs.Refusals.{compareRefusal}
+use Rattle.comparer.specs.Look.{Ruling, apart, same, so-far, saying, LookedBy, LookPromise}
+use Rattle.comparer.specs.declared.Looking.the-variants.{Refused}
 use Rattle.comparer.specs.Demands.{CheckNumber, FollowNumber, CompareNumber, NumbersOnly}
 
 -- no refusal, or one whose number is among P
@@ -78,10 +83,29 @@ compare-among old new words space =
         let n = size + size-of-other in
         lent (matching old new root other ty type-of-other) (ltb words (32 * (n + 1))) (ltb space (4 * (n - 1)))))
 
+-- look: compare's; an answer is no refusal
+never-refused : (R : Ruling) (looked : ℕ) (v w : Uses) (x : Cause) → Refused x ≡ saying R looked v w → ⊥
+unfolding saying
+never-refused (apart which k) looked v w x e = let z : _≡_ {A = ℕ} 0 1 = cc in omega arith
+never-refused same looked v w x e = let z : _≡_ {A = ℕ} 0 1 = cc in omega arith
+never-refused so-far looked v w x e = let z : _≡_ {A = ℕ} 0 1 = cc in omega arith
+
+look-number : (old new : List ℕ) (limit : ℕ) (ws space : List ℕ) (x : Cause) (ws′ space′ : List ℕ) →
+    LookPromise old new limit ws space (Refused x) ws′ space′ → CompareNumber (x .number)
+unfolding LookedBy Among
+look-number old new limit ws space x ws′ space′ p =
+    go (compareRefusal old new (length ws) (length space)) (compare-among old new (length ws) (length space)) p
+  where
+    go : (y : Option Cause) → Among CompareNumber y → LookedBy y old new limit ws space (Refused x) ws′ space′ →
+        CompareNumber (x .number)
+    go none a h = absurd (never-refused _ _ _ _ x (h .answer))
+    go (some y) a h = let e : x ≡ y = (let f = h .0 in cc) in rw e a
+
 -- THEOREM: demand 1, of the numbers
 pub numbers-only : NumbersOnly
 unfolding Among
 numbers-only = record
   { of-check = from-check
   ; of-follow = λ s play words x e. rw e at (follow-among s play words)
-  ; of-compare = λ old new words space x e. rw e at (compare-among old new words space) }
+  ; of-compare = λ old new words space x e. rw e at (compare-among old new words space)
+  ; of-look = look-number }

@@ -112,11 +112,13 @@ module _ {T : Ty} {M M′ : Term} {N : Numbers} {S G G′ : List ℕ} {n : ℕ} 
         ((λ c. let s = plays-small N t b r v c in second-accepts v s .0 (sym (h s) ∙ first-accepts v s .1 c)),
          (λ c. let s = plays-small N t′ b r′ v c in first-accepts v s .0 (h s ∙ second-accepts v s .1 c)))
 
-    -- THEOREM: where both agree on all words of letters, the terms have the same complete plays
-    pub same-plays :
-        ((w : List ℕ) → ends T M M′ (walk (δ G′ n) 0 w) ≡ ends T M M′ (walk (δ G′ n) (spots T M + 1) w)) →
-        (u : Word) → Complete T M u ↔ Complete T M′ u
-    same-plays h u = alike u (λ s. h (letters N u))
+    -- THEOREM: where both agree on all words of at most so many letters, the terms have the same complete plays of at
+    -- most so many moves
+    pub same-plays : (most : ℕ) →
+        ((w : List ℕ) → length w ≤ most →
+          ends T M M′ (walk (δ G′ n) 0 w) ≡ ends T M M′ (walk (δ G′ n) (spots T M + 1) w)) →
+        (u : Word) → length u ≤ most → Complete T M u ↔ Complete T M′ u
+    same-plays most h u l = alike u (λ s. h (letters N u) (omega (arith, letters-length N u)))
 
     -- the plays before the first word on which they differ
     before : (w : List ℕ) → FirstWord n (δ G′ n) (ends T M M′) 0 (spots T M + 1) w → (u : Word) → AllSmall N u →

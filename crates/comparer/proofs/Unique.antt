@@ -27,10 +27,10 @@ use Rattle.play.specs.Records.{moves}
 use Rattle.comparer.specs.Refusals.{matching, onRead, followRefusal, pairRefusal, compareRefusal}
 use Rattle.comparer.specs.Promise.{Holds, Begins, Greatest, NoPlay, Counted, FollowedBy}
 use Rattle.comparer.specs.Promise.{Decided, same, apart, ComparedBy}
-use Rattle.comparer.specs.Demands.{FollowUnique, CompareUnique}
+use Rattle.comparer.specs.Demands.{Comparable, FollowUnique, CompareUnique}
 use Rattle.comparer.specs.declared.Comparison.{Comparison}
 use Rattle.comparer.proofs.ReadSheets.{two-first}
-use Rattle.comparer.proofs.ComparePlays.{as-one}
+use Rattle.comparer.proofs.ComparePlays.{AsOne, as-one}
 use Rattle.comparer.proofs.PlayOrder.{before-total}
 
 -- bytes hold one sheet
@@ -58,24 +58,27 @@ held-numbers {s} {S} h = go (wholeOf Present s) (h .reads)
     go (got x ty end) e = sized x ty (sizeIn s x ty) (ltb 4096 (sizeIn s x ty)) e
     go (refused n p) e = let z : _≡_ {A = ℕ} 0 1 = cc in absurd (omega arith)
 
--- sheets whose comparison is not refused have the same numbers
-same-numbers : (old new : List ℕ) (words space : ℕ) → compareRefusal old new words space ≡ none →
-    numbersAt old ≡ numbersAt new
+-- sheets whose comparison is not refused have the same numbers and the same result type
+same-heading : (old new : List ℕ) (words space : ℕ) {S T : Sheet} {ty b n m : ℕ} → readSheet old ≡ accepted S ty n →
+    readSheet new ≡ accepted T b m → compareRefusal old new words space ≡ none → AsOne old new ty b
 unfolding compareRefusal onRead
-same-numbers old new words space h = go (readSheet old) (readSheet new) h
+same-heading old new words space {S} {T} {ty} {b} {n} {m} e f h =
+    by (matching old new (headingLength S) (headingLength T) ty b) refl (rw (e, f) at h)
   where
-    judged : ℕ → ℕ → ℕ → ℕ → ℕ → ℕ → Option Cause
-    judged root ty n other b m = pairRefusal (matching old new root other ty b) words space (n + m)
-    go : (A B : Checks) → onRead A 0 (λ root ty n. onRead B 1 (λ other b m. judged root ty n other b m)) ≡ none →
-        numbersAt old ≡ numbersAt new
-    go (accepted S ty n) (accepted T b m) k = by (matching old new (headingLength S) (headingLength T) ty b) refl k
-      where
-        by : (c : Bool) → matching old new (headingLength S) (headingLength T) ty b ≡ c →
-            pairRefusal c words space (n + m) ≡ none → numbersAt old ≡ numbersAt new
-        by true d k = as-one (headingLength T) (two-first S) (sym d) refl .numbers
-        by false d k = let z : _≡_ {A = ℕ} 0 1 = cc in absurd (omega arith)
-    go (accepted S ty n) (rejected m p) k = let z : _≡_ {A = ℕ} 0 1 = cc in absurd (omega arith)
-    go (rejected m p) B k = let z : _≡_ {A = ℕ} 0 1 = cc in absurd (omega arith)
+    by : (c : Bool) → matching old new (headingLength S) (headingLength T) ty b ≡ c →
+        pairRefusal c words space (n + m) ≡ none → AsOne old new ty b
+    by true d k = as-one (headingLength T) (two-first S) (sym d) refl
+    by false d k = let z : _≡_ {A = ℕ} 0 1 = cc in absurd (omega arith)
+
+-- THEOREM: they can be compared
+pub held-comparable : {old new : List ℕ} (words space : ℕ) {S T : Sheet} → Holds old S → Holds new T →
+    compareRefusal old new words space ≡ none → Comparable S T
+held-comparable {old} {new} words space {S} {T} h k e =
+    let o = same-heading old new words space (h .reads) (k .reads) e in
+    record
+      { numbers = held-numbers h ∙ o .numbers ∙ sym (held-numbers k)
+      ; types = sym (gives Present old S (h .type) (h .size) (h .reads) .2) ∙ o .types
+          ∙ gives Present new T (k .type) (k .size) (k .reads) .2 }
 
 -- two sheets in order of the same numbers
 module _ (S T : Sheet) (A : Accepted S) (B : Accepted T) (e : S .numbers ≡ T .numbers) where
@@ -87,14 +90,14 @@ module _ (S T : Sheet) (A : Accepted S) (B : Accepted T) (e : S .numbers ≡ T .
   only-small (suc (suc k)) u h = absurd h
 
   -- a play of exactly one of them tells them apart
-  only-differ : (which : ℕ) (u : Word) → Only which S T u → Alike S T u → ⊥
+  pub only-differ : (which : ℕ) (u : Word) → Only which S T u → Alike S T u → ⊥
   unfolding Only
   only-differ zero u h a = h .1 (a .0 (h .0))
   only-differ (suc zero) u h a = h .1 (a .1 (h .0))
   only-differ (suc (suc k)) u h a = absurd h
 
   -- and is one sheet's
-  only-one : (which other : ℕ) (u : Word) → Only which S T u → Only other S T u → which ≡ other
+  pub only-one : (which other : ℕ) (u : Word) → Only which S T u → Only other S T u → which ≡ other
   unfolding Only
   only-one zero zero u h k = refl
   only-one zero (suc zero) u h k = absurd (k .1 (h .0))
@@ -105,7 +108,7 @@ module _ (S T : Sheet) (A : Accepted S) (B : Accepted T) (e : S .numbers ≡ T .
   only-one (suc (suc i)) other u h k = absurd h
 
   -- there is one first play
-  one-first : (which other : ℕ) (u v : Word) → FirstPlay S T which u → FirstPlay S T other v → u ≡ v
+  pub one-first : (which other : ℕ) (u v : Word) → FirstPlay S T which u → FirstPlay S T other v → u ≡ v
   one-first which other u v f g =
       by (before-total (S .numbers) (omega (arith, A .ordered .z-below)) u v (only-small which u (f .only))
         (only-small other v (g .only)))
@@ -144,9 +147,7 @@ compare-unique old new ws space r r₂ ws₁ ws₂ space₁ space₂ p q =
         let T = h .second-sheet in
         let s : k .first-sheet ≡ S = one-sheet (k .first-held) (h .first-held) in
         let t : k .second-sheet ≡ T = one-sheet (k .second-held) (h .second-held) in
-        let n : S .numbers ≡ T .numbers =
-              held-numbers (h .first-held) ∙ same-numbers old new (length ws) (length space) e
-              ∙ sym (held-numbers (h .second-held)) in
+        let n : S .numbers ≡ T .numbers = held-comparable (length ws) (length space) (h .first-held) (h .second-held) e .numbers in
         let d : Decided S T space r₂ space₂ = rw (s, t) at (k .decided) in
         let o = one-decision S T (held-accepted (h .first-held)) (held-accepted (h .second-held)) n (h .decided) d in
         (o .0, (h .cleared ∙ sym (k .cleared), o .1))

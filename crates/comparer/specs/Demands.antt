@@ -19,11 +19,14 @@ use Rattle.comparer.specs.Plays.{CompletePlay, reckoned, Alike, Only, Fi
 use Rattle.comparer.specs.Refusals.{headings-differ, too-few-words, space-too-short, bad-play}
 use Rattle.comparer.specs.Refusals.{followRefusal, compareRefusal}
 use Rattle.comparer.specs.Promise.{Holds, FollowPromise, ComparePromise}
+use Rattle.comparer.specs.Look.{LookPromise}
 use Rattle.comparer.specs.declared.Following.{Following}
 use Rattle.comparer.specs.declared.Comparison.{Comparison}
 use Rattle.comparer.specs.declared.Comparison.the-variants.{Same, Apart}
+use Rattle.comparer.specs.declared.Looking.the-variants.{Refused as NotLooked}
 
--- Demand 1, of the numbers: check refuses by 1 to 11 and 16, follow also by 13 and 15, compare also by 12, 13 and 14
+-- Demand 1, of the numbers: check refuses by 1 to 11 and 16, follow also by 13 and 15, compare and look also by 12, 13
+-- and 14
 abbrev pub CheckNumber : ℕ → Type 0
 CheckNumber k = NumberOf Present k
 
@@ -39,6 +42,8 @@ pub record NumbersOnly : Type 0 where
     FollowNumber (x .number)
   pub of-compare : (old new : List ℕ) (words space : ℕ) (x : Cause) → compareRefusal old new words space ≡ some x →
     CompareNumber (x .number)
+  pub of-look : (old new : List ℕ) (limit : ℕ) (ws space : List ℕ) (x : Cause) (ws′ space′ : List ℕ) →
+    LookPromise old new limit ws space (NotLooked x) ws′ space′ → CompareNumber (x .number)
 
 -- Demand 1, of what is lent: a promise allows one answer and one state of everything lent
 abbrev pub FollowUnique : Type 0

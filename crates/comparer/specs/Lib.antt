@@ -2,6 +2,8 @@ pub mod Plays
 pub mod AskOnce
 pub mod Refusals
 pub mod Promise
+pub mod Look
 pub mod Demands
+pub mod LookRules
 pub mod Worked
 pub mod inner

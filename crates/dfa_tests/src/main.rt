@@ -93,6 +93,7 @@ fn silent() {
             q: 5,
             f: 4,
             g: 4,
+            most: 6,
         },
     );
     show(&w, 30, a);
@@ -112,6 +113,7 @@ fn one_side() {
             q: 1,
             f: 2,
             g: 2,
+            most: 4,
         },
     );
     show(&w, 20, a);
@@ -131,6 +133,7 @@ fn equal() {
             q: 2,
             f: 0,
             g: 2,
+            most: 5,
         },
     );
     show(&w, 25, a);
@@ -206,6 +209,28 @@ fn long() {
             q: 1,
             f: STEPS,
             g: STEPS,
+            most: STATES,
+        },
+    );
+    show(&w, GRAPH, a);
+    long_enough(119);
+    long_enough(118);
+}
+
+// The same words, looked for up to a number of letters.
+fn long_enough(most: usize) {
+    let mut w = [0u32; 1024];
+    chain(&mut w);
+    say(b"of at most as many letters:");
+    let a = compare_checked(
+        &mut w,
+        Task {
+            n: STATES,
+            p: 0,
+            q: 1,
+            f: STEPS,
+            g: STEPS,
+            most,
         },
     );
     show(&w, GRAPH, a);
@@ -225,6 +250,7 @@ fn wrong() {
             q: 1,
             f: 0,
             g: 0,
+            most: 3,
         },
     );
     show(&w, 15, a);

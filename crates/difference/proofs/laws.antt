@@ -4,8 +4,11 @@ pub mod Comparison
 pub mod Classes
 pub mod Queue
 pub mod Turn
-pub mod Run
-pub mod Outcome
 pub mod Trace
+pub mod Level
+pub mod Alike
+pub mod Run
+pub mod Search
+pub mod Outcome
 pub mod Spell
 pub mod Short

@@ -3,4 +3,6 @@ pub mod Comparison
 pub mod Classes
 pub mod Queue
 pub mod State
+pub mod Level
+pub mod Search
 pub mod Trace

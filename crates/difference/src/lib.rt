@@ -17,17 +17,18 @@ pub(crate) const FROM: usize = 2;
 // Which is the letter.
 pub(crate) const LETTER: usize = 3;
 
-// No word tells the two states apart; or the word of that entry does, and is the first.
+// No word of at most so many letters tells the two states apart; or the word of that entry does, and is the first.
 pub enum Verdict {
     Same,
     Apart(usize),
 }
 
-// n states; the two to compare; the accepting ones, which may be one.
+// n states; the two to compare; the accepting ones, which may be one; the most letters of a word that is looked for.
 pub struct Task {
     pub n: usize,
     pub p: usize,
     pub q: usize,
     pub f: usize,
     pub g: usize,
+    pub most: usize,
 }

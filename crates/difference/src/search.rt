@@ -8,8 +8,9 @@ ghost use Rattle.dfa.specs.Graph.{rest};
 ghost use Rattle.difference.specs.Outcome.{Setting, Outcome};
 ghost use Rattle.dfa.specs.Word.{accepting};
 ghost use Rattle.difference.specs.inner.Classes.{Low};
-ghost use Rattle.difference.specs.inner.Queue.{pushed, Visited};
+ghost use Rattle.difference.specs.inner.Queue.{pushed, Visited, Grown};
 ghost use Rattle.difference.specs.inner.State.{State, Half};
+ghost use Rattle.difference.specs.inner.Level.{alikeAt, Deep, Shallow, Leveled};
 use crate::ENTRY;
 use crate::FROM;
 use crate::LETTER;
@@ -65,7 +66,8 @@ fn expand(words: &mut [u32], t: Task, head: usize, tail: usize) -> usize
     requires { ⌜ Setting (rest (5 * t .n) (now words)) t
         × Half (rest (5 * t .n) (now words)) t (take (5 * t .n) (now words)) head tail 0 ⌝ }
     ensures { λ r. ⌜ State (rest (5 * t .n) (now (words .entry))) t (take (5 * t .n) (now (words .exit))) (head + 1) r
-        × (rest (5 * t .n) (now (words .exit)) ≡ rest (5 * t .n) (now (words .entry))) ⌝ }
+        × ((rest (5 * t .n) (now (words .exit)) ≡ rest (5 * t .n) (now (words .entry)))
+        × Grown (t .n) head tail r (take (5 * t .n) (now (words .entry))) (take (5 * t .n) (now (words .exit)))) ⌝ }
 {
     let size = t.n;
     let cut = 5 * size;
@@ -101,33 +103,101 @@ fn accepts(x: usize, f: usize, g: usize) -> bool
     x == g
 }
 
-// Whether both states accept, or neither.
+// Whether both states accept, or neither. Most pairs fail all four tests.
 fn alike(x: usize, y: usize, f: usize, g: usize) -> bool
     ensures { λ r. ⌜ r ≡ Bool·beq (accepting f g x) (accepting f g y) ⌝ }
 {
-    accepts(x, f, g) == accepts(y, f, g)
+    if x == f {
+        return accepts(y, f, g);
+    }
+    if y == f {
+        return x == g;
+    }
+    if x == g {
+        return y == g;
+    }
+    y != g
 }
 
-// The entries in order, until the states of one differ.
+// Whether both states of entry k accept, or neither.
+fn alike_at(words: &[u32], n: usize, k: usize, f: usize, g: usize) -> bool
+    requires { ⌜ (n ≤ 8193) × ((k < n) × (5 * n ≤ length (now words))) ⌝ }
+    ensures { λ r. ⌜ r ≡ alikeAt n (now (words .entry)) k f g ⌝ }
+{
+    let x = at(words, n + ENTRY * k);
+    let y = at(words, n + ENTRY * k + SECOND);
+    alike(x, y, f, g)
+}
+
+// What a level gives: the entry whose states differ; or where there is none, the number of entries that there are then.
+pub enum Level {
+    Apart(usize),
+    Alike(usize),
+}
+
+// The entries of a level in order, from `from` on and before `end`, each expanded, until the states of one differ.
+fn expand_level(words: &mut [u32], t: Task, from: usize, end: usize) -> Level
+    requires { ⌜ Setting (rest (5 * t .n) (now words)) t
+        × (State (rest (5 * t .n) (now words)) t (take (5 * t .n) (now words)) from end
+        × Shallow (t .n) (take (5 * t .n) (now words)) from end (t .most)) ⌝ }
+    ensures { λ r. ⌜ Leveled (rest (5 * t .n) (now (words .entry))) t from end (take (5 * t .n) (now (words .entry)))
+        (take (5 * t .n) (now (words .exit))) r
+        × (rest (5 * t .n) (now (words .exit)) ≡ rest (5 * t .n) (now (words .entry))) ⌝ }
+{
+    let mut head = from;
+    let mut tail = end;
+    while head < end {
+        if !alike_at(words, t.n, head, t.f, t.g) {
+            return Level::Apart(head);
+        }
+        tail = expand(words, t, head, tail);
+        head += 1;
+    }
+    Level::Alike(tail)
+}
+
+// The entries of the last level in order, none of them expanded, until the states of one differ.
+fn test_level(words: &[u32], t: Task, from: usize, end: usize) -> Verdict
+    requires { ⌜ Setting (rest (5 * t .n) (now words)) t
+        × (State (rest (5 * t .n) (now words)) t (take (5 * t .n) (now words)) from end
+        × Deep (t .n) (take (5 * t .n) (now words)) from end (t .most)) ⌝ }
+    ensures { λ r. ⌜ Outcome (rest (5 * t .n) (now (words .entry))) t (take (5 * t .n) (now (words .entry))) r ⌝ }
+{
+    let mut head = from;
+    while head < end {
+        if !alike_at(words, t.n, head, t.f, t.g) {
+            return Verdict::Apart(head);
+        }
+        head += 1;
+    }
+    Verdict::Same
+}
+
+// The levels in order, until the states of an entry differ, up to the level whose words have `most` letters, the last.
 fn run(words: &mut [u32], t: Task) -> Verdict
     requires { ⌜ Setting (rest (5 * t .n) (now words)) t
         × State (rest (5 * t .n) (now words)) t (take (5 * t .n) (now words)) 0 1 ⌝ }
     ensures { λ r. ⌜ Outcome (rest (5 * t .n) (now (words .entry))) t (take (5 * t .n) (now (words .exit))) r
         × (rest (5 * t .n) (now (words .exit)) ≡ rest (5 * t .n) (now (words .entry))) ⌝ }
 {
-    let n = t.n;
-    let f = t.f;
-    let g = t.g;
     let mut head = 0;
     let mut tail = 1;
+    let mut left = t.most;
     while head < tail {
-        let p = at(words, n + ENTRY * head);
-        let q = at(words, n + ENTRY * head + SECOND);
-        if !alike(p, q, f, g) {
-            return Verdict::Apart(head);
+        if left == 0 {
+            return test_level(words, t, head, tail);
         }
-        tail = expand(words, t, head, tail);
-        head += 1;
+        left -= 1;
+        let l = expand_level(words, t, head, tail);
+        match l {
+            Level::Apart(k) => {
+                return Verdict::Apart(k);
+            }
+            Level::Alike(next) => {
+                head = tail;
+                tail = next;
+            }
+        }
     }
     Verdict::Same
 }
@@ -146,7 +216,8 @@ fn prepare(work: &mut [u32], t: Task)
     push(work, n, 0, p, q, 0, 0);
 }
 
-// The first word, by length and then letters, that exactly one of p and q accepts, as an entry.
+// The first word, by length and then letters, that exactly one of p and q accepts, as an entry, if it has at most `most`
+// letters.
 pub fn first_difference(words: &mut [u32], t: Task) -> Verdict
     requires { ⌜ Setting (rest (5 * t .n) (now words)) t × (5 * t .n ≤ length (now words)) ⌝ }
     ensures { λ r. ⌜ Outcome (rest (5 * t .n) (now (words .entry))) t (take (5 * t .n) (now (words .exit))) r

@@ -2,6 +2,7 @@
 use mathlib.Core.Path.{_≡_}
 use mathlib.Core.Logic.{_↔_}
 use mathlib.Core.List.{List, [], _++_}
+use mathlib.Core.Option.{Option, none, some}
 use Prim.Native.Nat.{ℕ, zero, suc, _+_, _*_, _-_, _≤_}
 use lib.ListN.{length, getD, take, drop}
 use lib.Dec.{eqb}
@@ -21,6 +22,12 @@ use Rattle.records.specs.Limits.{greatest-z, greatest-size}
 use Rattle.build.specs.Lent.{words-asked, bytes-asked}
 use Rattle.build.specs.Built.{TwoBuilt}
 use Rattle.judge.specs.declared.mark.Uses.{Uses}
+use Rattle.judge.specs.Mark.{usesOf}
+use Rattle.records.specs.declared.refusal.Cause.{Cause}
+use Rattle.comparer.specs.Refusals.{compareRefusal}
+use Rattle.comparer.specs.Look.{decisionOf, wholeDepth, Looked}
+use Rattle.comparer.specs.declared.Examined.{Examined}
+use Rattle.comparer.specs.declared.Examined.the-variants.{Known, Refused as NotExamined}
 use Rattle.comparer.specs.declared.Decision.{Decision}
 use Rattle.comparer.specs.declared.Decision.the-variants.{Same, Apart}
 use Rattle.comparer.specs.declared.Comparison.{Comparison}
@@ -52,14 +59,14 @@ OnlyTerm zero T M M′ u = Complete T M u × (Complete T M′ u → ⊥)
 OnlyTerm (suc zero) T M M′ u = Complete T M′ u × (Complete T M u → ⊥)
 OnlyTerm (suc (suc k)) T M M′ u = ⊥
 
--- the same plays, the space untouched; or the first play of exactly one, and its records
-pub data Verdicts (N : Numbers) (T : Ty) (M M′ : Term) (space : List ℕ) (r : Decision) (space′ : List ℕ) :
+-- the same plays of at most `most` moves, the space untouched; or the first play of exactly one, and its records
+pub data Verdicts (N : Numbers) (T : Ty) (M M′ : Term) (most : ℕ) (space : List ℕ) (r : Decision) (space′ : List ℕ) :
     Type 0 where
-  alike : r ≡ Same → ((u : Word) → Complete T M u ↔ Complete T M′ u) → space′ ≡ space →
-    Verdicts N T M M′ space r space′
+  alike : r ≡ Same → ((u : Word) → length u ≤ most → Complete T M u ↔ Complete T M′ u) → space′ ≡ space →
+    Verdicts N T M M′ most space r space′
   differ : (which : ℕ) (play : Word) → r ≡ Apart which (length play) → OnlyTerm which T M M′ play →
-    ((v : Word) → Before N v play → Complete T M v ↔ Complete T M′ v) → length play ≤ size T M + size T M′ - 1 →
-    space′ ≡ records N play ++ drop (length (records N play)) space → Verdicts N T M M′ space r space′
+    ((v : Word) → Before N v play → Complete T M v ↔ Complete T M′ v) → length play ≤ most →
+    space′ ≡ records N play ++ drop (length (records N play)) space → Verdicts N T M M′ most space r space′
 
 -- the play of entry k is written: its letters' records, its number of moves, and the sheet by where it ends
 pub record Shown (n k f : ℕ) (ws space : List ℕ) (r : Decision) (space′ : List ℕ) : Type 0 where
@@ -72,3 +79,18 @@ pub record Shown (n k f : ℕ) (ws space : List ℕ) (r : Decision) (space′ : 
 unfoldable pub answerOf : Decision → Uses → Uses → Comparison
 answerOf Same old new = compared.Same old new
 answerOf (Apart which moves) old new = compared.Apart which moves old new
+
+-- what examine gives of two sheets that are accepted
+pub record Examines (old new : List ℕ) (most : ℕ) (ws space : List ℕ) (r : Examined) (ws′ space′ : List ℕ) : Type 0 where
+  pub looked : Looked old new most ws space ws′ space′
+  pub answer : r ≡ Known (decisionOf (looked .found)) (wholeDepth (looked .first-sheet) (looked .second-sheet))
+    (usesOf (looked .first-sheet)) (usesOf (looked .second-sheet))
+
+-- the promise of examine
+unfoldable pub ExaminedBy : Option Cause → List ℕ → List ℕ → ℕ → List ℕ → List ℕ → Examined → List ℕ → List ℕ → Type 0
+ExaminedBy none old new most ws space r ws′ space′ = Examines old new most ws space r ws′ space′
+ExaminedBy (some x) old new most ws space r ws′ space′ = (r ≡ NotExamined x) × ((ws′ ≡ ws) × (space′ ≡ space))
+
+abbrev pub ExaminePromise : List ℕ → List ℕ → ℕ → List ℕ → List ℕ → Examined → List ℕ → List ℕ → Type 0
+ExaminePromise old new most ws space r ws′ space′ =
+    ExaminedBy (compareRefusal old new (length ws) (length space)) old new most ws space r ws′ space′

@@ -15,13 +15,14 @@ use Rattle.difference.specs.declared.Task.{Task}
 use Rattle.difference.specs.declared.Verdict.{Verdict}
 use Rattle.difference.specs.declared.Verdict.the-variants.{Same}
 use Rattle.dfa_tests.specs.declared.checked.Answer.the-variants.{Distinguished, Equivalent}
-use Rattle.dfa.proofs.laws.Reading.{first-word, reversed-reversed, walk-reversed}
+use Rattle.dfa.proofs.laws.Reading.{first-word, reversed-length, reversed-reversed, walk-reversed}
 use Rattle.difference.proofs.laws.Spell.{written-take}
 use Rattle.dfa.proofs.laws.Rest.{rest-at, rest-length}
 
 pub answer-alike : (G : List ℕ) (t : Task) (ws out : List ℕ) (v : Verdict) → v ≡ Same → Outcome G t ws v
   → Answered G t out Equivalent
-answer-alike G t ws out v e o w = read (t .p) w ∙ subst (λ v. Outcome G t ws v) e o (reversed w) ∙ sym (read (t .q) w)
+answer-alike G t ws out v e o w l = read (t .p) w
+  ∙ subst (λ v. Outcome G t ws v) e o (reversed w) (omega (arith, reversed-length w)) ∙ sym (read (t .q) w)
   where
     read : (p : ℕ) (w : List ℕ) → accepting (t .f) (t .g) (walk (δ G (t .n)) p w) ≡ accepting (t .f) (t .g)
       (after (δ G (t .n)) p (reversed w))
@@ -39,9 +40,9 @@ answer-word t ws w₁ w₂ k r set d l₁ l₂ s =
   let out = rest (5 * t .n) w₂ in
   let fits : length (d .word) ≤ length out = omega (arith, rest-length (5 * t .n) w₂, rest-length (5 * t .n) ws,
     set .graph .room) in
-  subst (λ v. FirstWord (t .n) (δ (rest (5 * t .n) ws) (t .n)) (accepting (t .f) (t .g)) (t .p) (t .q) v)
+  (omega (arith, x .0, d .within), subst (λ v. FirstWord (t .n) (δ (rest (5 * t .n) ws) (t .n)) (accepting (t .f) (t .g)) (t .p) (t .q) v)
     (sym (ap (λ z. take z out) (x .0) ∙ written-take (d .word) out fits (x .1)))
-    (first-word _ _ _ _ _ (d .word) (d .first))
+    (first-word _ _ _ _ _ (d .word) (d .first)))
 
 pub spell-room : (t : Task) (ws w₁ : List ℕ) → Setting (rest (5 * t .n) ws) t → length w₁ ≡ length ws
   → 5 * t .n + t .n ≤ length w₁

@@ -12,7 +12,7 @@ use Rattle.dfa.specs.Word.{First, Less, after}
 use Rattle.difference.specs.inner.Comparison.{Tied, Closed, Entry, Inv, Le, Mid, Top, merge, roots, snoc}
 use Rattle.difference.proofs.laws.Merge.{merge-idem, merge-in, merge-out, roots-all, roots-merge, roots-pos}
 use Rattle.difference.proofs.laws.Merge.{snoc-all, snoc-new, snoc-old}
-use Rattle.difference.proofs.laws.Order.{le-less, le-snoc, less-irrefl, less-snoc, less-trans}
+use Rattle.difference.proofs.laws.Order.{le-length, le-less, le-snoc, less-irrefl, less-snoc, less-trans}
 
 module _ (n : ℕ) (δ : ℕ → ℕ → ℕ) (fin : ℕ → Bool) (p₀ q₀ : ℕ) where
   pub begin : (E : ℕ → Entry) (head tail : ℕ) (rep : ℕ → ℕ) → Top n δ fin p₀ q₀ E head tail rep → head < tail
@@ -158,15 +158,14 @@ module _ (n : ℕ) (δ : ℕ → ℕ → ℕ) (fin : ℕ → Bool) (p₀ q₀ : 
           ; upto = λ k h o l. rw same-head (snoc-all E tail fresh (λ k e. Less (e .word) (o ∷ E head .word))
             (λ k u. t .upto k u o (omega arith)) (inr (refl, l)) k h) }
 
-  -- every word up to x is tied, where the entries before x are processed
+  -- the states after a word are tied, where no entry that is not processed has a shorter one
   cover : (E : ℕ → Entry) (head tail : ℕ) (rep : ℕ → ℕ) → Top n δ fin p₀ q₀ E head tail rep → (x : List ℕ)
-    → ((k : ℕ) → head ≤ k → k < tail → (y : List ℕ) → Less y x → Le (E k .word) y → ⊥)
+    → ((k : ℕ) → head ≤ k → k < tail → length x ≤ length (E k .word))
     → Tied E tail x (after δ p₀ x) (after δ q₀ x)
   cover E head tail rep t [] u f g = subst (λ (e : Entry). f (e .left) ≡ f (e .right)) (t .inv .start)
     (g 0 (t .inv .some) (inl (ap (λ (e : Entry). e .word) (t .inv .start))))
   cover E head tail rep t (m ∷ x) u f g =
-    cover E head tail rep t x (λ k h v y l. u k h v y (less-trans y x (m ∷ x) l (less-snoc m x))) (λ z. f (δ z m))
-      (λ k h l. go k h l (decLt k head))
+    cover E head tail rep t x (λ k h v. omega (arith, u k h v)) (λ z. f (δ z m)) (λ k h l. go k h l (decLt k head))
     where
       le-le : (c e : Entry) → Le (c .word) (m ∷ e .word) → Le (e .word) x → Le (c .word) (m ∷ x)
       le-le c e (inl h) l = rw h (le-snoc m (e .word) x l)
@@ -175,37 +174,58 @@ module _ (n : ℕ) (δ : ℕ → ℕ → ℕ) (fin : ℕ → Bool) (p₀ q₀ : 
 
       go : (k : ℕ) → k < tail → Le (E k .word) x → Dec (k < head) → f (δ (E k .left) m) ≡ f (δ (E k .right) m)
       go k h l (yes q) = t .settled k q .1 m f (λ c i w. g c i (le-le (E c) (E k) w l))
-      go k h l (no q) = absurd (u k (omega arith) h x (less-snoc m x) l)
+      go k h l (no q) = absurd (omega (arith, u k (omega arith) h, le-length (E k .word) x l))
 
-  agree : (E : ℕ → Entry) (head tail : ℕ) (rep : ℕ → ℕ) → Top n δ fin p₀ q₀ E head tail rep → (x : List ℕ)
-    → ((k : ℕ) → head ≤ k → k < tail → Less x (E k .word))
+  -- a word, where no entry that is not processed has a shorter one, and those that are not behind it are alike
+  pub agree : (E : ℕ → Entry) (head tail : ℕ) (rep : ℕ → ℕ) → Top n δ fin p₀ q₀ E head tail rep → (x : List ℕ)
+    → ((k : ℕ) → head ≤ k → k < tail → length x ≤ length (E k .word))
+    → ((k : ℕ) → head ≤ k → k < tail → Le (E k .word) x → fin (E k .left) ≡ fin (E k .right))
     → fin (after δ p₀ x) ≡ fin (after δ q₀ x)
-  agree E head tail rep t x u =
-    cover E head tail rep t x (λ k h v y l e. less-irrefl (E k .word) (le-less (E k .word) y (E k .word) e
-      (less-trans y x (E k .word) l (u k h v)))) fin (λ k h l. go k h l (decLt k head))
+  agree E head tail rep t x u v = cover E head tail rep t x u fin (λ k h l. go k h l (decLt k head))
     where
       go : (k : ℕ) → k < tail → Le (E k .word) x → Dec (k < head) → fin (E k .left) ≡ fin (E k .right)
       go k h l (yes q) = t .settled k q .0
-      go k h l (no q) = absurd (less-irrefl (E k .word) (le-less (E k .word) x (E k .word) l (u k (omega arith) h)))
+      go k h l (no q) = v k (omega arith) h l
 
   pub all-same : (E : ℕ → Entry) (tail : ℕ) (rep : ℕ → ℕ) → Top n δ fin p₀ q₀ E tail tail rep → (x : List ℕ)
     → fin (after δ p₀ x) ≡ fin (after δ q₀ x)
-  all-same E tail rep t x = agree E tail tail rep t x (λ k h l. absurd (omega arith))
+  all-same E tail rep t x = agree E tail tail rep t x (λ k h l. absurd (omega arith)) (λ k h l. absurd (omega arith))
 
   pub roots-1 : (E : ℕ → Entry) (head tail : ℕ) (rep : ℕ → ℕ) → Inv n δ fin p₀ q₀ E head tail rep
     → p₀ < n → 0 < roots rep n
   roots-1 E head tail rep i h = roots-pos rep (rep p₀) n (i .idem p₀) (i .bound p₀ h)
 
+  -- the first entry from head on whose states differ, where no entry that is not processed has a shorter word
+  pub told-at : (E : ℕ → Entry) (head tail : ℕ) (rep : ℕ → ℕ) → Top n δ fin p₀ q₀ E head tail rep → p₀ < n → (j : ℕ)
+    → j < tail → ((k : ℕ) → head ≤ k → k < tail → length (E j .word) ≤ length (E k .word))
+    → ((k : ℕ) → head ≤ k → k < j → fin (E k .left) ≡ fin (E k .right))
+    → fin (E j .left) ≢ fin (E j .right) → First n δ fin p₀ q₀ (E j .word)
+  told-at E head tail rep t p₀-lt j h u v ne = record
+    { differ = let r = t .inv .reach j h in rw (← r .0, ← r .1) ne
+    ; least = λ x l. agree E head tail rep t x
+      (λ k a b. omega (arith, u k a b, le-length x (E j .word) (inr l)))
+      (λ k a b c. v k a (before k b (le-less (E k .word) x (E j .word) c l) (decLt k j)))
+    ; short = omega (arith, roots-1 E head tail rep (t .inv) p₀-lt, t .inv .count, t .inv .deep j h) }
+    where
+      same : (k : ℕ) → Less (E k .word) (E j .word) → Dec (j < k) → k < tail → j ≤ k → ⊥
+      same k l (yes q) b a = less-irrefl (E k .word)
+        (less-trans (E k .word) (E j .word) (E k .word) l (t .inv .increasing j k q b))
+      same k l (no q) b a =
+        let e : k ≡ j = omega arith in
+        less-irrefl (E j .word) (subst (λ i. Less (E i .word) (E j .word)) e l)
+
+      before : (k : ℕ) → k < tail → Less (E k .word) (E j .word) → Dec (k < j) → k < j
+      before k b l (yes q) = q
+      before k b l (no q) = absurd (same k l (decLt j k) b (omega arith))
+
   pub told : (E : ℕ → Entry) (head tail : ℕ) (rep : ℕ → ℕ) → Top n δ fin p₀ q₀ E head tail rep → p₀ < n → head < tail
     → fin (E head .left) ≢ fin (E head .right) → First n δ fin p₀ q₀ (E head .word)
-  told E head tail rep t p₀-lt h ne = record
-    { differ = let r = t .inv .reach head h in rw (← r .0, ← r .1) ne
-    ; least = λ x l. agree E head tail rep t x (λ k u v. go x l k u v (ℕ-discrete k head))
-    ; short = omega (arith, roots-1 E head tail rep (t .inv) p₀-lt, t .inv .count, t .inv .deep head h) }
+  told E head tail rep t p₀-lt h ne = told-at E head tail rep t p₀-lt head h
+    (λ k a b. le-length (E head .word) (E k .word) (go k a b (ℕ-discrete k head))) (λ k a b. absurd (omega arith)) ne
     where
-      go : (x : List ℕ) → Less x (E head .word) → (k : ℕ) → head ≤ k → k < tail → Dec (k ≡ head) → Less x (E k .word)
-      go x l k u v (yes q) = rw q l
-      go x l k u v (no q) = less-trans x (E head .word) (E k .word) l (t .inv .increasing head k (omega arith) v)
+      go : (k : ℕ) → head ≤ k → k < tail → Dec (k ≡ head) → Le (E head .word) (E k .word)
+      go k a b (yes q) = inl (ap (λ i. E i .word) (sym q))
+      go k a b (no q) = inr (t .inv .increasing head k (omega arith) b)
 
   -- the start: one entry, its two states in one class
   pub begun : p₀ < n → q₀ < n → (a b : ℕ) → ((a ≡ p₀) × (b ≡ q₀)) ⊎ ((a ≡ q₀) × (b ≡ p₀)) → a ≢ b

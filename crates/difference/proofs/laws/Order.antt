@@ -2,10 +2,11 @@
 use mathlib.Core.Bool.{Bool}
 use mathlib.Core.List.{List, [], _∷_}
 use mathlib.Core.Logic.{_⊎_, inl, inr}
-use mathlib.Core.Path.{_∙_, _≡_, refl, sym}
-use Prim.Native.Nat.{_<_, ℕ}
+use mathlib.Core.Path.{_∙_, _≡_, ap, refl, sym}
+use Prim.Native.Nat.{_<_, _≤_, ℕ}
 use native.Mathlib.Decide.{decLt}
 use native.Mathlib.Omega.{arith}
+use lib.ListN.{length}
 use Rattle.dfa.specs.Word.{First, Less}
 use Rattle.difference.specs.inner.Comparison.{Le}
 
@@ -37,6 +38,17 @@ le-snoc m x y (inr h) = inr (inl h)
 pub less-snoc : (m : ℕ) (x : List ℕ) → Less x (m ∷ x)
 less-snoc m [] = tt
 less-snoc m (n ∷ x) = inl (less-snoc n x)
+
+-- a word that is not behind another is no longer
+less-length : (x y : List ℕ) → Less x y → length x ≤ length y
+less-length [] y h = omega arith
+less-length (m ∷ x) [] h = absurd h
+less-length (m ∷ x) (n ∷ y) (inl h) = let l = less-length x y h in omega arith
+less-length (m ∷ x) (n ∷ y) (inr h) = omega (arith, ap length (h .0))
+
+pub le-length : (x y : List ℕ) → Le x y → length x ≤ length y
+le-length x y (inl e) = omega (arith, ap length e)
+le-length x y (inr h) = less-length x y h
 
 -- the order of words is total
 less-total : (x y : List ℕ) → Less x y ⊎ ((x ≡ y) ⊎ Less y x)

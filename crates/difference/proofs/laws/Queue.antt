@@ -11,7 +11,7 @@ use borrow.Author.Tests.{le-ltb, lt-ltb}
 use Rattle.difference.specs.inner.Classes.{Found, Low, Rep, linked}
 use Rattle.difference.specs.inner.Comparison.{Entry, merge, snoc}
 use Rattle.dfa.specs.Frame.{SameBelow, SameFrom}
-use Rattle.difference.specs.inner.Queue.{Queue, Visited, entryOf, pushed}
+use Rattle.difference.specs.inner.Queue.{Grown, Queue, Visited, entryOf, pushed}
 use Rattle.difference.proofs.laws.Classes.{linked-low, linked-rep, low-frame, rep-frame}
 use Rattle.dfa.proofs.laws.Frame.{set-from}
 use Rattle.difference.proofs.laws.Merge.{snoc-all, snoc-old}
@@ -87,6 +87,8 @@ pub visit-same : (n tail from letter p q a b : ℕ) (ws w₁ w₂ : List ℕ) �
   → Visited n tail from letter p q tail ws w₂
 visit-same n tail from letter p q a b ws w₁ w₂ f₁ f₂ e = record
   { low = f₂ .low
+  ; grown = record { more = omega arith; stays = λ i h l. f₂ .keep i h ∙ f₁ .keep i h; fresh = λ k h l. absurd (omega
+    arith) }
   ; cases = λ E rep idem u r. let g₁ = f₁ .rep rep r in let g₂ = f₂ .rep rep (g₁ .1) in inl (record
     { stays = refl; one = sym (g₁ .0) ∙ e ∙ g₂ .0
     ; queue = queue-frame n tail w₁ w₂ E (f₂ .keep) (queue-frame n tail ws w₁ E (f₁ .keep) u); reps = g₂ .1 }) }
@@ -107,6 +109,13 @@ module _ (n tail from letter p q a b : ℕ) (ws w₁ w₂ : List ℕ) (f₁ : Fo
     new-low : Low n w₄
     new-low = low-frame n w₃ w₄ below₄ (pushed-length n w₃ tail p q from letter room₃) low₃
 
+    new-grown : Grown n from tail (suc tail) ws w₄
+    new-grown = record
+      { more = omega arith
+      ; stays = λ i h l. pushed-below n w₃ tail p q from letter room₃ i l ∙ keep₃ i h ∙ f₂ .keep i h ∙ f₁ .keep i h
+      ; fresh = λ k h l. subst (λ j. getD w₄ (n + 4 * j + 2) 0 ≡ from) {x = tail} {y = k} (omega arith)
+        (at-2 n w₃ tail p q from letter room₃) }
+
     new-queue : (E : ℕ → Entry) → Queue n ws tail E → Queue n w₄ (suc tail) (snoc E tail (entryOf p q from letter E))
     new-queue E u = pushed-queue n w₃ tail p q from letter room₃ E
       (queue-frame n tail w₂ w₃ E keep₃ (queue-frame n tail w₁ w₂ E (f₂ .keep) (queue-frame n tail ws w₁ E
@@ -121,7 +130,7 @@ module _ (n tail from letter p q a b : ℕ) (ws w₁ w₂ : List ℕ) (f₁ : Fo
     let lo = linked-low n w₂ a b h (f₁ .below) (f₂ .low) in
     let ke = set-from n a b w₂ (f₁ .below) in
     record
-      { low = new-low (set w₂ a b) lo ke
+      { low = new-low (set w₂ a b) lo ke; grown = new-grown (set w₂ a b) lo ke
       ; cases = λ E rep idem u r. let g₁ = f₁ .rep rep r in let g₂ = f₂ .rep rep (g₁ .1) in inr (inl (record
         { grows = refl
         ; two = λ e. let z : a ≡ b = g₁ .0 ∙ e ∙ sym (g₂ .0) in omega arith
@@ -134,7 +143,7 @@ module _ (n tail from letter p q a b : ℕ) (ws w₁ w₂ : List ℕ) (f₁ : Fo
     let lo = linked-low n w₂ b a h (f₂ .below) (f₂ .low) in
     let ke = set-from n b a w₂ (f₂ .below) in
     record
-      { low = new-low (set w₂ b a) lo ke
+      { low = new-low (set w₂ b a) lo ke; grown = new-grown (set w₂ b a) lo ke
       ; cases = λ E rep idem u r. let g₁ = f₁ .rep rep r in let g₂ = f₂ .rep rep (g₁ .1) in inr (inr (record
         { grows = refl
         ; two = λ e. let z : b ≡ a = g₂ .0 ∙ e ∙ sym (g₁ .0) in omega arith

@@ -2,7 +2,7 @@
 use mathlib.Core.Bool.{Bool, Bool·beq, false, true}
 use mathlib.Core.List.{List, [], _++_}
 use mathlib.Core.Logic.{_≢_, _⊎_, inl, inr}
-use mathlib.Core.Path.{_∙_, _≡_, ap, refl, subst, sym}
+use mathlib.Core.Path.{_∙_, _≡_, ap, ap₂, refl, subst, sym}
 use Prim.Native.Nat.{_*_, _+_, _<_, _≤_, suc, zero, ℕ}
 use native.Mathlib.Decide.{decLt}
 use native.Mathlib.Omega.{arith}
@@ -11,17 +11,19 @@ use borrow.Author.Tests.{le-ltb, lt-ltb}
 use Rattle.dfa.specs.Graph.{rest, δ}
 use Rattle.difference.specs.Outcome.{Outcome, Setting, ToldApart}
 use Rattle.difference.specs.Spelled.{Spelled, more, none}
-use Rattle.dfa.specs.Word.{accepting, after}
+use Rattle.dfa.specs.Word.{First, accepting, after}
 use Rattle.difference.specs.declared.Task.{Task}
 use Rattle.difference.specs.declared.Verdict.{Verdict}
 use Rattle.dfa.specs.declared.step.Move.{Move}
 use Rattle.difference.specs.inner.Classes.{Low, Rep, linked}
 use Rattle.difference.specs.inner.Comparison.{Entry, Top, merge}
-use Rattle.difference.specs.inner.Queue.{Visited, pushed}
-use Rattle.difference.specs.inner.State.{Expanding, Half, Runs, State, Turn}
+use Rattle.difference.specs.inner.Level.{Deep, alikeAt}
+use Rattle.difference.specs.inner.Queue.{Grown, Visited, pushed}
+use Rattle.difference.specs.inner.State.{Expanding, Half, State, Turn}
 use Rattle.dfa.specs.Step.{Moved}
+use Rattle.difference.proofs.laws.Alike.{beq-no, beq-yes}
 use Rattle.difference.proofs.laws.Classes.{linked-low, linked-rep, low-frame, rep-frame}
-use Rattle.difference.proofs.laws.Comparison.{all-same, begin, begun, roots-1, told}
+use Rattle.difference.proofs.laws.Comparison.{agree, all-same, begin, begun, roots-1, told, told-at}
 use Rattle.difference.proofs.laws.Queue.{at-0, at-1, pushed-below, pushed-length}
 use Rattle.dfa.proofs.laws.Rest.{back, back-length, back-rest, rest-length}
 use Rattle.difference.proofs.laws.Turn.{bounds, turn-again, turn-last}
@@ -40,63 +42,70 @@ pub prepared : (t : Task) (ws ys : List ℕ) → 5 * t .n ≤ length ws → leng
     (rest (5 * t .n) (ys ++ drop (5 * t .n) ws)) t (take (5 * t .n) (ys ++ drop (5 * t .n) ws)) 0 1
 prepared t ws ys room len s f = back (5 * t .n) ws ys room len (λ G w. Setting G t × State G t w 0 1) (s, f _ s)
 
--- run's loop
+-- the entries of a state
 module _ (G : List ℕ) (t : Task) (s : Setting G t) (ws : List ℕ) (head tail : ℕ) (u : State G t ws head tail) where
   pub tail-low : tail < t .n
   tail-low = omega (arith, u .top .inv .count, roots-1 _ _ _ _ _ (u .E) head tail (u .rep) (u .top .inv) (s .p-lt))
 
-  module _ (h : head < tail) (p q : ℕ) (ep : p ≡ getD ws (t .n + 4 * head) 0)
-    (eq : q ≡ getD ws (t .n + 4 * head + 1) 0) where
-    p-is : p ≡ u .E head .left
-    p-is = ep ∙ u .queue .first head h
+  spell : (b k : ℕ) → k < b → k < tail → Spelled (t .n) ws k (u .E k .word)
+  spell zero k l w = absurd (omega arith)
+  spell (suc b) zero l w = rw (ap (λ (e : Entry). e .word) (u .top .inv .start)) none
+  spell (suc b) (suc k) l w =
+    let f = u .queue .from (suc k) w (omega arith) in
+    rw (u .queue .word (suc k) w (omega arith))
+      (more (suc k) (omega arith) f (spell b _ (omega arith) (omega arith)))
 
-    q-is : q ≡ u .E head .right
-    q-is = eq ∙ u .queue .second head h
+  pub spells : (k : ℕ) → k < tail → Spelled (t .n) ws k (u .E k .word)
+  spells k = spell (suc k) k (omega arith)
 
-    pub run-on : accepting (t .f) (t .g) p ≡ accepting (t .f) (t .g) q → Half G t ws head tail 0
-    run-on e = record
-      { E = u .E; rep = u .rep; low = u .low; queue = u .queue; reps = u .reps
-      ; mid = begin _ _ _ _ _ (u .E) head tail (u .rep) (u .top) h (ap (accepting (t .f) (t .g)) (sym p-is) ∙ e
-        ∙ ap (accepting (t .f) (t .g)) q-is) }
+  abbrev fin : ℕ → Bool
+  fin = accepting (t .f) (t .g)
 
-    spell : (b k : ℕ) → k < b → k < tail → Spelled (t .n) ws k (u .E k .word)
-    spell zero k l w = absurd (omega arith)
-    spell (suc b) zero l w = rw (ap (λ (e : Entry). e .word) (u .top .inv .start)) none
-    spell (suc b) (suc k) l w =
-      let f = u .queue .from (suc k) w (omega arith) in
-      rw (u .queue .word (suc k) w (omega arith))
-        (more (suc k) (omega arith) f (spell b _ (omega arith) (omega arith)))
+  alike-is : (k : ℕ) → k < tail
+    → alikeAt (t .n) ws k (t .f) (t .g) ≡ Bool·beq (fin (u .E k .left)) (fin (u .E k .right))
+  alike-is k h = ap₂ (λ a b. Bool·beq (fin a) (fin b)) (u .queue .first k h) (u .queue .second k h)
 
-    pub run-told : accepting (t .f) (t .g) p ≢ accepting (t .f) (t .g) q → ToldApart G t ws head
-    run-told e = record
-      { word = u .E head .word
-      ; first = told _ _ _ _ _ (u .E) head tail (u .rep) (u .top) (s .p-lt) h
-        (λ z. e (ap (accepting (t .f) (t .g)) p-is ∙ z ∙ ap (accepting (t .f) (t .g)) (sym q-is)))
-      ; spelled = spell (suc head) head (omega arith) h
-      ; trail = record { few = s .graph .few; room = u .low .room; below = omega (arith, tail-low);
-        from = λ j g l. u .queue .from j (omega arith) g }
-      ; left = u .queue .first head h ∙ u .top .inv .reach head h .0 }
+  alike-yes : (k : ℕ) → k < tail → alikeAt (t .n) ws k (t .f) (t .g) ≡ true → fin (u .E k .left) ≡ fin (u .E k .right)
+  alike-yes k h e = beq-yes _ _ (sym (alike-is k h) ∙ e)
 
-  pub run-same : tail ≤ head → (x : List ℕ) → accepting (t .f) (t .g) (after (δ G (t .n)) (t .p) x) ≡ accepting (t .f)
-    (t .g) (after (δ G (t .n)) (t .q) x)
-  run-same h = all-same _ _ _ _ _ (u .E) tail (u .rep) (subst (λ k. Top (t .n) (δ G (t .n)) (accepting (t .f) (t .g))
-    (t .p) (t .q) (u .E) k tail (u .rep)) {x = head} {y = tail} (omega (arith, u .top .within)) (u .top))
+  alike-no : (k : ℕ) → k < tail → alikeAt (t .n) ws k (t .f) (t .g) ≡ false → fin (u .E k .left) ≢ fin (u .E k .right)
+  alike-no k h e = beq-no _ _ (sym (alike-is k h) ∙ e)
 
-pub beq-yes : (a b : Bool) → Bool·beq a b ≡ true → a ≡ b
-beq-yes true true h = refl
-beq-yes true false h = sym h
-beq-yes false true h = h
-beq-yes false false h = refl
+  -- an entry of fewer than `most` letters may be expanded
+  pub run-on : head < tail → length (u .E head .word) < t .most → alikeAt (t .n) ws head (t .f) (t .g) ≡ true
+    → Half G t ws head tail 0
+  run-on h l e = record
+    { E = u .E; rep = u .rep; low = u .low; queue = u .queue; reps = u .reps; brief = u .brief; shallow = l
+    ; mid = begin _ _ _ _ _ (u .E) head tail (u .rep) (u .top) h (alike-yes head h e) }
 
-abbrev num : Bool → ℕ
-num true = 1
-num false = 0
+  told-entry : (k : ℕ) → k < tail → First (t .n) (δ G (t .n)) fin (t .p) (t .q) (u .E k .word) → ToldApart G t ws k
+  told-entry k h f = record
+    { word = u .E k .word; first = f; within = u .brief k h; spelled = spells k h
+    ; trail = record { few = s .graph .few; room = u .low .room; below = omega (arith, tail-low);
+      from = λ j g l. u .queue .from j (omega arith) g }
+    ; left = u .queue .first k h ∙ u .top .inv .reach k h .0 }
 
-pub beq-no : (a b : Bool) → Bool·beq a b ≡ false → a ≢ b
-beq-no true true h k = let z : _≡_ {A = ℕ} (num true) (num false) = ap num h in omega arith
-beq-no true false h k = let z : _≡_ {A = ℕ} (num true) (num false) = ap num k in omega arith
-beq-no false true h k = let z : _≡_ {A = ℕ} (num true) (num false) = ap num (sym k) in omega arith
-beq-no false false h k = let z : _≡_ {A = ℕ} (num true) (num false) = ap num h in omega arith
+  pub run-told : head < tail → alikeAt (t .n) ws head (t .f) (t .g) ≡ false → ToldApart G t ws head
+  run-told h e = told-entry head h (told _ _ _ _ _ (u .E) head tail (u .rep) (u .top) (s .p-lt) h (alike-no head h e))
+
+  pub run-same : tail ≤ head → (x : List ℕ)
+    → fin (after (δ G (t .n)) (t .p) x) ≡ fin (after (δ G (t .n)) (t .q) x)
+  run-same h x = all-same _ _ _ _ _ (u .E) tail (u .rep) (subst (λ k. Top (t .n) (δ G (t .n)) fin (t .p) (t .q)
+    (u .E) k tail (u .rep)) {x = head} {y = tail} (omega (arith, u .top .within)) (u .top)) x
+
+  -- the last level
+  module _ (d : Deep (t .n) ws head tail (t .most)) where
+    pub last-told : (k : ℕ) → head ≤ k → k < tail
+      → ((j : ℕ) → head ≤ j → j < k → alikeAt (t .n) ws j (t .f) (t .g) ≡ true)
+      → alikeAt (t .n) ws k (t .f) (t .g) ≡ false → ToldApart G t ws k
+    last-told k g h a e = told-entry k h (told-at _ _ _ _ _ (u .E) head tail (u .rep) (u .top) (s .p-lt) k h
+      (λ j b c. omega (arith, d k g h _ (spells k h), d j b c _ (spells j c)))
+      (λ j b c. alike-yes j (omega arith) (a j b c)) (alike-no k h e))
+
+    pub last-same : ((k : ℕ) → head ≤ k → k < tail → alikeAt (t .n) ws k (t .f) (t .g) ≡ true) → (x : List ℕ)
+      → length x ≤ t .most → fin (after (δ G (t .n)) (t .p) x) ≡ fin (after (δ G (t .n)) (t .q) x)
+    last-same a x l = agree _ _ _ _ _ (u .E) head tail (u .rep) (u .top) x
+      (λ k b c. omega (arith, d k b c _ (spells k c))) (λ k b c e. alike-yes k c (a k b c))
 
 -- the start
 module _ (G : List ℕ) (t : Task) (s : Setting G t) (ne : t .p ≢ t .q) (w₁ : List ℕ) (room : 5 * t .n ≤ length w₁)
@@ -126,7 +135,7 @@ module _ (G : List ℕ) (t : Task) (s : Setting G t) (ne : t .p ≢ t .q) (w₁ 
         ; second = λ k h. subst (λ z. getD (pushed w₂ (t .n + 4 * 0) (t .p) (t .q) 0 0) (t .n + 4 * z + 1) 0 ≡ t .q)
           {x = 0} {y = k} (omega arith) (at-1 (t .n) w₂ 0 (t .p) (t .q) 0 0 room₂)
         ; from = λ k h l. absurd (omega arith); word = λ k h l. absurd (omega arith) }
-      ; reps = rep-frame (t .n) w₂ _ (merge (λ x. x) a b) below₂ r
+      ; reps = rep-frame (t .n) w₂ _ (merge (λ x. x) a b) below₂ r; brief = λ k h. omega arith
       ; top = begun _ _ _ _ _ (s .p-lt) (s .q-lt) a b ab n′ }
 
   pub start-state : (w₂ w₃ : List ℕ) → w₂ ≡ linked w₁ (t .p) (t .q) → w₃ ≡ pushed w₂ (t .n + 4 * 0) (t .p) (t .q) 0 0
@@ -151,52 +160,51 @@ within t ws head tail lo s h =
   let f = length-take (5 * t .n) ws in
   record { head-lt = b .head-lt; tail-lt = b .tail-lt; few = b .few; room = omega arith; graph = omega arith }
 
-pub expand-within : (t : Task) (head : ℕ) (ws₀ ws : List ℕ) (i ie j je last : ℕ) → Expanding t head ws₀ ws i ie j je
-  last → Within (t .n) head last ws
-expand-within t head ws₀ ws i ie j je last f = within t ws head last (f .turn .lo) (f .set-at) (f .turn .half)
+pub expand-within : (t : Task) (head tail : ℕ) (ws₀ ws : List ℕ) (i ie j je last : ℕ)
+  → Expanding t head tail ws₀ ws i ie j je last → Within (t .n) head last ws
+expand-within t head tail ws₀ ws i ie j je last f = within t ws head last (f .turn .lo) (f .set-at) (f .turn .half)
 
-pub expand-again : (t : Task) (head : ℕ) (ws₀ ws ys : List ℕ) (i ie j je last last′ : ℕ) (r : Move)
-  → (f : Expanding t head ws₀ ws i ie j je last) → Moved (rest (5 * t .n) ws) (t .n) i ie j je r
+-- entries that came before others came
+grown-on : (n from tail r r′ : ℕ) (ws ws₁ ws₂ : List ℕ) → Grown n from tail r ws ws₁ → Grown n from r r′ ws₁ ws₂
+  → Grown n from tail r′ ws ws₂
+grown-on n from tail r r′ ws ws₁ ws₂ a b = record
+  { more = omega (arith, a .more, b .more)
+  ; stays = λ i h l. b .stays i h (omega (arith, a .more)) ∙ a .stays i h l
+  ; fresh = λ k h l. go k h l (decLt k r) }
+  where
+    go : (k : ℕ) → tail ≤ k → k < r′ → Dec (k < r) → getD ws₂ (n + 4 * k + 2) 0 ≡ from
+    go k h l (yes c) = b .stays (n + 4 * k + 2) (omega arith) (omega arith) ∙ a .fresh k h c
+    go k h l (no c) = b .fresh k (omega arith) l
+
+pub grown-first : (n from tail : ℕ) (ws : List ℕ) → Grown n from tail tail ws ws
+grown-first n from tail ws = record { more = omega arith; stays = λ i h l. refl; fresh = λ k h l. absurd (omega
+    arith) }
+
+pub expand-again : (t : Task) (head tail : ℕ) (ws₀ ws ys : List ℕ) (i ie j je last last′ : ℕ) (r : Move)
+  → (f : Expanding t head tail ws₀ ws i ie j je last) → Moved (rest (5 * t .n) ws) (t .n) i ie j je r
   → length ys ≡ length (take (5 * t .n) ws) → Visited (t .n) last head (r .letter) (r .a) (r .b) last′
     (take (5 * t .n) ws) ys
-  → Expanding t head ws₀ (ys ++ drop (5 * t .n) ws) (r .i) ie (r .j) je last′
-expand-again t head ws₀ ws ys i ie j je last last′ r f m len v =
-  let w = expand-within t head ws₀ ws i ie j je last f .room in
+  → Expanding t head tail ws₀ (ys ++ drop (5 * t .n) ws) (r .i) ie (r .j) je last′
+expand-again t head tail ws₀ ws ys i ie j je last last′ r f m len v =
+  let w = expand-within t head tail ws₀ ws i ie j je last f .room in
   record
-    { turn = back (5 * t .n) ws ys w len (λ G w. Turn G t head w (r .i) ie (r .j) je last′)
+    { grown = back (5 * t .n) ws ys w len (λ G w. Grown (t .n) head tail last′ (take (5 * t .n) ws₀) w)
+        (grown-on (t .n) head tail last last′ (take (5 * t .n) ws₀) (take (5 * t .n) ws) ys (f .grown) (v .grown))
+    ; turn = back (5 * t .n) ws ys w len (λ G w. Turn G t head w (r .i) ie (r .j) je last′)
         (turn-again _ t (f .set-at) head _ i ie j je last (f .turn) (r .letter) (m .next) ys (r .i) (r .j) (m .pi)
           (m .pj) (r .a) (r .b) last′ (m .a-is) (m .b-is) v)
     ; len = back-length (5 * t .n) ws ys w len ∙ f .len
     ; graph = back-rest (5 * t .n) ws ys w len ∙ f .graph
     ; set-at = subst (λ G. Setting G t) (sym (back-rest (5 * t .n) ws ys w len)) (f .set-at) }
 
-pub expand-last : (t : Task) (head : ℕ) (ws₀ ws : List ℕ) (i ie j je last : ℕ) → Expanding t head ws₀ ws i ie j je
-  last → ie + je ≤ i + j → State (rest (5 * t .n) ws₀) t (take (5 * t .n) ws) (head + 1) last
-expand-last t head ws₀ ws i ie j je last f h = subst (λ G. State G t (take (5 * t .n) ws) (head + 1) last) (f .graph)
+pub expand-last : (t : Task) (head tail : ℕ) (ws₀ ws : List ℕ) (i ie j je last : ℕ)
+  → Expanding t head tail ws₀ ws i ie j je last → ie + je ≤ i + j → State (rest (5 * t .n) ws₀) t (take (5 * t .n)
+    ws) (head + 1) last
+expand-last t head tail ws₀ ws i ie j je last f h = subst (λ G. State G t (take (5 * t .n) ws) (head + 1) last) (f
+    .graph)
   (turn-last _ t head _ i ie j je last (f .turn) h)
-
-pub runs-first : (t : Task) (ws : List ℕ) → Setting (rest (5 * t .n) ws) t → State (rest (5 * t .n) ws) t
-  (take (5 * t .n) ws) 0 1 → Runs t ws ws 0 1
-runs-first t ws s u = record { state = u; len = refl; graph = refl; set-at = s }
-
-pub runs-again : (t : Task) (ws₀ ws ws′ : List ℕ) (head tail tail′ : ℕ) → Runs t ws₀ ws head tail
-  → length ws′ ≡ length ws
-  → State (rest (5 * t .n) ws) t (take (5 * t .n) ws′) (head + 1) tail′ × (rest (5 * t .n) ws′ ≡ rest (5 * t .n) ws)
-    → Runs t ws₀ ws′ (head + 1) tail′
-runs-again t ws₀ ws ws′ head tail tail′ r l e = record
-  { state = subst (λ G. State G t (take (5 * t .n) ws′) (head + 1) tail′) (sym (e .1)) (e .0)
-  ; len = l ∙ r .len; graph = e .1 ∙ r .graph; set-at = subst (λ G. Setting G t) (sym (e .1)) (r .set-at) }
-
-pub runs-room : (t : Task) (ws₀ ws : List ℕ) (head tail : ℕ) → Runs t ws₀ ws head tail
-  → (tail < t .n) × ((5 * t .n ≤ length ws) × (t .n ≤ 8193))
-runs-room t ws₀ ws head tail r = (tail-low _ t (r .set-at) _ head tail (r .state),
-  (omega (arith, r .state .low .room, length-take (5 * t .n) ws), r .state .low .few))
 
 pub outcome-of : (t : Task) (ws ys zs : List ℕ) (v : Verdict) → 5 * t .n ≤ length ws → length ys ≡ length
   (take (5 * t .n) ws) → Outcome (rest (5 * t .n) (ys ++ drop (5 * t .n) ws)) t zs v
   → Outcome (rest (5 * t .n) ws) t zs v
 outcome-of t ws ys zs v room len o = subst (λ G. Outcome G t zs v) (back-rest (5 * t .n) ws ys room len) o
-
-pub carried : (t : Task) (ws₀ ws : List ℕ) (head tail : ℕ) (v : Verdict) → Runs t ws₀ ws head tail
-  → Outcome (rest (5 * t .n) ws) t (take (5 * t .n) ws) v → Outcome (rest (5 * t .n) ws₀) t (take (5 * t .n) ws) v
-carried t ws₀ ws head tail v r o = subst (λ G. Outcome G t (take (5 * t .n) ws) v) (r .graph) o

@@ -16,7 +16,7 @@ use Rattle.difference.specs.inner.State.{Half, State, Turn}
 use Rattle.dfa.specs.Step.{Next, Past}
 use Rattle.difference.proofs.laws.Comparison.{finish, push, roots-1, skip}
 use Rattle.dfa.proofs.laws.Look.{after-lt, look-before, δ-lt}
-use Rattle.difference.proofs.laws.Merge.{snoc-old}
+use Rattle.difference.proofs.laws.Merge.{snoc-all, snoc-old}
 
 -- the states of an entry are states
 module _ (G : List ℕ) (t : Task) (s : Setting G t) (ws : List ℕ) (head last lo : ℕ) (h : Half G t ws head last lo)
@@ -131,6 +131,12 @@ module _ (G : List ℕ) (t : Task) (s : Setting G t) (head : ℕ) (ws : List ℕ
     abbrev new : Entry
     new = entryOf (D (E head .left) m) (D (E head .right) m) head m E
 
+    brief′ : (k : ℕ) → k < suc last → length (snoc E last new k .word) ≤ t .most
+    brief′ = snoc-all E last new (λ k e. length (e .word) ≤ t .most) (u .half .brief) (omega (arith, u .half .shallow))
+
+    shallow′ : length (snoc E last new head .word) < t .most
+    shallow′ = rw (snoc-old E last new head (u .half .mid .here)) (u .half .shallow)
+
     on-visit : (last′ : ℕ) → Visited (t .n) last head m (D (E head .left) m) (D (E head .right) m) last′ ws ws′
       → Turn G t head ws′ i′ ie j′ je last′
     on-visit last′ v = go (v .cases E (u .half .rep) (u .half .mid .inv .idem) (u .half .queue) (u .half .reps))
@@ -141,16 +147,17 @@ module _ (G : List ℕ) (t : Task) (s : Setting G t) (head : ℕ) (ws : List ℕ
             → Turn G t head ws′ i′ ie j′ je last′
         go (inl k) = subst (λ l. Turn G t head ws′ i′ ie j′ je l) (sym (k .stays)) (on last
           (record { E = E; rep = u .half .rep; low = v .low; queue = k .queue; reps = k .reps
+            ; brief = u .half .brief; shallow = u .half .shallow
             ; mid = skip _ _ _ _ _ E head last (u .lo) (u .half .rep) (u .half .mid) m lo-m gap (k .one) }) refl)
         go (inr (inl k)) = subst (λ l. Turn G t head ws′ i′ ie j′ je l) (sym (k .grows)) (on (suc last)
           (record { E = snoc E last new; rep = merge (u .half .rep) (D (E head .left) m) (D (E head .right) m);
-            low = v .low; queue = k .queue; reps = k .reps
+            low = v .low; queue = k .queue; reps = k .reps; brief = brief′; shallow = shallow′
             ; mid = push _ _ _ _ _ E head last (u .lo) (u .half .rep) (u .half .mid) m lo-m gap (D (E head .left) m)
               (D (E head .right) m) (inl (refl, refl)) a-lt b-lt (k .two) })
           (snoc-old E last new head (u .half .mid .here)))
         go (inr (inr k)) = subst (λ l. Turn G t head ws′ i′ ie j′ je l) (sym (k .grows)) (on (suc last)
           (record { E = snoc E last new; rep = merge (u .half .rep) (D (E head .right) m) (D (E head .left) m);
-            low = v .low; queue = k .queue; reps = k .reps
+            low = v .low; queue = k .queue; reps = k .reps; brief = brief′; shallow = shallow′
             ; mid = push _ _ _ _ _ E head last (u .lo) (u .half .rep) (u .half .mid) m lo-m gap (D (E head .right) m)
               (D (E head .left) m) (inr (refl, refl)) b-lt a-lt (k .two) })
           (snoc-old E last new head (u .half .mid .here)))
@@ -165,6 +172,7 @@ pub turn-last : (G : List ℕ) (t : Task) (head : ℕ) (ws : List ℕ) (i ie j j
   last → ie + je ≤ i + j → State G t ws (head + 1) last
 turn-last G t head ws i ie j je last u h = rw add-one (record
   { E = u .half .E; rep = u .half .rep; low = u .half .low; queue = u .half .queue; reps = u .half .reps
+  ; brief = u .half .brief
   ; top = finish _ _ _ _ _ (u .half .E) head last (u .lo) (u .half .rep) (u .half .mid)
       (λ m l. u .ti m l ∙ look-before G (t .n) m i ie (u .ei) (λ v. absurd (omega (arith, u .ei .le, u .ej .le)))
         ∙ sym (u .tj m l ∙ look-before G (t .n) m j je (u .ej) (λ v. absurd (omega (arith, u .ei .le, u .ej .le)))))

@@ -2,7 +2,7 @@
 use mathlib.Core.List.{List, _∷_}
 use mathlib.Core.Logic.{_≢_, _⊎_}
 use mathlib.Core.Path.{_≡_}
-use Prim.Native.Nat.{_*_, _+_, _<_, suc, ℕ}
+use Prim.Native.Nat.{_*_, _+_, _<_, _≤_, suc, ℕ}
 use lib.ListN.{getD, set}
 use Rattle.difference.specs.inner.Classes.{Low, Rep}
 use Rattle.difference.specs.inner.Comparison.{Entry, merge, snoc}
@@ -34,8 +34,15 @@ pub record Joined (n tail r : ℕ) (e : Entry) (a b : ℕ) (ws′ : List ℕ) (E
 abbrev pub entryOf : ℕ → ℕ → ℕ → ℕ → (ℕ → Entry) → Entry
 entryOf p q from letter E = record { left = p; right = q; word = letter ∷ E from .word }
 
+-- entries come behind those that there are, which stay, and they come from entry `from`
+pub record Grown (n from tail r : ℕ) (ws ws′ : List ℕ) : Type 0 where
+  pub more : tail ≤ r
+  pub stays : (i : ℕ) → n ≤ i → i < n + 4 * tail → getD ws′ i 0 ≡ getD ws i 0
+  pub fresh : (k : ℕ) → tail ≤ k → k < r → getD ws′ (n + 4 * k + 2) 0 ≡ from
+
 pub record Visited (n tail from letter p q r : ℕ) (ws ws′ : List ℕ) : Type 0 where
   pub low : Low n ws′
+  pub grown : Grown n from tail r ws ws′
   pub cases : (E : ℕ → Entry) (rep : ℕ → ℕ) → ((x : ℕ) → rep (rep x) ≡ rep x) → Queue n ws tail E → Rep n ws rep
     → Kept n tail p q r ws′ E rep
     ⊎ (Joined n tail r (entryOf p q from letter E) p q ws′ E rep

@@ -9,9 +9,9 @@ use Rattle.dfa.specs.Word.{accepting}
 use Rattle.difference.specs.declared.Task.{Task}
 use Rattle.difference.specs.inner.Classes.{Low, Rep}
 use Rattle.difference.specs.inner.Comparison.{Entry, Mid, Top}
-use Rattle.difference.specs.inner.Queue.{Queue}
+use Rattle.difference.specs.inner.Queue.{Queue, Grown}
 
--- entries below head are processed
+-- entries below head are processed, and no entry's word has more than `most` letters
 pub record State (G : List ℕ) (t : Task) (ws : List ℕ) (head tail : ℕ) : Type 0 where
   pub E : ℕ → Entry
   pub rep : ℕ → ℕ
@@ -19,8 +19,9 @@ pub record State (G : List ℕ) (t : Task) (ws : List ℕ) (head tail : ℕ) : T
   pub queue : Queue (t .n) ws tail E
   pub reps : Rep (t .n) ws rep
   pub top : Top (t .n) (δ G (t .n)) (accepting (t .f) (t .g)) (t .p) (t .q) E head tail rep
+  pub brief : (k : ℕ) → k < tail → length (E k .word) ≤ t .most
 
--- entry head is being processed, the letters below lo are done
+-- entry head, whose word has fewer than `most` letters, is being processed, the letters below lo are done
 pub record Half (G : List ℕ) (t : Task) (ws : List ℕ) (head tail lo : ℕ) : Type 0 where
   pub E : ℕ → Entry
   pub rep : ℕ → ℕ
@@ -28,6 +29,8 @@ pub record Half (G : List ℕ) (t : Task) (ws : List ℕ) (head tail lo : ℕ) :
   pub queue : Queue (t .n) ws tail E
   pub reps : Rep (t .n) ws rep
   pub mid : Mid (t .n) (δ G (t .n)) (accepting (t .f) (t .g)) (t .p) (t .q) E head tail lo rep
+  pub brief : (k : ℕ) → k < tail → length (E k .word) ≤ t .most
+  pub shallow : length (E head .word) < t .most
 
 -- the edges from i to ie and from j to je are left, and the letters below lo are done
 pub record Turn (G : List ℕ) (t : Task) (head : ℕ) (ws : List ℕ) (i ie j je last : ℕ) : Type 0 where
@@ -41,15 +44,9 @@ pub record Turn (G : List ℕ) (t : Task) (head : ℕ) (ws : List ℕ) (i ie j j
   pub tj : (m : ℕ) → lo ≤ m → δ G (t .n) (half .E head .right) m ≡ look G (t .n) m (je - j) j
 
 -- expand's loop
-pub record Expanding (t : Task) (head : ℕ) (ws₀ ws : List ℕ) (i ie j je last : ℕ) : Type 0 where
+pub record Expanding (t : Task) (head tail : ℕ) (ws₀ ws : List ℕ) (i ie j je last : ℕ) : Type 0 where
+  pub grown : Grown (t .n) head tail last (take (5 * t .n) ws₀) (take (5 * t .n) ws)
   pub turn : Turn (rest (5 * t .n) ws) t head (take (5 * t .n) ws) i ie j je last
-  pub len : length ws ≡ length ws₀
-  pub graph : rest (5 * t .n) ws ≡ rest (5 * t .n) ws₀
-  pub set-at : Setting (rest (5 * t .n) ws) t
-
--- run's loop
-pub record Runs (t : Task) (ws₀ ws : List ℕ) (head tail : ℕ) : Type 0 where
-  pub state : State (rest (5 * t .n) ws) t (take (5 * t .n) ws) head tail
   pub len : length ws ≡ length ws₀
   pub graph : rest (5 * t .n) ws ≡ rest (5 * t .n) ws₀
   pub set-at : Setting (rest (5 * t .n) ws) t

@@ -1,16 +1,26 @@
 -- `alike` says whether two states both accept, or neither.
 use borrow.Author.Needs.{needs}
+use borrow.Author.Tests.{ne-eqb}
+use mathlib.Core.Path.{_∙_}
+use Rattle.difference.proofs.laws.Alike.{first-is-f, first-is-g, second-is-f}
 use Rattle.difference.proofs.search.alike.Statement.{statement}
 use Rattle.difference.proofs.search.alike.Tie as tie
 
 accepts-requires : tie.Need-accepts-requires
 accepts-requires c κs = search needs
 
-accepts-requires-2 : tie.Need-accepts-requires-2
-accepts-requires-2 c κs = search needs
-
 returns : tie.Need-returns
-returns c = simp (c .before .accepts .ensures, c .accepts2 .ensures)
+returns c = c .accepts .ensures ∙ first-is-f _ _ _ _ (c .before .if1 .taken)
+
+returns-2 : tie.Need-returns-2
+returns-2 c = second-is-f _ _ _ _ (c .before .if1 .left) (c .if2 .taken)
+
+returns-3 : tie.Need-returns-3
+returns-3 c = first-is-g _ _ _ _ (c .before .before .if1 .left) (c .before .if2 .left) (c .if3 .taken)
+
+returns-4 : tie.Need-returns-4
+returns-4 c = simp (ne-eqb _ _ (c .before .before .if1 .left), ne-eqb _ _ (c .before .if2 .left), ne-eqb _ _ (c .if3
+    .left))
 
 pub alike-spec : {M : Type 1} → statement M
-alike-spec = tie.close (tie.spec accepts-requires accepts-requires-2 returns)
+alike-spec = tie.close (tie.spec accepts-requires returns returns-2 returns-3 returns-4)

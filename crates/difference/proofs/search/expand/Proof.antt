@@ -4,15 +4,15 @@ use Prim.Native.Nat.{_+_, _-_, _*_}
 use mathlib.Core.Path.{refl}
 use lib.ListN.{length-take}
 use Rattle.dfa.proofs.laws.Rest.{rest-length, front-at}
-use Rattle.difference.proofs.laws.Run.{within, expand-within, expand-again, expand-last}
+use Rattle.difference.proofs.laws.Run.{within, expand-within, expand-again, expand-last, grown-first}
 use Rattle.difference.proofs.laws.Turn.{p-at, q-at, turn-first, turn-less, visit-pre}
 use Rattle.difference.specs.inner.State.{Expanding}
 use Rattle.difference.proofs.search.expand.Statement.{statement}
 use Rattle.difference.proofs.search.expand.Tie as tie
 
 abbrev Inv-loop : tie.InvT-loop
-Inv-loop words₀ t head tail size cut p q i₀ ie j₀ je last₀ words i j last = Expanding t head words₀ words i ie j je
-  last
+Inv-loop words₀ t head tail size cut p q i₀ ie j₀ je last₀ words i j last = Expanding t head tail words₀ words i ie
+  j je last
 
 abbrev μ-loop : tie.MeasureT-loop
 μ-loop words₀ t head tail size cut p q i₀ ie j₀ je last₀ words i j last = ie + je - (i + j)
@@ -78,7 +78,8 @@ ends-of-requires c κs = let b = within _ _ _ _ _ (c .before .before .before .be
 loop-holds : tie.Need-loop-holds Inv-loop μ-loop
 loop-holds c = let b = within _ _ _ _ _ (c .before .before .before .before .before .before .before .before .pre .0)
     (c .before .before .before .before .before .before .before .before .pre .1) in
-    record { turn = turn-first _ _ (c .before .before .before .before .before .before .before .before .pre .0) _ _ _ _
+    record { grown = grown-first _ _ _ _; turn = turn-first _ _ (c .before .before .before .before .before .before
+      .before .before .pre .0) _ _ _ _
     _ _ _ _ _ (c .before .before .before .before .before .before .before .before .pre .1)
     (front-at (5 * c .before .before .before .before .before .before .before .before .args .t .n) _ _ _ (omega arith)
     (c .before .before .before .before .before .at .ensures))
@@ -100,19 +101,19 @@ add-loop-2 c = let e = c .loop .inv .turn .ei in let f = c .loop .inv .turn .ej 
     c .loop .inv .len)
 
 mul-g : tie.Need-mul-g Inv-loop μ-loop
-mul-g c = let b = expand-within _ _ _ _ _ _ _ _ _ (c .before .loop .inv) in omega arith
+mul-g c = let b = expand-within _ _ _ _ _ _ _ _ _ _ (c .before .loop .inv) in omega arith
 
 mul-step : tie.Need-mul-step Inv-loop μ-loop
-mul-step c = let b = expand-within _ _ _ _ _ _ _ _ _ (c .before .loop .inv) in omega arith
+mul-step c = let b = expand-within _ _ _ _ _ _ _ _ _ _ (c .before .loop .inv) in omega arith
 
 sub-step : tie.Need-sub-step Inv-loop μ-loop
-sub-step c = let b = expand-within _ _ _ _ _ _ _ _ _ (c .before .loop .inv) in omega arith
+sub-step c = let b = expand-within _ _ _ _ _ _ _ _ _ _ (c .before .loop .inv) in omega arith
 
 part-step-start : tie.Need-part-step-start Inv-loop μ-loop
-part-step-start c = let b = expand-within _ _ _ _ _ _ _ _ _ (c .before .before .loop .inv) in omega arith
+part-step-start c = let b = expand-within _ _ _ _ _ _ _ _ _ _ (c .before .before .loop .inv) in omega arith
 
 part-step-end : tie.Need-part-step-end Inv-loop μ-loop
-part-step-end c = let b = expand-within _ _ _ _ _ _ _ _ _ (c .before .before .loop .inv) in omega arith
+part-step-end c = let b = expand-within _ _ _ _ _ _ _ _ _ _ (c .before .before .loop .inv) in omega arith
 
 step-requires : tie.Need-step-requires Inv-loop μ-loop
 step-requires c κs = (c .before .before .before .loop .inv .turn .ei, (c .before .before .before .loop .inv .turn .ej,
@@ -120,11 +121,11 @@ step-requires c κs = (c .before .before .before .loop .inv .turn .ei, (c .befor
     .some, c .before .before .loop-test .taken)))
 
 slice-relend-prefix-visit : tie.Need-slice-relend-prefix-visit Inv-loop μ-loop
-slice-relend-prefix-visit c = let b = expand-within _ _ _ _ _ _ _ _ _
+slice-relend-prefix-visit c = let b = expand-within _ _ _ _ _ _ _ _ _ _
     (c .before .before .before .before .loop .inv) in omega arith
 
 slice-aggregate-visit : tie.Need-slice-aggregate-visit Inv-loop μ-loop
-slice-aggregate-visit c = let b = expand-within _ _ _ _ _ _ _ _ _
+slice-aggregate-visit c = let b = expand-within _ _ _ _ _ _ _ _ _ _
     (c .before .before .before .before .before .loop .inv) in
     omega (arith, length-take (5 * c .before .before .before .before .before .before .before .before .before .before
     .before .before .before .before .args .t .n) (c .before .before .before .before .before .loop .words))
@@ -139,7 +140,7 @@ loop-less c = turn-less _ _ _ _ _ _ _ _ _ (c .before .before .before .before .st
     (c .before .before .before .before .step .ensures .pi) (c .before .before .before .before .step .ensures .pj)
 
 loop-again : tie.Need-loop-again Inv-loop μ-loop
-loop-again c = expand-again _ _ _ _ _ _ _ _ _ _ _ _
+loop-again c = expand-again _ _ _ _ _ _ _ _ _ _ _ _ _
     (c .before .before .before .before .before .before .before .before .loop .inv)
     (c .before .before .before .before .step .ensures) (c .before .before .visit .kept .0)
     (c .before .before .visit .ensures)
@@ -148,7 +149,8 @@ same-length : tie.Need-same-length Inv-loop μ-loop
 same-length c = c .before .loop .inv .len
 
 returns : tie.Need-returns Inv-loop μ-loop
-returns c = (expand-last _ _ _ _ _ _ _ _ _ (c .before .loop .inv) (c .loop-test .left), c .before .loop .inv .graph)
+returns c = (expand-last _ _ _ _ _ _ _ _ _ _ (c .before .loop .inv) (c .loop-test .left),
+    (c .before .loop .inv .graph, c .before .loop .inv .grown))
 
 pub expand-spec : {M : Type 1} → statement M
 expand-spec =

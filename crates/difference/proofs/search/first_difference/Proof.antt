@@ -12,7 +12,7 @@ use Rattle.difference.proofs.search.first_difference.Statement.{stateme
 use Rattle.difference.proofs.search.first_difference.Tie as tie
 
 returns : tie.Need-returns
-returns c = (λ x. ap (λ z. accepting (c .before .before .args .t .f) (c .before .before .args .t .g)
+returns c = (λ x l. ap (λ z. accepting (c .before .before .args .t .f) (c .before .before .args .t .g)
     (after (δ (rest (5 * c .before .before .args .t .n) (c .before .before .args .words .now))
     (c .before .before .args .t .n)) z x)) (c .if1 .taken), refl)
 

@@ -2,8 +2,8 @@
 use borrow.Author.Needs.{needs}
 use borrow.Author.Tests.{lt-ltb, le-ltb, not-true, not-false}
 use Rattle.comparer.specs.inner.Causes.{numberOf}
-use Rattle.comparer.proofs.compare.pair_number.Statement.{statement}
-use Rattle.comparer.proofs.compare.pair_number.Tie as tie
+use Rattle.comparer.proofs.examine.pair_number.Statement.{statement}
+use Rattle.comparer.proofs.examine.pair_number.Tie as tie
 
 returns : tie.Need-returns
 unfolding numberOf

@@ -4,8 +4,8 @@ use Prim.Native.Nat.{_+_, _*_}
 use native.Mathlib.Omega.{arith}
 use borrow.Author.Needs.{needs}
 use Rattle.comparer.proofs.ShowPlay.{play-room, shown-old, shown-new}
-use Rattle.comparer.proofs.compare.show.Statement.{statement}
-use Rattle.comparer.proofs.compare.show.Tie as tie
+use Rattle.comparer.proofs.examine.show.Statement.{statement}
+use Rattle.comparer.proofs.examine.show.Tie as tie
 
 mul-last : tie.Need-mul-last
 mul-last c = search needs
