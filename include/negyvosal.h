@@ -56,7 +56,12 @@ extern "C" {
 
 /* Operator 3 of a sheet, remainder, gives the number from 0 up to, but not including, the absolute value of the right
  * operand that differs from the left operand by a multiple of the right one: -1 remainder 7 is 6. A right operand of 0
- * has no play.
+ * has no play under the overflow rules 0 and 1.
+ *
+ * Byte 1 of a sheet is the overflow rule: 0, a result outside -Z to Z has no play; 1, it wraps around; 2, it becomes
+ * the infinity of its sign. Rule 2 has three more values than -Z to Z: minus infinity, the byte 129 (-127) in a move
+ * record, infinity, 126, and not-a-number, 127. Constants do not reach them (number 3); a remainder by 0 is
+ * not-a-number.
  *
  * Kind 3 of a sheet is a name record with the body of kind 1: id, result type, number of arguments, four argument types
  * (unused ones 255). It declares a name that puts at most one question to its arguments, all taken together, in each

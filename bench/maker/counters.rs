@@ -1,6 +1,6 @@
 //! Blocks inside blocks: counters of several private variables, which a name moves on and looks at.
 
-use crate::sheet::{Data, Heading, Operator, Term, Type};
+use crate::sheet::{Data, Heading, Numbers, Operator, Term, Type};
 use crate::terms::*;
 
 /// Takes a step and a look.
@@ -30,7 +30,7 @@ impl Counter {
     pub fn heading(&self) -> Heading {
         let plain = |id| declared(id, Type::Command, &[]);
         let records = vec![declared(CALLER, Type::Command, &[Type::Command; 2]), plain(C), plain(D)];
-        Heading { z: self.z, wraps: self.wraps, records }
+        Heading { numbers: Numbers { z: self.z, rule: self.wraps as u8 }, records }
     }
 
     pub fn term(&self) -> Term {

@@ -1,6 +1,6 @@
 //! Pairs on which a table of all pairs of positions fills up, though the plays are plain.
 
-use crate::sheet::{Data, Heading, Operator, Term, Type};
+use crate::sheet::{Data, Heading, Numbers, Operator, Term, Type};
 use crate::terms::*;
 
 const C: u8 = 1;
@@ -11,7 +11,7 @@ const FIRST: u8 = 100;
 
 pub fn heading(z: i8, wraps: bool) -> Heading {
     let records = vec![declared(C, Type::Command, &[]), declared(B, TRUTH, &[]), declared(E, NUMBER, &[])];
-    Heading { z, wraps, records }
+    Heading { numbers: Numbers { z, rule: wraps as u8 }, records }
 }
 
 fn commands(count: usize) -> Vec<Term> {

@@ -5,7 +5,7 @@ use crate::exploding::{self, dead_privates, endless};
 use crate::names::{self, User};
 use crate::random::Random;
 use crate::routine::{self, asked_truth, command, taken, Author};
-use crate::sheet::{Data, Heading, Operator, Term, Type};
+use crate::sheet::{Data, Heading, Numbers, Operator, Term, Type};
 use crate::terms::*;
 use crate::tidy::tidied;
 
@@ -74,11 +74,11 @@ fn loops() -> Vec<Pair> {
         let records = vec![declared(8, Type::Command, &[]), declared(9, NUMBER, &[])];
         let e = named(9, NUMBER, vec![]);
         let statement = repeat(operate(Operator::Equal, e.clone(), e), named(8, Type::Command, vec![]));
-        let statements = vec![statement.clone(); (FULL / statement.weight(z)) as usize];
+        let statements = vec![statement.clone(); (FULL / statement.weight(Numbers { z, rule: 0 })) as usize];
         Pair {
             class: Class::Loops,
             what: format!("{} times 'while e = e do c', in groups of 1 and of 5", statements.len()),
-            heading: Heading { z, wraps: z % 2 == 0, records },
+            heading: Heading { numbers: Numbers { z, rule: (z % 2 == 0) as u8 }, records },
             old: in_sequence(&statements, 1),
             new: in_sequence(&statements, 5),
         }
@@ -173,7 +173,7 @@ fn deep_news() -> Vec<Pair> {
 
 /// Lets as many commands follow as the size and the length of a sheet allow.
 fn fill(counter: &mut Counter) {
-    while counter.following < 1200 && counter.term().size(counter.z) + 2 <= FULL {
+    while counter.following < 1200 && counter.term().size(counter.heading().numbers) + 2 <= FULL {
         counter.following += 1;
     }
 }
@@ -201,7 +201,7 @@ fn with_dead_privates() -> Vec<Pair> {
     let all: [(i8, &[Data]); 3] = [(1, &[Truth; 5]), (1, &[Number; 3]), (3, &[Truth, Truth, Number])];
     let one = |(z, variables): (i8, &[Data])| {
         let mut count = 1;
-        while dead_privates(variables, count + 1, true).size(z) <= FULL {
+        while dead_privates(variables, count + 1, true).size(Numbers { z, rule: 0 }) <= FULL {
             count += 1;
         }
         Pair {

@@ -69,8 +69,8 @@ fn write(folder: &Path, number: usize, pair: &Pair, peer: &mut Peer) -> Result<S
     Ok(format!(
         "{number:02} {} | {} {} {} | {} {} | {shown} | {} | {what}\n",
         class.name(),
-        heading.z,
-        heading.wraps as u8,
+        heading.numbers.z,
+        heading.numbers.rule,
         a.term.gives.byte(),
         a.size,
         b.size,

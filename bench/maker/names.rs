@@ -1,7 +1,7 @@
 //! Terms of any type over 32 declared names, with up to four arguments of all types.
 
 use crate::random::Random;
-use crate::sheet::{Heading, Record, Term, Type};
+use crate::sheet::{Heading, Numbers, Record, Term, Type};
 use crate::terms::*;
 
 const NAMES: usize = 32;
@@ -19,7 +19,7 @@ pub fn heading(random: &mut Random, z: i8, wraps: bool) -> Heading {
         let arguments: Vec<Type> = (0..count).map(|_| random.choose(&Type::ALL)).collect();
         records.push(declared(id, Type::ALL[id as usize % Type::ALL.len()], &arguments));
     }
-    Heading { z, wraps, records }
+    Heading { numbers: Numbers { z, rule: wraps as u8 }, records }
 }
 
 /// Makes terms over such a heading.
@@ -31,14 +31,14 @@ pub struct User<'a> {
 impl User<'_> {
     /// Uses of names in sequence, and at last one of that type, with a size of at least `size`.
     pub fn whole(&mut self, wanted: Type, size: u64) -> Term {
-        let z = self.heading.z;
-        let weight = (size - 2 - wanted.answers(z)) / wanted.questions(z) + 1;
+        let numbers = self.heading.numbers;
+        let weight = (size - 2 - wanted.answers(numbers)) / wanted.questions(numbers) + 1;
         let last = self.used(wanted, weight / 4, 5);
-        let (mut commands, mut total) = (Vec::new(), last.weight(z));
+        let (mut commands, mut total) = (Vec::new(), last.weight(numbers));
         while total < weight {
             let left = (weight - total).min(weight / 8);
             let command = self.used(Type::Command, left, 5);
-            total += command.weight(z);
+            total += command.weight(numbers);
             commands.push(command);
         }
         sequence(in_sequence(&commands, 1), last)
@@ -58,11 +58,11 @@ impl User<'_> {
 
     /// A use of the name, if its arguments can be had within the weight.
     fn with_arguments(&mut self, id: u8, result: Type, wanted: &[Type], weight: u64, depth: usize) -> Option<Term> {
-        let z = self.heading.z;
+        let numbers = self.heading.numbers;
         let share = weight.checked_sub(2)? / wanted.len().max(1) as u64;
         let mut arguments = Vec::new();
         for &t in wanted {
-            let left = share.checked_sub(t.answers(z))? / t.questions(z);
+            let left = share.checked_sub(t.answers(numbers))? / t.questions(numbers);
             if left < 2 || depth == 0 {
                 return None;
             }

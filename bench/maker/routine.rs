@@ -1,7 +1,7 @@
 //! Routines: statements in sequence over a few declared names, with private variables here and there.
 
 use crate::random::Random;
-use crate::sheet::{Data, Heading, Operator, Term, Type};
+use crate::sheet::{Data, Heading, Numbers, Operator, Term, Type};
 use crate::terms::*;
 
 const COMMANDS: [u8; 4] = [10, 11, 12, 13];
@@ -31,7 +31,7 @@ pub fn heading(z: i8, wraps: bool) -> Heading {
     records.push(declared(F, Type::Command, &[Type::Command]));
     records.push(declared(G, Type::Command, &[NUMBER, Type::Command]));
     records.push(declared(H, NUMBER, &[NUMBER]));
-    Heading { z, wraps, records }
+    Heading { numbers: Numbers { z, rule: wraps as u8 }, records }
 }
 
 pub fn command(number: usize) -> Term {
@@ -73,7 +73,7 @@ impl Author<'_> {
         let (mut statements, mut total) = (Vec::new(), 0);
         while total < weight {
             let statement = self.statement();
-            let own = statement.weight(self.z);
+            let own = statement.weight(Numbers { z: self.z, rule: 0 });
             if own <= self.heaviest && total + own < weight + SLACK {
                 total += own;
                 statements.push(statement);

@@ -18,7 +18,7 @@ const TRIALS: usize = 20_000;
 pub fn tidied(random: &mut Random, heading: &Heading, term: &Term, size: u64) -> Term {
     let mut copy = term.clone();
     let mut trials = 0;
-    while copy.size(heading.z) < size {
+    while copy.size(heading.numbers) < size {
         trials += 1;
         assert!(trials < TRIALS, "no tidied copy is long enough");
         let mut next = copy.clone();

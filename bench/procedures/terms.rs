@@ -1,13 +1,13 @@
 //! Short names for the terms that sheets with procedures are made of. All are commands but the guards of loops.
 
-use crate::sheet::{Data, Heading, Kind, Procedure, Record, Term, Type};
+use crate::sheet::{Data, Heading, Kind, Numbers, Procedure, Record, Term, Type};
 
 /// The one declared name, a command.
 pub const NAME: u8 = 8;
 
 pub fn heading() -> Heading {
     let record = Record::Declare { once: false, id: NAME, result: Type::Command, arguments: vec![] };
-    Heading { z: 1, wraps: false, records: vec![record] }
+    Heading { numbers: Numbers { z: 1, rule: 0 }, records: vec![record] }
 }
 
 pub fn name() -> Term {

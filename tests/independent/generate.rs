@@ -1,13 +1,13 @@
 //! Random valid headings and terms.
 
 use crate::random::Random;
-use crate::sheet::{Data, Heading, Kind, Operator, Procedure, Record, Term, Type};
+use crate::sheet::{Data, Heading, Kind, Numbers, Operator, Procedure, Record, Term, Type};
 
 /// A heading with some plain names, of about half of the types, and up to `most` other name records.
 pub fn heading(random: &mut Random, most: usize) -> Heading {
     let z = random.choose(&[1, 1, 1, 1, 2, 2, 3, 4, 5, 6, 7]);
-    let wraps = random.one_in(2);
-    let mut heading = Heading { z, wraps, records: Vec::new() };
+    let rule = random.choose(&[0, 1, 2]);
+    let mut heading = Heading { numbers: Numbers { z, rule }, records: Vec::new() };
     for result in Type::ALL {
         if random.one_in(2) {
             add(random, &mut heading, |random, id| {
@@ -100,8 +100,8 @@ impl<'a> Generator<'a> {
 
     /// A term of that type whose size is near the one asked for.
     pub fn whole(&mut self, wanted: Type, size: u64) -> Term {
-        let z = self.heading.z;
-        let weight = size.saturating_sub(2 + wanted.answers(z)) / wanted.questions(z);
+        let numbers = self.heading.numbers;
+        let weight = size.saturating_sub(2 + wanted.answers(numbers)) / wanted.questions(numbers);
         self.term(wanted, weight, 30)
     }
 
@@ -148,7 +148,7 @@ impl<'a> Generator<'a> {
     }
 
     pub fn constant(&mut self, data: Data) -> Term {
-        let mut values: Vec<i8> = data.values(self.heading.z).collect();
+        let mut values: Vec<i8> = data.constants(self.heading.numbers).collect();
         if data == Data::Number && self.random.one_in(2) {
             values = vec![-1, 0, 1];
         }
@@ -205,7 +205,8 @@ impl<'a> Generator<'a> {
         let kind = self.kind_of_use(id);
         let shares = self.shares(weight, arguments.len());
         let parts = arguments.iter().zip(shares).map(|(&wanted, share)| {
-            let asked = share.saturating_sub(wanted.answers(self.heading.z)) / wanted.questions(self.heading.z);
+            let asked =
+                share.saturating_sub(wanted.answers(self.heading.numbers)) / wanted.questions(self.heading.numbers);
             self.term(wanted, asked, depth - 1)
         });
         let parts = parts.collect();
@@ -304,7 +305,7 @@ impl<'a> Generator<'a> {
     fn block(&mut self, weight: u64, depth: usize) -> Term {
         let (id, data) = (self.binder_id(&[]), self.random.choose(&Data::ALL));
         self.scope.push((id, Meaning::Private(data)));
-        let body = self.term(Type::Command, weight / data.count(self.heading.z), depth - 1);
+        let body = self.term(Type::Command, weight / data.count(self.heading.numbers), depth - 1);
         self.scope.pop();
         Term::new(Kind::New { id, data }, vec![body])
     }
@@ -324,7 +325,7 @@ impl<'a> Generator<'a> {
             return self.block(weight, depth);
         };
         let shares = self.shares(weight, 2);
-        let variable = self.term(Type::Variable(data), shares[0] / data.count(self.heading.z), depth - 1);
+        let variable = self.term(Type::Variable(data), shares[0] / data.count(self.heading.numbers), depth - 1);
         let value = self.term(Type::Expression(data), shares[1], depth - 1);
         Term::new(Kind::Assign, vec![variable, value])
     }
@@ -348,7 +349,7 @@ impl<'a> Generator<'a> {
         let operand = Type::Expression(operator.takes());
         let shares = self.shares(weight, 2);
         let left = self.term(operand, shares[0], depth - 1);
-        let right = self.term(operand, shares[1] / operator.takes().count(self.heading.z), depth - 1);
+        let right = self.term(operand, shares[1] / operator.takes().count(self.heading.numbers), depth - 1);
         Term::new(Kind::Operate(operator), vec![left, right])
     }
 

@@ -139,7 +139,7 @@ impl<'a> Player<'a> {
 
     fn start(&self, from: &Configuration<'a>) -> Step<'a> {
         let whole = Placed { at: At(&self.sheet.term), scope: None };
-        let questions = Question::all(self.sheet.term.gives, self.sheet.heading.z).into_iter();
+        let questions = Question::all(self.sheet.term.gives, self.sheet.heading.numbers).into_iter();
         Step::Moves(questions.map(|q| (q.at(WHOLE, 0), from.to(Now::Asked(whole, q)))).collect())
     }
 
@@ -193,14 +193,14 @@ impl<'a> Player<'a> {
 
     /// The name answers, or asks one of its arguments.
     fn waiting(&mut self, from: &Configuration<'a>, call: Call<'a>) -> Step<'a> {
-        let z = self.sheet.heading.z;
-        let answers = call.question.answers(call.result, z).into_iter();
+        let numbers = self.sheet.heading.numbers;
+        let answers = call.question.answers(call.result, numbers).into_iter();
         let mut moves: Vec<_> = answers.map(|a| (a.at(call.id, 0), from.to(Now::Answered(a)))).collect();
         let arguments = if call.spent { 0 } else { call.at.at.0.parts.len() };
         for (i, j) in (0..arguments).zip(1..) {
             let argument = call.at.part(i);
             let waits = self.pushed(from, Frame::Argument(call, j));
-            for asked in Question::all(argument.at.0.gives, z) {
+            for asked in Question::all(argument.at.0.gives, numbers) {
                 moves.push((asked.at(call.id, j), waits.to(Now::Asked(argument, asked))));
             }
         }

@@ -1,6 +1,6 @@
 //! Moves, questions and answers, and what operators give.
 
-use crate::sheet::{Heading, Operator, Type};
+use crate::sheet::{Heading, Numbers, Operator, Type, INFINITIES, INFINITY, MINUS_INFINITY, NOT_A_NUMBER, NO_PLAY};
 
 /// A move. The order of the fields is document 01's order of moves; moves without a value have 0.
 #[derive(Clone, Copy, Debug, PartialEq, Eq, PartialOrd, Ord, Hash)]
@@ -47,12 +47,12 @@ pub enum Answer {
 }
 
 impl Question {
-    pub fn all(of: Type, z: i8) -> Vec<Question> {
+    pub fn all(of: Type, numbers: Numbers) -> Vec<Question> {
         match of {
             Type::Command => vec![Question::Run],
             Type::Expression(_) => vec![Question::Ask],
             Type::Variable(data) => {
-                let writes = data.values(z).map(Question::Write);
+                let writes = data.values(numbers).into_iter().map(Question::Write);
                 std::iter::once(Question::Read).chain(writes).collect()
             }
         }
@@ -69,11 +69,13 @@ impl Question {
     }
 
     /// The answers to the question when it is put to something of that type.
-    pub fn answers(self, of: Type, z: i8) -> Vec<Answer> {
+    pub fn answers(self, of: Type, numbers: Numbers) -> Vec<Answer> {
         match (self, of.data()) {
             (Question::Run, _) => vec![Answer::Done],
             (Question::Write(_), _) => vec![Answer::Ok],
-            (Question::Ask | Question::Read, Some(data)) => data.values(z).map(Answer::Value).collect(),
+            (Question::Ask | Question::Read, Some(data)) => {
+                data.values(numbers).into_iter().map(Answer::Value).collect()
+            }
             (Question::Ask | Question::Read, None) => vec![],
         }
     }
@@ -99,6 +101,9 @@ impl Answer {
 
 /// The result of an operator, or none where it has no play.
 pub fn operate(operator: Operator, left: i8, right: i8, heading: &Heading) -> Option<i8> {
+    if heading.numbers.rule == INFINITIES {
+        return Some(operate_reals(operator, left, right, heading.numbers.z));
+    }
     let (a, b) = (left as i32, right as i32);
     match operator {
         Operator::Plus => fit(a + b, heading),
@@ -113,10 +118,50 @@ pub fn operate(operator: Operator, left: i8, right: i8, heading: &Heading) -> Op
     }
 }
 
-/// The overflow rule.
+/// The result under rule 2, by the arithmetic of IEEE 754.
+fn operate_reals(operator: Operator, left: i8, right: i8, z: i8) -> i8 {
+    let (a, b) = (real(left), real(right));
+    match operator {
+        Operator::Plus => value(a + b, z),
+        Operator::Minus => value(a - b, z),
+        Operator::Times => value(a * b, z),
+        Operator::Remainder if a.is_infinite() || b.is_infinite() => NOT_A_NUMBER,
+        Operator::Remainder => value(a.rem_euclid(b), z),
+        Operator::Equal => (a == b) as i8,
+        Operator::Less => (a < b) as i8,
+        Operator::Alike => (left == right) as i8,
+        Operator::And => (left == 1 && right == 1) as i8,
+        Operator::Or => (left == 1 || right == 1) as i8,
+    }
+}
+
+fn real(value: i8) -> f64 {
+    match value {
+        MINUS_INFINITY => f64::NEG_INFINITY,
+        INFINITY => f64::INFINITY,
+        NOT_A_NUMBER => f64::NAN,
+        number => number as f64,
+    }
+}
+
+fn value(real: f64, z: i8) -> i8 {
+    if real.is_nan() {
+        return NOT_A_NUMBER;
+    }
+    if real.abs() <= z as f64 {
+        return real as i8;
+    }
+    if real < 0.0 {
+        MINUS_INFINITY
+    } else {
+        INFINITY
+    }
+}
+
+/// The overflow rules 0 and 1.
 fn fit(mut result: i32, heading: &Heading) -> Option<i8> {
-    let z = heading.z as i32;
-    if !heading.wraps && !(-z..=z).contains(&result) {
+    let z = heading.numbers.z as i32;
+    if heading.numbers.rule == NO_PLAY && !(-z..=z).contains(&result) {
         return None;
     }
     while result > z {

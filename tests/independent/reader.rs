@@ -3,7 +3,7 @@
 //! The reader keeps the open records, those with parts still to come, on a stack of its own. A record is closed as soon
 //! as its last byte is read; closing judges its type as a part of the record below it, and may close that one too.
 
-use crate::sheet::{Data, Heading, Kind, Operator, Procedure, Record, Term, Type};
+use crate::sheet::{Data, Heading, Kind, Numbers, Operator, Procedure, Record, Term, Type};
 
 pub const LONGEST: usize = 4096;
 pub const LARGEST: u64 = 4096;
@@ -74,7 +74,7 @@ pub fn read_under(rule: Rule, bytes: &[u8]) -> Result<Sheet, Fault> {
     if bytes.len() > LONGEST {
         return fault(1, LONGEST);
     }
-    let heading = Heading { z: 0, wraps: false, records: Vec::new() };
+    let heading = Heading { numbers: Numbers { z: 0, rule: 0 }, records: Vec::new() };
     let mut reader = Reader { rule, bytes, at: 0, heading, open: Vec::new() };
     reader.read_heading()?;
     let heading_length = reader.at;
@@ -82,7 +82,7 @@ pub fn read_under(rule: Rule, bytes: &[u8]) -> Result<Sheet, Fault> {
     if reader.at < bytes.len() {
         return fault(10, reader.at);
     }
-    let size = term.size(reader.heading.z);
+    let size = term.size(reader.heading.numbers);
     if size > LARGEST {
         return fault(11, 0);
     }
@@ -136,8 +136,8 @@ impl Reader<'_> {
     }
 
     fn read_heading(&mut self) -> Result<(), Fault> {
-        self.heading.z = self.next(|b| (1..=7).contains(&b).then_some(b as i8))?;
-        self.heading.wraps = self.next(|b| (b < 2).then_some(b == 1))?;
+        self.heading.numbers.z = self.next(|b| (1..=7).contains(&b).then_some(b as i8))?;
+        self.heading.numbers.rule = self.next(|b| (b < 3).then_some(b))?;
         while let Some(&kind @ 1..=3) = self.bytes.get(self.at) {
             if self.heading.records.len() == MOST_RECORDS {
                 return fault(9, self.at);
@@ -212,8 +212,8 @@ impl Reader<'_> {
     }
 
     fn next_number(&mut self) -> Result<i8, Fault> {
-        let z = self.heading.z;
-        self.next(|b| Data::Number.values(z).contains(&(b as i8)).then_some(b as i8))
+        let numbers = self.heading.numbers;
+        self.next(|b| Data::Number.constants(numbers).contains(&(b as i8)).then_some(b as i8))
     }
 
     /// The body of a procedure's record.

@@ -28,17 +28,27 @@ impl Data {
         }
     }
 
-    /// The values, from the lowest.
-    pub fn values(self, z: i8) -> std::ops::RangeInclusive<i8> {
+    /// The values that constants have, from the lowest.
+    pub fn constants(self, numbers: Numbers) -> std::ops::RangeInclusive<i8> {
         match self {
             Data::Truth => 0..=1,
-            Data::Number => -z..=z,
+            Data::Number => -numbers.z..=numbers.z,
         }
     }
 
+    /// The values, from the lowest.
+    pub fn values(self, numbers: Numbers) -> Vec<i8> {
+        let constants = self.constants(numbers);
+        if self == Data::Number && numbers.rule == INFINITIES {
+            let ends = [INFINITY, NOT_A_NUMBER];
+            return std::iter::once(MINUS_INFINITY).chain(constants).chain(ends).collect();
+        }
+        constants.collect()
+    }
+
     /// How many values there are: document 01's K.
-    pub fn count(self, z: i8) -> u64 {
-        self.values(z).count() as u64
+    pub fn count(self, numbers: Numbers) -> u64 {
+        self.values(numbers).len() as u64
     }
 }
 
@@ -75,19 +85,19 @@ impl Type {
     }
 
     /// How many questions there are.
-    pub fn questions(self, z: i8) -> u64 {
+    pub fn questions(self, numbers: Numbers) -> u64 {
         match self {
             Type::Command | Type::Expression(_) => 1,
-            Type::Variable(data) => 1 + data.count(z),
+            Type::Variable(data) => 1 + data.count(numbers),
         }
     }
 
     /// How many answers there are, summed over the questions.
-    pub fn answers(self, z: i8) -> u64 {
+    pub fn answers(self, numbers: Numbers) -> u64 {
         match self {
             Type::Command => 1,
-            Type::Expression(data) => data.count(z),
-            Type::Variable(data) => 2 * data.count(z),
+            Type::Expression(data) => data.count(numbers),
+            Type::Variable(data) => 2 * data.count(numbers),
         }
     }
 }
@@ -173,11 +183,26 @@ impl Record {
     }
 }
 
+/// Two of the overflow rules: a result out of range has no play, or becomes an infinity. Under rule 1 it wraps around.
+pub const NO_PLAY: u8 = 0;
+pub const INFINITIES: u8 = 2;
+
+/// The bytes of the values that are no numbers.
+pub const MINUS_INFINITY: i8 = -127;
+pub const INFINITY: i8 = 126;
+pub const NOT_A_NUMBER: i8 = 127;
+
+/// The range of numbers, -Z to Z, and the overflow rule.
+#[derive(Clone, Copy, Debug, PartialEq)]
+pub struct Numbers {
+    pub z: i8,
+    pub rule: u8,
+}
+
 /// The bytes up to the term: the range of numbers, the overflow rule and the name records.
 #[derive(Clone, Debug, PartialEq)]
 pub struct Heading {
-    pub z: i8,
-    pub wraps: bool,
+    pub numbers: Numbers,
     pub records: Vec<Record>,
 }
 
@@ -187,7 +212,7 @@ impl Heading {
     }
 
     pub fn write(&self, out: &mut Vec<u8>) {
-        out.extend([self.z as u8, self.wraps as u8]);
+        out.extend([self.numbers.z as u8, self.numbers.rule]);
         self.records.iter().for_each(|r| r.write(out));
     }
 }
@@ -356,14 +381,14 @@ impl Term {
     }
 
     /// The weight of a term in which nothing is used that is bound outside of it.
-    pub fn weight(&self, z: i8) -> u64 {
-        Weigher::new(z).weight(self, &mut Vec::new())
+    pub fn weight(&self, numbers: Numbers) -> u64 {
+        Weigher::new(numbers).weight(self, &mut Vec::new())
     }
 
     /// Document 01's reckoned size of a whole term.
-    pub fn size(&self, z: i8) -> u64 {
-        let asked = self.gives.questions(z).saturating_mul(self.weight(z));
-        asked.saturating_add(2 + self.gives.answers(z))
+    pub fn size(&self, numbers: Numbers) -> u64 {
+        let asked = self.gives.questions(numbers).saturating_mul(self.weight(numbers));
+        asked.saturating_add(2 + self.gives.answers(numbers))
     }
 }
 

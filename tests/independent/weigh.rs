@@ -6,7 +6,7 @@
 //! held at a weight that no accepted sheet has, so that there are not too many environments.
 
 use crate::reader::LARGEST;
-use crate::sheet::{Kind, Procedure, Term};
+use crate::sheet::{Kind, Numbers, Procedure, Term};
 use std::collections::HashMap;
 
 const TOO_HEAVY: u64 = LARGEST + 1;
@@ -56,18 +56,18 @@ pub type Scope<'a> = Vec<Bound<'a>>;
 
 /// Weighs terms of one sheet.
 pub struct Weigher<'a> {
-    z: i8,
+    numbers: Numbers,
     /// The weights of procedures' terms by their environment, whose innermost entry tells the procedure.
     known: HashMap<Scope<'a>, u64>,
 }
 
 impl<'a> Weigher<'a> {
-    pub fn new(z: i8) -> Weigher<'a> {
-        Weigher { z, known: HashMap::new() }
+    pub fn new(numbers: Numbers) -> Weigher<'a> {
+        Weigher { numbers, known: HashMap::new() }
     }
 
     pub fn weight(&mut self, term: &'a Term, scope: &mut Scope<'a>) -> u64 {
-        let count = |i: usize| term.parts[i].gives.data().map_or(1, |d| d.count(self.z));
+        let count = |i: usize| term.parts[i].gives.data().map_or(1, |d| d.count(self.numbers));
         match &term.kind {
             Kind::Skip | Kind::Diverge(_) | Kind::Constant(..) => 1,
             Kind::Private { .. } => 2,
@@ -81,7 +81,7 @@ impl<'a> Weigher<'a> {
                 self.sum(&parts, scope)
             }
             Kind::New { id, data } => {
-                let times = data.count(self.z);
+                let times = data.count(self.numbers);
                 times.saturating_mul(self.inside(Bound::Block(*id), &term.parts[0], scope))
             }
             Kind::Procedure(procedure) => {
@@ -100,8 +100,8 @@ impl<'a> Weigher<'a> {
     }
 
     fn use_of_name(&mut self, term: &'a Term, once: bool, scope: &mut Scope<'a>) -> u64 {
-        let asked: Vec<(u64, &Term)> = term.parts.iter().map(|p| (p.gives.questions(self.z), p)).collect();
-        let answers: u64 = term.parts.iter().map(|p| p.gives.answers(self.z)).sum();
+        let asked: Vec<(u64, &Term)> = term.parts.iter().map(|p| (p.gives.questions(self.numbers), p)).collect();
+        let answers: u64 = term.parts.iter().map(|p| p.gives.answers(self.numbers)).sum();
         self.sum(&asked, scope).saturating_add(2 + once as u64 + answers)
     }
 

@@ -108,8 +108,8 @@ module _ (ws space : List ℕ) (all more : ℕ) (D : Deciding ws space all more)
   -- many moves
   pub decided-same : (most : ℕ) (ws₁ : List ℕ) (v : Verdict) → v ≡ verdict.Same →
       Outcome G (task all more most) ws₁ v → Verdicts N T M M′ most space Same space
-  decided-same most ws₁ v e o = alike refl (same-plays (D .z-below) (D .typed) (D .other-typed) (B .shows) shows-second
-      (B .graph) (B .settled) (D .type-in) (D .term-in) (D .other-in) most agree) refl
+  decided-same most ws₁ v e o = alike refl (same-plays (omega (arith, D .z-below)) (D .typed) (D .other-typed)
+      (B .shows) shows-second (B .graph) (B .settled) (D .type-in) (D .term-in) (D .other-in) most agree) refl
     where
       told : Outcome G (task all more most) ws₁ verdict.Same
       told = subst (λ v. Outcome G (task all more most) ws₁ v) e o
@@ -127,8 +127,8 @@ module _ (ws space : List ℕ) (all more : ℕ) (D : Deciding ws space all more)
     found : FoundPlay N T M M′ (after (δ G n) 0 (told .word)) (reversed (told .word))
     found =
         subst (λ p. FoundPlay N T M M′ p (reversed (told .word))) (walk-reversed (δ G n) 0 (told .word))
-          (first-play (D .z-below) (D .typed) (D .other-typed) (B .shows) shows-second (B .graph) (B .settled)
-            (D .type-in) (D .term-in) (D .other-in) (reversed (told .word)) first)
+          (first-play (omega (arith, D .z-below)) (D .typed) (D .other-typed) (B .shows) shows-second (B .graph)
+            (B .settled) (D .type-in) (D .term-in) (D .other-in) (reversed (told .word)) first)
       where
         given : FirstWord n (δ G n) (accepting (all - 1) (all + more - 1)) 0 all (reversed (told .word))
         given = first-word _ _ _ _ _ (told .word) (told .first)
@@ -176,7 +176,7 @@ module _ (ws space : List ℕ) (all more : ℕ) (D : Deciding ws space all more)
           (rw (found .moves, ← same-letters) (s .answer)) (found-only (getD ws₁ (n + 4 * k) 0) ends-there)
           (found .earlier) (omega (arith, found .moves, reversed-length (told .word), told .within))
           (s .written ∙ rw (same-letters, ← found .spells)
-            (records-written N (D .z-below) (found .word) found-small space
+            (records-written N (omega (arith, D .z-below)) (found .word) found-small space
               (omega (arith, found-short, D .space-room))))
       where
         same-letters : s .letters ≡ reversed (told .word)

@@ -4,11 +4,14 @@ use mathlib.Core.Option.{Option, none, some}
 use mathlib.Core.List.{List}
 use Prim.Native.Nat.{ℕ, _+_, _*_, _-_, _≤_, _<_, min}
 use native.Mathlib.Omega.{arith}
+use native.Mathlib.Nat.{mul-le-mul-right}
 use lib.Dec.{eqb, ltb}
 use lib.ListN.{length, getD, replicate}
 use borrow.Author.Tests.{lt-ltb, le-ltb, eqb-true, eq-eqb}
 use Rattle.language.specs.declared.Numbers.{Numbers}
 use Rattle.language.specs.Choice.{pick}
+use Rattle.language.specs.Number.{numbers}
+use Rattle.language.proofs.NumberLaws.{numbers-within}
 use Rattle.language.specs.Weight.{size}
 use Rattle.machine.specs.Sheet.{spots}
 use Rattle.machine.proofs.Accepts.{spots-size}
@@ -125,11 +128,14 @@ module _ {N : Numbers} {ty : ℕ} {s : List ℕ} {row all : ℕ} {t : List ℕ} 
     -- there is room to mark its live states
     pub opened-markable : length ws′ ≡ length ws → Markable (all + 1) (all - 1) ws′
     opened-markable len =
-        let few : getD (rest (5 * (all + 1)) ws′) (all + 1) 0 ≤ 8 * (all + 1) =
-              omega (arith, built .settled .first (all + 1) (omega arith), built .few) in
+        let most : 1 + numbers N ≤ 19 = omega (arith, numbers-within N, F .z-below) in
+        let few : 2 * getD (rest (5 * (all + 1)) ws′) (all + 1) 0 ≤ 19 * (all + 1) =
+              omega (arith, built .settled .first (all + 1) (omega arith), built .few,
+                mul-le-mul-right (all + 1) most) in
         record
           { single = opened-single; end = omega (arith, F .some)
-          ; few = omega (arith, opened-single .graph .few); room = omega arith }
+          ; few = omega (arith, opened-single .graph .few); room = omega (arith, F .some)
+          ; link-room = omega (arith, F .some) }
 
     -- its live states are marked
     module _ (ws″ : List ℕ) (M : Marks (rest (5 * (all + 1)) ws′) (all + 1) (all - 1) ws″ ×

@@ -91,7 +91,7 @@ module _ (S : Sheet) (A : Accepted S) (n : ℕ) (ws : List ℕ)
   G = rest (5 * n) ws
 
   -- its numbers and its type are in range, and every move of its plays has a letter
-  few : N .z ≤ 7
+  few : N .z ≤ 125
   few = omega (arith, A .ordered .z-below)
 
   in-type : TyIn N T

@@ -155,7 +155,7 @@ module _ (T : Ty) (M : Term) where
     ; stays = λ m. moved-moves (steps T M) 0 n room dead m }
 
   -- a term has no complete play, or one of at most size - 1 moves
-  none-or-short : (N : Numbers) → N .z ≤ 127 → Typed [] M T → TyIn N T → InRange N M →
+  none-or-short : (N : Numbers) → N .z ≤ 125 → Typed [] M T → TyIn N T → InRange N M →
       ((u : Word) → Complete T M u → ⊥) ⊎ ((v : Word) × (Complete T M v × (length v ≤ size T M - 1)))
   none-or-short N few t b r =
       by (same-or-short N few n σ closed fin (packed 0 n (begin T M)) (n - 1)
@@ -171,7 +171,7 @@ module _ (T : Ty) (M : Term) where
       by (inr (v, l, in-second d f)) = absurd d
 
   -- THEOREM: a term with a complete play has one of at most size - 1 moves
-  pub play-short : (N : Numbers) → N .z ≤ 127 → Typed [] M T → TyIn N T → InRange N M →
+  pub play-short : (N : Numbers) → N .z ≤ 125 → Typed [] M T → TyIn N T → InRange N M →
       (u : Word) → Complete T M u → (v : Word) × (Complete T M v × (length v ≤ size T M - 1))
   play-short N few t b r u c = by (none-or-short N few t b r)
     where
@@ -181,7 +181,7 @@ module _ (T : Ty) (M : Term) where
       by (inr p) = p
 
   -- a term has a complete play or none
-  pub play-or-none : (N : Numbers) → N .z ≤ 127 → Typed [] M T → TyIn N T → InRange N M →
+  pub play-or-none : (N : Numbers) → N .z ≤ 125 → Typed [] M T → TyIn N T → InRange N M →
       ((u : Word) × Complete T M u) ⊎ ((u : Word) → Complete T M u → ⊥)
   play-or-none N few t b r = by (none-or-short N few t b r)
     where
@@ -280,7 +280,7 @@ module _ (T : Ty) (M M′ : Term) where
 
   -- THEOREM: terms of which neither has a complete play of at most size + size - 1 moves that the other has not have the
   -- same complete plays
-  pub differ-short : (N : Numbers) → N .z ≤ 127 → Typed [] M T → Typed [] M′ T → TyIn N T → InRange N M →
+  pub differ-short : (N : Numbers) → N .z ≤ 125 → Typed [] M T → Typed [] M′ T → TyIn N T → InRange N M →
       InRange N M′ →
       ((u : Word) → length u ≤ size T M + size T M′ - 1 → Complete T M u → (Complete T M′ u → ⊥) → ⊥) →
       ((u : Word) → length u ≤ size T M + size T M′ - 1 → Complete T M′ u → (Complete T M u → ⊥) → ⊥) →

@@ -26,7 +26,7 @@ unfolding letters
 letters-length N [] = refl
 letters-length N (m ∷ u) = ap suc (letters-length N u)
 
-module _ (N : Numbers) (few : N .z ≤ 127) where
+module _ (N : Numbers) (few : N .z ≤ 125) where
   -- the first move that differs has the first letter that differs
   letters-lex : (u v : Word) → AllSmall N u → AllSmall N v → First N u v → Lex (letters N u) (letters N v)
   unfolding letters AllSmall

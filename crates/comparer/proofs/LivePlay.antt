@@ -30,7 +30,7 @@ walk-append : (d : ℕ → ℕ → ℕ) (p : ℕ) (w x : List ℕ) → walk d p 
 walk-append d p [] x = refl
 walk-append d p (m ∷ w) x = walk-append d (d p m) w x
 
-module _ {T : Ty} {M : Term} {N : Numbers} {S G G′ : List ℕ} {n : ℕ} (few : N .z ≤ 7) (t : Typed [] M T)
+module _ {T : Ty} {M : Term} {N : Numbers} {S G G′ : List ℕ} {n : ℕ} (few : N .z ≤ 125) (t : Typed [] M T)
     (E : Explicit N S G n 0 (steps T M)) (g : Graph G n) (R : Settling n S G G′) (b : TyIn N T)
     (r : InRange N M) where
   -- THEOREM: after the letters w the end is in reach exactly if w begins the letters of a complete play

@@ -67,7 +67,7 @@ module _ {N : Numbers} {S G G′ : List ℕ} {n o K : ℕ} {step : Index K → A
   dead-walk (l ∷ w) = rw (still-dead (n - 1) l (omega (arith, E .room)) (E .dead-edges l)) (dead-walk w)
 
   -- every word of letters
-  spelled : N .z ≤ 7 → (w : List ℕ) (x : Next (Index K) (Unit {0})) → Spelled N G′ n (packed o n x) w
+  spelled : N .z ≤ 125 → (w : List ℕ) (x : Next (Index K) (Unit {0})) → Spelled N G′ n (packed o n x) w
   unfolding letters AllSmall
   spelled few [] x = inl ([], tt, refl)
   spelled few (l ∷ w) x = by (unletter N (omega arith) l) (λ y. spelled few w y)
@@ -82,7 +82,7 @@ module _ {N : Numbers} {S G G′ : List ℕ} {n o K : ℕ} {step : Index K → A
       by (of m s e) f = on m s e (f (next step x m))
 
   -- a walk stays among the states of the automaton
-  own-walk : N .z ≤ 7 → (w : List ℕ) (x : Next (Index K) (Unit {0})) → Own n o K (walk (δ G′ n) (packed o n x) w)
+  own-walk : N .z ≤ 125 → (w : List ℕ) (x : Next (Index K) (Unit {0})) → Own n o K (walk (δ G′ n) (packed o n x) w)
   own-walk few w x = by (spelled few w x)
     where
       by : Spelled N G′ n (packed o n x) w → Own n o K (walk (δ G′ n) (packed o n x) w)
@@ -111,7 +111,7 @@ module _ {T : Ty} {M : Term} {N : Numbers} {S G G′ : List ℕ} {n o : ℕ} (t 
   play-walks b r u c = plays-walk u (plays-small N t b r u c) .1 c
 
   -- THEOREM: a word of letters that leads to the end spells a complete play
-  pub walk-plays : N .z ≤ 7 → (w : List ℕ) → walk (δ G′ n) o w ≡ o + spots T M →
+  pub walk-plays : N .z ≤ 125 → (w : List ℕ) → walk (δ G′ n) o w ≡ o + spots T M →
       (u : Word) × ((letters N u ≡ w) × Complete T M u)
   walk-plays few w a = by (rw (from-start T M t E g R) at (spelled E g R few w (begin T M)))
     where
@@ -120,6 +120,6 @@ module _ {T : Ty} {M : Term} {N : Numbers} {S G G′ : List ℕ} {n o : ℕ} (t 
       by (inr h) = absurd (omega (arith, E .room))
 
   -- THEOREM: a walk stays among the states of the automaton
-  pub stays-in : N .z ≤ 7 → (w : List ℕ) → (walk (δ G′ n) o w ≡ n - 1) ⊎
+  pub stays-in : N .z ≤ 125 → (w : List ℕ) → (walk (δ G′ n) o w ≡ n - 1) ⊎
       ((o ≤ walk (δ G′ n) o w) × (walk (δ G′ n) o w ≤ o + spots T M))
   stays-in few w = rw (from-start T M t E g R) at (own-walk E g R few w (begin T M))

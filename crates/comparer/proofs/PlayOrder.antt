@@ -68,7 +68,7 @@ valued-of (answer done) = bare refl (omega arith)
 valued-of (answer ok) = bare refl (omega arith)
 valued-of (answer (value v)) = valued v refl (omega arith)
 
-module _ (N : Numbers) (few : N .z ≤ 127) where
+module _ (N : Numbers) (few : N .z ≤ 125) where
   -- events of one kind and one value are equal
   same-event : (e f : Event) → Values N (valueOf e) → Values N (valueOf f) → kind e ≡ kind f →
       valueOf e ≡ valueOf f → e ≡ f
@@ -92,7 +92,7 @@ module _ (N : Numbers) (few : N .z ≤ 127) where
               Either (ByValue N (valueOf e) (valueOf f)) (e ≡ f) (ByValue N (valueOf f) (valueOf e))
           go (inl d) = inl (rw (u, v) d)
           go (inr (inl d)) =
-              let q : x ≡ y = signed-injective N x y (rw u at hx) (rw v at hy) d in
+              let q : x ≡ y = signed-injective N few x y (rw u at hx) (rw v at hy) d in
               inr (inl (same-event e f hx hy k (u ∙ ap (λ a. a ∷ []) q ∙ sym v)))
           go (inr (inr d)) = inr (inr (rw (u, v) d))
 

@@ -9,6 +9,7 @@ use Rattle.language.specs.Typing.{Typed}
 use Rattle.language.specs.Weight.{size}
 use Rattle.machine.specs.Range.{TyIn, InRange}
 use Rattle.machine.proofs.Accepts.{spots-size}
+use Rattle.records.specs.Limits.{greatest-z}
 use Rattle.records.specs.declared.refusal.Refusal.{Refusal}
 use Rattle.procedures.specs.Written.{Sheet}
 use Rattle.procedures.specs.Meaning.{tyOf, termOf, typeOf}
@@ -58,7 +59,7 @@ pub record Fit (N : Numbers) (ty : ℕ) (s : List ℕ) (row all : ℕ) (t : List
   pub numbers : sheet .numbers ≡ N
   pub types : typeOf sheet ≡ ty
   pub z-above : 0 < N .z
-  pub z-below : N .z ≤ 7
+  pub z-below : N .z ≤ greatest-z
   pub typed : Typed [] (termOf sheet) (tyOf N ty)
   pub type-in : TyIn N (tyOf N ty)
   pub term-in : InRange N (termOf sheet)
@@ -74,7 +75,7 @@ module _ (S : Sheet) (A : Accepted S) (s t : List ℕ) (row all ty : ℕ) (h : r
   fits {N} e f g r = record
     { sheet = S; reads = h; numbers = e; types = f
     ; z-above = rw (← e) (A .ordered .z-above)
-    ; z-below = rw (← e) (omega (arith, A .ordered .z-below))
+    ; z-below = rw (← e) (A .ordered .z-below)
     ; typed = rw (← e, ← f) (accepted-typed S A)
     ; type-in = rw (← e) (type-in (S .numbers) (A .ordered .z-above) ty)
     ; term-in = rw (← e) (sheet-range S (A .ordered))

@@ -19,7 +19,7 @@ use Rattle.comparer.proofs.WalkingPlays.{Walked, walked-first, walked-s
 
 -- the mark of the state after k records
 abbrev mark : ℕ → List ℕ → List (List ℕ) → ℕ → ℕ
-mark n ws rs k = getD ws (2 * n + stateAfter (rest (5 * n) ws) n rs k) 0
+mark n ws rs k = getD ws (n + stateAfter (rest (5 * n) ws) n rs k) 0
 
 -- of the first i records, `count` are the last after which the state is marked
 pub record Searched (n : ℕ) (ws play : List ℕ) (total p at i count : ℕ) : Type 0 where
@@ -50,17 +50,17 @@ module _ (n : ℕ) (ws play : List ℕ) (total p at i count p′ at′ : ℕ) (S
   same = let e = S .walked .whole in let f = W .whole in cc
 
   -- the state after one more record
-  here : mark n ws (W .all) (i + 1) ≡ getD ws (2 * n + p′) 0
-  here = ap (λ q. getD ws (2 * n + q) 0) (sym (walked-state (rest (5 * n) ws) n play total p′ at′ (i + 1) W))
+  here : mark n ws (W .all) (i + 1) ≡ getD ws (n + p′) 0
+  here = ap (λ q. getD ws (n + q) 0) (sym (walked-state (rest (5 * n) ws) n play total p′ at′ (i + 1) W))
 
   -- it is marked
-  pub search-marked : getD ws (2 * n + p′) 0 ≡ 1 → Searched n ws play total p′ at′ (i + 1) (i + 1)
+  pub search-marked : getD ws (n + p′) 0 ≡ 1 → Searched n ws play total p′ at′ (i + 1) (i + 1)
   search-marked e = record
     { walked = W; upto = omega arith; within = omega arith; alive = inr (here ∙ e)
     ; beyond = λ k a b. absurd (omega arith) }
 
   -- it is not
-  pub search-unmarked : getD ws (2 * n + p′) 0 ≢ 1 → Searched n ws play total p′ at′ (i + 1) count
+  pub search-unmarked : getD ws (n + p′) 0 ≢ 1 → Searched n ws play total p′ at′ (i + 1) count
   search-unmarked e = record
     { walked = W; upto = omega arith; within = omega (arith, S .within)
     ; alive = rw same at (S .alive)

@@ -2,10 +2,11 @@
 use mathlib.Core.Path.{_≡_, refl}
 use mathlib.Core.Bool.{true}
 use native.Mathlib.Decide.{decLt, ℕ-discrete}
-use Rattle.language.specs.Number.{numbers, inRange, modulo, code, signed, fromByte}
+use Rattle.language.specs.Number.{finites, extras, numbers, classOf, special, inRange, modulo, code, signed, fromByte}
 use Rattle.language.specs.Term.{apply, onces}
 use Rattle.language.specs.Typing.{operands}
-use Rattle.language.specs.Operator.{fit, truth, operate}
+use Rattle.language.specs.Operator as operators
+use Rattle.language.specs.Operator.{fit, truth, settled, compared, plusOf, minusOf, equalOf, operate}
 use Rattle.language.specs.Move.{kind, valueOf}
 use Rattle.language.specs.Ty as types
 use Rattle.language.specs.Weight.{weight, size}
@@ -53,8 +54,9 @@ unfolding readUnder checks wholeOf reader.closed bind namesOf namesStep wholeOfS
   judge.below unused fresh argument oftenOf declareAt withName readPart scopeParts scope.opens reader.readRecord partsOf
   onHead sizeIn sheetIn values operandType resultType acceptsPart partType standingOf resultOf countOf argumentOf
   entered shapeOf isNamed isHeld hides variableStanding declaredStanding byteOf onByte withBody limited
-  constant used useOf dataByte newOf bodyOf blank headOf head.headOfShape numbers inRange reader.first rest build
-  written modulo code signed fromByte apply operands fit truth operate kind valueOf declared idOf meant beyond
+  constant used useOf dataByte newOf bodyOf blank headOf head.headOfShape finites extras numbers classOf special
+  inRange reader.first rest build written modulo code signed fromByte apply operands operators.beyond fit truth settled
+  compared plusOf minusOf equalOf operate kind valueOf declared idOf meant beyond
   meaning.meaning tyOf useType typed byMeaning no-terms with-level resolve termOf meaning.typeOf size weight onces
   types.questions types.answers who heard mapNext mapAction when
   map-dec fits? answers-to answers? fits-at? hears? same-move? entry onDone onOk onValue onTruth onSome askVariable

@@ -65,7 +65,7 @@ unfoldable leads : (n : ℕ) → (ℕ → Move → ℕ) → {N : Numbers} {x : �
 leads n σ (of m s e) p = σ p m
 leads n σ (none c) p = n - 1
 
-module _ (N : Numbers) (few : N .z ≤ 127) (n : ℕ) (σ : ℕ → Move → ℕ) where
+module _ (N : Numbers) (few : N .z ≤ 125) (n : ℕ) (σ : ℕ → Move → ℕ) where
   abbrev δ : ℕ → ℕ → ℕ
   δ p x = leads n σ (unletter N few x) p
 

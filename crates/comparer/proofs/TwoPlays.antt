@@ -62,7 +62,7 @@ pub record FoundPlay (N : Numbers) (T : Ty) (M M′ : Term) (p : ℕ) (w : List 
 abbrev pub ends : Ty → Term → Term → ℕ → Bool
 ends T M M′ = accepting (spots T M) (spots T M + 1 + spots T M′)
 
-module _ {T : Ty} {M M′ : Term} {N : Numbers} {S G G′ : List ℕ} {n : ℕ} (few : N .z ≤ 7) (t : Typed [] M T)
+module _ {T : Ty} {M M′ : Term} {N : Numbers} {S G G′ : List ℕ} {n : ℕ} (few : N .z ≤ 125) (t : Typed [] M T)
     (t′ : Typed [] M′ T) (E : Explicit N S G n 0 (steps T M)) (E′ : Explicit N S G n (spots T M + 1) (steps T M′))
     (g : Graph G n) (R : Settling n S G G′) where
   -- the first automaton accepts at its end alone, and so does the second

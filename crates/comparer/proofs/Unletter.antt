@@ -66,7 +66,7 @@ last : (k i j r : ℕ) → i < 256 → j < 256 → r < 256 →
     (k * 16777216 + i * 65536 + j * 256 + r) % 256 ≡ r
 last k i j r hi hj hr = omega arith
 
-module _ (N : Numbers) (few : N .z ≤ 127) where
+module _ (N : Numbers) (few : N .z ≤ 125) where
   -- a move is found again by its letter
   decoded-again : (m : Move) → Small N m → decoded N (letter N m) ≡ m
   unfolding decoded Small letter

@@ -6,7 +6,7 @@ use mathlib.Core.Option.{Option, some}
 use mathlib.Core.Bool.{Bool, true, false}
 use mathlib.Core.List.{List, [], _∷_}
 use Rattle.language.specs.Choice.{pick}
-use Rattle.language.specs.Number.{numbers}
+use Rattle.language.specs.Number.{numbers, finites}
 use Rattle.language.specs.Operators.{takesNumbers}
 use Rattle.language.specs.Ty.{Ty, command, expression, variable, questions, answers}
 use Rattle.language.specs.Term as t
@@ -54,7 +54,7 @@ one-of zero v h = absurd (omega arith)
 one-of (suc m) v h = omega arith
 
 some-operand : (o : Operation) → 0 < operands o
-unfolding operands numbers
+unfolding operands numbers finites
 some-operand o = go (takesNumbers (o .operator))
   where
     go : (b : Bool) → 0 < pick b (numbers (o .over)) 2

@@ -1,71 +1,35 @@
--- The values in the order of their ranks, and the moves and letters that the code makes.
+-- The moves and letters that the code makes.
 use mathlib.Core.Path.{_≡_, refl, sym, ap, _∙_}
-use Prim.Native.Nat.{ℕ, zero, suc, _+_, _*_, _-_, _≤_, _<_}
+use Prim.Native.Nat.{ℕ, zero, suc, _+_, _*_, _≤_, _<_}
 use native.Mathlib.Omega.{arith}
-use native.Mathlib.Decide.{decLt}
 use native.Mathlib.Nat.{mod-eq-of-lt}
-use lib.Dec.{eqb, leb}
-use borrow.Author.Tests.{lt-ltb, le-ltb, le-leb, lt-leb}
+use lib.Dec.{eqb}
 use Rattle.language.specs.declared.Numbers.{Numbers}
 use Rattle.language.specs.Choice.{pick}
 use Rattle.language.specs.Number.{numbers}
+use Rattle.language.proofs.NumberLaws.{numbers-within, numbers-above}
+use Rattle.language.proofs.OrderLaws.{rank-small}
 use Rattle.language.specs.Ty.{run, ask, read, write, done, ok, value}
 use Rattle.language.specs.Move.{Event, question, answer, at, private, Move, move, kind, valueOf}
-use Rattle.explicit.specs.Letter.{rank, ranked, letter, Values, Small}
+use Rattle.explicit.specs.Letter.{ranked, letter, Values, Small}
 use Rattle.automaton.specs.declared.Move.{Move as Record}
 use Rattle.automaton.specs.walk.Shows.{kindQ, valueQ, kindA, valueA, moveOf}
-use Rattle.explicit.specs.inner.Moves.{codeAt, letterOf}
+use Rattle.explicit.specs.inner.Moves.{letterOf}
 
 module _ (N : Numbers) where
-  -- the values below 0, and from 0 on
-  pub code-low : (r : ℕ) → r < N .z → codeAt N r ≡ r + N .z + 1
-  unfolding codeAt
-  code-low r h = rw (lt-ltb r (N .z) h) refl
-
-  pub code-high : (r : ℕ) → N .z ≤ r → codeAt N r ≡ r - N .z
-  unfolding codeAt
-  code-high r h = rw (le-ltb r (N .z) h) refl
-
-  -- the number of a value
-  pub code-below : (r : ℕ) → r < numbers N → codeAt N r < numbers N
-  unfolding numbers
-  code-below r h = cases (decLt r (N .z))
-    where
-      cases : Dec (r < N .z) → codeAt N r < 2 * N .z + 1
-      cases (yes l) = omega (arith, code-low r l)
-      cases (no l) = omega (arith, code-high r (omega arith))
-
-  pub code-of : (v : ℕ) → v < numbers N → (r : ℕ) × (r < numbers N) × (codeAt N r ≡ v)
-  unfolding numbers
-  code-of v h = cases (decLt (N .z) v)
-    where
-      cases : Dec (N .z < v) → (r : ℕ) × (r < 2 * N .z + 1) × (codeAt N r ≡ v)
-      cases (yes l) = (v - N .z - 1, omega arith, omega (arith, code-low (v - N .z - 1) (omega arith)))
-      cases (no l) = (v + N .z, omega arith, omega (arith, code-high (v + N .z) (omega arith)))
-
-  -- ranks rise with the number
-  pub code-rank : (r : ℕ) → r < numbers N → N .z ≤ 7 → rank N (codeAt N r) ≡ 128 + r - N .z
-  unfolding numbers rank
-  code-rank r h few = cases (decLt r (N .z))
-    where
-      cases : Dec (r < N .z) →
-          pick (leb (codeAt N r) (N .z)) (128 + codeAt N r) (128 + codeAt N r - (2 * N .z + 1)) ≡ 128 + r - N .z
-      cases (yes l) = rw (code-low r l, lt-leb (r + N .z + 1) (N .z) (omega arith)) (omega arith)
-      cases (no l) = rw (code-high r (omega arith), le-leb (r - N .z) (N .z) (omega arith)) (omega arith)
-
   -- THEOREM: the code's letter of a move is its letter
-  pub letter-of : N .z ≤ 7 → (m : Move) → Small N m → letterOf N (moveOf m) ≡ letter N m
-  unfolding letterOf moveOf letter Small Values kindQ valueQ kindA valueA kind valueOf ranked numbers
+  pub letter-of : N .z ≤ 125 → (m : Move) → Small N m → letterOf N (moveOf m) ≡ letter N m
+  unfolding letterOf moveOf letter Small Values kindQ valueQ kindA valueA kind valueOf ranked
   letter-of few (move (at i j) (question run)) h = omega (arith, h .0, h .1)
   letter-of few (move (at i j) (question ask)) h = omega (arith, h .0, h .1)
   letter-of few (move (at i j) (question read)) h = omega (arith, h .0, h .1)
   letter-of few (move (at i j) (question (write v))) h =
-      let low : v < 65536 = omega (arith, h .2) in
+      let low : v < 65536 = omega (arith, h .2, numbers-within N) in
       rw (mod-eq-of-lt low) (omega (arith, h .0, h .1))
   letter-of few (move (at i j) (answer done)) h = omega (arith, h .0, h .1)
   letter-of few (move (at i j) (answer ok)) h = omega (arith, h .0, h .1)
   letter-of few (move (at i j) (answer (value v))) h =
-      let low : v < 65536 = omega (arith, h .2) in
+      let low : v < 65536 = omega (arith, h .2, numbers-within N) in
       rw (mod-eq-of-lt low) (omega (arith, h .0, h .1))
   letter-of few (move (private i) e) h = absurd h
 
@@ -146,23 +110,17 @@ kind-small i j (answer (value v)) = omega arith
 
 -- the value of a move that has a letter, and its letter
 pub value-small : (N : Numbers) (m : Move) → Small N m → moveOf m .value < numbers N
-unfolding moveOf valueQ valueA Small Values valueOf numbers
-value-small N (move (at i j) (question run)) h = omega arith
-value-small N (move (at i j) (question ask)) h = omega arith
-value-small N (move (at i j) (question read)) h = omega arith
+unfolding moveOf valueQ valueA Small Values valueOf
+value-small N (move (at i j) (question run)) h = numbers-above N
+value-small N (move (at i j) (question ask)) h = numbers-above N
+value-small N (move (at i j) (question read)) h = numbers-above N
 value-small N (move (at i j) (question (write v))) h = h .2
-value-small N (move (at i j) (answer done)) h = omega arith
-value-small N (move (at i j) (answer ok)) h = omega arith
+value-small N (move (at i j) (answer done)) h = numbers-above N
+value-small N (move (at i j) (answer ok)) h = numbers-above N
 value-small N (move (at i j) (answer (value v))) h = h .2
 value-small N (move (private i) e) h = absurd h
 
-rank-small : (N : Numbers) → N .z ≤ 7 → (v : ℕ) → v < numbers N → rank N v < 256
-unfolding numbers
-rank-small N few v h =
-    let (r, l, e) = code-of N v h in
-    rw (← e) (omega (arith, code-rank N r l few))
-
-pub letter-small : (N : Numbers) → N .z ≤ 7 → (m : Move) → Small N m → letter N m < 134217728
+pub letter-small : (N : Numbers) → N .z ≤ 125 → (m : Move) → Small N m → letter N m < 134217728
 unfolding letter Small Values kind valueOf ranked
 letter-small N few (move (at i j) (question run)) h = omega (arith, h .0, h .1)
 letter-small N few (move (at i j) (question ask)) h = omega (arith, h .0, h .1)

@@ -5,11 +5,13 @@ use mathlib.Core.List.{List}
 use Prim.Native.Nat.{ℕ, _+_, _*_, _-_, _≤_, _<_}
 use native.Mathlib.Omega.{arith}
 use native.Mathlib.Decide.{decLt}
-use native.Mathlib.Nat.{zero-add}
+use native.Mathlib.Nat.{zero-add, mul-le-mul-left, mul-le-mul-right}
 use lib.Dec.{ltb}
 use lib.ListN.{length}
 use borrow.Author.Tests.{lt-ltb, le-ltb}
 use Rattle.language.specs.declared.Numbers.{Numbers}
+use Rattle.language.specs.Number.{numbers}
+use Rattle.language.proofs.NumberLaws.{numbers-within}
 use Rattle.language.specs.Ty.{Ty}
 use Rattle.language.specs.Term.{Term}
 use Rattle.language.specs.Weight.{size}
@@ -56,9 +58,13 @@ shown-none ws n row = record
   { silents = λ p h. absurd (omega arith); firsts = λ p h. absurd (omega arith)
   ; edges = λ p h. absurd (omega arith) }
 
--- 32 words for each state are room for 8 edges for each
-room-for : (ws : List ℕ) (n e : ℕ) → 0 < n → n ≤ 8193 → 32 * n ≤ length ws → 2 * e ≤ 16 * n → Room ws n e
-room-for ws n e some few long h = record { few = few; words = omega arith; small = omega arith }
+-- 32 words for each state are room for its edges
+room-for : (N : Numbers) → N .z ≤ 7 → (ws : List ℕ) (n e : ℕ) → 0 < n → n ≤ 8193 → 32 * n ≤ length ws →
+    2 * e ≤ (1 + numbers N) * n → Room ws n e
+room-for N z ws n e some few long h =
+    let most : 1 + numbers N ≤ 19 = omega (arith, numbers-within N) in
+    let l : 2 * e ≤ 19 * n = omega (arith, mul-le-mul-right n most) in
+    record { few = few; words = omega arith; small = omega arith }
 
 -- the states below c, and the dead state c, closed
 closing : (ws : List ℕ) (n e c : ℕ) (row : ℕ → StateRow) → n ≡ c + 1 → e ≡ edgesBelow row c → row c ≡ noEdges →
@@ -79,17 +85,27 @@ site root n o = record { root = root; n = n; o = o }
 module _ {N : Numbers} {t : List ℕ} {root : ℕ} {T : Ty} {M : Term} (R : Ready N t root T M) (n : ℕ)
     {row : ℕ → StateRow} (P : Placed N t (site root n 0) (spots T M) row) where
   -- it has few edges, which end where those of its rows end
-  first-few : 2 * edgesBelow row (size T M) ≤ 16 * size T M
+  first-few : 2 * edgesBelow row (size T M) ≤ (1 + numbers N) * size T M
   unfolding edgesBelow
   first-few =
       let h = placed-few (site root n 0) R P in
       omega (arith, rw (zero-add (size T M)) at h)
 
+  -- also for each of all states
+  first-all : size T M ≤ n → 2 * edgesBelow row (size T M) ≤ (1 + numbers N) * n
+  first-all l = omega (arith, first-few, mul-le-mul-left (1 + numbers N) l)
+
+  -- they are fewer than words can count
+  first-counted : edgesBelow row (size T M) < 4294967296
+  first-counted =
+      let most : 1 + numbers N ≤ 19 = omega (arith, numbers-within N, R .z-below) in
+      omega (arith, first-few, mul-le-mul-right (size T M) most, R .small)
+
   first-after : edgesAfter t N (site root n 0) 0 ≡ edgesBelow row (size T M)
   unfolding edgesBelow
   first-after =
       let small : edgesBelow row (0 + size T M) < 4294967296 =
-            rw (zero-add (size T M)) (omega (arith, first-few, R .small)) in
+            rw (zero-add (size T M)) first-counted in
       placed-after (site root n 0) R P small ∙ ap (edgesBelow row) (zero-add (size T M))
 
   -- its rows are fine, and filling shows them
@@ -138,7 +154,7 @@ module _ {N : Numbers} {t : List ℕ} {root : ℕ} {T : Ty} {M : Term} (R : Read
       let vs = filledOf t N s ws 0 in
       let few : n ≤ 8193 = omega (arith, R .small) in
       let Q : (xs : List ℕ) → length xs ≡ length ws → Room xs n e =
-            λ xs l. room-for xs n e (omega arith) few (omega arith) (omega (arith, first-few R n P)) in
+            λ xs l. room-for N (R .z-below) xs n e (omega arith) few (omega arith) (first-all R n P (omega arith)) in
       closing vs n (edgesAfter t N s 0) c one-rows ends (first-after R n P) (one-dead c (omega arith))
         (Q vs (filled-length t N s ws 0)) (first-fine R n P few (omega arith))
         (first-shown R n P few (omega arith) ws (Q ws refl))
@@ -161,7 +177,7 @@ module _ {N : Numbers} {t : List ℕ} {root : ℕ} {T : Ty} {M : Term} (R : Read
         ; barren = first-of A (n - 1) (omega arith) ∙ sym (all-edges n one-rows (omega arith) dead) ∙
             sym (first-of A n (omega arith))
         ; few = omega (arith, first-of A n (omega arith), all-edges n one-rows (omega arith) dead,
-            ap (edgesBelow one-rows) last, first-few R n one-placed) })
+            ap (edgesBelow one-rows) last, first-all R n one-placed (omega arith)) })
 
 -- two sheets
 module _ {N : Numbers} {t t′ : List ℕ} {root root′ : ℕ} {T : Ty} {M M′ : Term} (R : Ready N t root T M)
@@ -212,8 +228,15 @@ module _ {N : Numbers} {t t′ : List ℕ} {root root′ : ℕ} {T : Ty} {M M′
   last-dead = ap two-rows {x = n - 1} {y = size T M + size T M′} (omega arith) ∙ two-dead
 
   -- the edges of both are few
-  two-few : 2 * edgesBelow two-rows (size T M + size T M′) ≤ 16 * n
-  two-few = omega (arith, placed-few new R′ new-placed, first-few R n old-placed)
+  two-few : 2 * edgesBelow two-rows (size T M + size T M′) ≤ (1 + numbers N) * n
+  two-few =
+      let l : size T M + size T M′ ≤ n = omega arith in
+      omega (arith, placed-few new R′ new-placed, first-few R n old-placed, mul-le-mul-left (1 + numbers N) l)
+
+  two-counted : edgesBelow two-rows (size T M + size T M′) < 4294967296
+  two-counted =
+      let most : 1 + numbers N ≤ 19 = omega (arith, numbers-within N, R .z-below) in
+      omega (arith, two-few, mul-le-mul-right n most, few-states)
 
   two-fine : (p : ℕ) → p < size T M + size T M′ → Fine n (two-rows p)
   two-fine p h = by (decLt p (size T M))
@@ -230,14 +253,14 @@ module _ {N : Numbers} {t t′ : List ℕ} {root root′ : ℕ} {T : Ty} {M M′
       let vs = filledOf t N old ws 0 in
       let e = edgesBelow two-rows (size T M) in
       let f = edgesBelow two-rows c in
-      let Q : (xs : List ℕ) (d : ℕ) → length xs ≡ length ws → 2 * d ≤ 16 * n → Room xs n d =
-            λ xs d l h. room-for xs n d (omega arith) few-states (omega arith) h in
+      let Q : (xs : List ℕ) (d : ℕ) → length xs ≡ length ws → 2 * d ≤ (1 + numbers N) * n → Room xs n d =
+            λ xs d l h. room-for N (R .z-below) xs n d (omega arith) few-states (omega arith) h in
       let p′ : a ≡ e = p ∙ first-after R n old-placed in
       let q′ : b ≡ f =
-            q ∙ ap (edgesAfter t′ N new) p′ ∙ placed-after new R′ new-placed (omega (arith, two-few, few-states)) in
+            q ∙ ap (edgesAfter t′ N new) p′ ∙ placed-after new R′ new-placed two-counted in
       let S : ShownRows vs n (size T M) two-rows =
             first-shown R n old-placed few-states (omega arith) ws
-              (Q ws e refl (omega (arith, first-few R n old-placed))) in
+              (Q ws e refl (first-all R n old-placed (omega arith))) in
       let len = filled-length t N old ws 0 in
       let S′ : ShownRows (filledOf t′ N new vs e) n c two-rows =
             placed-shown new R′ new-placed new-room few-states vs (Q vs f len two-few) S in

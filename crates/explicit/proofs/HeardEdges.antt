@@ -14,7 +14,8 @@ use Rattle.automaton.specs.declared.Move.{Move as Record}
 use Rattle.explicit.specs.declared.Wait.{Wait}
 use Rattle.part_path.specs.declared.Site.{Site}
 use Rattle.explicit.specs.inner.Rows.{Edge}
-use Rattle.explicit.specs.inner.Moves.{codeAt, limitOf, edgeBy, valueEdge, valueEdges, blockEdges}
+use Rattle.language.specs.Order.{codeAt}
+use Rattle.explicit.specs.inner.Moves.{limitOf, edgeBy, valueEdge, valueEdges, blockEdges}
 use Rattle.explicit.specs.inner.Moves.{heardEdges}
 use Rattle.explicit.proofs.EdgeLists.{Each, each-append, each-front, each-back}
 

@@ -13,9 +13,11 @@ use Rattle.language.specs.Choice.{pick}
 use Rattle.language.specs.Number.{numbers}
 use Rattle.explicit.specs.declared.Wait.{Wait}
 use Rattle.part_path.specs.declared.Site.{Site}
-use Rattle.explicit.specs.inner.Moves.{codeAt, letterOf, limitOf, edgeBy, valueEdge, valueEdges, blockEdges}
+use Rattle.language.specs.Order.{codeAt, rank}
+use Rattle.language.proofs.NumberLaws.{numbers-within}
+use Rattle.language.proofs.OrderLaws.{code-at-below, code-rank, bound, bound-last, zeroAt, zero-at}
+use Rattle.explicit.specs.inner.Moves.{letterOf, limitOf, edgeBy, valueEdge, valueEdges, blockEdges}
 use Rattle.explicit.specs.inner.Moves.{heardEdges}
-use Rattle.explicit.proofs.Codes.{code-low, code-high, code-below, code-rank}
 use Rattle.explicit.proofs.EdgeLists.{Climbs, climbs-from, climbs-to}
 use Rattle.explicit.proofs.EdgeLists.{climbs-append}
 use Rattle.explicit.proofs.Heard.{limit-one, kinds}
@@ -27,25 +29,7 @@ module _ (t : List ℕ) (N : Numbers) (s : Site) (wait : Wait) where
   base k j = k * 16777216 + wait .id * 65536 + j * 256
 
   abbrev place : ℕ → ℕ → ℕ → ℕ
-  place k j r = base k j + pick (ltb k 5) (r - N .z) (128 + r - N .z)
-
-  -- the value 0 has the number z
-  zero-number : (r : ℕ) → codeAt N r < 1 → r ≡ N .z
-  zero-number r h = cases (decLt r (N .z))
-    where
-      cases : Dec (r < N .z) → r ≡ N .z
-      cases (yes l) = absurd (omega (arith, code-low N r l))
-      cases (no l) =
-          let y : N .z ≤ r = omega arith in
-          omega (arith, code-high N r y)
-
-  place-next : (k j r : ℕ) → place k j r ≤ place k j (suc r)
-  place-next k j r = cases (ltb k 5)
-    where
-      cases : (b : Bool) → base k j + pick b (r - N .z) (128 + r - N .z) ≤
-          base k j + pick b (suc r - N .z) (128 + suc r - N .z)
-      cases true = omega arith
-      cases false = omega arith
+  place k j r = base k j + pick (ltb k 5) (r - zeroAt N) (bound N r)
 
   first-place : (k j : ℕ) → base k j ≤ place k j 0
   first-place k j = omega arith
@@ -65,18 +49,18 @@ module _ (t : List ℕ) (N : Numbers) (s : Site) (wait : Wait) where
           omega arith
 
   -- the letters of the candidates
-  module _ (few : N .z ≤ 7) (byte : wait .id < 256) where
+  module _ (few : N .z ≤ 125) (byte : wait .id < 256) where
     letter-candidate : (k j r : ℕ) → k < 7 → j < 5 → r < numbers N →
-        letterOf N (candidate N wait k j r) ≡ base k j + pick (ltb k 5) 0 (128 + r - N .z)
+        letterOf N (candidate N wait k j r) ≡ base k j + pick (ltb k 5) 0 (rank N (codeAt N r))
     unfolding letterOf
     letter-candidate k j r x y h =
-        rw (mod-eq-of-lt low, code-rank N r h few) (cases (ltb k 5))
+        rw (mod-eq-of-lt low) (cases (ltb k 5))
       where
         low : codeAt N r < 65536
-        low = unfold numbers in omega (arith, code-below N r h)
+        low = omega (arith, code-at-below N r h, numbers-within N)
         cases : (b : Bool) → pick b (k % 8 * 16777216 + wait .id % 256 * 65536 + j % 256 * 256)
-            (k % 8 * 16777216 + wait .id % 256 * 65536 + j % 256 * 256 + (128 + r - N .z)) ≡
-            base k j + pick b 0 (128 + r - N .z)
+            (k % 8 * 16777216 + wait .id % 256 * 65536 + j % 256 * 256 + rank N (codeAt N r)) ≡
+            base k j + pick b 0 (rank N (codeAt N r))
         cases true = omega arith
         cases false = omega arith
 
@@ -84,12 +68,22 @@ module _ (t : List ℕ) (N : Numbers) (s : Site) (wait : Wait) where
         (place k j r ≤ letterOf N (candidate N wait k j r)) × (letterOf N (candidate N wait k j r) < place k j (suc r))
     inside k j r x y h l = rw (letter-candidate k j r x y h) (cases (decLt k 5))
       where
-        cases : Dec (k < 5) → (place k j r ≤ base k j + pick (ltb k 5) 0 (128 + r - N .z)) ×
-            (base k j + pick (ltb k 5) 0 (128 + r - N .z) < place k j (suc r))
+        cases : Dec (k < 5) → (place k j r ≤ base k j + pick (ltb k 5) 0 (rank N (codeAt N r))) ×
+            (base k j + pick (ltb k 5) 0 (rank N (codeAt N r)) < place k j (suc r))
         cases (yes w) =
-            let e = zero-number r (omega (arith, limit-one t wait k j w)) in
+            let e = zero-at N r (omega (arith, limit-one t wait k j w)) in
             rw (lt-ltb k 5 w) (omega arith, omega arith)
-        cases (no w) = rw (le-ltb k 5 (omega arith)) (omega arith, omega arith)
+        cases (no w) =
+            let b = code-rank N r h few in
+            rw (le-ltb k 5 (omega arith)) (omega (arith, b .0), omega (arith, b .1))
+
+    place-next : (k j r : ℕ) → r < numbers N → place k j r ≤ place k j (suc r)
+    place-next k j r h = cases (ltb k 5)
+      where
+        cases : (b : Bool) → base k j + pick b (r - zeroAt N) (bound N r) ≤
+            base k j + pick b (suc r - zeroAt N) (bound N (suc r))
+        cases true = omega arith
+        cases false = let b = code-rank N r h few in omega (arith, b .0, b .1)
 
     value-climbs : (k j r : ℕ) → k < 7 → j < 5 → r < numbers N →
         Climbs (place k j r) (place k j (suc r)) (valueEdge t N s wait k j (limitOf t wait k j) r)
@@ -98,7 +92,7 @@ module _ (t : List ℕ) (N : Numbers) (s : Site) (wait : Wait) where
       where
         cases : (b : Bool) → leb (limitOf t wait k j) (codeAt N r) ≡ b → Climbs (place k j r) (place k j (suc r))
             (pick b [] (edgeBy t N s (wait .state) (candidate N wait k j r) ∷ []))
-        cases true e = unfold Climbs in place-next k j r
+        cases true e = unfold Climbs in place-next k j r h
         cases false e = unfold Climbs edgeBy in inside k j r x y h (leb-false (limitOf t wait k j) (codeAt N r) e)
 
     values-climb : (k j r : ℕ) → k < 7 → j < 5 → r ≤ numbers N →
@@ -111,13 +105,12 @@ module _ (t : List ℕ) (N : Numbers) (s : Site) (wait : Wait) where
 
     -- the letters of a kind at an argument
     last-place : (k j : ℕ) → place k j (numbers N) ≤ base k j + 256
-    unfolding numbers
     last-place k j = cases (ltb k 5)
       where
         cases : (b : Bool) →
-            base k j + pick b (2 * N .z + 1 - N .z) (128 + (2 * N .z + 1) - N .z) ≤ base k j + 256
-        cases true = omega arith
-        cases false = omega arith
+            base k j + pick b (numbers N - zeroAt N) (bound N (numbers N)) ≤ base k j + 256
+        cases true = omega (arith, numbers-within N)
+        cases false = omega (arith, bound-last N few)
 
     block-climbs : (k j : ℕ) → k < 7 → j < 5 → Climbs (base k j) (base k j + 256) (blockEdges t N s wait k j)
     unfolding blockEdges

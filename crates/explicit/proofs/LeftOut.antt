@@ -14,9 +14,11 @@ use Rattle.automaton.specs.walk.Shows.{moveOf}
 use Rattle.automaton.proofs.Sums.{when-no}
 use Rattle.explicit.specs.declared.Wait.{Wait}
 use Rattle.part_path.specs.declared.Site.{Site}
-use Rattle.explicit.specs.inner.Moves.{codeAt, letterOf, edgeBy, heardEdges}
+use Rattle.explicit.specs.inner.Moves.{letterOf, edgeBy, heardEdges}
 use Rattle.explicit.specs.inner.Acts.{waits, leads}
-use Rattle.explicit.proofs.Codes.{code-of, letter-of}
+use Rattle.language.specs.Order.{codeAt}
+use Rattle.language.proofs.OrderLaws.{code-at-each}
+use Rattle.explicit.proofs.Codes.{letter-of}
 use Rattle.explicit.proofs.Codes.{kind-small, value-small}
 use Rattle.explicit.proofs.EdgeLists.{Absent, found}
 use Rattle.explicit.proofs.Heard.{Heeds}
@@ -57,14 +59,14 @@ heard-kind i (asked j q) = kind-small i (suc j) (question q)
 heard-kind i (answered a) = kind-small i 0 (answer a)
 heard-kind i (opened q) = kind-small i 0 (question q)
 
-module _ (N : Numbers) (few : N .z ≤ 7) (t : List ℕ) (s : Site) (l : Listen) where
+module _ (N : Numbers) (few : N .z ≤ 125) (t : List ℕ) (s : Site) (l : Listen) where
   -- the edge of a move that is heard is there
   present : (wait : Wait) → Heeds t l wait → (r : Heard) → Hears l r → Small N (heard (who l) r) →
       Absent (letter N (heard (who l) r)) (heardEdges t N s wait 35) → ⊥
   unfolding edgeBy
   present wait h r f small d =
       let m = heard (who l) r in
-      let (c, x, e) = code-of N (moveOf m .value) (value-small N m small) in
+      let (c, x, e) = code-at-each N (moveOf m .value) (value-small N m small) in
       let same : wait .id ≡ moveOf m .id = sym (h .same) ∙ sym (heard-id (who l) r) in
       let a = heard-kind (who l) r in
       let b = h .near r f in

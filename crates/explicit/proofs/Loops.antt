@@ -16,7 +16,8 @@ use Rattle.part_path.specs.declared.Site.{Site}
 use Rattle.part_path.specs.States.{spotsOf, sheetAt, targetOf}
 use Rattle.explicit.specs.inner.Rows.{Edge, StateRow, withEdge, withEdges, past, withHead, withRow, before}
 use Rattle.explicit.specs.inner.Rows.{withRows}
-use Rattle.explicit.specs.inner.Moves.{codeAt, letterOf, limitOf, waitOf, silentOf, edgeBy, valueEdge}
+use Rattle.language.specs.Order.{codeAt}
+use Rattle.explicit.specs.inner.Moves.{letterOf, limitOf, waitOf, silentOf, edgeBy, valueEdge}
 use Rattle.explicit.specs.inner.Moves.{valueEdges, blockEdges, heardEdges, edgesOf, rowFor, rowOf}
 use Rattle.explicit.specs.inner.Moves.{edgesAfter, filledOf}
 use Rattle.explicit.proofs.Writing.{with-append, past-append}
@@ -179,6 +180,5 @@ filled-last t N s e k e′ all p ws ws′ ws″ F z a q w =
     rw (← a, ← z, ← F .returned, ← F .written) (refl, rw (z, ← q) w)
 
 -- the loop over values takes them all
-pub numbers-all : (N : Numbers) (r : ℕ) → r ≤ 2 * N .z + 1 → 2 * N .z + 1 ≤ r → r ≡ numbers N
-unfolding numbers
-numbers-all N r h l = omega arith
+pub numbers-all : (N : Numbers) {n : ℕ} (r : ℕ) → n ≡ numbers N → r ≤ n → n ≤ r → r ≡ numbers N
+numbers-all N r e h l = omega arith

@@ -7,6 +7,7 @@ use native.Mathlib.Decide.{decLt}
 use native.Mathlib.Nat.{add-zero, add-suc}
 use lib.ListN.{length}
 use Rattle.language.specs.declared.Numbers.{Numbers}
+use Rattle.language.specs.Number.{numbers}
 use Rattle.language.specs.Ty.{Ty}
 use Rattle.language.specs.Term.{Term}
 use Rattle.language.specs.Weight.{size}
@@ -60,7 +61,7 @@ module _ {N : Numbers} {t : List ℕ} (s : Site) {T : Ty} {M : Term} (R : Ready 
   edges-with = rw after-end (none-more row (s .o + spots T M) (P .end))
 
   -- THEOREM: the sheet has few edges
-  pub placed-few : 2 * edgesBelow row (s .o + size T M) ≤ 2 * edgesBelow row (s .o) + 16 * size T M
+  pub placed-few : 2 * edgesBelow row (s .o + size T M) ≤ 2 * edgesBelow row (s .o) + (1 + numbers N) * size T M
   placed-few = omega (arith, edges-with, edges-before, sheet-few s R)
 
   -- THEOREM: its edges end where those of its rows end

@@ -10,6 +10,7 @@ use lib.Dec.{eqb}
 use Rattle.language.specs.Choice.{pick}
 use Rattle.language.specs.declared.Numbers.{Numbers}
 use Rattle.language.specs.Number.{numbers}
+use Rattle.language.proofs.NumberLaws.{finites-are, finites-within}
 use Rattle.language.specs.Ty.{Ty, command, expression, variable}
 use Rattle.language.specs.Move.{Word}
 use Rattle.language.specs.Play.{Complete}
@@ -31,14 +32,15 @@ use Rattle.explicit.proofs.Spelling.{complete-small}
 
 -- the types of a sheet
 values-in : (N : Numbers) → 0 < N .z → (ty : ℕ) → (1 < values N ty) × (values N ty ≤ numbers N)
-unfolding values numbers
+unfolding values
 values-in N h ty = go (eqb ty 1) (eqb ty 3)
   where
-    go : (a b : Bool) →
-        (1 < pick a 2 (pick b 2 (2 * N .z + 1))) × (pick a 2 (pick b 2 (2 * N .z + 1)) ≤ 2 * N .z + 1)
-    go true b = (omega arith, omega arith)
-    go false true = (omega arith, omega arith)
-    go false false = (omega arith, omega arith)
+    many : 3 ≤ numbers N
+    many = omega (arith, finites-are N, finites-within N)
+    go : (a b : Bool) → (1 < pick a 2 (pick b 2 (numbers N))) × (pick a 2 (pick b 2 (numbers N)) ≤ numbers N)
+    go true b = (omega arith, omega (arith, many))
+    go false true = (omega arith, omega (arith, many))
+    go false false = (omega (arith, many), omega arith)
 
 pub type-in : (N : Numbers) → 0 < N .z → (ty : ℕ) → TyIn N (tyOf N ty)
 unfolding TyIn tyOf

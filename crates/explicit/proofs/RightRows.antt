@@ -25,13 +25,15 @@ use Rattle.explicit.specs.declared.Wait.{Wait}
 use Rattle.part_path.specs.declared.Site.{Site}
 use Rattle.explicit.specs.Explicit.{packed, silentWord}
 use Rattle.part_path.specs.States.{sheetAt, targetOf}
-use Rattle.explicit.specs.inner.Moves.{codeAt, letterOf, limitOf, waitOf, visibleOf, silentOf}
+use Rattle.explicit.specs.inner.Moves.{letterOf, limitOf, waitOf, visibleOf, silentOf}
 use Rattle.explicit.specs.inner.Moves.{edgeBy, heardEdges}
 use Rattle.explicit.specs.inner.Moves.{edgesOf, rowFor, rowOf}
 use Rattle.explicit.specs.inner.Acts.{Waits, Leads, SaysMove, Listens, waits, leads, Acts}
 use Rattle.explicit.specs.inner.Ranged.{ActionIn}
 use Rattle.explicit.specs.inner.Shown.{Right}
-use Rattle.explicit.proofs.Codes.{code-below, letter-of, eventBy, move-again, move-by, small-by}
+use Rattle.language.specs.Order.{codeAt}
+use Rattle.language.proofs.OrderLaws.{code-at-below}
+use Rattle.explicit.proofs.Codes.{letter-of, eventBy, move-again, move-by, small-by}
 use Rattle.explicit.proofs.Codes.{kind-small, letter-small}
 use Rattle.explicit.proofs.EdgeLists.{Each, Climbs}
 use Rattle.explicit.proofs.Heard.{Heeds, heeds, wait-state, limit-one}
@@ -93,7 +95,7 @@ module _ (t : List ℕ) (N : Numbers) (s : Site) (state : ℕ) {K : ℕ} where
   one-said m (out a) y h = rw h (omega arith)
   one-said m dead y h = absurd h
 
-module _ (N : Numbers) (few : N .z ≤ 7) (t : List ℕ) (s : Site) {K : ℕ} (room : s .o + K + 1 < s .n)
+module _ (N : Numbers) (few : N .z ≤ 125) (t : List ℕ) (s : Site) {K : ℕ} (room : s .o + K + 1 < s .n)
     (most : s .n ≤ 8193) (state : ℕ) where
   -- a silent step
   go-row : (x : Next (Index K) (Unit {0})) (y : Out) → Leads x y →
@@ -139,7 +141,7 @@ module _ (N : Numbers) (few : N .z ≤ 7) (t : List ℕ) (s : Site) {K : ℕ} (r
     unfolding Sound edgeBy edge
     sound a b r x y z w =
         let m = move (at (wait .id) b) (eventBy a (codeAt N r)) in
-        let small = small-by N a (wait .id) b (codeAt N r) x (h .byte) (omega arith) (code-below N r z) in
+        let small = small-by N a (wait .id) b (codeAt N r) x (h .byte) (omega arith) (code-at-below N r z) in
         let same = move-by a (wait .id) b (codeAt N r) x (λ q. omega (arith, limit-one t wait a b q)) in
         let given = acts (moveOf m) (inr (wait .id, b, _, refl)) in
         (m, small, sym (letter-of N few m small) ∙ ap (letterOf N) same,
@@ -153,7 +155,7 @@ module _ (N : Numbers) (few : N .z ≤ 7) (t : List ℕ) (s : Site) {K : ℕ} (r
           (λ m small d. left-out N few t s l k wait h m small d)
 
 -- THEOREM: the row that the code makes for a state shows the state's action
-pub right-row : (N : Numbers) → N .z ≤ 7 → (t : List ℕ) (s : Site) {K : ℕ} (a : Action (Index K) (Unit {0})) (k : ℕ) →
+pub right-row : (N : Numbers) → N .z ≤ 125 → (t : List ℕ) (s : Site) {K : ℕ} (a : Action (Index K) (Unit {0})) (k : ℕ) →
     s .o + K + 1 < s .n → s .n ≤ 8193 →
     ((m : Record) → GivenMove m → Acts N t m a (sheetAt t N (s .root) k m)) → ActionIn N a →
     Right N (s .n) (s .o) a (rowOf t N s k)

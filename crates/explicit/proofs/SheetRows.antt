@@ -4,10 +4,10 @@ use mathlib.Core.List.{List}
 use Prim.Native.Nat.{ℕ, zero, suc, _+_, _*_, _≤_, _<_}
 use native.Mathlib.Omega.{arith}
 use native.Mathlib.Decide.{decLt}
-use native.Mathlib.Nat.{mul-le-mul-right}
 use lib.ListN.{length}
 use Rattle.language.specs.declared.Numbers.{Numbers}
 use Rattle.language.specs.Number.{numbers}
+use Rattle.language.proofs.NumberLaws.{finites-are, finites-within}
 use Rattle.language.specs.Ty.{Ty}
 use Rattle.language.specs.Term.{Term}
 use Rattle.language.specs.Weight.{size}
@@ -48,7 +48,7 @@ module _ {N : Numbers} {t : List ℕ} (s : Site) {T : Ty} {M : Term} (R : Ready 
   pub row-right : s .o + spots T M + 1 < s .n → s .n ≤ 8193 → (k : ℕ) (h : k < spots T M) →
       Right N (s .n) (s .o) (steps T M (k, h)) (rowOf t N s k)
   row-right room most k h =
-      right-row N (R .z-below) t s (steps T M (k, h)) k room most (acts-ready k h)
+      right-row N (omega (arith, R .z-below)) t s (steps T M (k, h)) k room most (acts-ready k h)
         (ranged N T M (R .typed) (R .type-in) (R .term-in) (k, h))
 
   -- a row has at most as many edges as the degree of its state
@@ -65,11 +65,10 @@ module _ {N : Numbers} {t : List ℕ} (s : Site) {T : Ty} {M : Term} (R : Ready 
   rows-few (suc c) h =
       omega (arith, rows-few c (omega arith), row-few c (omega arith) (decLt c (spots T M)))
 
-  -- THEOREM: twice the number of edges is at most 16 for each state, the end counted
-  pub sheet-few : 2 * edgesBelow (rowOf t N s) (spots T M) ≤ 16 * size T M
-  unfolding numbers
+  -- THEOREM: twice the number of edges is at most 1 + K for each state, the end counted
+  pub sheet-few : 2 * edgesBelow (rowOf t N s) (spots T M) ≤ (1 + numbers N) * size T M
   sheet-few =
-      let three : 3 ≤ numbers N = omega (arith, R .z-above) in
-      let sixteen : 1 + numbers N ≤ 16 = omega (arith, R .z-below) in
-      omega (arith, rows-few (spots T M) (omega arith), few-edges N three T M (R .typed) (R .type-in) (R .term-in),
-        spots-size T M, mul-le-mul-right (1 + spots T M) sixteen)
+      let three : 3 ≤ numbers N = omega (arith, R .z-above, finites-are N, finites-within N) in
+      let e : 1 + spots T M ≡ size T M = omega (arith, spots-size T M) in
+      let h = few-edges N three T M (R .typed) (R .type-in) (R .term-in) in
+      omega (arith, rows-few (spots T M) (omega arith), rw e at h)

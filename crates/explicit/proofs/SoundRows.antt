@@ -37,7 +37,7 @@ module _ (N : Numbers) (o n : ℕ) {K : ℕ} where
 
   -- THEOREM: a row is right if its letters climb, each edge is that of a move, and the moves that are left out lead
   -- nowhere
-  pub right-by : N .z ≤ 7 → o + K + 1 < n → (a : Action (Index K) (Unit {0})) (r : StateRow) →
+  pub right-by : N .z ≤ 125 → o + K + 1 < n → (a : Action (Index K) (Unit {0})) (r : StateRow) →
       r .silent ≡ silentWord o n a → Climbs 0 134217728 (r .edges) → Each (Sound a) (r .edges) →
       ((m : Move) → Small N m → Absent (letter N m) (r .edges) → edge a m ≡ dead) → Right N n o a r
   unfolding Sound packed

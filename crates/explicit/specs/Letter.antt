@@ -1,20 +1,18 @@
 -- A move as one number, so that the order of numbers is document 01's order of moves ("Move records and their order").
 -- Automata read these letters. SHEETS 6.2.
-use Prim.Native.Nat.{ℕ, _+_, _-_, _*_, _<_}
+use Prim.Native.Nat.{ℕ, _+_, _*_, _<_}
 use mathlib.Core.Bool.{Bool}
 use mathlib.Core.List.{List, [], _∷_}
-use lib.Dec.{eqb, leb}
+use lib.Dec.{eqb}
 use Rattle.language.specs.declared.Numbers.{Numbers}
 use Rattle.language.specs.Choice.{pick}
 use Rattle.language.specs.Number.{numbers}
+use Rattle.language.specs.Order.{rank, unranked}
 use Rattle.language.specs.Ty.{run, ask, read, write, done, ok, value}
 use Rattle.automaton.specs.walk.MoveKind.{RUN, DONE, ASK, READ, OK, VALUE}
 use Rattle.language.specs.Move.{Event, question, answer, Move, move, Word, at, private, kind, valueOf}
 
--- the rank of the value 0, and what a kind, an id and an argument count in a letter
-abbrev pub RANK-ZERO : ℕ
-RANK-ZERO = 128
-
+-- what a kind, an id and an argument count in a letter
 abbrev pub KIND-UNIT : ℕ
 KIND-UNIT = 16777216
 
@@ -24,10 +22,7 @@ ID-UNIT = 65536
 abbrev pub ARGUMENT-UNIT : ℕ
 ARGUMENT-UNIT = 256
 
--- a value's place among the signed values: the signed value plus 128
-unfoldable pub rank : Numbers → ℕ → ℕ
-rank N v = pick (leb v (N .z)) (RANK-ZERO + v) (RANK-ZERO + v - numbers N)
-
+-- the rank of a move's value
 unfoldable pub ranked : Numbers → List ℕ → ℕ
 ranked N [] = 0
 ranked N (v ∷ vs) = rank N v
@@ -36,10 +31,6 @@ ranked N (v ∷ vs) = rank N v
 unfoldable pub letter : Numbers → Move → ℕ
 letter N (move (at id j) e) = kind e * KIND-UNIT + id * ID-UNIT + j * ARGUMENT-UNIT + ranked N (valueOf e)
 letter N (move (private i) e) = 0
-
--- the value with a rank
-unfoldable pub unranked : Numbers → ℕ → ℕ
-unranked N r = pick (leb RANK-ZERO r) (r - RANK-ZERO) (r + numbers N - RANK-ZERO)
 
 -- what happens in a move of a kind, where its value has the rank r
 unfoldable pub eventOf : Numbers → ℕ → ℕ → Event

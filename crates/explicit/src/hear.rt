@@ -16,6 +16,7 @@ use automaton::row::part_values;
 use automaton::row::sum;
 use automaton::types::question_limit;
 use language::Numbers;
+use language::number::numbers;
 use part_path::Site;
 use part_path::exits::exit;
 use part_path::exits::reach;
@@ -57,7 +58,7 @@ fn heard(t: &[u16], n: Numbers, s: Site, p: &[usize; WORDS], c: usize, wait: Wai
     )
 }
 
-// The edge by the value of number r, where it is below the limit.
+// The edge by the value at place r, where it is below the limit.
 fn hear_value(
     t: &[u16],
     n: Numbers,
@@ -116,7 +117,7 @@ fn hear_values(
     ensures written { λ x. ⌜ now (words .exit) ≡ withEdges (now (words .entry)) (s .n) e
         (valueEdges (now (t .entry)) n s wait kind arg below (numbers n)) ⌝ }
 {
-    let all = 2 * n.z as usize + 1;
+    let all = numbers(n) as usize;
     let mut r = 0;
     let mut next = e;
     while r < all {
@@ -232,7 +233,7 @@ fn hear_kinds(
     next
 }
 
-// The edge by the answer of number r of the name that a state waits for, where it is below the limit.
+// The edge by the answer at place r of the name that a state waits for, where it is below the limit.
 fn hear_answer(
     t: &[u16],
     n: Numbers,
@@ -292,7 +293,7 @@ fn hear_answers(
     if below == 0 {
         return e;
     }
-    let all = 2 * n.z as usize + 1;
+    let all = numbers(n) as usize;
     let mut r = 0;
     let mut next = e;
     while r < all {

@@ -18,17 +18,27 @@ use automaton::types::COMMAND;
 use automaton::types::EXPRESSION;
 use automaton::types::question_limit;
 use language::Numbers;
+use language::number::finites;
+use language::number::first_number;
 use part_path::whole::WHOLE;
 use part_rows::row::CLASS;
 use part_rows::row::VALUES;
 ghost use mathlib.Core.Path.{_≡_};
-ghost use Prim.Native.Nat.{_%_};
-ghost use Rattle.explicit.specs.Letter.{rank};
-ghost use Rattle.explicit.specs.inner.Moves.{codeAt, letterOf, answerLimit, answerKind, limitOf};
-ghost use Rattle.explicit.specs.inner.Moves.{waitOf};
+ghost use Prim.Native.Nat.{_%_, _≤_};
+ghost use Rattle.language.specs.Number.{finites};
+ghost use Rattle.language.specs.Order.{codeAt, rank};
+ghost use Rattle.explicit.specs.inner.Moves.{letterOf, answerLimit, answerKind, limitOf, waitOf};
 
 // The rank of the value 0: a rank is the signed value plus this.
 const RANK_ZERO: usize = 128;
+
+// The ranks of minus infinity, of infinity and of not-a-number.
+const RANK_LEAST: usize = 1;
+
+const RANK_GREATEST: usize = 254;
+
+const RANK_NONE: usize = 255;
+
 // A letter is kind, id, argument and rank, a byte each: what a kind, an id and an argument count.
 const KIND_UNIT: usize = 16777216;
 
@@ -42,15 +52,30 @@ const KINDS: usize = 8;
 
 const CODES: usize = 65536;
 
-// The value of number r in the order of the signed values.
+// How many numbers there are from -Z to Z.
+fn count_of(n: Numbers) -> usize
+    ensures { λ r. ⌜ (r ≡ finites n) × (r ≤ 511) ⌝ }
+{
+    finites(n) as usize
+}
+
+// The value at place r in the order of the signed values.
 pub(crate) fn code_at(n: Numbers, r: usize) -> usize
     ensures { λ x. ⌜ x ≡ codeAt n r ⌝ }
 {
-    let z = n.z as usize;
-    if r < z {
-        return r + z + 1;
+    let low = first_number(n);
+    let all = count_of(n);
+    if r < low {
+        return all;
     }
-    r - z
+    let z = n.z as usize;
+    if r - low < z {
+        return r - low + z + 1;
+    }
+    if r - low < all {
+        return r - low - z;
+    }
+    r
 }
 
 // The rank of a value.
@@ -62,10 +87,20 @@ pub(crate) fn rank_of(n: Numbers, value: usize) -> usize
     if v <= z {
         return RANK_ZERO + v;
     }
-    if RANK_ZERO + v < 2 * z + 1 {
-        return 0;
+    let all = count_of(n);
+    if v < all {
+        if RANK_ZERO + v < all {
+            return 0;
+        }
+        return RANK_ZERO + v - all;
     }
-    RANK_ZERO + v - (2 * z + 1)
+    if v == all {
+        return RANK_LEAST;
+    }
+    if v == all + 1 {
+        return RANK_GREATEST;
+    }
+    RANK_NONE
 }
 
 // The letter of a move.

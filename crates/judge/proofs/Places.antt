@@ -12,6 +12,7 @@ use borrow.Author.Tests.{leb-false, ltb-false}
 use Rattle.language.specs.Choice.{pick}
 use Rattle.language.specs.Number.{inRange}
 use Rattle.language.specs.declared.Numbers.{Numbers}
+use Rattle.records.specs.Limits.{greatest-z, greatest-rule}
 use Rattle.records.specs.Refusal.{refusal, too-deep, too-large}
 use Rattle.records.specs.Kind.{shapeOf}
 use Rattle.records.specs.Standing.{standingOf, isNamed, declaredStanding}
@@ -420,9 +421,9 @@ module _ (ed : Edition) (s : List ℕ) where
         let h = ltb-false 4096 n e in
         either Small (leb n 0) (λ d. first-in (omega arith) (omega arith) h) (λ d.
         either Small (eqb (getD s 0 0) 0) (λ d. first-in (omega arith) (omega arith) (omega arith)) (λ d.
-        either Small (ltb 7 (getD s 0 0)) (λ d. first-in (omega arith) (omega arith) (omega arith)) (λ d.
+        either Small (ltb greatest-z (getD s 0 0)) (λ d. first-in (omega arith) (omega arith) (omega arith)) (λ d.
         either Small (leb n 1) (λ d. first-in (omega arith) (omega arith) h) (λ d.
-        either Small (ltb 1 (getD s 1 0)) (λ d. first-in (omega arith) (omega arith) (omega arith)) (λ d.
+        either Small (ltb greatest-rule (getD s 1 0)) (λ d. first-in (omega arith) (omega arith) (omega arith)) (λ d.
         lower (closed s (namesOf ed 32 (numbersAt s) s nothing 2)) h
           (closed-in (namesOf ed 32 (numbersAt s) s nothing 2) (names-in 32 (numbersAt s) nothing 2))))))))
 

@@ -3,5 +3,7 @@ pub mod NumberLaws
 pub mod NumberSteps
 pub mod OperatorLaws
 pub mod RemainderLaws
+pub mod InfinityLaws
+pub mod OrderLaws
 pub mod OperatorSteps
 pub mod AskOnceLaws

@@ -11,10 +11,11 @@ use lib.IntN.{ℤ, pos, negsuc, negℤ, natAbs, _+ℤ_, _-ℤ_, _*ℤ_}
 use lib.Signed.{ltZ, remZ}
 use borrow.Author.Tests.{ltb-true, ltb-false, le-ltb, eq-eqb, ne-eqb}
 use Rattle.language.specs.declared.Numbers.{Numbers}
-use Rattle.language.specs.Number.{numbers, modulo, code}
+use Rattle.language.specs.Number.{finites, modulo, code}
 use Rattle.language.specs.Operator.{fit, remainder}
 use Rattle.language.specs.Remainder.{IsRemainder, RemainderLaw}
 use Rattle.language.proofs.NumberLaws.{minus-below, modulo-below, modulo-multiple, modulo-pos, by-test}
+use Rattle.language.proofs.NumberLaws.{finites-are}
 
 -- 0 is the only number at the distance 0
 abs-0 : (y : ℤ) → natAbs y ≡ 0 → y ≡ pos 0
@@ -81,14 +82,10 @@ module _ (x y : ℤ) where
   unfolding remainder
   no-result h = rw (eq-eqb (natAbs y) 0 h)
 
--- either overflow rule leaves a number from 0 to Z as it is
+-- every overflow rule leaves a number from 0 to Z as it is
 fit-small : (N : Numbers) (r : ℕ) → r ≤ N .z → fit N (pos r) ≡ some r
-unfolding fit code numbers
-fit-small N r h =
-    let e = modulo-pos r (2 * N .z + 1) (omega arith) in
-    by-test (eqb (N .rule) 0)
-    (λ t. rw (t, le-ltb (N .z) r h, e))
-    (λ t. rw (t, e))
+unfolding fit code
+fit-small N r h = rw (le-ltb (N .z) r h, modulo-pos r (finites N) (omega (arith, finites-are N)))
 
 -- THEOREM: `remainder` gives the one number that document 02 describes
 pub remainder-law : (x y : ℤ) → RemainderLaw x y

@@ -1,8 +1,11 @@
 pub mod Choice
 pub mod Number
+pub mod Tables
 pub mod Operators
 pub mod Operator
 pub mod Remainder
+pub mod Infinity
+pub mod Order
 pub mod Ty
 pub mod Move
 pub mod Term

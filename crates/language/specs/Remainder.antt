@@ -1,5 +1,6 @@
 -- That `remainder` is document 02's, [2]: "the number from 0 up to, but not including, the absolute value of the right
 -- operand that differs from the left operand by a multiple of the right one; a right operand of 0 still has no play".
+-- What becomes of a right operand of 0 under each rule: `fitSome`, `OverflowRules`, `NoNumber`.
 use Prim.Native.Nat.{ℕ, _≤_, _<_}
 use mathlib.Core.Path.{_≡_}
 use mathlib.Core.Option.{none, some}
@@ -20,5 +21,5 @@ pub record RemainderLaw (x y : ℤ) : Type 0 where
   pub given : (y ≡ pos 0 → ⊥) → (r : ℕ) × (remainder x y ≡ some (pos r)) × IsRemainder x y r
   -- there is only one
   pub only : (r s : ℕ) → IsRemainder x y r → IsRemainder x y s → r ≡ s
-  -- for a right operand from -Z to Z it is at most Z - 1, and under either overflow rule it is its own code
+  -- for a right operand from -Z to Z it is at most Z - 1, and under every overflow rule it is its own code
   pub kept : (N : Numbers) (r : ℕ) → natAbs y ≤ N .z → IsRemainder x y r → (r < N .z) × (fit N (pos r) ≡ some r)

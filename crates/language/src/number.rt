@@ -1,10 +1,12 @@
-// Numbers from -Z to Z, their codes and their bytes. No function here can overflow.
+// Numbers from -Z to Z, the values that are none, their codes and their bytes. No function here can overflow.
 use crate::Numbers;
 ghost use mathlib.Core.Path.{_≡_};
-ghost use Prim.Native.Nat.{_<_};
+ghost use Prim.Native.Nat.{_<_, _≤_};
 ghost use lib.IntN.{pos, natAbs, _-ℤ_};
 ghost use lib.Signed.{mag};
-ghost use Rattle.language.specs.Number.{numbers, modulo, code, signed, fromByte, inRange};
+ghost use Rattle.language.specs.Number.{finites, numbers, classOf, special, modulo, code, signed};
+ghost use Rattle.language.specs.Number.{fromByte, inRange};
+ghost use Rattle.language.specs.Order.{firstNumber};
 
 // The first byte that stands for a negative number, in two's complement.
 const NEGATIVE: u8 = 128;
@@ -12,11 +14,83 @@ const NEGATIVE: u8 = 128;
 // How many bytes there are.
 const BYTES: u16 = 256;
 
-// How many numbers there are.
+// The overflow rules, by their numbers in a sheet: a result outside -Z to Z has no play; a multiple of 2Z + 1 is added
+// or taken away; it becomes an infinity.
+pub(crate) const NO_PLAY: u8 = 0;
+
+pub(crate) const TURNING: u8 = 1;
+
+pub(crate) const INFINITIES: u8 = 2;
+
+// How many more values rule 2 has: minus infinity, infinity, not-a-number.
+const EXTRAS: u16 = 3;
+
+// The classes of values.
+pub(crate) const FINITE: usize = 0;
+
+pub(crate) const MINUS_INFINITY: usize = 1;
+
+pub(crate) const INFINITY: usize = 2;
+
+pub(crate) const NOT_A_NUMBER: usize = 3;
+
+// The numbers that stand for the values that are none.
+const LOWEST: i64 = -127;
+
+const HIGHEST: i64 = 126;
+
+const NONE: i64 = 127;
+
+// How many numbers there are from -Z to Z.
+pub fn finites(n: Numbers) -> u16
+    ensures { λ r. ⌜ r ≡ finites n ⌝ }
+{
+    2 * (n.z as u16) + 1
+}
+
+// How many values there are.
 pub fn numbers(n: Numbers) -> u16
     ensures { λ r. ⌜ r ≡ numbers n ⌝ }
 {
-    2 * (n.z as u16) + 1
+    if n.rule == INFINITIES {
+        return finites(n) + EXTRAS;
+    }
+    finites(n)
+}
+
+// The place of -Z among the values in the order of their signed bytes: minus infinity comes before it, where there is
+// one.
+pub fn first_number(n: Numbers) -> usize
+    ensures { λ r. ⌜ (r ≡ firstNumber n) × (r ≤ 1) ⌝ }
+{
+    if n.rule == INFINITIES {
+        return 1;
+    }
+    0
+}
+
+// The class of the value with a code.
+pub(crate) fn class_of(n: Numbers, c: u16) -> usize
+    ensures { λ r. ⌜ r ≡ classOf n c ⌝ }
+{
+    let f = finites(n);
+    if c < f {
+        return FINITE;
+    }
+    if c == f {
+        return MINUS_INFINITY;
+    }
+    if c == f + 1 {
+        return INFINITY;
+    }
+    NOT_A_NUMBER
+}
+
+// The code of the value of a class that is not finite.
+pub(crate) fn special(n: Numbers, k: u8) -> u16
+    ensures { λ r. ⌜ r ≡ special n k ⌝ }
+{
+    2 * (n.z as u16) + (k as u16)
 }
 
 // The number that `a` minus `b` is.
@@ -62,7 +136,7 @@ pub(crate) fn modulo(v: i64, n: u16) -> u16
 pub(crate) fn code(n: Numbers, v: i64) -> u16
     ensures { λ r. ⌜ r ≡ code n v ⌝ }
 {
-    modulo(v, numbers(n))
+    modulo(v, finites(n))
 }
 
 // The number that has a code.
@@ -72,7 +146,17 @@ pub(crate) fn signed(n: Numbers, c: u16) -> i64
     if c <= n.z as u16 {
         return c as i64;
     }
-    minus(c, numbers(n))
+    let f = finites(n);
+    if c < f {
+        return minus(c, f);
+    }
+    if c == f {
+        return LOWEST;
+    }
+    if c == f + 1 {
+        return HIGHEST;
+    }
+    NONE
 }
 
 // The number that a byte stands for, in two's complement.

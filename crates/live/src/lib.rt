@@ -1,6 +1,7 @@
 // Live states of an automaton in lent words: those that accept some word.
-// Of the work space below word 5 n, the words below n begin the lists of edges, from word n on stands a queue of
-// states, from word 2 n on the marks. Behind the graph there is one more word an edge.
+// Of the work space below word 5 n, a word below n begins a list of edges and holds an entry of a queue of states, and
+// from word n on stand the marks. Each edge has a word more: the first 3 n from word 2 n on, the others behind the
+// graph.
 ghost use mathlib.Core.Path.{_≡_};
 ghost use mathlib.Core.Bool.{true};
 ghost use mathlib.Core.Logic.{_↔_};
@@ -17,14 +18,14 @@ use dfa::words::clear;
 mod links; // links.rt: the edges in lists by their targets
 mod marks; // marks.rt: the live states found, from the accepting one back
 
-// Word 2 n + p becomes 1 exactly where the state p is live, and f alone accepts. The words below 5 n and those behind
+// Word n + p becomes 1 exactly where the state p is live, and f alone accepts. The words below 5 n and those behind
 // the graph may change.
 pub fn mark_live(words: &mut [u32], n: usize, f: usize)
     requires { ⌜ Markable n f (now words) ⌝ }
     ensures { λ r. ⌜ Marks (rest (5 * n) (now (words .entry))) n f (now (words .exit))
         × SameEdges n (rest (5 * n) (now (words .entry))) (rest (5 * n) (now (words .exit))) ⌝ }
 {
-    let cut = 3 * n;
+    let cut = 2 * n;
     clear(&mut words[..cut]);
     link_edges(words, n);
     mark(words, n, f);
@@ -32,8 +33,8 @@ pub fn mark_live(words: &mut [u32], n: usize, f: usize)
 
 // Whether the state p is marked.
 pub fn is_marked(words: &[u32], n: usize, p: usize) -> bool
-    requires { ⌜ (n ≤ 8193) × ((p < n) × (3 * n ≤ length (now words))) ⌝ }
-    ensures { λ r. ⌜ (r ≡ true) ↔ (getD (now (words .entry)) (2 * n + p) 0 ≡ 1) ⌝ }
+    requires { ⌜ (n ≤ 8193) × ((p < n) × (2 * n ≤ length (now words))) ⌝ }
+    ensures { λ r. ⌜ (r ≡ true) ↔ (getD (now (words .entry)) (n + p) 0 ≡ 1) ⌝ }
 {
-    at(words, 2 * n + p) == LIVE
+    at(words, n + p) == LIVE
 }

@@ -48,7 +48,7 @@ pub fn sat_mul(a: u32, b: u32) -> u32
 
 // The number of values of a type's data.
 pub fn values_of(n: Numbers, ty: u32) -> u16
-    ensures { λ r. ⌜ (r ≡ values n ty) × (r ≤ 511) ⌝ }
+    ensures { λ r. ⌜ (r ≡ values n ty) × (r ≤ 514) ⌝ }
 {
     match ty {
         1 => 2,

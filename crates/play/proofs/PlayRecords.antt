@@ -12,7 +12,7 @@ use Rattle.play.specs.Bytes.{firstLetter}
 use Rattle.play.specs.Spell.{letters}
 use Rattle.play.proofs.WritingPlays.{Good, record-letter, record-again}
 
-module _ (N : Numbers) (few : N .z ≤ 127) where
+module _ (N : Numbers) (few : N .z ≤ 125) where
   -- a word whose letters begin with those of k records begins with these records
   pub letters-records : (k : ℕ) (u : Word) (rs : List (List ℕ)) (x : List ℕ) → AllSmall N u → Good rs →
       k ≤ length rs → letters N u ≡ take k (map firstLetter rs) ++ x →

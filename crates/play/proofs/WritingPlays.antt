@@ -4,18 +4,21 @@ use native.Mathlib.Omega.{arith}
 use native.Mathlib.Nat.{add-zero}
 use mathlib.Core.Path.{_≡_, refl, sym, _∙_}
 use mathlib.Core.List.{List, [], _∷_, _++_}
-use lib.Dec.{leb, ltb}
+use lib.Dec.{ltb}
 use lib.ListN.{length, getD, drop, set, length-append}
 use lib.Seq.{sets, length-sets, sets-eq}
-use borrow.Author.Tests.{lt-ltb, le-ltb, leb-true, leb-false, ltb-true, ltb-false}
+use borrow.Author.Tests.{lt-ltb, le-ltb, ltb-true, ltb-false}
 use Rattle.language.specs.declared.Numbers.{Numbers}
 use Rattle.language.specs.Choice.{pick}
+use lib.IntN.{pos, _-ℤ_}
 use Rattle.language.specs.Number.{numbers, modulo, signed, toByte}
 use Rattle.language.specs.Ty.{run, ask, read, write, done, ok, value}
 use Rattle.language.specs.Move.{question, answer, at, private, Move, move, Word, kind, valueOf, bytes}
 use Rattle.language.specs.Move.{record-of, records}
-use Rattle.explicit.specs.Letter.{rank, ranked, letter}
+use Rattle.explicit.specs.Letter.{ranked, letter}
+use Rattle.language.specs.Order.{rank}
 use Rattle.language.proofs.NumberLaws.{minus-below, modulo-below, by-test}
+use Rattle.language.proofs.OrderLaws.{rank-small, signed-rank, up-128}
 use Rattle.explicit.specs.Letter.{Values, Small}
 use Rattle.explicit.proofs.LetterLaws.{ranked-byte}
 use Rattle.explicit.specs.Letter.{AllSmall}
@@ -135,14 +138,18 @@ by-long k i j r v l gk hk hi hj hr ev e =
     let d : l % 256 ≡ r = omega arith in
     rw (le-ltb (l / 16777216) 5 (omega arith), a, b, c, d, ev)
 
-module _ (N : Numbers) (few : N .z ≤ 127) where
+-- the byte of a number, by its rank
+rank-byte : (r : ℕ) → r < 256 → toByte (pos r -ℤ pos 128) ≡ (r + 128) % 256
+unfolding toByte modulo
+rank-byte r h =
+    by-test (ltb r 128)
+      (λ t. rw (minus-below r 128 (ltb-true r 128 t)) (omega (arith, ltb-true r 128 t)))
+      (λ t. rw (up-128 r (ltb-false r 128 t)) (omega (arith, ltb-false r 128 t)))
+
+module _ (N : Numbers) (few : N .z ≤ 125) where
   -- the byte of a value, by its rank
   value-byte : (v : ℕ) → v < numbers N → toByte (signed N v) ≡ (rank N v + 128) % 256
-  unfolding toByte signed rank numbers modulo
-  value-byte v h =
-      by-test (leb v (N .z))
-        (λ t. rw t (omega (arith, leb-true v (N .z) t)))
-        (λ t. rw (t, minus-below v (2 * N .z + 1) h) (omega (arith, leb-false v (N .z) t)))
+  value-byte v h = rw (signed-rank N few v h) (rank-byte (rank N v) (rank-small N few v h))
 
   -- it is a byte
   byte-below : (v : ℕ) → toByte (signed N v) < 256
@@ -232,7 +239,7 @@ record-short : {r : List ℕ} → Record r → length r ≤ 4
 record-short (short k i j hk hi hj) = omega arith
 record-short (long k i j v gk hk hi hj hv) = omega arith
 
-module _ (N : Numbers) (few : N .z ≤ 7) where
+module _ (N : Numbers) (few : N .z ≤ 125) where
   -- a play's records, as a run of stores
   written : (u : Word) → AllSmall N u → (s : List ℕ) (from : ℕ) →
       withRecords s from (letters N u) ≡ sets s from (records N u)

@@ -5,7 +5,8 @@ use lib.ListN.{length, getD, set}
 use lib.Dec.{ltb}
 use Rattle.language.specs.Choice.{pick}
 use Rattle.records.specs.Limits.{bytes}
-use Rattle.explicit.specs.Letter.{RANK-ZERO, KIND-UNIT, ID-UNIT, ARGUMENT-UNIT}
+use Rattle.language.specs.Order.{RANK-ZERO}
+use Rattle.explicit.specs.Letter.{KIND-UNIT, ID-UNIT, ARGUMENT-UNIT}
 use Rattle.play.specs.Records.{Given, moves, bad, valued, kinds, width}
 use Rattle.play.specs.declared.play.Parsed.{Parsed}
 use Rattle.play.specs.declared.play.Parsed.the-variants.{Moves, Bad}

@@ -7,14 +7,14 @@ use mathlib.Core.Bool.{Bool, true, false}
 use mathlib.Core.Logic.{_⊎_, inl, inr}
 use lib.Dec.{ltb}
 use Rattle.language.specs.Choice.{pick}
-use Rattle.language.specs.Number.{numbers}
+use Rattle.language.specs.Number.{numbers, finites}
 use Rattle.language.specs.Ty.{Ty, command, expression, variable, questions}
 use Rattle.language.specs.Term.{Operation}
 use Rattle.language.specs.Typing.{operands}
 use Rattle.procedures.specs.Form.{Form, only, plus, times, sums}
 
 pub some-operand : (o : Operation) → 0 < operands o
-unfolding operands numbers
+unfolding operands numbers finites
 some-operand o = go (ltb (o .operator) 6)
   where
     go : (b : Bool) → 0 < pick b (numbers (o .over)) 2

@@ -8,7 +8,7 @@ use mathlib.Core.List.{List, [], _∷_}
 use lib.ListN.{length}
 use lib.Dec.{eqb}
 use Rattle.language.specs.Choice.{pick}
-use Rattle.language.specs.Number.{numbers}
+use Rattle.language.specs.Number.{numbers, finites}
 use Rattle.language.specs.Ty.{Ty}
 use Rattle.language.specs.Term as t
 use Rattle.language.specs.Term.{Term}
@@ -29,7 +29,7 @@ use Rattle.procedures.proofs.Bounds.{nodes-bound, not-deep, slack-least
 use Rattle.procedures.proofs.WellTyped.{accepted-typed}
 
 two-values : (N : Numbers) (ty : ℕ) → 0 < N .z → 2 ≤ values N ty
-unfolding values numbers
+unfolding values numbers finites
 two-values N ty h = go (eqb ty 1) (eqb ty 3)
   where
     go : (a b : Bool) → 2 ≤ pick a 2 (pick b 2 (numbers N))

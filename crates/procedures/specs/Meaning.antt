@@ -9,7 +9,7 @@ use lib.ListN.{length}
 use lib.Dec.{eqb}
 use native.Mathlib.Omega.{arith}
 use Rattle.language.specs.Choice.{pick}
-use Rattle.language.specs.Number.{numbers, code, fromByte}
+use Rattle.language.specs.Number.{finites, numbers, code, fromByte}
 use Rattle.language.specs.Ty.{Ty, command, expression, variable}
 use Rattle.language.specs.Term as t
 use Rattle.language.specs.Term.{Term, Often, Args, Operation}
@@ -108,7 +108,7 @@ typed ns bs (procedure id ty ps body rest) = typed ns (after id ty ps bs) rest
 
 -- a variable's data has a value
 unfoldable pub some-value : (N : Numbers) (ty : ℕ) → 0 < values N ty
-unfolding values numbers
+unfolding values numbers finites
 some-value N ty = go (eqb ty 1) (eqb ty 3)
   where
     go : (a b : Bool) → 0 < pick a 2 (pick b 2 (numbers N))

@@ -1,5 +1,5 @@
 -- The limits of sheets by name, each in this place alone. Document 01, "The sheet, byte by byte" and "Reckoned size";
--- document 02 [1] for procedures. SHEETS 2 and 7.3.
+-- document 02 [1] for procedures, [8] for the overflow rule. SHEETS 2 and 7.3.
 use Prim.Native.Nat.{ℕ}
 
 -- Z is from 1 to this number
@@ -8,7 +8,7 @@ greatest-z = 7
 
 -- the overflow rule is from 0 to this number
 abbrev pub greatest-rule : ℕ
-greatest-rule = 1
+greatest-rule = 2
 
 -- how many bytes and how many name records a sheet may have
 abbrev pub most-bytes : ℕ

@@ -149,6 +149,7 @@ fn example(what: &[u8], names: &[u8], old: &[u8], new: &[u8]) {
     title(what);
     ranges(0, names, old, new);
     ranges(1, names, old, new);
+    ranges(2, names, old, new);
 }
 
 pub fn all() {

@@ -1,6 +1,6 @@
 // Sheets worked through: document 01's table, document 001's examples for every range and rule, document 02's
-// remainders, procedures and names that ask once, sheets for each refusal, and what the services are lent. The answers,
-// made by the same function as the program's, go to standard output.
+// remainders, procedures, names that ask once and infinities, sheets for each refusal, and what the services are lent.
+// The answers, made by the same function as the program's, go to standard output.
 
 // Titles, sheets and reports.
 mod show;
@@ -16,6 +16,8 @@ mod remainders;
 mod routines;
 // Document 02's names that ask once.
 mod once;
+// Document 02's moon table and infinities.
+mod moon;
 // Refusals.
 mod refused;
 // Words and bytes lent, and follow.
@@ -44,4 +46,5 @@ fn main() {
     routines::parameters();
     routines::expressions();
     once::rows();
+    moon::rows();
 }

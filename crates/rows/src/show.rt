@@ -59,7 +59,7 @@ pub fn with_room(z: u8, rule: u8, names: &[u8], old: &[u8], new: &[u8]) {
     let mut b = [0u8; 64];
     let n = sheet(&mut a, z, rule, names, old);
     let m = sheet(&mut b, z, rule, names, new);
-    let mut words = [0u32; 81920];
-    let mut space = [0u8; 10240];
+    let mut words = [0u32; 114688];
+    let mut space = [0u8; 14336];
     compared(&a[..n], &b[..m], &mut words, &mut space);
 }

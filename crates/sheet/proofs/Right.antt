@@ -11,6 +11,7 @@ use borrow.Author.Tests.{eqb-false, leb-false, ltb-false, lt-leb, le-ltb, ne-eqb
 use Rattle.language.specs.Choice.{pick}
 use Rattle.language.specs.Weight.{size}
 use Rattle.language.specs.declared.Numbers.{Numbers}
+use Rattle.records.specs.Limits.{greatest-z, greatest-rule}
 use Rattle.records.specs.Refusal.{too-large}
 use Rattle.records.specs.declared.edition.Edition.{Edition}
 use Rattle.records.specs.declared.edition.Edition.the-variants.{Earlier, Present}
@@ -34,8 +35,8 @@ pub record SheetRead (ed : Edition) (s : List ℕ) (π : ℕ → ℕ) (x : Whole
   pub short : length s ≤ 4096
   pub long : 1 < length s
   pub z-above : 0 < getD s 0 0
-  pub z-below : getD s 0 0 < 8
-  pub rule-below : getD s 1 0 < 2
+  pub z-below : getD s 0 0 ≤ greatest-z
+  pub rule-below : getD s 1 0 ≤ greatest-rule
   pub names : NamesRead ed (numbersAt s) s π 32 [] 2 x ty end
   pub ends : length s ≤ end
 
@@ -45,9 +46,9 @@ sheet-all ed s π =
     pick-all A (ltb 4096 (length s)) (λ e. none′) (λ e₁.
     pick-all A (leb (length s) 0) (λ e. none′) (λ e₂.
     pick-all A (eqb (getD s 0 0) 0) (λ e. none′) (λ e₃.
-    pick-all A (ltb 7 (getD s 0 0)) (λ e. none′) (λ e₄.
+    pick-all A (ltb greatest-z (getD s 0 0)) (λ e. none′) (λ e₄.
     pick-all A (leb (length s) 1) (λ e. none′) (λ e₅.
-    pick-all A (ltb 1 (getD s 1 0)) (λ e. none′) (λ e₆.
+    pick-all A (ltb greatest-rule (getD s 1 0)) (λ e. none′) (λ e₆.
     bind-all _ (SheetRead ed s π) _ _
       (names-all ed (numbersAt s) s π 32 [] nothing 2 (matches-nothing s π (ltb-false 4096 (length s) e₁)))
       (λ x ty end q.
@@ -56,8 +57,8 @@ sheet-all ed s π =
       short = ltb-false 4096 (length s) e₁;
       long = leb-false (length s) 1 e₅;
       z-above = above (getD s 0 0) (eqb-false (getD s 0 0) 0 e₃);
-      z-below = omega (arith, ltb-false 7 (getD s 0 0) e₄);
-      rule-below = omega (arith, ltb-false 1 (getD s 1 0) e₆);
+      z-below = ltb-false greatest-z (getD s 0 0) e₄;
+      rule-below = ltb-false greatest-rule (getD s 1 0) e₆;
       names = q;
       ends = ltb-false end (length s) e₇ })))))))))
   where
@@ -96,7 +97,7 @@ module _
   here-accepted : size (tyOf (numbersAt s) ty) (termOf here) ≤ 4096 → AcceptedUnder ed here
   here-accepted h = record {
       ordered = record {
-        z-above = R .z-above; z-below = omega (arith, R .z-below); rule-below = omega (arith, R .rule-below);
+        z-above = R .z-above; z-below = R .z-below; rule-below = R .rule-below;
         few-names = l; fine-names = f;
         fine-term = P .fine; shallow = P .shallow;
         small = subst (λ (x : ℕ). size (tyOf (numbersAt s) x) (termOf here) ≤ 4096) here-type h };
@@ -181,8 +182,8 @@ module _ (ed : Edition) (S : Sheet) (A : AcceptedUnder ed S) (s : List ℕ) (b :
       rw
         (read-first, read-second, le-ltb 4096 (length s) read-short,
         lt-leb (length s) 0 (omega arith), ne-eqb (S .numbers .z) 0 (λ e. omega (arith, O .z-above)),
-        le-ltb 7 (S .numbers .z) (omega (arith, O .z-below)), lt-leb (length s) 1 l,
-        le-ltb 1 (S .numbers .rule) (omega (arith, O .rule-below)), R .reads,
+        le-ltb greatest-z (S .numbers .z) (O .z-below), lt-leb (length s) 1 l,
+        le-ltb greatest-rule (S .numbers .rule) (O .rule-below), R .reads,
         le-ltb (length s) (length s) (omega arith)) refl
 
   read-sheet : sheetIn s wholeRead ≡ S

@@ -10,6 +10,7 @@ use lib.Dec.{ltb}
 use borrow.Author.Tests.{le-leb, lt-leb, lt-ltb, le-ltb, eq-eqb, ne-eqb}
 use Rattle.language.specs.Choice.{pick}
 use Rattle.language.specs.declared.Numbers.{Numbers}
+use Rattle.records.specs.Limits.{greatest-z, greatest-rule}
 use Rattle.records.specs.Refusal.{refusal}
 use Rattle.records.specs.declared.refusal.Refusal.{Refusal}
 use Rattle.records.specs.Kind.{shapeOf}
@@ -168,21 +169,21 @@ module _ (ed : Edition) (s : List ℕ) where
       z-zero c = rw (le-ltb _ _ a, lt-leb _ _ b, eq-eqb _ _ c)
 
       module _ (c : getD s 0 0 ≡ 0 → ⊥) where
-        pub z-large : 7 < getD s 0 0 → wholeOf ed s ≡ refused 3 0
+        pub z-large : greatest-z < getD s 0 0 → wholeOf ed s ≡ refused 3 0
         unfolding wholeOf
         z-large d = rw (le-ltb _ _ a, lt-leb _ _ b, ne-eqb _ _ c, lt-ltb _ _ d)
 
-        module _ (d : getD s 0 0 ≤ 7) where
+        module _ (d : getD s 0 0 ≤ greatest-z) where
           pub no-rule : length s ≤ 1 → wholeOf ed s ≡ refused 2 (length s)
           unfolding wholeOf
           no-rule e = rw (le-ltb _ _ a, lt-leb _ _ b, ne-eqb _ _ c, le-ltb _ _ d, le-leb _ _ e)
 
           module _ (e : 1 < length s) where
-            pub rule-large : 1 < getD s 1 0 → wholeOf ed s ≡ refused 3 1
+            pub rule-large : greatest-rule < getD s 1 0 → wholeOf ed s ≡ refused 3 1
             unfolding wholeOf
             rule-large f = rw (le-ltb _ _ a, lt-leb _ _ b, ne-eqb _ _ c, le-ltb _ _ d, lt-leb _ _ e, lt-ltb _ _ f)
 
-            pub opened : getD s 1 0 ≤ 1 →
+            pub opened : getD s 1 0 ≤ greatest-rule →
                 wholeOf ed s ≡ closed s (namesOf ed 32 (numbersAt s) s nothing 2)
             unfolding wholeOf
             opened f = rw (le-ltb _ _ a, lt-leb _ _ b, ne-eqb _ _ c, le-ltb _ _ d, lt-leb _ _ e, le-ltb _ _ f)

@@ -19,7 +19,7 @@ const LENGTH: usize = 4096;
 
 const GREATEST: u8 = 7;
 
-const LAST_RULE: u8 = 1;
+const LAST_RULE: u8 = 2;
 
 const NAMES: u8 = 32;
 

@@ -6,6 +6,7 @@ use mathlib.Core.Path.{_≡_}
 use mathlib.Core.List.{List, []}
 use lib.ListN.{length}
 use lib.Dec.{ltb}
+use Rattle.records.specs.Limits.{greatest-z, greatest-rule}
 use Rattle.language.specs.Choice.{pick}
 use Rattle.language.specs.Weight.{size}
 use Rattle.records.specs.Refusal.{too-large}
@@ -40,8 +41,8 @@ pub record Tabled (ed : Edition) (s : List ℕ) (root ty next : ℕ) (u : List �
       (accepted sheet ty (size (tyOf (numbersAt s) ty) (termOf sheet)))
   pub numbered : sheet .numbers ≡ numbersAt s
   pub z-above : 0 < numbersAt s .z
-  pub z-below : numbersAt s .z < 8
-  pub rule-below : numbersAt s .rule < 2
+  pub z-below : numbersAt s .z ≤ greatest-z
+  pub rule-below : numbersAt s .rule ≤ greatest-rule
   pub few-names : length (sheet .names) ≤ 32
   pub fine-names : FineNames [] (sheet .names)
   pub fine-term : Fine (numbersAt s) (sheet .names) [] (sheet .term)

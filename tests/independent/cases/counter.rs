@@ -1,7 +1,7 @@
 //! Sheets with private counters that a name moves on and looks at through its arguments.
 
 use crate::random::Random;
-use crate::sheet::{written, Data, Heading, Kind, Operator, Record, Term, Type};
+use crate::sheet::{written, Data, Heading, Kind, Numbers, Operator, Record, Term, Type};
 
 const CALLER: u8 = 3;
 const SHOWN: [u8; 2] = [4, 5];
@@ -10,7 +10,7 @@ const SHOWN: [u8; 2] = [4, 5];
 #[derive(Clone)]
 pub struct Counter {
     z: i8,
-    wraps: bool,
+    rule: u8,
     /// The marks of the counters, one or two of them.
     marks: Vec<i8>,
     /// What the look runs at the mark, and what elsewhere: 0 and 1 a name, 2 skip, 3 diverge.
@@ -27,7 +27,8 @@ impl Counter {
         let z = random.between(1, if levels == 1 { 7 } else { 3 }) as i8;
         let marks = (0..levels).map(|_| mark(random, z)).collect();
         let shows = [random.below(4), random.below(3)];
-        Counter { z, wraps: random.one_in(2), marks, shows, down: random.one_in(2), once: random.one_in(5) }
+        let (down, once) = (random.one_in(2), random.one_in(5));
+        Counter { z, rule: random.choose(&[0, 1, 2]), marks, shows, down, once }
     }
 
     /// Changes a mark or what is shown.
@@ -45,7 +46,7 @@ impl Counter {
         let caller =
             Record::Declare { once: self.once, id: CALLER, result: Type::Command, arguments: vec![Type::Command; 2] };
         let records = vec![caller, plain(SHOWN[0]), plain(SHOWN[1])];
-        let heading = Heading { z: self.z, wraps: self.wraps, records };
+        let heading = Heading { numbers: Numbers { z: self.z, rule: self.rule }, records };
         written(&heading, &self.term())
     }
 

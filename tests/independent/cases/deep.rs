@@ -1,7 +1,7 @@
 //! Sheets without procedures that are as deep or as large as may be, one for each kind of record that has parts.
 
 use crate::reader::{DEEPEST, LARGEST, LONGEST};
-use crate::sheet::{written, Data, Heading, Kind, Operator, Record, Term, Type};
+use crate::sheet::{written, Data, Heading, Kind, Numbers, Operator, Record, Term, Type};
 
 const TRUTH: Type = Type::Expression(Data::Truth);
 const NUMBER: Type = Type::Expression(Data::Number);
@@ -29,7 +29,7 @@ fn heading(z: i8) -> Heading {
         result,
         arguments: arguments.to_vec(),
     };
-    Heading { z, wraps: false, records: NAMES.iter().map(declare).collect() }
+    Heading { numbers: Numbers { z, rule: 0 }, records: NAMES.iter().map(declare).collect() }
 }
 
 /// A use of the first name with that result, which has no arguments.

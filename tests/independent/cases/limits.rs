@@ -4,7 +4,7 @@ use super::damage::damaging_byte;
 use super::heading_and_term;
 use crate::random::Random;
 use crate::reader::{read, Fault, LARGEST, LONGEST};
-use crate::sheet::{written, Data, Heading, Kind, Record, Term, Type};
+use crate::sheet::{written, Data, Heading, Kind, Numbers, Record, Term, Type};
 
 /// A sheet that just meets one of the limits, or goes just beyond it.
 pub fn sheet_at_a_limit(random: &mut Random) -> Vec<u8> {
@@ -12,8 +12,8 @@ pub fn sheet_at_a_limit(random: &mut Random) -> Vec<u8> {
     let beyond = random.below(3);
     match random.below(7) {
         0..=1 => {
-            let room = (LARGEST + beyond as u64).saturating_sub(1 + term.size(heading.z));
-            let weight = room / term.gives.questions(heading.z);
+            let room = (LARGEST + beyond as u64).saturating_sub(1 + term.size(heading.numbers));
+            let weight = room / term.gives.questions(heading.numbers);
             written(&heading, &padded(term, &heading, weight))
         }
         2 => {
@@ -46,7 +46,7 @@ fn too_deep(random: &mut Random, heading: &Heading, term: Term) -> Vec<u8> {
 /// one id.
 fn heavy(random: &mut Random) -> Vec<u8> {
     let record = Record::Declare { once: false, id: 1, result: Type::Command, arguments: vec![] };
-    let heading = Heading { z: 1, wraps: false, records: vec![record] };
+    let heading = Heading { numbers: Numbers { z: 1, rule: 0 }, records: vec![record] };
     let mut term = Term::new(Kind::Name { id: 1, result: Type::Command, once: false }, vec![]);
     let hides = random.one_in(8);
     for i in 0..random.choose(&[8, 9, 10, 11, 15, 16, 24, 31, 31, 31]) {
@@ -107,8 +107,8 @@ fn skips(count: usize) -> Term {
 }
 
 /// Commands of that weight, which show no move. They are few bytes: a block makes most of the weight.
-fn ballast(weight: u64, id: u8, z: i8) -> Term {
-    let count = Data::Number.count(z);
+fn ballast(weight: u64, id: u8, numbers: Numbers) -> Term {
+    let count = Data::Number.count(numbers);
     let (inside, rest) = ((weight - 1) / count, (weight - 1) % count + 1);
     if inside == 0 {
         return skips(weight as usize);
@@ -122,7 +122,7 @@ fn padded(term: Term, heading: &Heading, weight: u64) -> Term {
     let free = (0..255).find(|&id| heading.record(id).is_none()).expect("there are few name records");
     match weight {
         0 => term,
-        _ => Term::new(Kind::Sequence, vec![ballast(weight, free, heading.z), term]),
+        _ => Term::new(Kind::Sequence, vec![ballast(weight, free, heading.numbers), term]),
     }
 }
 

@@ -2,7 +2,7 @@
 
 use crate::random::Random;
 use crate::reader::{LARGEST, LONGEST};
-use crate::sheet::{written, Data, Heading, Kind, Record, Term, Type};
+use crate::sheet::{written, Data, Heading, Kind, Numbers, Record, Term, Type};
 
 const NUMBER: Type = Type::Expression(Data::Number);
 const VARIABLE: Type = Type::Variable(Data::Truth);
@@ -37,14 +37,15 @@ impl Long {
             arguments: arguments.to_vec(),
         };
         let records = NAMES.iter().enumerate().map(declare).collect();
-        let heading = Heading { z: random.between(1, 7) as i8, wraps: random.one_in(2), records };
+        let numbers = Numbers { z: random.between(1, 7) as i8, rule: random.choose(&[0, 1, 2]) };
+        let heading = Heading { numbers, records };
         let fullness = random.choose(&[1, 1, 2, 4]);
         let menu: Vec<usize> = (0..random.between(1, 3)).map(|_| random.choose(&[0, 1, 4, 5, 6])).collect();
         let mut long = Long { heading, once, items: vec![] };
         let (mut size, mut length) = (3, 64);
         loop {
             let item = long.item(random.choose(&menu));
-            size += item.weight(long.heading.z);
+            size += item.weight(long.heading.numbers);
             length += 2 * item.records() + 1;
             if fullness * size > LARGEST || fullness as usize * length > LONGEST {
                 return long;

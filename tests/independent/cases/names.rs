@@ -6,7 +6,7 @@ use super::renumber::in_sequence;
 use super::{compare_of, follow_of, Case};
 use crate::random::Random;
 use crate::reader::MOST_RECORDS;
-use crate::sheet::{written, Data, Heading, Kind, Operator, Procedure, Record, Term, Type};
+use crate::sheet::{written, Data, Heading, Kind, Numbers, Operator, Procedure, Record, Term, Type};
 
 /// The highest id.
 const LAST_ID: u8 = 254;
@@ -53,7 +53,8 @@ fn heading(random: &mut Random) -> Heading {
     let count = if random.one_in(3) { random.below(9) } else { random.between(MOST_RECORDS - 3, MOST_RECORDS) };
     let retires = !random.one_in(3);
     let records = ids(random, count).into_iter().map(|id| record(random, id, retires)).collect();
-    Heading { z: random.choose(&[1, 1, 1, 1, 2, 3, 7]), wraps: random.one_in(2), records }
+    let numbers = Numbers { z: random.choose(&[1, 1, 1, 1, 2, 3, 7]), rule: random.choose(&[0, 1, 2]) };
+    Heading { numbers, records }
 }
 
 /// Ids that are one, two or three apart, in any order, so that a record's number tells nothing of its id.

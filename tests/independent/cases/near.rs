@@ -28,7 +28,7 @@ fn heading(random: &mut Random) -> Heading {
     let most = random.choose(&[0, 6, 12, 40, 80]);
     let mut heading = generate::heading(random, most);
     heading.records.truncate(MOST_RECORDS);
-    heading.z = random.between(1, 7) as i8;
+    heading.numbers.z = random.between(1, 7) as i8;
     heading
 }
 
@@ -55,16 +55,16 @@ fn large(random: &mut Random, heading: &Heading, wanted: Type) -> Term {
 
 /// Commands in sequence and at last a part of that type, all of at most that depth, for a sheet of about that size.
 fn grown(random: &mut Random, heading: &Heading, wanted: Type, size: u64, depth: usize) -> Term {
-    let z = heading.z;
-    let weight = size.saturating_sub(2 + wanted.answers(z)) / wanted.questions(z);
+    let numbers = heading.numbers;
+    let weight = size.saturating_sub(2 + wanted.answers(numbers)) / wanted.questions(numbers);
     let share = random.choose(&[2, 4, 8]);
     let last = lively(random, heading, wanted, weight / share, depth);
-    let (mut commands, mut total) = (Vec::new(), last.weight(z));
+    let (mut commands, mut total) = (Vec::new(), last.weight(numbers));
     while total < weight {
         let left = weight - total;
         let command = lively(random, heading, Type::Command, left.min(weight / share + 2), depth);
-        if command.weight(z) <= left {
-            total += command.weight(z);
+        if command.weight(numbers) <= left {
+            total += command.weight(numbers);
             commands.push(command);
         }
     }

@@ -60,7 +60,8 @@ fn accepted_sheet(random: &mut Random) -> Vec<u8> {
 /// Commands in some blocks, whose variables they use, over few numbers. Now and then there are about as many name
 /// records as may be.
 fn in_blocks(random: &mut Random) -> Vec<u8> {
-    let mut heading = Heading { z: random.choose(&[1, 1, 1, 2, 3]), ..heading(random) };
+    let mut heading = heading(random);
+    heading.numbers.z = random.choose(&[1, 1, 1, 2, 3]);
     let bell = (0..255).find(|&id| heading.record(id).is_none()).expect("there are few name records");
     heading.records.push(Record::Declare { once: false, id: bell, result: Type::Command, arguments: vec![] });
     if random.one_in(6) {

@@ -65,4 +65,4 @@ markable-of n f a b ws g h ea eb e few room =
   record
     { single = record
       { graph = g; empty = rest-at (5 * n) ws (n - 1) ∙ sym ea ∙ e ∙ sym end; other = λ q. omega arith }
-    ; end = omega arith; few = omega arith; room = omega arith }
+    ; end = omega arith; few = omega arith; room = omega arith; link-room = omega arith }

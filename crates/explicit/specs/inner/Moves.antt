@@ -6,7 +6,8 @@ use lib.Dec.{eqb, ltb, leb}
 use Rattle.language.specs.Choice.{pick}
 use Rattle.language.specs.declared.Numbers.{Numbers}
 use Rattle.language.specs.Number.{numbers}
-use Rattle.explicit.specs.Letter.{rank, KIND-UNIT, ID-UNIT, ARGUMENT-UNIT}
+use Rattle.language.specs.Order.{codeAt, rank}
+use Rattle.explicit.specs.Letter.{KIND-UNIT, ID-UNIT, ARGUMENT-UNIT}
 use Rattle.part_rows.specs.Row.{word}
 use Rattle.automaton.specs.declared.Move.{Move}
 use Rattle.automaton.specs.declared.Out.{Out}
@@ -21,10 +22,6 @@ use Rattle.explicit.specs.declared.Wait.{Wait}
 use Rattle.part_path.specs.declared.Site.{Site}
 use Rattle.part_path.specs.States.{WHOLE, spotsOf, sheetAt, targetOf}
 use Rattle.explicit.specs.inner.Rows.{Edge, StateRow, noEdges, withRow, before, withRows}
-
--- the value of number r in the order of the signed values
-unfoldable pub codeAt : Numbers → ℕ → ℕ
-codeAt N r = pick (ltb r (N .z)) (r + N .z + 1) (r - N .z)
 
 -- the letter of a move
 unfoldable pub letterOf : Numbers → Move → ℕ
@@ -91,7 +88,7 @@ module _ (t : List ℕ) (N : Numbers) (s : Site) where
   unfoldable pub edgeBy : ℕ → Move → Edge
   edgeBy k m = record { letter = letterOf N m; target = targetOf s (sheetAt t N (s .root) k m) }
 
-  -- the edge by the value of number r, where it is below the limit
+  -- the edge by the value at place r, where it is below the limit
   unfoldable pub valueEdge : Wait → ℕ → ℕ → ℕ → ℕ → List Edge
   valueEdge wait kind arg below r =
       pick (leb below (codeAt N r)) []

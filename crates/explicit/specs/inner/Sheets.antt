@@ -1,9 +1,10 @@
 -- What filling and closing leave in the words: the automaton of one sheet, or of two.
 use mathlib.Core.Path.{_≡_}
 use mathlib.Core.List.{List}
-use Prim.Native.Nat.{ℕ, _*_, _-_, _≤_}
+use Prim.Native.Nat.{ℕ, _+_, _*_, _-_, _≤_}
 use lib.ListN.{length, getD}
 use Rattle.language.specs.declared.Numbers.{Numbers}
+use Rattle.language.specs.Number.{numbers}
 use Rattle.language.specs.Ty.{Ty}
 use Rattle.language.specs.Term.{Term}
 use Rattle.language.specs.Weight.{size}
@@ -13,14 +14,14 @@ use Rattle.silent.specs.Silent.{Silent}
 use Rattle.explicit.specs.Explicit.{Explicit}
 
 -- the words vs, as long as ws, are an automaton of n states and show the machine of M; the dead state has no edges,
--- and on average a state has at most 8
+-- and on average a state has at most (1 + K) / 2
 pub record OneSheet (N : Numbers) (T : Ty) (M : Term) (n : ℕ) (ws vs : List ℕ) : Type 0 where
   pub same-length : length vs ≡ length ws
   pub graph : Graph (rest (5 * n) vs) n
   pub silent : Silent n vs
   pub shows : Explicit N vs (rest (5 * n) vs) n 0 (steps T M)
   pub barren : getD (rest (5 * n) vs) (n - 1) 0 ≡ getD (rest (5 * n) vs) n 0
-  pub few : getD (rest (5 * n) vs) n 0 ≤ 8 * n
+  pub few : 2 * getD (rest (5 * n) vs) n 0 ≤ (1 + numbers N) * n
 
 -- the words vs, as long as ws, are an automaton of n states and show the machine of M, and after it that of M′
 pub record TwoSheets (N : Numbers) (T : Ty) (M M′ : Term) (n : ℕ) (ws vs : List ℕ) : Type 0 where

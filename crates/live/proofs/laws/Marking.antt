@@ -11,10 +11,10 @@ use Rattle.dfa.specs.Live.{Live, Single}
 use Rattle.live.specs.Marks.{Marks}
 use Rattle.dfa.specs.Reading.{walk}
 use Rattle.dfa.specs.Frame.{SameFrom}
-use Rattle.live.specs.inner.Links.{Held, Latest, Linked, linkOf}
+use Rattle.live.specs.inner.Links.{Held, Latest, Linked, headAt, linkOf, linkPlace}
 use Rattle.live.specs.inner.Marking.{Marking, Queued, Taken, Unmarked, entryAt, markAt, noted, tailAfter}
 use Rattle.dfa.proofs.laws.Edges.{edge-from, edge-live, edge-to, live-walk, one-source, step-edge}
-use Rattle.live.proofs.laws.Links.{held-above, linked-keep}
+use Rattle.live.proofs.laws.Links.{held-above, linked-keep, place-room}
 use Rattle.dfa.proofs.laws.Live.{dead-refuses, no-true}
 use Rattle.dfa.proofs.laws.Look.{δ-lt}
 use Rattle.live.proofs.laws.Marks.{Notes, note-notes}
@@ -27,19 +27,19 @@ live-end G n f = live-walk G n f f .1 ([], refl)
 -- no state is marked and none is queued
 queued-none : (G : List ℕ) (n f : ℕ) (ws : List ℕ) → ((p : ℕ) → p < n → markAt n ws p ≡ 0) → Queued G n f ws 0
 queued-none G n f ws z = record
-  { bits = λ p h. omega (arith, z p h); count = sum-none ws (2 * n) n z; states = λ k h. absurd (omega arith)
+  { bits = λ p h. omega (arith, z p h); count = sum-none ws n n z; states = λ k h. absurd (omega arith)
   ; marked = λ k h. absurd (omega arith); place = λ p h e. absurd (omega (arith, z p h))
   ; live = λ p h e. absurd (omega (arith, z p h)) }
 
 -- what noting a state leaves of the loop
 module _ (G : List ℕ) (n f : ℕ) (ws₀ ws ws′ : List ℕ) (head tail tail′ p : ℕ) (N : Notes G n f ws ws′ tail tail′ p)
   (held : Held G n ws) (linked : Linked G n ws (getD G n 0)) (len : length ws ≡ length ws₀)
-  (keep : SameFrom (3 * n) ws₀ ws) where
+  (keep : SameFrom (2 * n) ws₀ ws) where
   noted-marking : (next : ℕ) → Taken G n ws′ head tail′ next → markAt n ws′ f ≡ 1
     → Marking G n f ws₀ ws′ head tail′ next
   noted-marking next T s = record
     { held = held-above G n ws ws′ held (N .len) (N .high)
-    ; linked = linked-keep G n (getD G n 0) ws ws′ linked (N .low) (N .high)
+    ; linked = linked-keep G n (getD G n 0) ws ws′ linked (N .heads) (N .high)
     ; queued = N .queued; taken = T; start = s; len = N .len ∙ len
     ; keep = λ i a. N .high i a ∙ keep i a }
 
@@ -48,7 +48,7 @@ pub mark-first : (n f : ℕ) (ws ws′ : List ℕ) (tail : ℕ) (U : Unmarked n 
   → tail ≡ tailAfter ws n 0 f → Marking (U .graph) n f ws ws′ 0 tail 0
 mark-first n f ws ws′ tail U e t =
   let N = note-notes (U .graph) n f ws 0 f (queued-none (U .graph) n f ws (U .none)) (omega (arith, U .held .room))
-        (U .end) (live-end (U .graph) n f) ws′ tail e t in
+        (omega (arith, U .held .graph .few)) (U .end) (live-end (U .graph) n f) ws′ tail e t in
   noted-marking (U .graph) n f ws ws ws′ 0 0 tail f N (U .held) (U .linked) refl (λ i a. refl) 0
     (record
       { within = omega arith; done = λ k h. absurd (omega arith); some = λ h. absurd (omega arith)
@@ -57,7 +57,7 @@ mark-first n f ws ws′ tail U e t =
 
 -- the queue has room for every state
 pub few-queued : (G : List ℕ) (n f : ℕ) (ws : List ℕ) (tail : ℕ) → Queued G n f ws tail → tail ≤ n
-few-queued G n f ws tail Q = omega (arith, sum-most ws (2 * n) n (Q .bits), Q .count)
+few-queued G n f ws tail Q = omega (arith, sum-most ws n n (Q .bits), Q .count)
 
 -- an entry is a state, and a list begins with an edge or is empty
 pub entry-low : (G : List ℕ) (n f : ℕ) (ws₀ ws : List ℕ) (head tail next t k : ℕ) → Marking G n f ws₀ ws head tail next
@@ -65,12 +65,12 @@ pub entry-low : (G : List ℕ) (n f : ℕ) (ws₀ ws : List ℕ) (head tail next
 entry-low G n f ws₀ ws head tail next t k M h et = rw et (M .queued .states k h)
 
 pub list-low : (G : List ℕ) (n f : ℕ) (ws₀ ws : List ℕ) (head tail next t v : ℕ) → Marking G n f ws₀ ws head tail next
-  → t < n → v ≡ getD ws t 0 → v ≤ 131072
+  → t < n → v ≡ headAt ws t → v ≤ 200000
 list-low G n f ws₀ ws head tail next t v M h e = omega (arith, M .linked .heads t h .within, M .held .few)
 
 -- an entry is taken, and its list begun
 pub mark-take : (G : List ℕ) (n f : ℕ) (ws₀ ws : List ℕ) (head tail next t next′ : ℕ)
-  → Marking G n f ws₀ ws head tail next → next ≡ 0 → head < tail + next → t ≡ entryAt n ws head → next′ ≡ getD ws t 0
+  → Marking G n f ws₀ ws head tail next → next ≡ 0 → head < tail + next → t ≡ entryAt n ws head → next′ ≡ headAt ws t
   → Marking G n f ws₀ ws (head + 1) tail next′
 mark-take G n f ws₀ ws head tail next t next′ M z h et en = record
   { held = M .held; linked = M .linked; queued = M .queued; start = M .start; len = M .len; keep = M .keep
@@ -91,12 +91,21 @@ mark-take G n f ws₀ ws head tail next t next′ M z h et en = record
       (edge-to G n (M .held .graph) p e E) (q ∙ ap (entryAt n ws) i ∙ sym et))
     done k a p e E q r (no i) = M .taken .done k (omega arith) p e E q (λ w. omega arith)
 
+-- the word of an edge of the list, where the end of the edges is read from the words
+module _ (G : List ℕ) (n f : ℕ) (ws₀ ws : List ℕ) (head tail next : ℕ) (M : Marking G n f ws₀ ws head tail next)
+  (some : next ≢ 0) (at end : ℕ) (d : end ≡ getD G n 0) (q : at ≡ linkPlace n end (next - 1)) where
+  pub along-place : at ≡ linkPlace n (getD G n 0) (next - 1)
+  along-place = q ∙ ap (λ x. linkPlace n x (next - 1)) d
+
+  pub along-room : at < length ws
+  along-room = rw along-place (place-room n (getD G n 0) (next - 1) (length ws) (omega (arith, M .taken .below))
+    (M .held .room) (M .held .link-room))
+
 -- an edge of the list is gone along
 module _ (G : List ℕ) (n f : ℕ) (ws₀ ws : List ℕ) (head tail next : ℕ) (M : Marking G n f ws₀ ws head tail next)
-  (some : next ≢ 0) (links v : ℕ) (el : links ≡ 6 * n + 1 + 2 * getD G n 0)
-  (ev : v ≡ getD ws (links + next - 1) 0) where
+  (some : next ≢ 0) (at v : ℕ) (el : at ≡ linkPlace n (getD G n 0) (next - 1)) (ev : v ≡ getD ws at 0) where
   v-is : v ≡ linkOf G n ws (next - 1)
-  v-is = ev ∙ ap (λ i. getD ws i 0) {x = links + next - 1} {y = 6 * n + 1 + 2 * getD G n 0 + (next - 1)} (omega arith)
+  v-is = ev ∙ ap (λ i. getD ws i 0) el
 
   from : getD G 0 0 ≤ next - 1
   from = omega (arith, M .taken .above (omega arith))
@@ -168,8 +177,8 @@ module _ (G : List ℕ) (n f : ℕ) (ws₀ ws : List ℕ) (head tail next : ℕ)
   pub mark-along : (ws′ : List ℕ) (tail′ : ℕ) → ws′ ≡ noted ws n tail (v % 16384)
     → tail′ ≡ tailAfter ws n tail (v % 16384) → f < n → Marking G n f ws₀ ws′ head tail′ (v / 16384)
   mark-along ws′ tail′ ew et lf =
-    let N = note-notes G n f ws tail (v % 16384) (M .queued) (omega (arith, M .held .room)) source-low source-live ws′
-          tail′ ew et in
+    let N = note-notes G n f ws tail (v % 16384) (M .queued) (omega (arith, M .held .room))
+          (omega (arith, M .held .graph .few)) source-low source-live ws′ tail′ ew et in
     noted-marking G n f ws₀ ws ws′ head tail tail′ (v % 16384) N (M .held) (M .linked) (M .len) (M .keep) (v / 16384)
       (taken-next ws′ tail′ N) (N .marks f lf (M .start))
 
@@ -200,6 +209,6 @@ module _ (G : List ℕ) (n f : ℕ) (ws₀ ws : List ℕ) (head tail next : ℕ)
       go low then live (inr (e, (E, q))) = closed p e E (rw q at then) (rw q at low)
 
   -- THEOREM: exactly the live states are marked
-  pub mark-last : Marks G n f ws × SameFrom (3 * n) ws₀ ws
+  pub mark-last : Marks G n f ws × SameFrom (2 * n) ws₀ ws
   mark-last =
     ((λ p l. (M .queued .live p l, λ a. let w = live-walk G n f p .0 a in all-marked (w .0) p l (w .1))), M .keep)

@@ -14,7 +14,7 @@ slice-relend-prefix-clear : tie.Need-slice-relend-prefix-clear
 slice-relend-prefix-clear c = search needs
 
 slice-aggregate-clear : tie.Need-slice-aggregate-clear
-slice-aggregate-clear c = omega (arith, length-take (3 * c .before .before .args .n)
+slice-aggregate-clear c = omega (arith, length-take (2 * c .before .before .args .n)
     (c .before .before .args .words .now), c .before .before .pre .room)
 
 clear-requires : tie.Need-clear-requires

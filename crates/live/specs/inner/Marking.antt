@@ -1,26 +1,27 @@
--- Marking live states. Word n + k is entry k of the queue, word 2 n + p is 1 where the state p is marked, else 0.
+-- Marking live states. Word k holds entry k of the queue, word n + p is 1 where the state p is marked, else 0.
 -- Assumes nothing.
 use mathlib.Core.Bool.{cond}
 use mathlib.Core.List.{List}
 use mathlib.Core.Path.{_≡_}
-use Prim.Native.Nat.{_*_, _+_, _-_, _<_, _≤_, suc, zero, ℕ}
+use Prim.Native.Nat.{_%_, _*_, _+_, _-_, _<_, _≤_, suc, zero, ℕ}
 use lib.Dec.{eqb}
 use lib.ListN.{getD, length, set}
 use Rattle.dfa.specs.Graph.{EdgeOf, target}
 use Rattle.dfa.specs.Live.{Live, Single}
 use Rattle.dfa.specs.Frame.{SameFrom}
-use Rattle.live.specs.inner.Links.{Held, Linked}
+use Rattle.live.specs.inner.Links.{Held, Linked, headAt}
 
 -- entry k of the queue, and the mark of the state p
 abbrev pub entryAt : ℕ → List ℕ → ℕ → ℕ
-entryAt n ws k = getD ws (n + k) 0
+entryAt n ws k = getD ws k 0 % 16384
 
 abbrev pub markAt : ℕ → List ℕ → ℕ → ℕ
-markAt n ws p = getD ws (2 * n + p) 0
+markAt n ws p = getD ws (n + p) 0
 
 -- the state p is marked and queued, where it is not marked yet
 abbrev pub noted : List ℕ → ℕ → ℕ → ℕ → List ℕ
-noted ws n tail p = cond (eqb (markAt n ws p) 1) ws (set (set ws (2 * n + p) 1) (n + tail) p)
+noted ws n tail p =
+    cond (eqb (markAt n ws p) 1) ws (set (set ws (n + p) 1) tail (headAt (set ws (n + p) 1) tail * 16384 + p))
 
 abbrev pub tailAfter : List ℕ → ℕ → ℕ → ℕ → ℕ
 tailAfter ws n tail p = cond (eqb (markAt n ws p) 1) tail (tail + 1)
@@ -33,7 +34,7 @@ sumFrom ws a (suc k) = getD ws (a + k) 0 + sumFrom ws a k
 -- the queue has the marked states, each once, and all are live
 pub record Queued (G : List ℕ) (n f : ℕ) (ws : List ℕ) (tail : ℕ) : Type 0 where
   pub bits : (p : ℕ) → p < n → markAt n ws p ≤ 1
-  pub count : sumFrom ws (2 * n) n ≡ tail
+  pub count : sumFrom ws n n ≡ tail
   pub states : (k : ℕ) → k < tail → entryAt n ws k < n
   pub marked : (k : ℕ) → k < tail → markAt n ws (entryAt n ws k) ≡ 1
   pub place : (p : ℕ) → p < n → markAt n ws p ≡ 1 → (k : ℕ) × ((k < tail) × (entryAt n ws k ≡ p))
@@ -66,4 +67,4 @@ pub record Marking (G : List ℕ) (n f : ℕ) (ws₀ ws : List ℕ) (head tail n
   pub taken : Taken G n ws head tail next
   pub start : markAt n ws f ≡ 1
   pub len : length ws ≡ length ws₀
-  pub keep : SameFrom (3 * n) ws₀ ws
+  pub keep : SameFrom (2 * n) ws₀ ws

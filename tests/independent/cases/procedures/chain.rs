@@ -1,7 +1,7 @@
 //! Chains of procedures, each of which uses the one before it twice: what is said grows as a power of 2, or not at all.
 
 use crate::random::Random;
-use crate::sheet::{written, Data, Heading, Kind, Operator, Procedure, Record, Term, Type};
+use crate::sheet::{written, Data, Heading, Kind, Numbers, Operator, Procedure, Record, Term, Type};
 
 /// The declared command, the parameter, the private variable, and the first of the procedures.
 const NAME: u8 = 8;
@@ -99,7 +99,7 @@ impl Chain {
 
     pub fn heading_and_term(&self) -> (Heading, Term) {
         let record = Record::Declare { once: false, id: NAME, result: Type::Command, arguments: vec![] };
-        let heading = Heading { z: 1, wraps: true, records: vec![record] };
+        let heading = Heading { numbers: Numbers { z: 1, rule: 1 }, records: vec![record] };
         let mut term = leaf(Kind::Name { id: NAME, result: Type::Command, once: false });
         for i in (0..self.length).filter(|i| self.uses >> i & 1 == 1) {
             term = call(FIRST + i as u8, term);

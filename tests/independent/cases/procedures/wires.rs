@@ -1,7 +1,7 @@
 //! Procedures that do nothing of their own but hand their arguments on, in another order, twice or not at all.
 
 use crate::random::Random;
-use crate::sheet::{Heading, Kind, Procedure, Record, Term, Type};
+use crate::sheet::{Heading, Kind, Numbers, Procedure, Record, Term, Type};
 
 /// The declared commands, and the ids of procedures and parameters where they can be had: few, so that many stand side
 /// by side with the same.
@@ -20,7 +20,7 @@ struct Wires<'a> {
 /// A sheet of commands: procedures that only hand on, and uses of them with names.
 pub fn wired(random: &mut Random) -> (Heading, Term) {
     let declare = |id| Record::Declare { once: false, id, result: Type::Command, arguments: vec![] };
-    let heading = Heading { z: 1, wraps: false, records: NAMES.map(declare).to_vec() };
+    let heading = Heading { numbers: Numbers { z: 1, rule: 0 }, records: NAMES.map(declare).to_vec() };
     let scope = NAMES.map(|id| (id, Kind::Name { id, result: Type::Command, once: false }, 0)).to_vec();
     let (procedures, hides) = (random.between(1, 8), random.one_in(8));
     let term = Wires { random, hides, scope }.procedures(procedures);

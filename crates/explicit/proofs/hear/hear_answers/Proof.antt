@@ -24,14 +24,11 @@ limit-requires c κs = search needs
 returns : tie.Need-returns Inv-loop μ-loop
 returns c = told (block-none _ _ _ _ _ _ _ _ _ (c .before .limit .ensures) (c .if1 .taken))
 
+numbers-requires : tie.Need-numbers-requires Inv-loop μ-loop
+numbers-requires c κs = search needs
+
 cast-all : tie.Need-cast-all Inv-loop μ-loop
 cast-all c = search needs
-
-mul-all : tie.Need-mul-all Inv-loop μ-loop
-mul-all c = search needs
-
-add-all : tie.Need-add-all Inv-loop μ-loop
-add-all c = search needs
 
 loop-holds : tie.Need-loop-holds Inv-loop μ-loop
 loop-holds c = (omega arith, (refl, values-first _ _ _ _ _ _ _ _ _))
@@ -58,9 +55,10 @@ same-length c = c .before .loop .inv .1 .0
 
 returns-2 : tie.Need-returns-2 Inv-loop μ-loop
 returns-2 c = told (block-some _ _ _ _ _ _ _ _ _ _ _ _ (c .before .before .before .before .limit .ensures)
-    (c .before .before .before .if1 .left) (numbers-all _ _ (c .before .loop .inv .0) (c .loop-test .left))
+    (c .before .before .before .if1 .left)
+    (numbers-all _ _ (c .before .before .numbers .ensures) (c .before .loop .inv .0) (c .loop-test .left))
     (c .before .loop .inv .1 .1))
 
 pub hear-answers-spec : {M : Type 1} → statement M
-hear-answers-spec = tie.close (tie.spec Inv-loop μ-loop limit-requires returns cast-all mul-all add-all loop-holds
+hear-answers-spec = tie.close (tie.spec Inv-loop μ-loop limit-requires returns numbers-requires cast-all loop-holds
     hear-answer-requires add-r loop-less loop-again same-length returns-2)

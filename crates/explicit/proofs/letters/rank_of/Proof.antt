@@ -2,8 +2,7 @@
 use borrow.Author.Needs.{needs}
 use native.Mathlib.Omega.{arith}
 use borrow.Author.Tests.{le-leb, lt-leb, lt-ltb, le-ltb, eq-eqb, ne-eqb}
-use Rattle.language.specs.Number.{numbers}
-use Rattle.explicit.specs.Letter.{rank}
+use Rattle.language.specs.Order.{rank}
 use Rattle.explicit.proofs.letters.rank_of.Statement.{statement}
 use Rattle.explicit.proofs.letters.rank_of.Tie as tie
 
@@ -15,38 +14,55 @@ add-result c = search needs
 
 returns : tie.Need-returns
 unfolding rank
-returns c = simp (le-leb _ _ (c .if1 .taken))
+returns c = rw (le-leb _ _ (c .if1 .taken))
 
-add-if2 : tie.Need-add-if2
-add-if2 c = search needs
+count-of-requires : tie.Need-count-of-requires
+count-of-requires c κs = search needs
 
-mul-if2 : tie.Need-mul-if2
-mul-if2 c = search needs
-
-add-if2-2 : tie.Need-add-if2-2
-add-if2-2 c = search needs
+add-if3 : tie.Need-add-if3
+add-if3 c = search needs
 
 returns-2 : tie.Need-returns-2
-unfolding rank numbers
-returns-2 c = rw (lt-leb _ _ (c .before .if1 .left)) (omega (arith, c .if2 .taken))
+unfolding rank
+returns-2 c =
+    rw (lt-leb _ _ (c .before .before .before .if1 .left), ← c .before .before .count-of .ensures .0,
+      lt-ltb _ _ (c .before .if2 .taken)) (omega (arith, c .if3 .taken))
 
 add-result-2 : tie.Need-add-result-2
 add-result-2 c = search needs
-
-mul-result : tie.Need-mul-result
-mul-result c = search needs
-
-add-result-3 : tie.Need-add-result-3
-add-result-3 c = search needs
 
 sub-result : tie.Need-sub-result
 sub-result c = search needs
 
 returns-3 : tie.Need-returns-3
-unfolding rank numbers
-returns-3 c = rw (lt-leb _ _ (c .before .if1 .left)) (omega (arith, c .if2 .left))
+unfolding rank
+returns-3 c =
+    rw (lt-leb _ _ (c .before .before .before .if1 .left), ← c .before .before .count-of .ensures .0,
+      lt-ltb _ _ (c .before .if2 .taken))
+
+returns-4 : tie.Need-returns-4
+unfolding rank
+returns-4 c =
+    rw (lt-leb _ _ (c .before .before .before .if1 .left), ← c .before .before .count-of .ensures .0,
+      le-ltb _ _ (c .before .if2 .left), eq-eqb _ _ (c .if4 .taken))
+
+add-if5 : tie.Need-add-if5
+add-if5 c = search needs
+
+returns-5 : tie.Need-returns-5
+unfolding rank
+returns-5 c =
+    rw (lt-leb _ _ (c .before .before .before .before .if1 .left), ← c .before .before .before .count-of .ensures .0,
+      le-ltb _ _ (c .before .before .if2 .left), ne-eqb _ _ (c .before .if4 .left), eq-eqb _ _ (c .if5 .taken))
+
+returns-6 : tie.Need-returns-6
+unfolding rank
+returns-6 c =
+    rw (lt-leb _ _ (c .before .before .before .before .if1 .left), ← c .before .before .before .count-of .ensures .0,
+      le-ltb _ _ (c .before .before .if2 .left), ne-eqb _ _ (c .before .if4 .left), ne-eqb _ _ (c .if5 .left))
 
 pub rank-of-spec : {M : Type 1} → statement M
-rank-of-spec = tie.close
-    (tie.spec cast-z add-result returns add-if2 mul-if2 add-if2-2 returns-2 add-result-2 mul-result add-result-3
-    sub-result returns-3)
+rank-of-spec =
+    tie.close
+    (tie.spec cast-z add-result returns count-of-requires add-if3 returns-2 add-result-2 sub-result returns-3
+    returns-4 add-if5 returns-5 returns-6)

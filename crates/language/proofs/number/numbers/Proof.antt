@@ -1,22 +1,32 @@
--- 2Z + 1 is below 65,536.
+-- The numbers, and under rule 2 three more.
 use borrow.Author.Needs.{needs}
 use native.Mathlib.Omega.{arith}
-use Rattle.language.specs.Number.{numbers}
+use borrow.Author.Tests.{eq-eqb, ne-eqb}
+use Rattle.language.specs.Number.{numbers, finites, extras}
+use Rattle.language.proofs.NumberLaws.{finites-are}
 use Rattle.language.proofs.number.numbers.Statement.{statement}
 use Rattle.language.proofs.number.numbers.Tie as tie
 
-cast-result : tie.Need-cast-result
-cast-result c = search needs
-
-mul-result : tie.Need-mul-result
-mul-result c = search needs
+finites-requires : tie.Need-finites-requires
+finites-requires c κs = search needs
 
 add-result : tie.Need-add-result
-add-result c = search needs
+add-result c = record { fits = omega (arith, c .finites .ensures, finites-are (c .before .before .before .args .n)) }
 
 returns : tie.Need-returns
-unfolding numbers
-returns c = omega arith
+unfolding numbers extras
+returns c =
+    rw (eq-eqb (c .before .before .before .args .n .rule) 2 (c .before .if1 .taken)) (omega (arith,
+    c .finites .ensures))
+
+finites-requires-2 : tie.Need-finites-requires-2
+finites-requires-2 c κs = search needs
+
+returns-2 : tie.Need-returns-2
+unfolding numbers extras
+returns-2 c =
+    rw (ne-eqb (c .before .before .before .args .n .rule) 2 (c .before .if1 .left)) (omega (arith,
+    c .finites2 .ensures))
 
 pub numbers-spec : {M : Type 1} → statement M
-numbers-spec = tie.close (tie.spec cast-result mul-result add-result returns)
+numbers-spec = tie.close (tie.spec finites-requires add-result returns finites-requires-2 returns-2)

@@ -1,8 +1,10 @@
--- A code up to Z is the number; a larger one lies 2Z + 1 above it.
+-- A code up to Z is the number; a larger one lies 2Z + 1 above it; then come the values that are no numbers.
 use borrow.Author.Needs.{needs}
 use native.Mathlib.Omega.{arith}
 use Rattle.language.proofs.Bits.{read}
-use Rattle.language.proofs.NumberSteps.{signed-low, signed-high}
+use Rattle.language.proofs.NumberLaws.{finites-are}
+use Rattle.language.proofs.NumberSteps.{signed-low, signed-high, signed-low-end, signed-high-end}
+use Rattle.language.proofs.NumberSteps.{signed-no-number}
 use Rattle.language.proofs.number.signed.Statement.{statement}
 use Rattle.language.proofs.number.signed.Tie as tie
 
@@ -15,18 +17,45 @@ cast-result c = search needs
 returns : tie.Need-returns
 returns c = signed-low (c .before .before .args .n) (c .before .before .args .c) (omega arith) (omega arith)
 
-numbers-requires : tie.Need-numbers-requires
-numbers-requires c κs = search needs
+finites-requires : tie.Need-finites-requires
+finites-requires c κs = search needs
 
 minus-requires : tie.Need-minus-requires
 minus-requires c κs = search needs
 
 returns-2 : tie.Need-returns-2
 returns-2 c =
-    let a = c .before .before .before .before .args in
     read (c .minus .ok)
-    (signed-high (a .n) (a .c) (omega arith) (c .before .numbers .ensures) (c .minus .ensures))
+    (signed-high (c .before .before .before .before .before .args .n)
+    (c .before .before .before .before .before .args .c) (omega arith) (c .before .before .finites .ensures)
+    (c .before .if2 .taken) (c .minus .ensures))
+
+returns-3 : tie.Need-returns-3
+returns-3 c =
+    signed-low-end (c .before .before .before .before .before .args .n)
+    (c .before .before .before .before .before .args .c) (omega arith) (c .before .before .finites .ensures)
+    (c .before .if2 .left) (c .if3 .taken)
+
+add-if4 : tie.Need-add-if4
+add-if4 c =
+    record { fits = omega (arith, c .before .before .finites .ensures, finites-are
+    (c .before .before .before .before .before .args .n)) }
+
+returns-4 : tie.Need-returns-4
+returns-4 c =
+    signed-high-end (c .before .before .before .before .before .before .args .n)
+    (c .before .before .before .before .before .before .args .c) (omega arith)
+    (c .before .before .before .finites .ensures) (c .before .before .if2 .left) (c .before .if3 .left)
+    (c .if4 .taken)
+
+returns-5 : tie.Need-returns-5
+returns-5 c =
+    signed-no-number (c .before .before .before .before .before .before .args .n)
+    (c .before .before .before .before .before .before .args .c) (omega arith)
+    (c .before .before .before .finites .ensures) (c .before .before .if2 .left) (c .before .if3 .left) (c .if4 .left)
 
 pub signed-spec : {M : Type 1} → statement M
 signed-spec =
-    tie.close (tie.spec cast-if1 cast-result returns numbers-requires minus-requires returns-2)
+    tie.close
+    (tie.spec cast-if1 cast-result returns finites-requires minus-requires returns-2 returns-3 add-if4 returns-4
+    returns-5)

@@ -1,21 +1,24 @@
--- Each number's arm gives what the definition picks; every other number is an equality.
+-- One operator after the other.
 use borrow.Author.Needs.{needs}
 use borrow.Author.Tests.{ne-eqb}
 use Rattle.language.specs.Operator.{operate}
 use Rattle.language.proofs.operator.operate.Statement.{statement}
 use Rattle.language.proofs.operator.operate.Tie as tie
 
-sum-requires : tie.Need-sum-requires
-sum-requires c κs = search needs
+plus-requires : tie.Need-plus-requires
+plus-requires c κs = search needs
 
-difference-requires : tie.Need-difference-requires
-difference-requires c κs = search needs
+minus-requires : tie.Need-minus-requires
+minus-requires c κs = search needs
 
-product-requires : tie.Need-product-requires
-product-requires c κs = search needs
+times-requires : tie.Need-times-requires
+times-requires c κs = search needs
 
-remainder-requires : tie.Need-remainder-requires
-remainder-requires c κs = search needs
+modulus-requires : tie.Need-modulus-requires
+modulus-requires c κs = search needs
+
+equal-requires : tie.Need-equal-requires
+equal-requires c κs = search needs
 
 less-requires : tie.Need-less-requires
 less-requires c κs = search needs
@@ -26,70 +29,61 @@ both-requires c κs = search needs
 either-requires : tie.Need-either-requires
 either-requires c κs = search needs
 
-equal-requires : tie.Need-equal-requires
-equal-requires c κs = search needs
+same-truth-requires : tie.Need-same-truth-requires
+same-truth-requires c κs = search needs
 
 returns : tie.Need-returns
 unfolding operate
-returns c = rw (c .before .match .keys1) (c .sum .ensures)
+returns c = rw (c .before .match .keys1) (c .plus .ensures)
 
 returns-2 : tie.Need-returns-2
 unfolding operate
-returns-2 c = rw (c .before .match .keys2) (c .difference .ensures)
+returns-2 c = rw (c .before .match .keys2) (c .minus .ensures)
 
 returns-3 : tie.Need-returns-3
 unfolding operate
-returns-3 c = rw (c .before .match .keys3) (c .product .ensures)
+returns-3 c = rw (c .before .match .keys3) (c .times .ensures)
 
 returns-4 : tie.Need-returns-4
 unfolding operate
-returns-4 c = rw (c .before .match .keys4) (c .remainder .ensures)
+returns-4 c = rw (c .before .match .keys4) (c .modulus .ensures)
 
 returns-5 : tie.Need-returns-5
 unfolding operate
-returns-5 c = rw (c .before .match .keys5) (c .less .ensures)
+returns-5 c = rw (c .before .match .keys5) (c .equal .ensures)
 
 returns-6 : tie.Need-returns-6
 unfolding operate
-returns-6 c = rw (c .before .match .keys6) (c .both .ensures)
+returns-6 c = rw (c .before .match .keys6) (c .less .ensures)
 
 returns-7 : tie.Need-returns-7
 unfolding operate
-returns-7 c = rw (c .before .match .keys7) (c .either .ensures)
+returns-7 c = rw (c .before .match .keys7) (c .both .ensures)
 
 returns-8 : tie.Need-returns-8
 unfolding operate
-returns-8 c =
+returns-8 c = rw (c .before .match .keys8) (c .either .ensures)
+
+returns-9 : tie.Need-returns-9
+unfolding operate
+returns-9 c =
     let o = c .before .before .args .op in
     let h = c .before .match .rest in
     rw (
-      ne-eqb o 0 (h .0 .0 .0 .0 .0 .0 .1),
-      ne-eqb o 1 (h .0 .0 .0 .0 .0 .1),
-      ne-eqb o 2 (h .0 .0 .0 .0 .1),
-      ne-eqb o 3 (h .0 .0 .0 .1),
+      ne-eqb o 0 (h .0 .0 .0 .0 .0 .0 .0 .1),
+      ne-eqb o 1 (h .0 .0 .0 .0 .0 .0 .1),
+      ne-eqb o 2 (h .0 .0 .0 .0 .0 .1),
+      ne-eqb o 3 (h .0 .0 .0 .0 .1),
+      ne-eqb o 4 (h .0 .0 .0 .1),
       ne-eqb o 5 (h .0 .0 .1),
       ne-eqb o 6 (h .0 .1),
       ne-eqb o 7 (h .1),
     )
-    (c .equal .ensures)
+    (c .same-truth .ensures)
 
 pub operate-spec : {M : Type 1} → statement M
 operate-spec =
     tie.close
-    (tie.spec
-    sum-requires
-    difference-requires
-    product-requires
-    remainder-requires
-    less-requires
-    both-requires
-    either-requires
-    equal-requires
-    returns
-    returns-2
-    returns-3
-    returns-4
-    returns-5
-    returns-6
-    returns-7
-    returns-8)
+    (tie.spec plus-requires minus-requires times-requires modulus-requires equal-requires less-requires
+    both-requires either-requires same-truth-requires returns returns-2 returns-3 returns-4 returns-5 returns-6
+    returns-7 returns-8 returns-9)

@@ -1,8 +1,7 @@
--- The exact product of the two numbers, as the rule takes it.
+-- The exact product of the two, as the rule takes it.
 use borrow.Author.Needs.{needs}
 use native.Mathlib.Omega.{arith}
-use lib.IntN.{_*ℤ_}
-use Rattle.language.proofs.OperatorSteps.{operands, exact-result}
+use Rattle.language.proofs.OperatorSteps.{operands, product-is}
 use Rattle.language.proofs.operator.product.Statement.{statement}
 use Rattle.language.proofs.operator.product.Tie as tie
 
@@ -14,22 +13,20 @@ signed-requires-2 c κs = search needs
 
 mul-requires : tie.Need-mul-requires
 mul-requires c κs =
-    let a = c .before .before .args in
-    let s = c .before .signed in
-    let t = c .signed2 in
-    operands (a .n) (a .x) (a .y) (s .ok) (s .ensures) (t .ok) (t .ensures) (omega arith) (omega arith) (omega arith)
+    operands (c .before .before .args .n) (c .before .before .args .x) (c .before .before .args .y)
+    (c .before .signed .ok) (c .before .signed .ensures) (c .signed2 .ok) (c .signed2 .ensures)
+    (omega arith) (omega arith) (omega arith)
 
-fit-requires : tie.Need-fit-requires
-fit-requires c κs = search needs
+scale-requires : tie.Need-scale-requires
+scale-requires c κs = search needs
 
 returns : tie.Need-returns
 returns c =
-    let a = c .before .before .before .before .args in
-    let s = c .before .before .before .signed in
-    let t = c .before .before .signed2 in
-    exact-result (a .n) (a .x) (a .y) (s .ok) (s .ensures) (t .ok) (t .ensures) _*ℤ_
-    (c .before .mul .ok) (c .before .mul .ensures) (c .fit .ensures)
+    product-is (c .before .before .before .before .args .n) (c .before .before .before .before .args .x)
+    (c .before .before .before .before .args .y) (c .before .before .before .signed .ok)
+    (c .before .before .before .signed .ensures) (c .before .before .signed2 .ok)
+    (c .before .before .signed2 .ensures)
+    (c .before .mul .ok) (c .before .mul .ensures) (c .scale .ensures)
 
 pub product-spec : {M : Type 1} → statement M
-product-spec =
-    tie.close (tie.spec signed-requires signed-requires-2 mul-requires fit-requires returns)
+product-spec = tie.close (tie.spec signed-requires signed-requires-2 mul-requires scale-requires returns)

@@ -1,4 +1,4 @@
--- No play for a right operand of 0; else the remainder from 0 on, as the rule takes it.
+-- By whether the right operand is 0; else the remainder from 0 on, as the rule takes it.
 use borrow.Author.Needs.{needs}
 use native.Mathlib.Omega.{arith}
 use mathlib.Core.Path.{_∙_}
@@ -13,44 +13,42 @@ signed-requires c κs = search needs
 absolute-requires : tie.Need-absolute-requires
 absolute-requires c κs = search needs
 
+undivided-requires : tie.Need-undivided-requires
+undivided-requires c κs = search needs
+
 returns : tie.Need-returns
 returns c =
-    let a = c .before .before .before .args in
-    let q = read (c .before .before .signed .ok) (c .before .before .signed .ensures) in
-    remainder-none (a .n) (a .x) (a .y) q (c .before .absolute .ensures) (c .if1 .taken)
+    remainder-none (c .before .before .before .before .args .n) (c .before .before .before .before .args .x)
+    (c .before .before .before .before .args .y) (read (c .before .before .before .signed .ok)
+    (c .before .before .before .signed .ensures)) (c .before .before .absolute .ensures)
+    (c .before .if1 .taken) (c .undivided .ensures)
 
 signed-requires-2 : tie.Need-signed-requires-2
 signed-requires-2 c κs = search needs
 
 rem-euclid-requires : tie.Need-rem-euclid-requires
 rem-euclid-requires c κs =
-    let a = c .before .before .before .before .args in
-    let s = c .signed2 in
-    let t = c .before .before .before .signed in (
-      operands (a .n) (a .x) (a .y) (s .ok) (s .ensures) (t .ok) (t .ensures) (omega arith) (omega arith) (omega arith),
-      λ e. c .before .if1 .left (c .before .before .absolute .ensures ∙ e),
-    )
+    (operands (c .before .before .before .before .args .n) (c .before .before .before .before .args .x)
+    (c .before .before .before .before .args .y) (c .signed2 .ok) (c .signed2 .ensures)
+    (c .before .before .before .signed .ok) (c .before .before .before .signed .ensures)
+      (omega arith) (omega arith) (omega arith),
+      λ e. c .before .if1 .left (c .before .before .absolute .ensures ∙ e))
 
 fit-requires : tie.Need-fit-requires
 fit-requires c κs = search needs
 
 returns-2 : tie.Need-returns-2
 returns-2 c =
-    let a = c .before .before .before .before .before .before .args in
-    let s = c .before .before .signed2 in
-    let t = c .before .before .before .before .before .signed in
-    remainder-is (a .n) (a .x) (a .y) (s .ok) (s .ensures) (t .ok) (t .ensures)
+    remainder-is (c .before .before .before .before .before .before .args .n)
+    (c .before .before .before .before .before .before .args .x)
+    (c .before .before .before .before .before .before .args .y) (c .before .before .signed2 .ok)
+    (c .before .before .signed2 .ensures) (c .before .before .before .before .before .signed .ok)
+    (c .before .before .before .before .before .signed .ensures)
     (c .before .before .before .before .absolute .ensures) (c .before .before .before .if1 .left)
     (c .before .rem-euclid .ok) (c .before .rem-euclid .ensures) (c .fit .ensures)
 
 pub remainder-spec : {M : Type 1} → statement M
 remainder-spec =
     tie.close
-    (tie.spec
-    signed-requires
-    absolute-requires
-    returns
-    signed-requires-2
-    rem-euclid-requires
-    fit-requires
-    returns-2)
+    (tie.spec signed-requires absolute-requires undivided-requires returns signed-requires-2 rem-euclid-requires
+    fit-requires returns-2)

@@ -1,5 +1,6 @@
 -- What `link` leaves is what `linkedTo` says.
 use borrow.Author.Needs.{needs}
+use native.Mathlib.Omega.{arith}
 use Rattle.live.proofs.laws.Links.{link-stores}
 use Rattle.live.proofs.links.link.Statement.{statement}
 use Rattle.live.proofs.links.link.Tie as tie
@@ -7,31 +8,37 @@ use Rattle.live.proofs.links.link.Tie as tie
 at-requires : tie.Need-at-requires
 at-requires c κs = search needs
 
+mul-put : tie.Need-mul-put
+mul-put c = search needs
+
 add-put : tie.Need-add-put
 add-put c = search needs
 
-mul-put : tie.Need-mul-put
-mul-put c = search needs
+put-requires : tie.Need-put-requires
+put-requires c κs =
+    (c .before .before .before .before .pre .1 .0, omega (arith, c .before .at .ensures,
+    c .before .before .before .before .pre .1 .1 .0, c .before .before .before .before .pre .1 .1 .1 .0,
+    c .before .before .before .before .pre .1 .1 .1 .1))
 
 add-put-2 : tie.Need-add-put-2
 add-put-2 c = search needs
 
-put-requires : tie.Need-put-requires
-put-requires c κs = search needs
-
-add-put-3 : tie.Need-add-put-3
-add-put-3 c = search needs
+mul-put-2 : tie.Need-mul-put-2
+mul-put-2 c = search needs
 
 put-requires-2 : tie.Need-put-requires-2
-put-requires-2 c κs = search needs
+put-requires-2 c κs =
+    (search needs, omega (arith, c .before .before .before .before .before .before .before .before .pre .1 .1 .1 .0))
 
 same-length : tie.Need-same-length
 same-length c = search needs
 
 returns : tie.Need-returns
-returns c = link-stores (c .before .before .before .before .before .before .before .before .before .before .before
-    .args .words .now) _ _ (c .before .before .before .before .before .before .before .before .before .before .before
-    .args .links) (c .before .before .before .before .before .before .before .before .before .before .before .args .t)
+returns c =
+    link-stores
+    (c .before .before .before .before .before .before .before .before .before .before .before .args .words .now) _ _
+    (c .before .before .before .before .before .before .before .before .before .before .before .args .place)
+    (c .before .before .before .before .before .before .before .before .before .before .before .args .t)
     (c .before .before .before .before .before .before .before .before .before .before .before .args .p)
     (c .before .before .before .before .before .before .before .before .before .before .before .args .e) _
     (c .before .before .before .before .before .before .before .before .at .ensures)
@@ -40,13 +47,4 @@ returns c = link-stores (c .before .before .before .before .before .before .befo
 pub link-spec : {M : Type 1} → statement M
 link-spec =
     tie.close
-    (tie.spec
-    at-requires
-    add-put
-    mul-put
-    add-put-2
-    put-requires
-    add-put-3
-    put-requires-2
-    same-length
-    returns)
+    (tie.spec at-requires mul-put add-put put-requires add-put-2 mul-put-2 put-requires-2 same-length returns)

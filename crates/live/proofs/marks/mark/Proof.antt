@@ -1,29 +1,34 @@
 -- `mark` keeps what `Marks` says.
 use native.Mathlib.Omega.{arith}
-use Prim.Native.Nat.{_*_, _+_, _-_, ℕ}
+use Prim.Native.Nat.{_%_, _*_, _+_, _-_, _/_, ℕ}
+use mathlib.Core.Path.{ap}
 use mathlib.Core.List.{List}
 use Rattle.live.specs.inner.Marking.{Marking, Unmarked}
 use Rattle.live.proofs.laws.Links.{bounds}
 use Rattle.live.proofs.laws.Marking.{few-queued, mark-first, mark-take, mark-along, mark-last}
-use Rattle.live.proofs.laws.Marking.{after-less, entry-low, list-low, source-low}
+use Rattle.live.proofs.laws.Marking.{after-less, entry-low, list-low, source-low, along-place, along-room}
 use Rattle.live.proofs.marks.mark.Statement.{statement}
 use Rattle.live.proofs.marks.mark.Tie as tie
 
 abbrev Inv-loop : tie.InvT-loop
-Inv-loop words₀ n f tail₀ links head₀ next₀ words tail head next = (v : List ℕ) (U : Unmarked n f v)
+Inv-loop words₀ n f tail₀ end head₀ next₀ words tail head next = (v : List ℕ) (U : Unmarked n f v)
     → Marking (U .graph) n f v words₀ 0 tail₀ 0 → Marking (U .graph) n f v words head tail next
 
 abbrev μ-loop : tie.MeasureT-loop
-μ-loop words₀ n f tail₀ links head₀ next₀ words tail head next = (n - head) * 131073 + next
+μ-loop words₀ n f tail₀ end head₀ next₀ words tail head next = (n - head) * 200001 + next
 
 note-requires : tie.Need-note-requires Inv-loop μ-loop
 note-requires c κs = let b = bounds _ _ _ (c .before .before .pre .held) in
     (omega arith, (omega (arith, c .before .before .pre .end), omega (arith, c .before .before .pre .end)))
 
-links-at-requires : tie.Need-links-at-requires Inv-loop μ-loop
-links-at-requires c κs = let b = bounds _ _ _ (mark-first _ _ _ _ _ (c .before .before .before .before .before .before
-    .pre) (c .before .before .before .note .ensures .1) (c .before .before .before .note .ensures .0) .held) in
-    (b .few, (omega arith, omega arith))
+mul-at : tie.Need-mul-at Inv-loop μ-loop
+mul-at c = let b = bounds _ _ _ (c .before .before .before .before .before .before .pre .held) in omega arith
+
+at-requires : tie.Need-at-requires Inv-loop μ-loop
+at-requires c κs =
+    let b = bounds _ _ _ (mark-first _ _ _ _ _ (c .before .before .before .before .before .before .pre)
+    (c .before .before .before .note .ensures .1) (c .before .before .before .note .ensures .0) .held) in
+    omega arith
 
 loop-holds : tie.Need-loop-holds Inv-loop μ-loop
 loop-holds c = λ v U M. M
@@ -35,117 +40,143 @@ add-loop c = let M = c .loop .inv _ (c .before .before .before .before .before .
     .ensures .0)) in
     omega (arith, few-queued _ _ _ _ _ (M .queued), M .taken .below, M .held .few, M .held .graph .few)
 
-add-at : tie.Need-add-at Inv-loop μ-loop
-add-at c = let M = c .before .before .before .loop .inv _ (c .before .before .before .before .before .before .before
-    .before .before .before .before .pre) (mark-first _ _ _ _ _ (c .before .before .before .before .before .before
-    .before .before .before .before .before .pre) (c .before .before .before .before .before .before .before .before
-    .note .ensures .1) (c .before .before .before .before .before .before .before .before .note .ensures .0)) in
-    omega (arith, few-queued _ _ _ _ _ (M .queued), M .taken .within, M .held .graph .few)
-
-at-requires : tie.Need-at-requires Inv-loop μ-loop
-at-requires c κs = let M = c .before .before .before .loop .inv _ (c .before .before .before .before .before .before
-    .before .before .before .before .before .pre) (mark-first _ _ _ _ _
-    (c .before .before .before .before .before .before .before .before .before .before .before .pre)
+at-requires-2 : tie.Need-at-requires-2 Inv-loop μ-loop
+at-requires-2 c κs =
+    let M = c .before .before .before .loop .inv _
+    (c .before .before .before .before .before .before .before .before .before .before .before .pre) (mark-first _ _ _
+    _ _ (c .before .before .before .before .before .before .before .before .before .before .before .pre)
     (c .before .before .before .before .before .before .before .before .note .ensures .1)
     (c .before .before .before .before .before .before .before .before .note .ensures .0)) in
-    omega (arith, few-queued _ _ _ _ _ (M .queued), c .before .before .loop-test .taken, c .before .if1 .taken, M
-        .held .room)
+    omega (arith, few-queued _ _ _ _ _ (M .queued), c .before .before .loop-test .taken, c .before .if1 .taken,
+    M .held .room)
 
-at-requires-2 : tie.Need-at-requires-2 Inv-loop μ-loop
-at-requires-2 c κs = let M = c .before .before .before .before .before .loop .inv _
+at-requires-3 : tie.Need-at-requires-3 Inv-loop μ-loop
+at-requires-3 c κs =
+    let M = c .before .before .before .before .before .loop .inv _
     (c .before .before .before .before .before .before .before .before .before .before .before .before .before .pre)
-    (mark-first _ _ _ _ _ (c .before .before .before .before .before .before .before .before .before .before .before
-    .before .before .pre) (c .before .before .before .before .before .before .before .before .before .before .note
-    .ensures .1) (c .before .before .before .before .before .before .before .before .before .before .note .ensures
-    .0)) in
-    let l = entry-low _ _ _ _ _ _ _ _ _ _ M (omega (arith, c .before .before .before .before .loop-test .taken, c
-        .before .before .before .if1 .taken)) (c .before .at .ensures) in
+    (mark-first _ _ _ _ _
+    (c .before .before .before .before .before .before .before .before .before .before .before .before .before .pre)
+    (c .before .before .before .before .before .before .before .before .before .before .note .ensures .1)
+    (c .before .before .before .before .before .before .before .before .before .before .note .ensures .0)) in
+    let l = entry-low _ _ _ _ _ _ _ _ _ _ M (omega (arith, c .before .before .before .before .loop-test .taken,
+    c .before .before .before .if1 .taken)) (ap (λ x. x % 16384) (c .before .at2 .ensures)) in
     omega (arith, M .held .room)
 
 add-head : tie.Need-add-head Inv-loop μ-loop
-add-head c = let M = c .before .before .before .before .before .before .loop .inv _
-    (c .before .before .before .before .before .before .before .before .before .before .before .before .before .before
-    .pre) (mark-first _ _ _ _ _ (c .before .before .before .before .before .before .before .before .before .before
-    .before .before .before .before .pre) (c .before .before .before .before .before .before .before .before .before
-    .before .before .note .ensures .1) (c .before .before .before .before .before .before .before .before .before
-    .before .before .note .ensures .0)) in
+add-head c =
+    let M = c .before .before .before .before .before .before .loop .inv _
+    (c .before .before .before .before .before .before .before .before .before .before .before .before .before
+    .before .pre) (mark-first _ _ _ _ _
+    (c .before .before .before .before .before .before .before .before .before .before .before .before .before
+    .before .pre)
+    (c .before .before .before .before .before .before .before .before .before .before .before .note .ensures .1)
+    (c .before .before .before .before .before .before .before .before .before .before .before .note .ensures .0)) in
     omega (arith, few-queued _ _ _ _ _ (M .queued), M .taken .within, M .held .graph .few)
 
 loop-less : tie.Need-loop-less Inv-loop μ-loop
-loop-less c = let M = c .before .before .before .before .before .before .loop .inv _
-    (c .before .before .before .before .before .before .before .before .before .before .before .before .before .before
-    .pre) (mark-first _ _ _ _ _ (c .before .before .before .before .before .before .before .before .before .before
-    .before .before .before .before .pre) (c .before .before .before .before .before .before .before .before .before
-    .before .before .note .ensures .1) (c .before .before .before .before .before .before .before .before .before
-    .before .before .note .ensures .0)) in
-    let l = entry-low _ _ _ _ _ _ _ _ _ _ M (omega (arith, c .before .before .before .before .before .loop-test
-        .taken, c .before .before .before .before .if1 .taken)) (c .before .before .at .ensures) in
+loop-less c =
+    let M = c .before .before .before .before .before .before .loop .inv _
+    (c .before .before .before .before .before .before .before .before .before .before .before .before .before
+    .before .pre) (mark-first _ _ _ _ _
+    (c .before .before .before .before .before .before .before .before .before .before .before .before .before
+    .before .pre)
+    (c .before .before .before .before .before .before .before .before .before .before .before .note .ensures .1)
+    (c .before .before .before .before .before .before .before .before .before .before .before .note .ensures .0)) in
+    let l = entry-low _ _ _ _ _ _ _ _ _ _ M (omega (arith,
+    c .before .before .before .before .before .loop-test .taken, c .before .before .before .before .if1 .taken)) (ap
+    (λ x. x % 16384) (c .before .before .at2 .ensures)) in
     omega (arith, few-queued _ _ _ _ _ (M .queued), list-low _ _ _ _ _ _ _ _ _ _ M l
-        (c .at2 .ensures), c .before .before .before .before .before .loop-test .taken, c .before .before .before
-        .before .if1 .taken)
+        (ap (λ x. x / 16384) (c .at3 .ensures)), c .before .before .before .before .before .loop-test .taken,
+          c .before .before .before .before .if1 .taken)
 
 loop-again : tie.Need-loop-again Inv-loop μ-loop
-loop-again c = λ v U M. mark-take _ _ _ _ _ _ _ _ _ _ (c .before .before .before .before .before .before .loop .inv v
-    U M) (c .before .before .before .before .if1 .taken) (c .before .before .before .before .before .loop-test .taken)
-    (c .before .before .at .ensures) (c .at2 .ensures)
+loop-again c =
+    λ v U M. mark-take _ _ _ _ _ _ _ _ _ _ (c .before .before .before .before .before .before .loop .inv v U M)
+    (c .before .before .before .before .if1 .taken) (c .before .before .before .before .before .loop-test .taken)
+    (ap (λ x. x % 16384) (c .before .before .at2 .ensures)) (ap (λ x. x / 16384) (c .at3 .ensures))
 
-add-at-2 : tie.Need-add-at-2 Inv-loop μ-loop
-add-at-2 c = let F = mark-first _ _ _ _ _ (c .before .before .before .before .before .before .before .before .before
-    .before .before .pre) (c .before .before .before .before .before .before .before .before .note .ensures .1)
-    (c .before .before .before .before .before .before .before .before .note .ensures .0) in
-    let M = c .before .before .before .loop .inv _ (c .before .before .before .before .before .before .before .before
-        .before .before .before .pre) F in let b = bounds _ _ _ (F .held) in
-    omega (arith, M .taken .below, c .before .before .before .before .links-at .ensures)
+sub-link-place : tie.Need-sub-link-place Inv-loop μ-loop
+sub-link-place c = omega (arith, c .before .if1 .left)
 
-sub-at : tie.Need-sub-at Inv-loop μ-loop
-sub-at c = omega (arith, c .before .if1 .left)
+link-place-requires : tie.Need-link-place-requires Inv-loop μ-loop
+link-place-requires c κs =
+    let F = mark-first _ _ _ _ _
+    (c .before .before .before .before .before .before .before .before .before .before .before .pre)
+    (c .before .before .before .before .before .before .before .before .note .ensures .1)
+    (c .before .before .before .before .before .before .before .before .note .ensures .0) in let M =
+    c .before .before .before .loop .inv _
+    (c .before .before .before .before .before .before .before .before .before .before .before .pre) F in
+    let b = bounds _ _ _ (F .held) in
+    (b .few, (omega (arith, c .before .before .before .before .at .ensures), omega (arith, M .taken .below,
+    M .held .few)))
 
-at-requires-3 : tie.Need-at-requires-3 Inv-loop μ-loop
-at-requires-3 c κs = let F = mark-first _ _ _ _ _ (c .before .before .before .before .before .before .before .before
-    .before .before .before .pre) (c .before .before .before .before .before .before .before .before .note .ensures
-    .1) (c .before .before .before .before .before .before .before .before .note .ensures .0) in
-    let M = c .before .before .before .loop .inv _ (c .before .before .before .before .before .before .before .before
-        .before .before .before .pre) F in let b = bounds _ _ _ (F .held) in
-    omega (arith, M .taken .below, c .before .before .before .before .links-at .ensures, M .held .room, c .before .if1
-        .left)
+at-requires-4 : tie.Need-at-requires-4 Inv-loop μ-loop
+at-requires-4 c κs =
+    let F = mark-first _ _ _ _ _
+    (c .before .before .before .before .before .before .before .before .before .before .before .before .pre)
+    (c .before .before .before .before .before .before .before .before .before .note .ensures .1)
+    (c .before .before .before .before .before .before .before .before .before .note .ensures .0) in let M =
+    c .before .before .before .before .loop .inv _
+    (c .before .before .before .before .before .before .before .before .before .before .before .before .pre) F in
+    let b = bounds _ _ _ (F .held) in
+    along-room _ _ _ _ _ _ _ _ M (c .before .before .if1 .left) _ _ (omega (arith,
+    c .before .before .before .before .before .at .ensures)) (c .link-place .ensures)
 
 note-requires-2 : tie.Need-note-requires-2 Inv-loop μ-loop
-note-requires-2 c κs = let F = mark-first _ _ _ _ _ (c .before .before .before .before .before .before .before .before
-    .before .before .before .before .before .pre) (c .before .before .before .before .before .before .before .before
-    .before .before .note .ensures .1) (c .before .before .before .before .before .before .before .before .before
-    .before .note .ensures .0) in
-    let M = c .before .before .before .before .before .loop .inv _ (c .before .before .before .before .before .before
-        .before .before .before .before .before .before .before .pre) F in let b = bounds _ _ _ (F .held) in
-    let l = source-low _ _ _ _ _ _ _ _ M (c .before .before .before .if1 .left) _ _ (omega
-        (arith, c .before .before .before .before .before .before .links-at .ensures)) (c .before .at3 .ensures) in
+note-requires-2 c κs =
+    let F = mark-first _ _ _ _ _
+    (c .before .before .before .before .before .before .before .before .before .before .before .before .before
+    .before .pre)
+    (c .before .before .before .before .before .before .before .before .before .before .before .note .ensures .1)
+    (c .before .before .before .before .before .before .before .before .before .before .before .note .ensures .0) in
+    let M = c .before .before .before .before .before .before .loop .inv _
+    (c .before .before .before .before .before .before .before .before .before .before .before .before .before
+    .before .pre) F in
+    let b = bounds _ _ _ (F .held) in
+    let l = source-low _ _ _ _ _ _ _ _ M (c .before .before .before .before .if1 .left) _ _
+        (along-place _ _ _ _ _ _ _ _ M (c .before .before .before .before .if1 .left) _ _ (omega (arith,
+          c .before .before .before .before .before .before .before .at .ensures))
+          (c .before .before .link-place .ensures))
+        (c .before .at4 .ensures) in
     (omega (arith, few-queued _ _ _ _ _ (M .queued), M .held .room), (omega (arith, M .held .room), omega arith))
 
 loop-less-2 : tie.Need-loop-less-2 Inv-loop μ-loop
-loop-less-2 c = let F = mark-first _ _ _ _ _ (c .before .before .before .before .before .before .before .before
-    .before .before .before .before .before .before .before .before .pre)
-    (c .before .before .before .before .before .before .before .before .before .before .before .before .before .note
-    .ensures .1) (c .before .before .before .before .before .before .before .before .before .before .before .before
-    .before .note .ensures .0) in
-    let M = c .before .before .before .before .before .before .before .before .loop .inv _
-        (c .before .before .before .before .before .before .before .before .before .before .before .before .before
-        .before .before .before .pre) F in let b = bounds _ _ _ (F .held) in
-    let l = after-less _ _ _ _ _ _ _ _ M (c .before .before .before .before .before .before .if1 .left) _ _ (omega
-        (arith, c .before .before .before .before .before .before .before .before .before .links-at .ensures))
-        (c .before .before .before .before .at3 .ensures) in
+loop-less-2 c =
+    let F = mark-first _ _ _ _ _
+    (c .before .before .before .before .before .before .before .before .before .before .before .before .before
+    .before .before .before .before .pre)
+    (c .before .before .before .before .before .before .before .before .before .before .before .before .before
+    .before .note .ensures .1)
+    (c .before .before .before .before .before .before .before .before .before .before .before .before .before
+    .before .note .ensures .0) in let M =
+    c .before .before .before .before .before .before .before .before .before .loop .inv _
+    (c .before .before .before .before .before .before .before .before .before .before .before .before .before
+    .before .before .before .before .pre) F in
+    let b = bounds _ _ _ (F .held) in
+    let l = after-less _ _ _ _ _ _ _ _ M (c .before .before .before .before .before .before .before .if1 .left) _ _
+        (along-place _ _ _ _ _ _ _ _ M (c .before .before .before .before .before .before .before .if1 .left) _ _
+          (omega (arith,
+          c .before .before .before .before .before .before .before .before .before .before .at .ensures))
+          (c .before .before .before .before .before .link-place .ensures))
+        (c .before .before .before .before .at4 .ensures) in
     omega arith
 
 loop-again-2 : tie.Need-loop-again-2 Inv-loop μ-loop
-loop-again-2 c = λ v U M. let b = bounds _ _ _ (M .held) in mark-along _ _ _ _ _ _ _ _
-    (c .before .before .before .before .before .before .before .before .loop .inv v U M)
-    (c .before .before .before .before .before .before .if1 .left) _ _ (omega
-    (arith, c .before .before .before .before .before .before .before .before .before .links-at .ensures))
-    (c .before .before .before .before .at3 .ensures) _ _ (c .before .before .note2 .ensures .1)
+loop-again-2 c =
+    λ v U M. let b = bounds _ _ _ (M .held) in let L =
+    c .before .before .before .before .before .before .before .before .before .loop .inv v U M in
+    mark-along _ _ _ _ _ _ _ _ L (c .before .before .before .before .before .before .before .if1 .left) _ _
+    (along-place _ _ _ _ _ _ _ _ L (c .before .before .before .before .before .before .before .if1 .left) _ _ (omega
+    (arith, c .before .before .before .before .before .before .before .before .before .before .at .ensures))
+    (c .before .before .before .before .before .link-place .ensures))
+    (c .before .before .before .before .at4 .ensures) _ _ (c .before .before .note2 .ensures .1)
     (c .before .before .note2 .ensures .0) (U .end)
 
 same-length : tie.Need-same-length Inv-loop μ-loop
-same-length c = let M = c .before .loop .inv _ (c .before .before .before .before .before .before .before .before
-    .before .pre) (mark-first _ _ _ _ _ (c .before .before .before .before .before .before .before .before .before
-    .pre) (c .before .before .before .before .before .before .note .ensures .1)
+same-length c =
+    let M = c .before .loop .inv _ (c .before .before .before .before .before .before .before .before .before .pre)
+    (mark-first _ _ _ _ _ (c .before .before .before .before .before .before .before .before .before .pre)
+    (c .before .before .before .before .before .before .note .ensures .1)
     (c .before .before .before .before .before .before .note .ensures .0)) in M .len
 
 returns : tie.Need-returns Inv-loop μ-loop
@@ -160,18 +191,18 @@ mark-spec =
     Inv-loop
     μ-loop
     note-requires
-    links-at-requires
+    mul-at
+    at-requires
     loop-holds
     add-loop
-    add-at
-    at-requires
     at-requires-2
+    at-requires-3
     add-head
     loop-less
     loop-again
-    add-at-2
-    sub-at
-    at-requires-3
+    sub-link-place
+    link-place-requires
+    at-requires-4
     note-requires-2
     loop-less-2
     loop-again-2

@@ -1,8 +1,8 @@
--- Truths have two values; numbers, at most 511.
+-- Truths have two values; numbers, at most 514.
 use borrow.Author.Needs.{needs}
 use borrow.Author.Tests.{ne-eqb}
 use native.Mathlib.Omega.{arith}
-use Rattle.language.specs.Number.{numbers}
+use Rattle.language.proofs.NumberLaws.{numbers-within}
 use Rattle.parts.specs.Rule.{values}
 use Rattle.parts.proofs.weight.values_of.Statement.{statement}
 use Rattle.parts.proofs.weight.values_of.Tie as tie
@@ -11,18 +11,18 @@ numbers-requires : tie.Need-numbers-requires
 numbers-requires c κs = search needs
 
 returns : tie.Need-returns
-unfolding values numbers
+unfolding values
 returns c = (simp (c .match .keys1), omega arith)
 
 returns-2 : tie.Need-returns-2
-unfolding values numbers
+unfolding values
 returns-2 c = (simp (c .match .keys2), omega arith)
 
 returns-3 : tie.Need-returns-3
-unfolding values numbers
+unfolding values
 returns-3 c = (
   simp (ne-eqb _ _ (c .before .match .rest .1), ne-eqb _ _ (c .before .match .rest .0 .1), c .numbers .ensures),
-  omega (arith, c .numbers .ensures),
+  omega (arith, c .numbers .ensures, numbers-within (c .before .before .args .n)),
 )
 
 pub values-of-spec : {M : Type 1} → statement M
