@@ -20,7 +20,7 @@ struct play {
     size_t length, moves;
 };
 
-static uint32_t words[NEGYVOSAL_FOLLOW_WORDS(4096)];
+static uint32_t words[NEGYVOSAL_FOLLOW_WORDS(7, 4096)];
 
 /* The processor time of this thread in milliseconds. */
 static double now(void) {
@@ -30,10 +30,10 @@ static double now(void) {
 }
 
 /* if b then skip else (the statements; diverge): no complete play goes into the statements. */
-static struct sheet dead_end(int z, int size) {
+static struct sheet dead_end(struct range r, int size) {
     struct sheet s = {{0}, 0};
-    put(&s, z);
-    put(&s, 0);
+    put(&s, r.z);
+    put(&s, r.rule);
     declare(&s, B, 1);
     declare(&s, C, 0);
     declare(&s, E, 2);
@@ -42,7 +42,7 @@ static struct sheet dead_end(int z, int size) {
     put(&s, B);
     put(&s, SKIP);
     put(&s, SEQUENCE);
-    statements(&s, loops_of(z, size) - 3, 1);
+    statements(&s, loops_of(r, size) - 3, 1);
     put(&s, DIVERGE);
     put(&s, 0);
     return s;
@@ -130,10 +130,10 @@ static double timed(const struct sheet *s, const struct play *p, size_t count, u
     return least;
 }
 
-static void time_plays(int z, size_t most) {
-    struct sheet through = loops(z, SIZE, 1), dead = dead_end(z, SIZE);
-    struct play p = complete((size_t)loops_of(z, SIZE), most), astray = lost(most);
-    printf("Z %d size %d  follow %7zu moves", z, SIZE, p.moves);
+static void time_plays(struct range r, size_t most) {
+    struct sheet through = loops(r, SIZE, 1), dead = dead_end(r, SIZE);
+    struct play p = complete((size_t)loops_of(r, SIZE), most), astray = lost(most);
+    printf("Z %d size %d  follow %7zu moves", r.z, SIZE, p.moves);
     printf("  complete %8.3f ms", timed(&through, &p, p.moves, 1));
     size_t before = spoil(&p);
     printf("  wrong halfway %8.3f ms", timed(&through, &p, before, 0));
@@ -143,7 +143,8 @@ static void time_plays(int z, size_t most) {
 }
 
 int main(void) {
-    for (size_t most = MOST_MOVES / 4; most <= MOST_MOVES; most *= 2) time_plays(1, most);
-    for (size_t most = MOST_MOVES / 4; most <= MOST_MOVES; most *= 2) time_plays(7, most);
+    static const struct range ranges[] = {{1, 0}, {7, 0}};
+    for (int r = 0; r < 2; r++)
+        for (size_t most = MOST_MOVES / 4; most <= MOST_MOVES; most *= 2) time_plays(ranges[r], most);
     return 0;
 }

@@ -76,12 +76,13 @@ static int time_pair(const struct sheet *old, const struct sheet *new) {
 }
 
 int main(void) {
-    static const int ranges[] = {1, 7}, sizes[] = {510, 1020, 2040, 4080};
+    static const struct range ranges[] = {{1, 0}, {7, 0}};
+    static const int sizes[] = {510, 1020, 2040, 4080};
     warm_up();
     for (int r = 0; r < 2; r++) {
         for (int i = 0; i < 4; i++) {
             struct sheet old = loops(ranges[r], sizes[i], 1), new = loops(ranges[r], sizes[i], 5);
-            printf("Z %d size %4d  ", ranges[r], sizes[i]);
+            printf("Z %d size %4d  ", ranges[r].z, sizes[i]);
             if (!time_pair(&old, &new)) return 1;
         }
     }

@@ -8,6 +8,13 @@
 
 enum { DECLARE = 1, USE = 20, OPERATE = 22, SEQUENCE = 24, WHILE = 26, EQUAL = 4, C = 8, E = 9 };
 
+enum { INFINITIES = 2 };
+
+/* Z and the overflow rule. */
+struct range {
+    int z, rule;
+};
+
 struct sheet {
     uint8_t bytes[4096];
     size_t length;
@@ -33,17 +40,20 @@ static void statements(struct sheet *s, int count, int group) {
     statements(s, count - left, group);
 }
 
+/* How many numbers there are. */
+static inline int numbers_of(struct range r) { return 2 * r.z + (r.rule == INFINITIES ? 4 : 1); }
+
 /* How many statements a sheet of at most `size` states has. */
-static inline int loops_of(int z, int size) { return (size - 3) / (2 * (2 * z + 1) + 4); }
+static inline int loops_of(struct range r, int size) { return (size - 3) / (2 * numbers_of(r) + 4); }
 
 /* The sheet of at most `size` states; sheets with other groups have the same plays. */
-static struct sheet loops(int z, int size, int group) {
+static struct sheet loops(struct range r, int size, int group) {
     struct sheet s = {{0}, 0};
-    put(&s, z);
-    put(&s, 0);
+    put(&s, r.z);
+    put(&s, r.rule);
     declare(&s, C, 0);
     declare(&s, E, 2);
-    statements(&s, loops_of(z, size), group);
+    statements(&s, loops_of(r, size), group);
     return s;
 }
 

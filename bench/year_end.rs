@@ -6,7 +6,7 @@
 mod boundary;
 mod peer;
 
-use boundary::{negyvosal_check, negyvosal_compare, ACCEPTED, APART, OLD_MARK, SAME, WORDS};
+use boundary::{negyvosal_check, negyvosal_compare, state_words, ACCEPTED, APART, OLD_MARK, SAME, WORDS};
 use peer::{Answer, Peer};
 use std::path::Path;
 use std::process::ExitCode;
@@ -73,7 +73,7 @@ impl Pair {
         };
         let (old, new) = (file("old.sheet")?, file("new.sheet")?);
         let sizes = size(&old)? + size(&new)?;
-        let (words, space) = (vec![0; 32 * (sizes + 1)], vec![UNTOUCHED; 4 * (sizes - 1)]);
+        let (words, space) = (vec![0; state_words(old[0]) * (sizes + 1)], vec![UNTOUCHED; 4 * (sizes - 1)]);
         Ok(Pair { name, class, old, new, words, space })
     }
 

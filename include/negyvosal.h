@@ -95,10 +95,13 @@ extern "C" {
 #define NEGYVOSAL_NEW 1
 #define NEGYVOSAL_BOTH 2
 
+/* Working words for each position counted, where Z, the first byte of a sheet, is z: it is from 1 to 31. */
+#define NEGYVOSAL_STATE_WORDS(z) ((size_t)((z) > 7 ? 128 : 32))
+
 /* Working words that follow needs for a sheet of size s, and compare and look for sheets of sizes s and t; and the
- * bytes of play space that compare and look need. */
-#define NEGYVOSAL_FOLLOW_WORDS(s) (32 * ((size_t)(s) + 1))
-#define NEGYVOSAL_COMPARE_WORDS(s, t) (32 * ((size_t)(s) + (t) + 1))
+ * bytes of play space that compare and look need. Sheets that are compared have the same z, or are refused by 12. */
+#define NEGYVOSAL_FOLLOW_WORDS(z, s) (NEGYVOSAL_STATE_WORDS(z) * ((size_t)(s) + 1))
+#define NEGYVOSAL_COMPARE_WORDS(z, s, t) (NEGYVOSAL_STATE_WORDS(z) * ((size_t)(s) + (t) + 1))
 #define NEGYVOSAL_COMPARE_SPACE(s, t) (4 * ((size_t)(s) + (t) - 1))
 
 /* The bytes of the list that renumber needs, and how many of them a change has. */

@@ -26,6 +26,16 @@ pub const RENUMBERED: u32 = 5;
 /// The same so far: of a look only.
 pub const SO_FAR: u32 = 6;
 
+/// The working words for each position counted, where Z, the first byte of a sheet, is `z`. Follow needs them for its
+/// size and one position more, compare and look for both sizes and one more.
+pub const fn state_words(z: u8) -> usize {
+    if z > 7 {
+        128
+    } else {
+        32
+    }
+}
+
 extern "C" {
     pub fn negyvosal_check(sheet: *const u8, sheet_length: usize, out: *mut u32, out_length: usize) -> u32;
 

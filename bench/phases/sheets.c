@@ -1,4 +1,5 @@
-/* sheets Z SIZE: writes two sheets of that size with the same plays, each with its length in three bytes before it. */
+/* sheets Z RULE SIZE: writes two sheets of that size with the same plays, each with its length in three bytes before
+ * it. */
 #include <stdio.h>
 #include <stdlib.h>
 
@@ -12,8 +13,9 @@ static void write(struct sheet s) {
 }
 
 int main(int argc, char **argv) {
-    if (argc != 3) return 2;
-    write(loops(atoi(argv[1]), atoi(argv[2]), 1));
-    write(loops(atoi(argv[1]), atoi(argv[2]), 5));
+    if (argc != 4) return 2;
+    struct range r = {atoi(argv[1]), atoi(argv[2])};
+    write(loops(r, atoi(argv[3]), 1));
+    write(loops(r, atoi(argv[3]), 5));
     return 0;
 }

@@ -16,7 +16,7 @@ mod terms;
 #[path = "../../tests/independent/weigh.rs"]
 mod weigh;
 
-use boundary::{negyvosal_check, negyvosal_compare, ACCEPTED, OLD_MARK, REFUSED, SAME, WORDS};
+use boundary::{negyvosal_check, negyvosal_compare, state_words, ACCEPTED, OLD_MARK, REFUSED, SAME, WORDS};
 use sheets::Hard;
 use std::path::Path;
 use std::process::ExitCode;
@@ -74,7 +74,8 @@ fn timed(run: &mut dyn FnMut() -> [u32; WORDS]) -> ([u32; WORDS], f64) {
 fn time(hard: &Hard) -> (bool, bool) {
     let (checked, check_time) = timed(&mut || check(&hard.sheet));
     let size = hard.size.unwrap_or(0);
-    let (mut words, mut space) = (vec![0; 32 * (2 * size as usize + 1)], vec![0; 8 * size as usize]);
+    let needed = state_words(hard.sheet[0]) * (2 * size as usize + 1);
+    let (mut words, mut space) = (vec![0; needed], vec![0; 8 * size as usize]);
     let (compared, compare_time) = timed(&mut || compare(&hard.sheet, &mut words, &mut space));
     let (checked, compared) = (&checked[..OLD_MARK], &compared[..OLD_MARK]);
     let (right, told) = match hard.size {

@@ -164,7 +164,8 @@ fn follow_of(random: &mut Random, sheet: Vec<u8>) -> Case {
     let (play, words) = match read(&sheet) {
         Ok(accepted) => {
             let machine = Machine::of(&accepted);
-            (play_for(random, &machine), near_needed(random, words_to_follow(accepted.size)))
+            let needed = words_to_follow(accepted.heading.numbers.z, accepted.size);
+            (play_for(random, &machine), near_needed(random, needed))
         }
         Err(_) => (random_play(random), random.below(300)),
     };
@@ -201,7 +202,7 @@ fn case_to_compare(random: &mut Random) -> Case {
 fn compare_of(random: &mut Random, (old, new, alike): pairs::Pair) -> Case {
     let (words, space) = match (read(&old), read(&new)) {
         (Ok(a), Ok(b)) => {
-            let words = near_needed(random, words_to_compare(a.size, b.size));
+            let words = near_needed(random, words_to_compare(a.heading.numbers.z, a.size, b.size));
             let space = near_needed(random, space_to_compare(a.size, b.size));
             (words, space)
         }

@@ -5,7 +5,7 @@ use crate::sheet::{Data, Heading, Kind, Numbers, Operator, Procedure, Record, Te
 
 /// A heading with some plain names, of about half of the types, and up to `most` other name records.
 pub fn heading(random: &mut Random, most: usize) -> Heading {
-    let z = random.choose(&[1, 1, 1, 1, 2, 2, 3, 4, 5, 6, 7]);
+    let z = random.choose(&[1, 1, 1, 1, 2, 2, 3, 4, 5, 6, 7, 8, 15, 31]);
     let rule = random.choose(&[0, 1, 2]);
     let mut heading = Heading { numbers: Numbers { z, rule }, records: Vec::new() };
     for result in Type::ALL {

@@ -11,6 +11,7 @@
 //! `renumber`, sheets to renumber; after the word `names`, sheets with many name records, of which some are used; after
 //! the word `parts`, sheets that differ in one part, and the parts as sheets of their own.
 
+#[allow(dead_code)]
 #[path = "../../include/negyvosal.rs"]
 mod boundary;
 mod cases;

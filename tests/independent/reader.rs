@@ -136,7 +136,7 @@ impl Reader<'_> {
     }
 
     fn read_heading(&mut self) -> Result<(), Fault> {
-        self.heading.numbers.z = self.next(|b| (1..=7).contains(&b).then_some(b as i8))?;
+        self.heading.numbers.z = self.next(|b| (1..=31).contains(&b).then_some(b as i8))?;
         self.heading.numbers.rule = self.next(|b| (b < 3).then_some(b))?;
         while let Some(&kind @ 1..=3) = self.bytes.get(self.at) {
             if self.heading.records.len() == MOST_RECORDS {

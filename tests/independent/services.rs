@@ -87,14 +87,19 @@ pub fn check(bytes: &[u8]) -> Answer {
     }
 }
 
+/// The working words for each position counted, where numbers are -Z to Z.
+fn words_each(z: i8) -> u64 {
+    if z > 7 { 128 } else { 32 }
+}
+
 /// The working words that follow needs.
-pub fn words_to_follow(size: u64) -> u64 {
-    32 * (size + 1)
+pub fn words_to_follow(z: i8, size: u64) -> u64 {
+    words_each(z) * (size + 1)
 }
 
 /// The working words that compare needs.
-pub fn words_to_compare(old: u64, new: u64) -> u64 {
-    32 * (old + new + 1)
+pub fn words_to_compare(z: i8, old: u64, new: u64) -> u64 {
+    words_each(z) * (old + new + 1)
 }
 
 /// The bytes of play space that compare needs.
@@ -107,7 +112,7 @@ pub fn follow(bytes: &[u8], play: &[u8], words: usize) -> Answer {
         Err(fault) => return refused(fault, Which::Old),
         Ok(sheet) => sheet,
     };
-    if (words as u64) < words_to_follow(sheet.size) {
+    if (words as u64) < words_to_follow(sheet.heading.numbers.z, sheet.size) {
         return refused_both(13);
     }
     match read_play(play) {
@@ -156,7 +161,7 @@ pub fn read_both(old: &[u8], new: &[u8], words: usize, space: usize) -> Result<(
     if old[..a.heading_length] != new[..b.heading_length] || a.term.gives != b.term.gives {
         return Err(refused_both(12));
     }
-    if (words as u64) < words_to_compare(a.size, b.size) {
+    if (words as u64) < words_to_compare(a.heading.numbers.z, a.size, b.size) {
         return Err(refused_both(13));
     }
     if (space as u64) < space_to_compare(a.size, b.size) {

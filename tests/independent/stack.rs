@@ -49,14 +49,17 @@ fn shortest(machine: &Machine) -> Vec<Move> {
 fn run_sheet(sheet: &[u8]) -> Result<(), String> {
     run_renumber(sheet)?;
     expect("check", &services::check(sheet), answered(|| library::check(sheet, WORDS))?)?;
-    let (size, play) = match read(sheet) {
-        Ok(accepted) => (accepted.size, services::records(&shortest(&Machine::of(&accepted)))),
-        Err(_) => (1, vec![]),
+    let (z, size, play) = match read(sheet) {
+        Ok(accepted) => {
+            let play = services::records(&shortest(&Machine::of(&accepted)));
+            (accepted.heading.numbers.z, accepted.size, play)
+        }
+        Err(_) => (1, 1, vec![]),
     };
-    let words = words_to_follow(size) as usize;
+    let words = words_to_follow(z, size) as usize;
     let answer = services::follow(sheet, &play, words);
     expect("follow", &answer, answered(|| library::follow(sheet, &play, words, WORDS))?)?;
-    run_pair(sheet, sheet, words_to_compare(size, size) as usize, space_to_compare(size, size) as usize)
+    run_pair(sheet, sheet, words_to_compare(z, size, size) as usize, space_to_compare(size, size) as usize)
 }
 
 fn run_renumber(sheet: &[u8]) -> Result<(), String> {

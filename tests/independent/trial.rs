@@ -302,7 +302,8 @@ fn expect_once(a: &Sheet, b: &Sheet, got: &Compared, room: usize, counts: &mut C
         return Ok(());
     }
     counts.same_once += 1;
-    let (words, space) = (services::words_to_compare(a.size, b.size), services::space_to_compare(a.size, b.size));
+    let words = services::words_to_compare(a.heading.numbers.z, a.size, b.size);
+    let space = services::space_to_compare(a.size, b.size);
     let got = library::compare(&old, &new, words as usize, space as usize, room)?;
     if got.words == same {
         Ok(())

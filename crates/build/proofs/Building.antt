@@ -14,6 +14,7 @@ use Rattle.explicit.specs.inner.Sheets.{OneSheet, TwoSheets}
 use Rattle.explicit.proofs.SheetRows.{spots-fit}
 use Rattle.explicit.proofs.Filled.{one-sheet, two-sheets}
 use Rattle.build.specs.Built.{OneReady, OneBuilt, TwoReady, TwoBuilt}
+use Rattle.build.proofs.Figures.{asked-suffices}
 
 -- the site of a sheet whose first state is o, in an automaton of n states
 abbrev site : ℕ → ℕ → ℕ → Site
@@ -38,7 +39,9 @@ module _ {N : Numbers} {t : List ℕ} {root all : ℕ} {ws : List ℕ} (R : OneR
     (a : e ≡ edgesAfter t N (site root (all + 1) 0) 0) (c : ws₂ ≡ closedOf ws₁ (all + 1) e) where
   -- it is an explicit automaton
   one-closed : OneSheet N (R .type) (R .term) (all + 1) ws ws₂
-  one-closed = one-sheet (R .ready W) (ap (λ (x : ℕ). x + 1) (sym (R .sized))) (R .room) f a c
+  one-closed =
+      one-sheet (R .ready W) (ap (λ (x : ℕ). x + 1) (sym (R .sized)))
+        (asked-suffices N all (R .ready W .z-below) (R .room)) f a c
 
   -- it can be settled
   pub one-settles : Graph (rest (5 * (all + 1)) ws₂) (all + 1) × Silent (all + 1) ws₂
@@ -69,7 +72,8 @@ module _ {N : Numbers} {t u : List ℕ} {root other all more : ℕ} {ws : List �
   -- they are explicit automata
   two-closed : TwoSheets N (R .type) (R .term) (R .other-term) (all + more + 1) ws ws₃
   two-closed =
-      two-sheets (R .ready W) (R .other-ready Y) (rw (R .sized, R .other-sized)) (R .room) f a (rw (R .sized) g)
+      two-sheets (R .ready W) (R .other-ready Y) (rw (R .sized, R .other-sized))
+        (asked-suffices N (all + more) (R .ready W .z-below) (R .room)) f a (rw (R .sized) g)
         (rw (R .sized) b) c
 
   -- they can be settled

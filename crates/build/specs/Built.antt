@@ -22,7 +22,7 @@ pub record OneReady (N : Numbers) (t : List ℕ) (root all : ℕ) (ws : List ℕ
   pub term : Term
   pub ready : Words t → Ready N t root type term
   pub sized : size type term ≡ all
-  pub room : words-asked all ≤ length ws
+  pub room : words-asked N all ≤ length ws
 
 -- the words hold its automaton of n states, settled; on average a state has at most (1 + K) / 2 edges
 pub record OneBuilt (N : Numbers) (T : Ty) (M : Term) (n : ℕ) (ws : List ℕ) : Type 0 where
@@ -44,7 +44,7 @@ pub record TwoReady (N : Numbers) (t u : List ℕ) (root other all more : ℕ) (
   pub other-ready : Words u → Ready N u other type other-term
   pub sized : size type term ≡ all
   pub other-sized : size type other-term ≡ more
-  pub room : words-asked (all + more) ≤ length ws
+  pub room : words-asked N (all + more) ≤ length ws
 
 pub record TwoBuilt (N : Numbers) (T : Ty) (M M′ : Term) (n : ℕ) (ws : List ℕ) : Type 0 where
   pub silent-words : List ℕ

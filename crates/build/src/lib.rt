@@ -1,2 +1,3 @@
-// The automata of one or two sheets in the working words.
+// The automata of one or two sheets in the working words, and how many words are asked for them.
 pub mod build;
+pub mod lent;

@@ -30,6 +30,7 @@ use Rattle.comparer.specs.Refusals.{refusing, sameFirst, matching, onRea
 use Rattle.comparer.specs.Refusals.{compareRefusal}
 use Rattle.comparer.specs.Plays.{reckoned}
 use Rattle.comparer.specs.Look.{Found, nothing, first, FoundIn, decisionOf, spaceAfter, wholeDepth}
+use Rattle.build.specs.Lent.{words-asked}
 use Rattle.build.specs.Built.{TwoReady, TwoBuilt}
 use Rattle.comparer.specs.inner.Deciding.{Deciding, OnlyTerm, Verdicts, alike, differ}
 use Rattle.comparer.specs.inner.Deciding.{ExaminedBy, ExaminePromise}
@@ -175,13 +176,13 @@ module _ {N : Numbers} {old new : List ℕ} {row other all more : ℕ} {v w : Us
   F′ = P .second
 
   -- what build_two asks for
-  pub two-ready : (ws : List ℕ) → 32 * (all + more + 1) ≤ length ws → TwoReady N t u row other all more ws
+  pub two-ready : (ws : List ℕ) → words-asked N (all + more) ≤ length ws → TwoReady N t u row other all more ws
   two-ready ws h = record
     { type = tyOf N ty; term = termOf (F .sheet); other-term = termOf (F′ .sheet); ready = fit-ready F
     ; other-ready = fit-ready F′; sized = F .sized; other-sized = F′ .sized; room = h }
 
   -- what decide asks for
-  pub deciding : (ws ws₁ space : List ℕ) (h : 32 * (all + more + 1) ≤ length ws) → length ws₁ ≡ length ws →
+  pub deciding : (ws ws₁ space : List ℕ) (h : words-asked N (all + more) ≤ length ws) → length ws₁ ≡ length ws →
       4 * (all + more - 1) ≤ length space →
       ((R : TwoReady N t u row other all more ws) →
         TwoBuilt N (R .type) (R .term) (R .other-term) (all + more + 1) ws₁) → Deciding ws₁ space all more
@@ -189,7 +190,7 @@ module _ {N : Numbers} {old new : List ℕ} {row other all more : ℕ} {v w : Us
   deciding ws ws₁ space h e l b = record
     { numbers = N; type = tyOf N ty; term = termOf (F .sheet); other-term = termOf (F′ .sheet); z-below = F .z-below
     ; typed = F .typed; other-typed = F′ .typed; type-in = F .type-in; term-in = F .term-in; other-in = F′ .term-in
-    ; sized = F .sized; other-sized = F′ .sized; small = F .small; other-small = F′ .small; room = omega arith
+    ; sized = F .sized; other-sized = F′ .sized; small = F .small; other-small = F′ .small; room = rw e h
     ; space-room = l; built = b (two-ready ws h) }
 
   -- their sizes
@@ -201,7 +202,7 @@ module _ {N : Numbers} {old new : List ℕ} {row other all more : ℕ} {v w : Us
 
   -- the answer to an accepted call
   pub examined : (most : ℕ) (ws ws₁ ws₂ ws₃ space space′ : List ℕ) (d : Decision)
-      (h : 32 * (all + more + 1) ≤ length ws)
+      (h : words-asked N (all + more) ≤ length ws)
       (e : length ws₁ ≡ length ws) (l : 4 * (all + more - 1) ≤ length space)
       (b : (R : TwoReady N t u row other all more ws) →
         TwoBuilt N (R .type) (R .term) (R .other-term) (all + more + 1) ws₁) →
@@ -242,9 +243,9 @@ passed-by true false true e = absurd (omega (arith, e))
 passed-by true false false e = (refl, refl, refl)
 
 -- two sheets that are not refused: they match, and enough is lent for sizes that add up to n
-pub record Passed (fit : Bool) (words space n : ℕ) : Type 0 where
+pub record Passed (fit : Bool) (N : Numbers) (words space n : ℕ) : Type 0 where
   pub matched : fit ≡ true
-  pub words-enough : 32 * (n + 1) ≤ words
+  pub words-enough : words-asked N n ≤ words
   pub space-enough : 4 * (n - 1) ≤ space
 
 -- both sheets are loaded
@@ -252,34 +253,37 @@ module _ (old new ws space : List ℕ) {root row ty all other other-row b more :
     (A : load.Ready old root row ty all v t) (B : load.Ready new other other-row b more w u) where
   -- the judgement after that
   judged : compareRefusal old new (length ws) (length space) ≡
-      pairRefusal (matching old new root other ty b) (length ws) (length space) (all + more)
+      pairRefusal (matching old new root other ty b) (numbersAt old) (length ws) (length space) (all + more)
   unfolding compareRefusal onRead
-  judged = rw (A .accepts, B .accepts, A .rooted, B .rooted)
+  judged = rw (A .accepts, B .accepts, A .rooted, B .rooted, A .numbered)
 
-  module _ {fit : Bool} {number : ℕ} (e : fit ≡ matching old new root other ty b)
-      (n : number ≡ numberOf (pairRefusal fit (length ws) (length space) (all + more))) where
+  module _ {fit : Bool} {number : ℕ} {N : Numbers} (e : fit ≡ matching old new root other ty b)
+      (f : N ≡ numbersAt old)
+      (n : number ≡ numberOf (pairRefusal fit N (length ws) (length space) (all + more))) where
     -- by the names of the code
     judged-as : compareRefusal old new (length ws) (length space) ≡
-        pairRefusal fit (length ws) (length space) (all + more)
-    judged-as = judged ∙ rw (← e) refl
+        pairRefusal fit N (length ws) (length space) (all + more)
+    judged-as = judged ∙ rw (← e, ← f) refl
 
     -- they are refused together
     pub refused-pair : (most : ℕ) {q : Cause} → (number ≡ 0 → ⊥) → q ≡ cause number both-sheets 0 →
         ExaminePromise old new most ws space (Refused q) ws space
-    refused-pair most h f =
+    refused-pair most h k =
         refuses old new ws space most
           (judged-as ∙
-            stopped-by fit (ltb (length ws) (32 * (all + more + 1))) (ltb (length space) (4 * (all + more - 1))) n h)
-          f
+            stopped-by fit (ltb (length ws) (words-asked N (all + more)))
+              (ltb (length space) (4 * (all + more - 1))) n h)
+          k
 
     -- the tests passed
-    tests : number ≡ 0 → (fit ≡ true) × (ltb (length ws) (32 * (all + more + 1)) ≡ false) ×
+    tests : number ≡ 0 → (fit ≡ true) × (ltb (length ws) (words-asked N (all + more)) ≡ false) ×
         (ltb (length space) (4 * (all + more - 1)) ≡ false)
     tests z =
-        passed-by fit (ltb (length ws) (32 * (all + more + 1))) (ltb (length space) (4 * (all + more - 1))) (sym n ∙ z)
+        passed-by fit (ltb (length ws) (words-asked N (all + more))) (ltb (length space) (4 * (all + more - 1)))
+          (sym n ∙ z)
 
     -- nothing is refused
-    pub passed : number ≡ 0 → Passed fit (length ws) (length space) (all + more)
+    pub passed : number ≡ 0 → Passed fit N (length ws) (length space) (all + more)
     passed z = record
       { matched = tests z .0; words-enough = ltb-false _ _ (tests z .1); space-enough = ltb-false _ _ (tests z .2) }
 

@@ -28,6 +28,7 @@ use Rattle.silent.proofs.laws.Settled.{settled-graph}
 use Rattle.explicit.specs.Explicit.{Explicit}
 use Rattle.explicit.specs.Letter.{AllSmall}
 use Rattle.build.specs.Built.{TwoBuilt}
+use Rattle.build.proofs.Figures.{asked-low}
 use Rattle.comparer.specs.inner.Deciding.{Deciding, OnlyTerm, Verdicts, alike, differ, Shown}
 use Rattle.comparer.specs.declared.Decision.{Decision}
 use Rattle.comparer.specs.declared.Decision.the-variants.{Same}
@@ -85,7 +86,7 @@ module _ (ws space : List ℕ) (all more : ℕ) (D : Deciding ws space all more)
       (record
         { graph = settled-graph (B .silent-words) (B .unsettled) G n (B .graph) (B .quiet) (B .settled)
         ; p-lt = omega arith; q-lt = omega (arith, more-is) },
-       omega (arith, D .room))
+       omega (arith, asked-low N (all + more) (D .room)))
 
   -- the second automaton stands behind the end of the first
   shows-second : Explicit N (B .silent-words) (B .unsettled) n (spots T M + 1) (steps T M′)

@@ -4,14 +4,12 @@ use mathlib.Core.Option.{Option, none, some}
 use mathlib.Core.List.{List}
 use Prim.Native.Nat.{ℕ, _+_, _*_, _-_, _≤_, _<_, min}
 use native.Mathlib.Omega.{arith}
-use native.Mathlib.Nat.{mul-le-mul-right}
 use lib.Dec.{eqb, ltb}
 use lib.ListN.{length, getD, replicate}
 use borrow.Author.Tests.{lt-ltb, le-ltb, eqb-true, eq-eqb}
 use Rattle.language.specs.declared.Numbers.{Numbers}
 use Rattle.language.specs.Choice.{pick}
 use Rattle.language.specs.Number.{numbers}
-use Rattle.language.proofs.NumberLaws.{numbers-within}
 use Rattle.language.specs.Weight.{size}
 use Rattle.machine.specs.Sheet.{spots}
 use Rattle.machine.proofs.Accepts.{spots-size}
@@ -34,7 +32,10 @@ use Rattle.comparer.specs.declared.Following.the-variants.{Follows, Refu
 use Rattle.comparer.specs.declared.follow.Reach.{Reach}
 use Rattle.play.specs.declared.play.Parsed.{Parsed}
 use Rattle.play.specs.declared.play.Parsed.the-variants.{Moves, Bad}
+use Rattle.build.specs.Lent.{words-asked}
 use Rattle.build.specs.Built.{OneReady, OneBuilt}
+use Rattle.build.proofs.Figures.{asked-suffices}
+use Rattle.explicit.proofs.Filled.{most-edges}
 use Rattle.play.specs.Bytes.{counted}
 use Rattle.comparer.specs.inner.Causes.{causeOf, playCause}
 use Rattle.comparer.specs.inner.Walk.{AtLeast, Marked, Reached}
@@ -79,39 +80,39 @@ counted-enough play e m =
 module _ {N : Numbers} {ty : ℕ} {s : List ℕ} {row all : ℕ} {t : List ℕ} (F : Fit N ty s row all t) where
   -- what follow goes on to
   goes-on : (play : List ℕ) (words : ℕ) → followRefusal s play words ≡
-      pick (ltb words (32 * (all + 1))) (refusing 13 2 0) (onGiven (parse 0 play))
+      pick (ltb words (words-asked N all)) (refusing 13 2 0) (onGiven (parse 0 play))
   unfolding followRefusal onRead
-  goes-on play words = rw (F .reads)
+  goes-on play words = rw (F .reads, F .numbers)
 
   -- too few words
-  pub refuses-words : (play ws ws′ : List ℕ) {q : Cause} → length ws < 32 * (all + 1) → q ≡ cause 13 both-sheets 0 →
+  pub refuses-words : (play ws ws′ : List ℕ) {q : Cause} → length ws < words-asked N all → q ≡ cause 13 both-sheets 0 →
       ws′ ≡ ws → FollowPromise s play ws (Refused q) ws′
   refuses-words play ws ws′ h c k =
-      refuses s play ws ws′ (goes-on play (length ws) ∙ rw (lt-ltb (length ws) (32 * (all + 1)) h) refl) c k
+      refuses s play ws ws′ (goes-on play (length ws) ∙ rw (lt-ltb (length ws) (words-asked N all) h) refl) c k
 
   -- a bad play
   pub refuses-play : (play ws ws′ : List ℕ) {x : Parsed} {p : ℕ} {q : Cause} →
-      32 * (all + 1) ≤ length ws → x ≡ counted 0 (parse 0 play) → x ≡ Bad p → q ≡ playCause x → ws′ ≡ ws →
+      words-asked N all ≤ length ws → x ≡ counted 0 (parse 0 play) → x ≡ Bad p → q ≡ playCause x → ws′ ≡ ws →
       FollowPromise s play ws (Refused q) ws′
   unfolding playCause
   refuses-play play ws ws′ h e b c k =
       refuses s play ws ws′
-        (goes-on play (length ws) ∙ rw (le-ltb (length ws) (32 * (all + 1)) h) (on-bad (parse 0 play) (sym b ∙ e)))
+        (goes-on play (length ws) ∙ rw (le-ltb (length ws) (words-asked N all) h) (on-bad (parse 0 play) (sym b ∙ e)))
         (rw b at c) k
 
   -- the words suffice, and the play has the records rs
-  goes-through : (play ws : List ℕ) (rs : List (List ℕ)) → 32 * (all + 1) ≤ length ws → parse 0 play ≡ moves rs →
+  goes-through : (play ws : List ℕ) (rs : List (List ℕ)) → words-asked N all ≤ length ws → parse 0 play ≡ moves rs →
       followRefusal s play (length ws) ≡ none
   unfolding onGiven
-  goes-through play ws rs h e = goes-on play (length ws) ∙ rw (le-ltb (length ws) (32 * (all + 1)) h, e) refl
+  goes-through play ws rs h e = goes-on play (length ws) ∙ rw (le-ltb (length ws) (words-asked N all) h, e) refl
 
   -- THEOREM: an accepted sheet is ready for its automaton
-  pub one-ready : (ws : List ℕ) → 32 * (all + 1) ≤ length ws → OneReady N t row all ws
+  pub one-ready : (ws : List ℕ) → words-asked N all ≤ length ws → OneReady N t row all ws
   one-ready ws h = record
     { type = tyOf N ty; term = termOf (F .sheet); ready = fit-ready F; sized = F .sized; room = h }
 
   -- the automaton is built
-  module _ (ws ws′ : List ℕ) (room : 32 * (all + 1) ≤ length ws)
+  module _ (ws ws′ : List ℕ) (room : words-asked N all ≤ length ws)
       (B : (R : OneReady N t row all ws) → OneBuilt N (R .type) (R .term) (all + 1) ws′) where
     built : OneBuilt N (tyOf N ty) (termOf (F .sheet)) (all + 1) ws′
     unfolding one-ready
@@ -128,14 +129,13 @@ module _ {N : Numbers} {ty : ℕ} {s : List ℕ} {row all : ℕ} {t : List ℕ} 
     -- there is room to mark its live states
     pub opened-markable : length ws′ ≡ length ws → Markable (all + 1) (all - 1) ws′
     opened-markable len =
-        let most : 1 + numbers N ≤ 19 = omega (arith, numbers-within N, F .z-below) in
-        let few : 2 * getD (rest (5 * (all + 1)) ws′) (all + 1) 0 ≤ 19 * (all + 1) =
-              omega (arith, built .settled .first (all + 1) (omega arith), built .few,
-                mul-le-mul-right (all + 1) most) in
+        let S = asked-suffices N all (F .z-below) room in
+        let few : 2 * getD (rest (5 * (all + 1)) ws′) (all + 1) 0 ≤ (1 + numbers N) * (all + 1) =
+              rw (built .settled .first (all + 1) (omega arith)) (built .few) in
         record
           { single = opened-single; end = omega (arith, F .some)
-          ; few = omega (arith, opened-single .graph .few); room = omega (arith, F .some)
-          ; link-room = omega (arith, F .some) }
+          ; few = omega (arith, most-edges N (F .z-below) (all + 1) _ few, F .small)
+          ; room = omega (arith, few, S .graph, len); link-room = omega (arith, few, S .links, len, F .some) }
 
     -- its live states are marked
     module _ (ws″ : List ℕ) (M : Marks (rest (5 * (all + 1)) ws′) (all + 1) (all - 1) ws″ ×

@@ -9,6 +9,8 @@ use mathlib.Core.Option.{Option, none, some}
 use native.Mathlib.Omega.{arith}
 use lib.Dec.{ltb}
 use lib.ListN.{length}
+use Rattle.language.specs.declared.Numbers.{Numbers}
+use Rattle.build.specs.Lent.{words-asked}
 use Rattle.language.specs.Choice.{pick}
 use Rattle.records.specs.declared.edition.Edition.the-variants.{Present}
 use Rattle.records.specs.declared.refusal.Cause.{Cause}
@@ -32,13 +34,13 @@ from-check : (s : List ℕ) (number place : ℕ) → readSheet s ≡ rejected nu
 from-check s number place e = check-refused Present s e .known
 
 on-read : (P : ℕ → Type 0) → ((k : ℕ) → CheckNumber k → P k) → (s : List ℕ) (sheet : ℕ)
-    (k : ℕ → ℕ → ℕ → Option Cause) → ((root ty size : ℕ) → Among P (k root ty size)) →
+    (k : Numbers → ℕ → ℕ → ℕ → Option Cause) → ((N : Numbers) (root ty size : ℕ) → Among P (k N root ty size)) →
     Among P (onRead (readSheet s) sheet k)
 unfolding onRead Among
 on-read P f s sheet k g = go (readSheet s) refl
   where
     go : (A : Checks) → readSheet s ≡ A → Among P (onRead A sheet k)
-    go (accepted S ty size) e = g (headingLength S) ty size
+    go (accepted S ty size) e = g (S .numbers) (headingLength S) ty size
     go (rejected number place) e = f number (from-check s number place e)
 
 choice : (P : ℕ → Type 0) (t : Bool) (a b : Option Cause) → Among P a → Among P b → Among P (pick t a b)
@@ -58,8 +60,8 @@ given (bad place) = inr (inr refl)
 follow-among : (s play : List ℕ) (words : ℕ) → Among FollowNumber (followRefusal s play words)
 unfolding followRefusal
 follow-among s play words =
-    on-read FollowNumber from-sheet s 0 _ (λ root ty size.
-      choice FollowNumber (ltb words (32 * (size + 1))) (refusing 13 2 0) (onGiven (parse 0 play))
+    on-read FollowNumber from-sheet s 0 _ (λ N root ty size.
+      choice FollowNumber (ltb words (words-asked N size)) (refusing 13 2 0) (onGiven (parse 0 play))
         (unfold Among FollowNumber in inr (inl refl)) (given (parse 0 play)))
 
 -- compare: the sheets', 12, 13, 14
@@ -78,10 +80,10 @@ lent true false false = tt
 compare-among : (old new : List ℕ) (words space : ℕ) → Among CompareNumber (compareRefusal old new words space)
 unfolding compareRefusal
 compare-among old new words space =
-    on-read CompareNumber from-sheets old 0 _ (λ root ty size.
-      on-read CompareNumber from-sheets new 1 _ (λ other type-of-other size-of-other.
+    on-read CompareNumber from-sheets old 0 _ (λ N root ty size.
+      on-read CompareNumber from-sheets new 1 _ (λ M other type-of-other size-of-other.
         let n = size + size-of-other in
-        lent (matching old new root other ty type-of-other) (ltb words (32 * (n + 1))) (ltb space (4 * (n - 1)))))
+        lent (matching old new root other ty type-of-other) (ltb words (words-asked N n)) (ltb space (4 * (n - 1)))))
 
 -- look: compare's; an answer is no refusal
 never-refused : (R : Ruling) (looked : ℕ) (v w : Uses) (x : Cause) → Refused x ≡ saying R looked v w → ⊥

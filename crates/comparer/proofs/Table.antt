@@ -28,7 +28,7 @@ use Rattle.procedures.specs.Meaning.{declared, idOf, meant, tyOf, useType, type
 use Rattle.procedures.specs.Meaning.{resolve, termOf}
 use Rattle.sheet.specs.Reader as reader
 use Rattle.sheet.specs.Reader.{bind, onHead, onJudged, partsOf, scopeParts, readPart, withName, wholeOfShape, nameOf}
-use Rattle.sheet.specs.Reader.{namesStep, namesOf, sizeIn, wholeOf, rest, build, written, checks, sheetIn, readUnder}
+use Rattle.sheet.specs.Reader.{namesStep, namesOf, sizeIn, wholeBy, rest, build, written, checks, sheetIn, readUnder}
 use Rattle.machine.specs.Action.{who, heard, mapNext, mapAction}
 use Rattle.machine.specs.Decide.{when, map-dec, fits?, answers-to, answers?, fits-at?, hears?, same-move?}
 use Rattle.machine.specs.Position.{entry}
@@ -50,7 +50,7 @@ use Rattle.comparer.proofs.Worked.{firstFound, decided, rowRead, rowChe
 
 -- the rows of the tables are checked
 tables-checked : (all rowChecked table ≡ true) × (all rowChecked once-table ≡ true)
-unfolding readUnder checks wholeOf reader.closed bind namesOf namesStep wholeOfShape nameOf onJudged declareOf andThen
+unfolding readUnder checks wholeBy reader.closed bind namesOf namesStep wholeOfShape nameOf onJudged declareOf andThen
   judge.below unused fresh argument oftenOf declareAt withName readPart scopeParts scope.opens reader.readRecord partsOf
   onHead sizeIn sheetIn values operandType resultType acceptsPart partType standingOf resultOf countOf argumentOf
   entered shapeOf isNamed isHeld hides variableStanding declaredStanding byteOf onByte withBody limited

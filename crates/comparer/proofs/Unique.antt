@@ -9,6 +9,7 @@ use native.Mathlib.Omega.{arith}
 use native.Mathlib.Decide.{decLt}
 use lib.ListN.{length}
 use lib.Dec.{ltb}
+use Rattle.language.specs.declared.Numbers.{Numbers}
 use Rattle.language.specs.Choice.{pick}
 use Rattle.language.specs.Move.{Word, Before}
 use Rattle.explicit.specs.Letter.{AllSmall}
@@ -66,7 +67,7 @@ same-heading old new words space {S} {T} {ty} {b} {n} {m} e f h =
     by (matching old new (headingLength S) (headingLength T) ty b) refl (rw (e, f) at h)
   where
     by : (c : Bool) → matching old new (headingLength S) (headingLength T) ty b ≡ c →
-        pairRefusal c words space (n + m) ≡ none → AsOne old new ty b
+        pairRefusal c (S .numbers) words space (n + m) ≡ none → AsOne old new ty b
     by true d k = as-one (headingLength T) (two-first S) (sym d) refl
     by false d k = let z : _≡_ {A = ℕ} 0 1 = cc in absurd (omega arith)
 

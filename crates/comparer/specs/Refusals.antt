@@ -8,6 +8,7 @@ use mathlib.Core.Option.{Option, none, some}
 use lib.ListN.{length, getD}
 use lib.Dec.{eqb, ltb}
 use Rattle.language.specs.Choice.{pick}
+use Rattle.language.specs.declared.Numbers.{Numbers}
 use Rattle.records.specs.Refusal.{cause, old-sheet, new-sheet, both-sheets}
 use Rattle.records.specs.declared.refusal.Cause.{Cause}
 use Rattle.sheet.specs.Encoding.{headingLength}
@@ -42,9 +43,10 @@ unfoldable pub matching : List ℕ → List ℕ → ℕ → ℕ → ℕ → ℕ 
 matching old new root other ty type-of-other =
     pick (eqb root other) (pick (sameFirst root old new) (eqb ty type-of-other) false) false
 
--- what an accepted sheet goes on to, by the length of its heading, its type and its size; or its refusal
-unfoldable pub onRead : Checks → ℕ → (ℕ → ℕ → ℕ → Option Cause) → Option Cause
-onRead (accepted S ty size) sheet k = k (headingLength S) ty size
+-- what an accepted sheet goes on to, by its range and rule, the length of its heading, its type and its size; or its
+-- refusal
+unfoldable pub onRead : Checks → ℕ → (Numbers → ℕ → ℕ → ℕ → Option Cause) → Option Cause
+onRead (accepted S ty size) sheet k = k (S .numbers) (headingLength S) ty size
 onRead (rejected number place) sheet k = refusing number sheet place
 
 unfoldable pub onGiven : Given → Option Cause
@@ -54,21 +56,21 @@ onGiven (bad place) = refusing bad-play old-sheet place
 -- follow on a sheet, a play and so many words
 unfoldable pub followRefusal : List ℕ → List ℕ → ℕ → Option Cause
 followRefusal s play words =
-    onRead (readSheet s) old-sheet (λ root ty size.
-      pick (ltb words (words-asked size)) (refusing too-few-words both-sheets 0) (onGiven (parse 0 play)))
+    onRead (readSheet s) old-sheet (λ N root ty size.
+      pick (ltb words (words-asked N size)) (refusing too-few-words both-sheets 0) (onGiven (parse 0 play)))
 
--- "then 12, 13, 14": of two sheets that are read, whether their headings and result types are the same, so many words
--- and bytes of play space, and the sum of the sizes
-abbrev pub pairRefusal : Bool → ℕ → ℕ → ℕ → Option Cause
-pairRefusal same words space n =
+-- "then 12, 13, 14": of two sheets that are read, whether their headings and result types are the same, the range and
+-- the rule of the old one, so many words and bytes of play space, and the sum of the sizes
+abbrev pub pairRefusal : Bool → Numbers → ℕ → ℕ → ℕ → Option Cause
+pairRefusal same N words space n =
     pick same
-    (pick (ltb words (words-asked n)) (refusing too-few-words both-sheets 0)
+    (pick (ltb words (words-asked N n)) (refusing too-few-words both-sheets 0)
     (pick (ltb space (bytes-asked n)) (refusing space-too-short both-sheets 0) none))
     (refusing headings-differ both-sheets 0)
 
 -- compare on two sheets, so many words and bytes of play space
 unfoldable pub compareRefusal : List ℕ → List ℕ → ℕ → ℕ → Option Cause
 compareRefusal old new words space =
-    onRead (readSheet old) old-sheet (λ root ty size.
-      onRead (readSheet new) new-sheet (λ other type-of-other size-of-other.
-        pairRefusal (matching old new root other ty type-of-other) words space (size + size-of-other)))
+    onRead (readSheet old) old-sheet (λ N root ty size.
+      onRead (readSheet new) new-sheet (λ M other type-of-other size-of-other.
+        pairRefusal (matching old new root other ty type-of-other) N words space (size + size-of-other)))

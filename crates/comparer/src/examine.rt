@@ -5,16 +5,17 @@ use crate::Examined;
 use crate::HEADINGS_DIFFER;
 use crate::SPACE_TOO_SHORT;
 use crate::TOO_FEW_WORDS;
-use crate::WORDS_A_STATE;
 use crate::causes::both_cause;
 use crate::causes::cause_of;
 use crate::heading::alike;
 use build::build::two_from_rows;
+use build::lent::words_asked;
 use dfa::words::clear;
 use difference::Task;
 use difference::Verdict;
 use difference::search::first_difference;
 use difference::word::spell;
+use language::Numbers;
 use load::load::Loaded;
 use load::load::ROWS;
 use load::load::load;
@@ -70,14 +71,14 @@ fn decide(words: &mut [u32], space: &mut [u8], all: usize, more: usize, most: us
 
 // The number by which two accepted sheets are refused, whose sizes add up to `size`: 12, then 13, then 14; 0 where they
 // are not refused.
-fn pair_number(matching: bool, words: usize, space: usize, size: usize) -> u8
+fn pair_number(matching: bool, n: Numbers, words: usize, space: usize, size: usize) -> u8
     requires { ⌜ (0 < size) × (size ≤ 8194) ⌝ }
-    ensures { λ r. ⌜ r ≡ numberOf (pairRefusal matching words space size) ⌝ }
+    ensures { λ r. ⌜ r ≡ numberOf (pairRefusal matching n words space size) ⌝ }
 {
     if !matching {
         return HEADINGS_DIFFER;
     }
-    if words < WORDS_A_STATE * (size + 1) {
+    if words < words_asked(n, size) {
         return TOO_FEW_WORDS;
     }
     if space < BYTES_A_MOVE * (size - 1) {
@@ -125,11 +126,12 @@ pub(crate) fn examine(
     let all = size as usize;
     let more = other_size as usize;
     let matching = alike(old, new, root, other, ty, b);
-    let number = pair_number(matching, words.len(), space.len(), all + more);
+    let n = numbers_of(old);
+    let number = pair_number(matching, n, words.len(), space.len(), all + more);
     if number != NOT_REFUSED {
         return Examined::Refused(both_cause(number));
     }
-    two_from_rows(&t, &u, numbers_of(old), row, other_row, all, more, words);
+    two_from_rows(&t, &u, n, row, other_row, all, more, words);
     let found = decide(words, space, all, more, most);
     clear(words);
     Examined::Known {

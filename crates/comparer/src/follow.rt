@@ -1,11 +1,11 @@
 // The service follow.
 use crate::Following;
 use crate::TOO_FEW_WORDS;
-use crate::WORDS_A_STATE;
 use crate::causes::both_cause;
 use crate::causes::cause_of;
 use crate::causes::play_cause;
 use build::build::one_from_rows;
+use build::lent::words_asked;
 use dfa::graph::next_state;
 use dfa::words::clear;
 use live::is_marked;
@@ -76,14 +76,15 @@ pub fn follow(sheet: &[u8], play: &[u8], words: &mut [u32]) -> Following
         return Following::Refused(cause_of(x, OLD));
     };
     let all = size as usize;
-    if words.len() < WORDS_A_STATE * (all + 1) {
+    let n = numbers_of(sheet);
+    if words.len() < words_asked(n, all) {
         return Following::Refused(both_cause(TOO_FEW_WORDS));
     }
     let parsed = count_moves(play);
     let Parsed::Moves(total) = parsed else {
         return Following::Refused(play_cause(parsed));
     };
-    one_from_rows(&t, numbers_of(sheet), row, all, words);
+    one_from_rows(&t, n, row, all, words);
     mark_live(words, all + 1, all - 1);
     let reach = longest(words, all + 1, play, total);
     clear(words);

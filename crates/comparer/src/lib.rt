@@ -27,9 +27,6 @@ pub(crate) const SPACE_TOO_SHORT: u8 = 14;
 // A play has a record of an unknown kind or one that is cut short.
 pub(crate) const BAD_PLAY: u8 = 15;
 
-// Working words for each state.
-pub(crate) const WORDS_A_STATE: usize = 32;
-
 // Bytes of play space for each move.
 pub(crate) const BYTES_A_MOVE: usize = 4;
 

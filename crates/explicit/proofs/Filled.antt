@@ -9,6 +9,7 @@ use native.Mathlib.Nat.{zero-add, mul-le-mul-left, mul-le-mul-right}
 use lib.Dec.{ltb}
 use lib.ListN.{length}
 use borrow.Author.Tests.{lt-ltb, le-ltb}
+use Rattle.records.specs.Limits.{greatest-z}
 use Rattle.language.specs.declared.Numbers.{Numbers}
 use Rattle.language.specs.Number.{numbers}
 use Rattle.language.proofs.NumberLaws.{numbers-within}
@@ -22,7 +23,7 @@ use Rattle.explicit.specs.inner.Rows.{StateRow, noEdges, closedOf}
 use Rattle.explicit.specs.inner.Moves.{rowOf, edgesAfter, filledOf}
 use Rattle.explicit.specs.inner.Shown.{Fine, edgesBelow, ShownRows, Room, Automaton}
 use Rattle.explicit.specs.inner.Ready.{Ready}
-use Rattle.explicit.specs.inner.Sheets.{OneSheet, TwoSheets}
+use Rattle.explicit.specs.inner.Sheets.{Suffices, OneSheet, TwoSheets}
 use Rattle.explicit.proofs.Writing.{closed-length, all-edges, closed-automaton}
 use Rattle.explicit.proofs.Automata.{first-of, graph-of, silent-of}
 use Rattle.explicit.proofs.Placed.{Placed, filled-length, placed-few, placed-after, placed-fine}
@@ -58,13 +59,17 @@ shown-none ws n row = record
   { silents = λ p h. absurd (omega arith); firsts = λ p h. absurd (omega arith)
   ; edges = λ p h. absurd (omega arith) }
 
--- 32 words for each state are room for its edges
-room-for : (N : Numbers) → N .z ≤ 7 → (ws : List ℕ) (n e : ℕ) → 0 < n → n ≤ 8193 → 32 * n ≤ length ws →
+-- the edges of n states by the most numbers that there can be, where there are at most (1 + K) / 2 for each
+pub most-edges : (N : Numbers) → N .z ≤ greatest-z → (n e : ℕ) → 2 * e ≤ (1 + numbers N) * n → 2 * e ≤ 67 * n
+most-edges N z n e h =
+    let most : 1 + numbers N ≤ 67 = omega (arith, numbers-within N) in
+    omega (arith, h, mul-le-mul-right n most)
+
+-- the words that suffice for the states are room for their edges
+room-for : (N : Numbers) → N .z ≤ greatest-z → (ws : List ℕ) (n e : ℕ) → 0 < n → n ≤ 8193 → Suffices N n (length ws) →
     2 * e ≤ (1 + numbers N) * n → Room ws n e
 room-for N z ws n e some few long h =
-    let most : 1 + numbers N ≤ 19 = omega (arith, numbers-within N) in
-    let l : 2 * e ≤ 19 * n = omega (arith, mul-le-mul-right n most) in
-    record { few = few; words = omega arith; small = omega arith }
+    record { few = few; words = omega (arith, h, long .graph); small = omega (arith, most-edges N z n e h) }
 
 -- the states below c, and the dead state c, closed
 closing : (ws : List ℕ) (n e c : ℕ) (row : ℕ → StateRow) → n ≡ c + 1 → e ≡ edgesBelow row c → row c ≡ noEdges →
@@ -97,9 +102,7 @@ module _ {N : Numbers} {t : List ℕ} {root : ℕ} {T : Ty} {M : Term} (R : Read
 
   -- they are fewer than words can count
   first-counted : edgesBelow row (size T M) < 4294967296
-  first-counted =
-      let most : 1 + numbers N ≤ 19 = omega (arith, numbers-within N, R .z-below) in
-      omega (arith, first-few, mul-le-mul-right (size T M) most, R .small)
+  first-counted = omega (arith, most-edges N (R .z-below) (size T M) _ first-few, R .small)
 
   first-after : edgesAfter t N (site root n 0) 0 ≡ edgesBelow row (size T M)
   unfolding edgesBelow
@@ -145,7 +148,7 @@ module _ {N : Numbers} {t : List ℕ} {root : ℕ} {T : Ty} {M : Term} (R : Read
   one-dead p h = ended-past (spots T M) (rowOf t N s) p (omega (arith, spots-size T M))
 
   -- the words are their automaton
-  one-automaton : (ws : List ℕ) → 32 * n ≤ length ws →
+  one-automaton : (ws : List ℕ) → Suffices N n (length ws) →
       Automaton (closedOf (filledOf t N s ws 0) n (edgesAfter t N s 0)) n one-rows
   one-automaton ws long =
       let P = one-placed in
@@ -154,13 +157,13 @@ module _ {N : Numbers} {t : List ℕ} {root : ℕ} {T : Ty} {M : Term} (R : Read
       let vs = filledOf t N s ws 0 in
       let few : n ≤ 8193 = omega (arith, R .small) in
       let Q : (xs : List ℕ) → length xs ≡ length ws → Room xs n e =
-            λ xs l. room-for N (R .z-below) xs n e (omega arith) few (omega arith) (first-all R n P (omega arith)) in
+            λ xs l. room-for N (R .z-below) xs n e (omega arith) few (rw l long) (first-all R n P (omega arith)) in
       closing vs n (edgesAfter t N s 0) c one-rows ends (first-after R n P) (one-dead c (omega arith))
         (Q vs (filled-length t N s ws 0)) (first-fine R n P few (omega arith))
         (first-shown R n P few (omega arith) ws (Q ws refl))
 
   -- THEOREM: the words that one sheet leaves, filled and closed, are its explicit automaton
-  pub one-sheet : {ws ws₁ ws₂ : List ℕ} {e : ℕ} → 32 * n ≤ length ws →
+  pub one-sheet : {ws ws₁ ws₂ : List ℕ} {e : ℕ} → Suffices N n (length ws) →
       ws₁ ≡ filledOf t N (record { root = root; n = n; o = 0 }) ws 0 →
       e ≡ edgesAfter t N (record { root = root; n = n; o = 0 }) 0 → ws₂ ≡ closedOf ws₁ n e →
       OneSheet N T M n ws ws₂
@@ -234,9 +237,7 @@ module _ {N : Numbers} {t t′ : List ℕ} {root root′ : ℕ} {T : Ty} {M M′
       omega (arith, placed-few new R′ new-placed, first-few R n old-placed, mul-le-mul-left (1 + numbers N) l)
 
   two-counted : edgesBelow two-rows (size T M + size T M′) < 4294967296
-  two-counted =
-      let most : 1 + numbers N ≤ 19 = omega (arith, numbers-within N, R .z-below) in
-      omega (arith, two-few, mul-le-mul-right n most, few-states)
+  two-counted = omega (arith, most-edges N (R .z-below) n _ two-few, few-states)
 
   two-fine : (p : ℕ) → p < size T M + size T M′ → Fine n (two-rows p)
   two-fine p h = by (decLt p (size T M))
@@ -246,7 +247,7 @@ module _ {N : Numbers} {t t′ : List ℕ} {root root′ : ℕ} {T : Ty} {M M′
       by (no l) = placed-fine new R′ new-placed new-room few-states p (omega arith) h
 
   -- the words are their automaton
-  two-automaton : (ws : List ℕ) (a b : ℕ) → 32 * n ≤ length ws → a ≡ edgesAfter t N old 0 →
+  two-automaton : (ws : List ℕ) (a b : ℕ) → Suffices N n (length ws) → a ≡ edgesAfter t N old 0 →
       b ≡ edgesAfter t′ N new a → Automaton (closedOf (filledOf t′ N new (filledOf t N old ws 0) a) n b) n two-rows
   two-automaton ws a b long p q =
       let c = size T M + size T M′ in
@@ -254,7 +255,7 @@ module _ {N : Numbers} {t t′ : List ℕ} {root root′ : ℕ} {T : Ty} {M M′
       let e = edgesBelow two-rows (size T M) in
       let f = edgesBelow two-rows c in
       let Q : (xs : List ℕ) (d : ℕ) → length xs ≡ length ws → 2 * d ≤ (1 + numbers N) * n → Room xs n d =
-            λ xs d l h. room-for N (R .z-below) xs n d (omega arith) few-states (omega arith) h in
+            λ xs d l h. room-for N (R .z-below) xs n d (omega arith) few-states (rw l long) h in
       let p′ : a ≡ e = p ∙ first-after R n old-placed in
       let q′ : b ≡ f =
             q ∙ ap (edgesAfter t′ N new) p′ ∙ placed-after new R′ new-placed two-counted in
@@ -269,7 +270,7 @@ module _ {N : Numbers} {t t′ : List ℕ} {root root′ : ℕ} {T : Ty} {M M′
           (Q (filledOf t′ N new vs e) f (filled-length t′ N new vs e ∙ len) two-few) two-fine S′)
 
   -- THEOREM: the words that two sheets leave, filled one after the other and closed, are their explicit automata
-  pub two-sheets : {ws ws₁ ws₂ ws₃ : List ℕ} {e₁ e₂ : ℕ} → 32 * n ≤ length ws →
+  pub two-sheets : {ws ws₁ ws₂ ws₃ : List ℕ} {e₁ e₂ : ℕ} → Suffices N n (length ws) →
       ws₁ ≡ filledOf t N (record { root = root; n = n; o = 0 }) ws 0 →
       e₁ ≡ edgesAfter t N (record { root = root; n = n; o = 0 }) 0 →
       ws₂ ≡ filledOf t′ N (record { root = root′; n = n; o = size T M }) ws₁ e₁ →

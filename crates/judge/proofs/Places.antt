@@ -43,7 +43,7 @@ use Rattle.sheet.specs.Heading.{fresh, argument, declareOf, retireOf, declareAt
 use Rattle.sheet.specs.Reader.{Tree, Answer, got, refused, bind, onHead, onJudged, partsOf, scopeParts}
 use Rattle.sheet.specs.Reader.{readRecord, readPart, Whole, whole, wholeOfShape, nameOf, namesStep, namesOf}
 use Rattle.sheet.specs.Reader.{closed, numbersAt, nothing, wholeOf, accepted, rejected, sheetIn, sizeIn, checks}
-use Rattle.sheet.specs.Reader.{readUnder}
+use Rattle.sheet.specs.Reader.{wholeBy, readUnder}
 use Rattle.judge.specs.Check.{NumberOf}
 use Rattle.sheet.proofs.Answers.{HeadAll}
 use Rattle.sheet.proofs.Heads.{Heads, h-skip, h-diverge, h-truth, h-number, h-use, h-fetch, h-operate, h-assign}
@@ -415,7 +415,7 @@ module _ (ed : Edition) (s : List ℕ) where
   first-in = old ed 4096
 
   sheet-in : Small (wholeOf ed s)
-  unfolding wholeOf In
+  unfolding wholeBy In
   sheet-in =
       either Small (ltb 4096 n) (λ e. first-in (omega arith) (omega arith) (omega arith)) (λ e.
         let h = ltb-false 4096 n e in

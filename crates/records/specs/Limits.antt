@@ -1,10 +1,14 @@
 -- The limits of sheets by name, each in this place alone. Document 01, "The sheet, byte by byte" and "Reckoned size";
--- document 02 [1] for procedures, [8] for the overflow rule. SHEETS 2 and 7.3.
+-- document 02 [1] for procedures, [8] for the overflow rule, [11] for Z. SHEETS 2 and 7.3.
 use Prim.Native.Nat.{ℕ}
 
 -- Z is from 1 to this number
 abbrev pub greatest-z : ℕ
-greatest-z = 7
+greatest-z = 31
+
+-- the greatest Z of document 01: "up to 7 the old figure stands"
+abbrev pub earlier-z : ℕ
+earlier-z = 7
 
 -- the overflow rule is from 0 to this number
 abbrev pub greatest-rule : ℕ

@@ -299,8 +299,8 @@ fn main() {
     show(b"\x01\x00\x02\x05\x1b\x05\x02\x10");
     show(b"\x01\x00\x1a\x10\x10");
     show(b"\x01\x00\x10\x10");
-    show(b"\x08\x00\x10");
-    show(b"\x07\x00\x10");
+    show(b"\x20\x00\x10");
+    show(b"\x1f\x00\x10");
     procedures();
     scopes();
     depths();

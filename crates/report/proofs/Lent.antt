@@ -9,6 +9,9 @@ use mathlib.Core.Logic.{inl, inr}
 use mathlib.Core.Option.{Option, none, some}
 use lib.Dec.{ltb}
 use borrow.Author.Tests.{ltb-true, ltb-false}
+use Rattle.language.specs.declared.Numbers.{Numbers}
+use Rattle.build.specs.Lent.{words-asked}
+use Rattle.build.proofs.Figures.{asked-low}
 use Rattle.language.specs.Choice.{pick}
 use Rattle.sheet.specs.Encoding.{headingLength}
 use Rattle.records.specs.declared.edition.Edition.the-variants.{Present}
@@ -32,14 +35,15 @@ from-check (inl h) = (omega (arith, h .1), λ e. omega (arith, h .1))
 from-check (inr e) = (omega arith, λ f. omega arith)
 
 -- the words and the bytes, for sizes that add up to n
-lent : (t u v : Bool) (n : ℕ) → u ≡ ltb 16384 (32 * (n + 1)) → v ≡ ltb 2040 (4 * (n - 1)) →
+lent : (N : Numbers) (t u v : Bool) (n : ℕ) → u ≡ ltb 16384 (words-asked N n) → v ≡ ltb 2040 (4 * (n - 1)) →
     Bounded n (pick t (pick u (refusing 13 2 0) (pick v (refusing 14 2 0) none)) (refusing 12 2 0))
 unfolding Bounded
-lent false u v n d e = (omega arith, λ z. omega arith, omega arith)
-lent true true v n d e = (omega arith, λ z. omega arith, omega arith)
-lent true false true n d e =
-    absurd (omega (arith, ltb-false 16384 (32 * (n + 1)) (sym d), ltb-true 2040 (4 * (n - 1)) (sym e)))
-lent true false false n d e = omega (arith, ltb-false 16384 (32 * (n + 1)) (sym d))
+lent N false u v n d e = (omega arith, λ z. omega arith, omega arith)
+lent N true true v n d e = (omega arith, λ z. omega arith, omega arith)
+lent N true false true n d e =
+    let low = asked-low N n (ltb-false 16384 (words-asked N n) (sym d)) in
+    absurd (omega (arith, low, ltb-true 2040 (4 * (n - 1)) (sym e)))
+lent N true false false n d e = omega (arith, asked-low N n (ltb-false 16384 (words-asked N n) (sym d)))
 
 -- for all old and new sheets
 pub bounded : (old new : List ℕ) →
@@ -47,12 +51,13 @@ pub bounded : (old new : List ℕ) →
 unfolding compareRefusal onRead sizeIn Bounded
 bounded old new = go (readSheet old) (readSheet new) refl refl
   where
-    judged : ℕ → ℕ → ℕ → ℕ → ℕ → ℕ → Option Cause
-    judged root ty n other b m = pairRefusal (matching old new root other ty b) 16384 2040 (n + m)
+    judged : Numbers → ℕ → ℕ → ℕ → ℕ → ℕ → ℕ → Option Cause
+    judged N root ty n other b m = pairRefusal (matching old new root other ty b) N 16384 2040 (n + m)
     go : (A B : Checks) → readSheet old ≡ A → readSheet new ≡ B →
-        Bounded (sizeIn A + sizeIn B) (onRead A 0 (λ root ty n. onRead B 1 (λ other b m. judged root ty n other b m)))
+        Bounded (sizeIn A + sizeIn B)
+          (onRead A 0 (λ N root ty n. onRead B 1 (λ M other b m. judged N root ty n other b m)))
     go (accepted S ty n) (accepted T b m) e f =
-        lent (matching old new (headingLength S) (headingLength T) ty b) _ _ (n + m) refl refl
+        lent (S .numbers) (matching old new (headingLength S) (headingLength T) ty b) _ _ (n + m) refl refl
     go (accepted S ty n) (rejected k p) e f =
         let r = check-refused Present new f in
         let k = from-check (r .known) in

@@ -123,7 +123,7 @@ pub fn sheets() {
     sheet(b"2 empty", b"");
     sheet(b"2 no term", &[1, 0]);
     sheet(b"3 Z = 0", &[0]);
-    sheet(b"3 Z = 8", &[8, 0, 16]);
+    sheet(b"3 Z = 32", &[32, 0, 16]);
     sheet(b"3 constant 2", &[1, 0, 19, 2]);
     sheet(b"4 an id retired twice", &[1, 0, 2, 0, 2, 0]);
     sheet(b"4 a new on a retired id", &[1, 0, 2, 5, 27, 5, 2, 16]);
@@ -178,5 +178,11 @@ pub fn pairs() {
         b"13 sizes 3,378 and 4",
         &[7, 0, 27, 0, 2, 27, 1, 2, 27, 2, 2, 16],
         &[7, 0, 16],
+    );
+    pair(b"Z = 31, sizes 4 and 4", &[31, 0, 16], &[31, 0, 17, 0]);
+    pair(
+        b"13 Z = 31, sizes 66 and 66",
+        &[31, 0, 19, 31],
+        &[31, 0, 19, 30],
     );
 }

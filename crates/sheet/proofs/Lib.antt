@@ -20,5 +20,6 @@ pub mod NameBytes
 pub mod NameList
 pub mod CompleteNames
 pub mod Right
+pub mod Range
 pub mod WellTyped
 pub mod Notes

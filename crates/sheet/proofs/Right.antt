@@ -22,7 +22,7 @@ use Rattle.procedures.specs.Hiding.{Apart}
 use Rattle.sheet.specs.Encoding.{encode, encodeNames, encodeSheet}
 use Rattle.sheet.specs.Fine.{AcceptedUnder}
 use Rattle.sheet.specs.Reader.{Tree, Answer, got, bind, Whole, whole, namesOf, closed, numbersAt, nothing}
-use Rattle.sheet.specs.Reader.{wholeOf, written, accepted, rejected, sheetIn, sizeIn, checks, readUnder}
+use Rattle.sheet.specs.Reader.{wholeBy, wholeOf, written, accepted, rejected, sheetIn, sizeIn, checks, readUnder}
 use Rattle.sheet.specs.Agreement.{ReaderGives, ReaderAccepts, EarlierToo, PresentApart}
 use Rattle.sheet.proofs.Standings.{matches-nothing}
 use Rattle.sheet.proofs.Answers.{All, one, none′, pick-all, bind-all}
@@ -41,7 +41,7 @@ pub record SheetRead (ed : Edition) (s : List ℕ) (π : ℕ → ℕ) (x : Whole
   pub ends : length s ≤ end
 
 pub sheet-all : (ed : Edition) (s : List ℕ) (π : ℕ → ℕ) → All (SheetRead ed s π) (wholeOf ed s)
-unfolding wholeOf closed
+unfolding wholeBy closed
 sheet-all ed s π =
     pick-all A (ltb 4096 (length s)) (λ e. none′) (λ e₁.
     pick-all A (leb (length s) 0) (λ e. none′) (λ e₂.
@@ -174,7 +174,7 @@ module _ (ed : Edition) (S : Sheet) (A : AcceptedUnder ed S) (s : List ℕ) (b :
   read-numbers = ap₂ (λ (x y : ℕ). record { z = x; rule = y }) read-first read-second
 
   read-whole : wholeOf ed s ≡ got wholeRead (typeOf S) (length s)
-  unfolding wholeOf closed bind
+  unfolding wholeBy closed bind
   read-whole =
       let R = read-names in
       let l : 1 < length s = omega (arith, read-length) in

@@ -21,7 +21,7 @@ use Rattle.records.specs.declared.kind.Shape.the-variants.{Part as PartShape, D
 use Rattle.procedures.specs.Written.{Name}
 use Rattle.sheet.specs.Heading.{fresh, declareOf, retireOf, declareAt, retireAt}
 use Rattle.sheet.specs.Reader.{Tree, Answer, got, refused, bind, onJudged, Whole, whole, withName, wholeOfShape}
-use Rattle.sheet.specs.Reader.{nameOf, namesStep, namesOf, closed, numbersAt, nothing, wholeOf}
+use Rattle.sheet.specs.Reader.{nameOf, namesStep, namesOf, closed, numbersAt, nothing, wholeBy, wholeOf}
 use Rattle.sheet.specs.table.Fill.{fill, erase, Leaves, Reads, termAt, eraseSheet, LeavesSheet, ReadsSheet}
 use Rattle.sheet.specs.table.Fill.{closedReading}
 use Rattle.heads.specs.declared.judgement.Judged.{Judged}
@@ -155,35 +155,35 @@ sheet-closed ed N s A e R = rw e R
 -- the first two bytes
 module _ (ed : Edition) (s : List ℕ) where
   pub too-long : 4096 < length s → wholeOf ed s ≡ refused 1 4096
-  unfolding wholeOf
+  unfolding wholeBy
   too-long a = rw (lt-ltb _ _ a)
 
   module _ (a : length s ≤ 4096) where
     pub empty : length s ≤ 0 → wholeOf ed s ≡ refused 2 (length s)
-    unfolding wholeOf
+    unfolding wholeBy
     empty b = rw (le-ltb _ _ a, le-leb _ _ b)
 
     module _ (b : 0 < length s) where
       pub z-zero : getD s 0 0 ≡ 0 → wholeOf ed s ≡ refused 3 0
-      unfolding wholeOf
+      unfolding wholeBy
       z-zero c = rw (le-ltb _ _ a, lt-leb _ _ b, eq-eqb _ _ c)
 
       module _ (c : getD s 0 0 ≡ 0 → ⊥) where
         pub z-large : greatest-z < getD s 0 0 → wholeOf ed s ≡ refused 3 0
-        unfolding wholeOf
+        unfolding wholeBy
         z-large d = rw (le-ltb _ _ a, lt-leb _ _ b, ne-eqb _ _ c, lt-ltb _ _ d)
 
         module _ (d : getD s 0 0 ≤ greatest-z) where
           pub no-rule : length s ≤ 1 → wholeOf ed s ≡ refused 2 (length s)
-          unfolding wholeOf
+          unfolding wholeBy
           no-rule e = rw (le-ltb _ _ a, lt-leb _ _ b, ne-eqb _ _ c, le-ltb _ _ d, le-leb _ _ e)
 
           module _ (e : 1 < length s) where
             pub rule-large : greatest-rule < getD s 1 0 → wholeOf ed s ≡ refused 3 1
-            unfolding wholeOf
+            unfolding wholeBy
             rule-large f = rw (le-ltb _ _ a, lt-leb _ _ b, ne-eqb _ _ c, le-ltb _ _ d, lt-leb _ _ e, lt-ltb _ _ f)
 
             pub opened : getD s 1 0 ≤ greatest-rule →
                 wholeOf ed s ≡ closed s (namesOf ed 32 (numbersAt s) s nothing 2)
-            unfolding wholeOf
+            unfolding wholeBy
             opened f = rw (le-ltb _ _ a, lt-leb _ _ b, ne-eqb _ _ c, le-ltb _ _ d, lt-leb _ _ e, le-ltb _ _ f)

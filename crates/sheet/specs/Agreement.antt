@@ -1,10 +1,12 @@
--- That the reader and what a sheet in order is agree, each way and by either rule (docs/DEMANDS.md, clause 1.4), and how the
--- two rules differ. SHEETS 2 and 9.
+-- That the reader and what a sheet in order is agree, each way and by either rule (docs/DEMANDS.md, clause 1.4), how
+-- the two rules differ, and that no sheet with a Z of document 01 is read otherwise since 02 [11]. SHEETS 2 and 9.
 use mathlib.Core.Path.{_≡_}
 use mathlib.Core.Logic.{_↔_}
 use mathlib.Core.List.{List, []}
-use Prim.Native.Nat.{ℕ}
+use Prim.Native.Nat.{ℕ, _≤_}
+use lib.ListN.{getD}
 use Rattle.language.specs.Weight.{size}
+use Rattle.records.specs.Limits.{earlier-z}
 use Rattle.records.specs.declared.edition.Edition.{Edition}
 use Rattle.records.specs.declared.edition.Edition.the-variants.{Earlier, Present}
 use Rattle.procedures.specs.Written.{Sheet}
@@ -12,7 +14,7 @@ use Rattle.procedures.specs.Hiding.{Apart}
 use Rattle.sheet.specs.Encoding.{encodeSheet}
 use Rattle.procedures.specs.Meaning.{tyOf, termOf, typeOf}
 use Rattle.sheet.specs.Fine.{AcceptedUnder}
-use Rattle.sheet.specs.Reader.{readUnder, accepted}
+use Rattle.sheet.specs.Reader.{wholeBy, checks, readUnder, accepted}
 
 -- what is accepted is the bytes of a sheet in order, with its type and its exact size
 abbrev pub ReaderGives : Type 0
@@ -33,3 +35,14 @@ EarlierToo = (s : List ℕ) (S : Sheet) (ty n : ℕ) → readUnder Present s ≡
 abbrev pub PresentApart : Type 0
 PresentApart = (s : List ℕ) (S : Sheet) (ty n : ℕ) → readUnder Earlier s ≡ accepted S ty n →
   (readUnder Present s ≡ accepted S ty n) ↔ Apart [] (S .term)
+
+-- document 02 [11], of Z up to 7: such a sheet is read as with 7 for the greatest Z, to the sheet, its type and its
+-- size or to the number and the place of its refusal
+abbrev pub EarlierRange : Type 0
+EarlierRange = (ed : Edition) (s : List ℕ) → getD s 0 0 ≤ earlier-z → readUnder ed s ≡ checks s (wholeBy earlier-z ed s)
+
+-- "No sheet on disk changes its plays or its size": what was accepted with 7 for the greatest Z is accepted, as the
+-- same sheet, with the same type and size
+abbrev pub StillAccepted : Type 0
+StillAccepted = (ed : Edition) (s : List ℕ) (S : Sheet) (ty n : ℕ) →
+  checks s (wholeBy earlier-z ed s) ≡ accepted S ty n → readUnder ed s ≡ accepted S ty n

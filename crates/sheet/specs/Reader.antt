@@ -1,6 +1,6 @@
 -- The reader: for any list of bytes the sheet as written with its type and size, or the refusal with its number and place.
--- Document 01, "Three services", causes 1 to 11 and their order; document 02 [1] for procedures, [3] for the
--- rule of an edition. SHEETS 9.1 and 9.2.
+-- Document 01, "Three services", causes 1 to 11 and their order; document 02 [1] for procedures, [3] for the rule of an
+-- edition, [11] for the greatest Z. SHEETS 9.1 and 9.2.
 use Prim.Native.Nat.{ℕ, zero, suc, _+_}
 use mathlib.Core.List.{List, [], _∷_}
 use lib.ListN.{length, getD, set, take, drop, replicate}
@@ -147,16 +147,20 @@ numbersAt s = record { z = getD s 0 0; rule = getD s 1 0 }
 abbrev pub nothing : List ℕ
 nothing = replicate ids 0
 
--- a whole sheet, judged left to right, but for its size
-unfoldable pub wholeOf : Edition → List ℕ → Answer Whole
-wholeOf ed s =
+-- a whole sheet with a Z of at most `most`, judged left to right, but for its size
+unfoldable pub wholeBy : ℕ → Edition → List ℕ → Answer Whole
+wholeBy most ed s =
     pick (ltb most-bytes (length s)) (refused too-long most-bytes)
     (pick (leb (length s) 0) (refused cut-short (length s))
     (pick (eqb (getD s 0 0) 0) (refused out-of-range 0)
-    (pick (ltb greatest-z (getD s 0 0)) (refused out-of-range 0)
+    (pick (ltb most (getD s 0 0)) (refused out-of-range 0)
     (pick (leb (length s) 1) (refused cut-short (length s))
     (pick (ltb greatest-rule (getD s 1 0)) (refused out-of-range 1)
     (closed s (namesOf ed most-names (numbersAt s) s nothing 2)))))))
+
+-- document 02 [11]: "Z may go up to 31"
+abbrev pub wholeOf : Edition → List ℕ → Answer Whole
+wholeOf ed s = wholeBy greatest-z ed s
 
 -- the records that were read
 unfoldable pub first : Writtens → Written

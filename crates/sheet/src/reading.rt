@@ -17,7 +17,7 @@ ghost use Rattle.sheet.specs.table.Fill.{ReadsSheet, closedReading};
 // The greatest length of a sheet, Z at most, the last overflow rule, and how many name records a sheet may have.
 const LENGTH: usize = 4096;
 
-const GREATEST: u8 = 7;
+const GREATEST: u8 = 31;
 
 const LAST_RULE: u8 = 2;
 

@@ -37,7 +37,7 @@ impl Long {
             arguments: arguments.to_vec(),
         };
         let records = NAMES.iter().enumerate().map(declare).collect();
-        let numbers = Numbers { z: random.between(1, 7) as i8, rule: random.choose(&[0, 1, 2]) };
+        let numbers = Numbers { z: random.between(1, 31) as i8, rule: random.choose(&[0, 1, 2]) };
         let heading = Heading { numbers, records };
         let fullness = random.choose(&[1, 1, 2, 4]);
         let menu: Vec<usize> = (0..random.between(1, 3)).map(|_| random.choose(&[0, 1, 4, 5, 6])).collect();

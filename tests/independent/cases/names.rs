@@ -53,7 +53,7 @@ fn heading(random: &mut Random) -> Heading {
     let count = if random.one_in(3) { random.below(9) } else { random.between(MOST_RECORDS - 3, MOST_RECORDS) };
     let retires = !random.one_in(3);
     let records = ids(random, count).into_iter().map(|id| record(random, id, retires)).collect();
-    let numbers = Numbers { z: random.choose(&[1, 1, 1, 1, 2, 3, 7]), rule: random.choose(&[0, 1, 2]) };
+    let numbers = Numbers { z: random.choose(&[1, 1, 1, 1, 2, 3, 7, 8, 31]), rule: random.choose(&[0, 1, 2]) };
     Heading { numbers, records }
 }
 

@@ -28,7 +28,7 @@ fn heading(random: &mut Random) -> Heading {
     let most = random.choose(&[0, 6, 12, 40, 80]);
     let mut heading = generate::heading(random, most);
     heading.records.truncate(MOST_RECORDS);
-    heading.numbers.z = random.between(1, 7) as i8;
+    heading.numbers.z = if random.one_in(2) { random.between(1, 7) } else { random.between(8, 31) } as i8;
     heading
 }
 
@@ -121,7 +121,7 @@ fn case_to_follow(random: &mut Random) -> Case {
     let sheet = sheet(random);
     let accepted = read(&sheet).expect("the sheet was read before");
     let play = play_for(random, &Machine::of(&accepted));
-    Case::Follow { sheet, play, words: lent(random, words_to_follow(accepted.size)) }
+    Case::Follow { sheet, play, words: lent(random, words_to_follow(accepted.heading.numbers.z, accepted.size)) }
 }
 
 /// A number that is seldom below the one that is needed.
@@ -137,7 +137,7 @@ fn case_to_compare(random: &mut Random) -> Case {
     let (old, new, alike) = if random.one_in(10) { long_pair(random) } else { pair(random) };
     let size = |sheet: &[u8]| read(sheet).map_or(LARGEST, |accepted| accepted.size);
     let (a, b) = (size(&old), size(&new));
-    let words = lent(random, words_to_compare(a, b));
+    let words = lent(random, words_to_compare(old[0] as i8, a, b));
     let space = lent(random, space_to_compare(a, b));
     Case::Compare { old, new, words, space, alike }
 }

@@ -98,7 +98,10 @@ pub fn run(case: &OnePart, room: usize, counts: &mut Counts) -> Result<(), Strin
 /// What the library says of two sheets with just enough lent, which is held to the services here.
 fn verdict([old, new]: &[Vec<u8>; 2], alike: bool, room: usize, counts: &mut Counts) -> Result<Verdict, String> {
     let (words, space) = match (read(old), read(new)) {
-        (Ok(a), Ok(b)) => (words_to_compare(a.size, b.size) as usize, space_to_compare(a.size, b.size) as usize),
+        (Ok(a), Ok(b)) => {
+            let words = words_to_compare(a.heading.numbers.z, a.size, b.size);
+            (words as usize, space_to_compare(a.size, b.size) as usize)
+        }
         _ => (0, 0),
     };
     run_case(&Case::Compare { old: old.clone(), new: new.clone(), words, space, alike }, room, counts)?;

@@ -49,7 +49,7 @@ pub record Deciding (ws space : List ℕ) (all more : ℕ) : Type 0 where
   pub other-sized : size type other-term ≡ more
   pub small : all ≤ greatest-size
   pub other-small : more ≤ greatest-size
-  pub room : words-asked (all + more) ≤ length ws
+  pub room : words-asked numbers (all + more) ≤ length ws
   pub space-room : bytes-asked (all + more) ≤ length space
   pub built : TwoBuilt numbers type term other-term (all + more + 1) ws
 

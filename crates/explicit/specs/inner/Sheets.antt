@@ -13,6 +13,12 @@ use Rattle.dfa.specs.Graph.{rest, Graph}
 use Rattle.silent.specs.Silent.{Silent}
 use Rattle.explicit.specs.Explicit.{Explicit}
 
+-- so many words suffice for n states of (1 + K) / 2 edges on average: for the graph, which takes 6 words a state, 2 an
+-- edge and one more, and for the lists of edges by target, with which it takes 3 words a state, 3 an edge and one more
+pub record Suffices (N : Numbers) (n words : ℕ) : Type 0 where
+  pub graph : (8 + numbers N) * n ≤ words
+  pub links : (10 + 3 * numbers N) * n ≤ 2 * words
+
 -- the words vs, as long as ws, are an automaton of n states and show the machine of M; the dead state has no edges,
 -- and on average a state has at most (1 + K) / 2
 pub record OneSheet (N : Numbers) (T : Ty) (M : Term) (n : ℕ) (ws vs : List ℕ) : Type 0 where

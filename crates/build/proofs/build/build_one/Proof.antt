@@ -2,12 +2,13 @@
 use borrow.Author.Needs.{needs}
 use native.Mathlib.Omega.{arith}
 use mathlib.Core.Path.{refl}
+use Rattle.build.proofs.Figures.{asked-low}
 use Rattle.build.proofs.Building.{one-fits, one-settles, one-built}
 use Rattle.build.proofs.build.build_one.Statement.{statement}
 use Rattle.build.proofs.build.build_one.Tie as tie
 
 add-states : tie.Need-add-states
-add-states c = search needs
+add-states c = record { fits = omega (arith, asked-low _ _ (c .before .before .pre .room)) }
 
 fill-requires : tie.Need-fill-requires
 fill-requires c κs = (one-fits (c .before .before .before .before .pre) (λ i. omega (arith, c .before .before .before

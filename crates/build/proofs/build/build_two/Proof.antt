@@ -2,15 +2,16 @@
 use borrow.Author.Needs.{needs}
 use native.Mathlib.Omega.{arith}
 use mathlib.Core.Path.{refl}
+use Rattle.build.proofs.Figures.{asked-low}
 use Rattle.build.proofs.Building.{old-fits, new-fits, two-settles, two-built}
 use Rattle.build.proofs.build.build_two.Statement.{statement}
 use Rattle.build.proofs.build.build_two.Tie as tie
 
 add-states : tie.Need-add-states
-add-states c = search needs
+add-states c = record { fits = omega (arith, asked-low _ _ (c .before .before .before .pre .room)) }
 
 add-states-2 : tie.Need-add-states-2
-add-states-2 c = search needs
+add-states-2 c = record { fits = omega (arith, asked-low _ _ (c .before .before .before .pre .room)) }
 
 fill-requires : tie.Need-fill-requires
 fill-requires c κs = (old-fits (c .before .before .before .before .before .pre) (λ i. omega (arith, c .before .before

@@ -2,6 +2,7 @@
 use native.Mathlib.Omega.{arith}
 use borrow.Author.Needs.{needs}
 use Rattle.difference.proofs.laws.Outcome.{told-of}
+use Rattle.build.proofs.Figures.{asked-low}
 use Rattle.comparer.proofs.DecidePlays.{task, all-is, setting, decided-same, decided-apart}
 use Rattle.comparer.proofs.examine.decide.Statement.{statement}
 use Rattle.comparer.proofs.examine.decide.Tie as tie
@@ -41,8 +42,8 @@ show-requires c κs =
       (c .before .before .before .before .before .before .before .before .before .before .before .args .most))
       _ _ _ (c .before .before .before .v .given .1) (c .before .before .before .before .before .before .before
         .first-difference .ensures .0) .trail,
-     omega (arith, c .before .before .before .before .before .before .before .before .before .before .before .pre
-       .room, c .before .before .before .before .before .before .before .first-difference .kept .0))
+     omega (arith, asked-low _ _ (c .before .before .before .before .before .before .before .before .before .before
+       .before .pre .room), c .before .before .before .before .before .before .before .first-difference .kept .0))
 
 same-length : tie.Need-same-length
 same-length c = search needs

@@ -42,9 +42,9 @@ cause-of-requires-2 c κs = search needs
 returns-2 : tie.Need-returns-2
 returns-2 c =
     let A = taken _ _ (c .before .before .before .before .before .before .before .before .load .ensures) (c .before
-      .before .before .before .before .before .x .given .1) in
-    refused-new _ _ (c .before .before .before .before .before .before .before .before .before .before .before
-      .before .before .before .args .words .now)
+            .before .before .before .before .before .x .given .1) in
+    refused-new _ _ (c .before .before .before .before .before .before .before .before .before .before .before .before
+      .before .before .args .words .now)
       (c .before .before .before .before .before .before .before .before .before .before .before .before .before
         .before .args .space .now) (c .before .before .before .before .before .before .before .before .before .before
         .before .before .before .before .args .most) A (refused-sheet _ _ (c .before .before .before .load2 .ensures)
@@ -59,18 +59,23 @@ cast-more c = search needs
 alike-requires : tie.Need-alike-requires
 alike-requires c κs = search needs
 
+numbers-of-requires : tie.Need-numbers-of-requires
+numbers-of-requires c κs = search needs
+
 add-pair-number : tie.Need-add-pair-number
 add-pair-number c =
-    let A = taken _ _ (c .before .before .before .before .before .before .before .before .before .load .ensures) (c
-      .before .before .before .before .before .before .before .x .given .1) in
-    let B = taken _ _ (c .before .before .before .before .load2 .ensures) (c .before .before .y .given .1) in
+    let A = taken _ _ (c .before .before .before .before .before .before .before .before .before .before .load
+            .ensures) (c .before .before .before .before .before .before .before .before .x .given .1) in
+    let B = taken _ _ (c .before .before .before .before .before .load2 .ensures) (c .before .before .before .y .given
+            .1) in
     omega (arith, size-small A, size-small B)
 
 pair-number-requires : tie.Need-pair-number-requires
 pair-number-requires c κs =
-    let A = taken _ _ (c .before .before .before .before .before .before .before .before .before .load .ensures) (c
-      .before .before .before .before .before .before .before .x .given .1) in
-    let B = taken _ _ (c .before .before .before .before .load2 .ensures) (c .before .before .y .given .1) in
+    let A = taken _ _ (c .before .before .before .before .before .before .before .before .before .before .load
+            .ensures) (c .before .before .before .before .before .before .before .before .x .given .1) in
+    let B = taken _ _ (c .before .before .before .before .before .load2 .ensures) (c .before .before .before .y .given
+            .1) in
     (omega (arith, size-some A), omega (arith, size-small A, size-small B))
 
 both-cause-requires : tie.Need-both-cause-requires
@@ -79,59 +84,60 @@ both-cause-requires c κs = search needs
 returns-3 : tie.Need-returns-3
 returns-3 c =
     let A = taken _ _ (c .before .before .before .before .before .before .before .before .before .before .before
-      .before .load .ensures) (c .before .before .before .before .before .before .before .before .before .before .x
-      .given .1) in
-    let B = taken _ _ (c .before .before .before .before .before .before .before .load2 .ensures) (c .before .before
-      .before .before .before .y .given .1) in
+            .before .before .load .ensures) (c .before .before .before .before .before .before .before .before .before
+            .before .before .x .given .1) in
+    let B = taken _ _ (c .before .before .before .before .before .before .before .before .load2 .ensures) (c .before
+            .before .before .before .before .before .y .given .1) in
     refused-pair _ _ (c .before .before .before .before .before .before .before .before .before .before .before
-      .before .before .before .before .before .before .before .args .words .now)
+      .before .before .before .before .before .before .before .before .args .words .now)
       (c .before .before .before .before .before .before .before .before .before .before .before .before .before
-        .before .before .before .before .before .args .space .now) A B (c .before .before .before .alike .ensures) (c
-        .before .before .pair-number .ensures) _ (c .before .if1 .taken) (c .both-cause .ensures)
-
-numbers-of-requires : tie.Need-numbers-of-requires
-numbers-of-requires c κs = search needs
+        .before .before .before .before .before .before .args .space .now) A B (c .before .before .before .before
+        .alike .ensures) (c .before .before .before .numbers-of .ensures) (c .before .before .pair-number .ensures) _
+        (c .before .if1 .taken) (c .both-cause .ensures)
 
 two-from-rows-requires : tie.Need-two-from-rows-requires
 two-from-rows-requires c κs =
     let A = taken _ _ (c .before .before .before .before .before .before .before .before .before .before .before
-      .before .before .before .before .load .ensures) (c .before .before .before .before .before .before .before
-      .before .before .before .before .before .before .x .given .1) in
+            .before .before .before .before .load .ensures) (c .before .before .before .before .before .before .before
+            .before .before .before .before .before .before .x .given .1) in
     let B = taken _ _ (c .before .before .before .before .before .before .before .before .before .before .load2
-      .ensures) (c .before .before .before .before .before .before .before .before .y .given .1) in
+            .ensures) (c .before .before .before .before .before .before .before .before .y .given .1) in
     let P = passed _ _ (c .before .before .before .before .before .before .before .before .before .before .before
-      .before .before .before .before .before .before .before .before .before .before .args .words .now) (c .before
-      .before .before .before .before .before .before .before .before .before .before .before .before .before .before
-      .before .before .before .before .before .before .args .space .now) A B (c .before .before .before .before
-      .before .before .alike .ensures) (c .before .before .before .before .before .pair-number .ensures)
-          (c .before .before .before .before .if1 .left) in
+            .before .before .before .before .before .before .before .before .before .before .args .words .now) (c
+            .before .before .before .before .before .before .before .before .before .before .before .before .before
+            .before .before .before .before .before .before .before .before .args .space .now) A B (c .before .before
+            .before .before .before .before .alike .ensures) (c .before .before .before .before .before .numbers-of
+            .ensures) (c .before .before .before .before .pair-number .ensures)
+          (c .before .before .before .if1 .left) in
     two-ready (both A B (c .before .before .before .before .before .before .alike .ensures) (P .matched) (c .before
-      .numbers-of .ensures)) (c .before .before .before .before .before .before .before .before .before .before
-      .before .before .before .before .before .before .before .before .before .before .before .args .words .now) (P
+      .before .before .before .before .numbers-of .ensures)) (c .before .before .before .before .before .before
+      .before .before .before .before .before .before .before .before .before .before .before .before .before .before
+      .before .args .words .now) (P
         .words-enough)
 
 decide-requires : tie.Need-decide-requires
 decide-requires c κs =
     let A = taken _ _ (c .before .before .before .before .before .before .before .before .before .before .before
-      .before .before .before .before .before .before .before .before .before .load .ensures) (c .before .before
-      .before .before .before .before .before .before .before .before .before .before .before .before .before .before
-      .before .before .x .given .1) in
+            .before .before .before .before .before .before .before .before .before .load .ensures) (c .before .before
+            .before .before .before .before .before .before .before .before .before .before .before .before .before
+            .before .before .before .x .given .1) in
     let B = taken _ _ (c .before .before .before .before .before .before .before .before .before .before .before
-      .before .before .before .before .load2 .ensures) (c .before .before .before .before .before .before .before
-      .before .before .before .before .before .before .y .given .1) in
+            .before .before .before .before .load2 .ensures) (c .before .before .before .before .before .before
+            .before .before .before .before .before .before .before .y .given .1) in
     let P = passed _ _ (c .before .before .before .before .before .before .before .before .before .before .before
-      .before .before .before .before .before .before .before .before .before .before .before .before .before .before
-      .before .args .words .now) (c .before .before .before .before .before .before .before .before .before .before
-      .before .before .before .before .before .before .before .before .before .before .before .before .before .before
-      .before .before .args .space .now) A B (c .before .before .before .before .before .before .before .before
-      .before .before .before .alike .ensures) (c .before .before .before .before .before .before .before .before
-      .before .before .pair-number .ensures)
-          (c .before .before .before .before .before .before .before .before .before .if1 .left) in
+            .before .before .before .before .before .before .before .before .before .before .before .before .before
+            .before .before .args .words .now) (c .before .before .before .before .before .before .before .before
+            .before .before .before .before .before .before .before .before .before .before .before .before .before
+            .before .before .before .before .before .args .space .now) A B (c .before .before .before .before .before
+            .before .before .before .before .before .before .alike .ensures) (c .before .before .before .before
+            .before .before .before .before .before .before .numbers-of .ensures) (c .before .before .before .before
+            .before .before .before .before .before .pair-number .ensures)
+          (c .before .before .before .before .before .before .before .before .if1 .left) in
     deciding (both A B (c .before .before .before .before .before .before .before .before .before .before .before
-      .alike .ensures) (P .matched) (c .before .before .before .before .before .before .numbers-of .ensures)) (c
+      .alike .ensures) (P .matched) (c .before .before .before .before .before .before .before .before .before .before
+      .numbers-of .ensures)) (c .before .before .before .before .before .before .before .before .before .before
       .before .before .before .before .before .before .before .before .before .before .before .before .before .before
-      .before .before .before .before .before .before .before .before .before .before .before .before .args .words
-      .now) _ _ (P .words-enough)
+      .before .before .args .words .now) _ _ (P .words-enough)
       (c .before .before .before .before .two-from-rows .kept .1 .1 .1 .1 .1 .1 .1 .0) (P .space-enough) (c .before
         .before .before .before .two-from-rows .ensures)
 
@@ -144,66 +150,70 @@ same-length c = search needs
 same-length-2 : tie.Need-same-length-2
 same-length-2 c = search needs
 
-add-t29 : tie.Need-add-t29
-add-t29 c =
+add-t30 : tie.Need-add-t30
+add-t30 c =
     let A = taken _ _ (c .before .before .before .before .before .before .before .before .before .before .before
-      .before .before .before .before .before .before .before .before .before .before .before .before .before .before
-      .before .before .before .before .load .ensures) (c .before .before .before .before .before .before .before
-      .before .before .before .before .before .before .before .before .before .before .before .before .before .before
-      .before .before .before .before .before .before .x .given .1) in
+            .before .before .before .before .before .before .before .before .before .before .before .before .before
+            .before .before .before .before .before .load .ensures) (c .before .before .before .before .before .before
+            .before .before .before .before .before .before .before .before .before .before .before .before .before
+            .before .before .before .before .before .before .before .before .x .given .1) in
     let B = taken _ _ (c .before .before .before .before .before .before .before .before .before .before .before
-      .before .before .before .before .before .before .before .before .before .before .before .before .before .load2
-      .ensures) (c .before .before .before .before .before .before .before .before .before .before .before .before
-      .before .before .before .before .before .before .before .before .before .before .y .given .1) in
+            .before .before .before .before .before .before .before .before .before .before .before .before .before
+            .load2 .ensures) (c .before .before .before .before .before .before .before .before .before .before
+            .before .before .before .before .before .before .before .before .before .before .before .before .y .given
+            .1) in
     omega (arith, size-small A, size-small B)
 
-sub-t30 : tie.Need-sub-t30
-sub-t30 c =
+sub-t31 : tie.Need-sub-t31
+sub-t31 c =
     let A = taken _ _ (c .before .before .before .before .before .before .before .before .before .before .before
-      .before .before .before .before .before .before .before .before .before .before .before .before .before .before
-      .before .before .before .before .load .ensures) (c .before .before .before .before .before .before .before
-      .before .before .before .before .before .before .before .before .before .before .before .before .before .before
-      .before .before .before .before .before .before .x .given .1) in
+            .before .before .before .before .before .before .before .before .before .before .before .before .before
+            .before .before .before .before .before .load .ensures) (c .before .before .before .before .before .before
+            .before .before .before .before .before .before .before .before .before .before .before .before .before
+            .before .before .before .before .before .before .before .before .x .given .1) in
     omega (arith, size-some A)
 
 returns-4 : tie.Need-returns-4
 returns-4 c =
     let A = taken _ _ (c .before .before .before .before .before .before .before .before .before .before .before
-      .before .before .before .before .before .before .before .before .before .before .before .before .before .before
-      .before .before .before .before .load .ensures) (c .before .before .before .before .before .before .before
-      .before .before .before .before .before .before .before .before .before .before .before .before .before .before
-      .before .before .before .before .before .before .x .given .1) in
+            .before .before .before .before .before .before .before .before .before .before .before .before .before
+            .before .before .before .before .before .load .ensures) (c .before .before .before .before .before .before
+            .before .before .before .before .before .before .before .before .before .before .before .before .before
+            .before .before .before .before .before .before .before .before .x .given .1) in
     let B = taken _ _ (c .before .before .before .before .before .before .before .before .before .before .before
-      .before .before .before .before .before .before .before .before .before .before .before .before .before .load2
-      .ensures) (c .before .before .before .before .before .before .before .before .before .before .before .before
-      .before .before .before .before .before .before .before .before .before .before .y .given .1) in
+            .before .before .before .before .before .before .before .before .before .before .before .before .before
+            .load2 .ensures) (c .before .before .before .before .before .before .before .before .before .before
+            .before .before .before .before .before .before .before .before .before .before .before .before .y .given
+            .1) in
     let P = passed _ _ (c .before .before .before .before .before .before .before .before .before .before .before
-      .before .before .before .before .before .before .before .before .before .before .before .before .before .before
-      .before .before .before .before .before .before .before .before .before .before .args .words .now) (c .before
-      .before .before .before .before .before .before .before .before .before .before .before .before .before .before
-      .before .before .before .before .before .before .before .before .before .before .before .before .before .before
-      .before .before .before .before .before .before .args .space .now) A B (c .before .before .before .before
-      .before .before .before .before .before .before .before .before .before .before .before .before .before .before
-      .before .before .alike .ensures) (c .before .before .before .before .before .before .before .before .before
-      .before .before .before .before .before .before .before .before .before .before .pair-number .ensures)
+            .before .before .before .before .before .before .before .before .before .before .before .before .before
+            .before .before .before .before .before .before .before .before .before .before .before .args .words .now)
+            (c .before .before .before .before .before .before .before .before .before .before .before .before .before
+            .before .before .before .before .before .before .before .before .before .before .before .before .before
+            .before .before .before .before .before .before .before .before .before .args .space .now) A B (c .before
+            .before .before .before .before .before .before .before .before .before .before .before .before .before
+            .before .before .before .before .before .before .alike .ensures) (c .before .before .before .before
+            .before .before .before .before .before .before .before .before .before .before .before .before .before
+            .before .before .numbers-of .ensures) (c .before .before .before .before .before .before .before .before
+            .before .before .before .before .before .before .before .before .before .before .pair-number .ensures)
       (c .before .before .before .before .before .before .before .before .before .before .before .before .before
-        .before .before .before .before .before .if1 .left) in
+        .before .before .before .before .if1 .left) in
     examined (both A B (c .before .before .before .before .before .before .before .before .before .before .before
-      .before .before .before .before .before .before .before .before .before .alike .ensures) (P .matched) (c
+      .before .before .before .before .before .before .before .before .before .alike .ensures) (P .matched) (c .before
       .before .before .before .before .before .before .before .before .before .before .before .before .before .before
-      .before .numbers-of .ensures)) (c .before .before .before .before .before .before .before .before .before
-      .before .before .before .before .before .before .before .before .before .before .before .before .before .before
-      .before .before .before .before .before .before .before .before .before .before .before .before .args .most) (c
+      .before .before .before .before .numbers-of .ensures)) (c .before .before .before .before .before .before
       .before .before .before .before .before .before .before .before .before .before .before .before .before .before
       .before .before .before .before .before .before .before .before .before .before .before .before .before .before
-      .before .before .before .before .before .before .before .args .words .now) _
+      .before .args .most) (c .before .before .before .before .before .before .before .before .before .before .before
+      .before .before .before .before .before .before .before .before .before .before .before .before .before .before
+      .before .before .before .before .before .before .before .before .before .before .args .words .now) _
       (c .before .before .before .before .before .before .before .before .decide .last .0) _ _ _ _ (P .words-enough)
         (c .before .before .before .before .before .before .before .before .before .before .before .before .before
         .two-from-rows .kept .1 .1 .1 .1 .1 .1 .1 .0) (P .space-enough)
       (c .before .before .before .before .before .before .before .before .before .before .before .before .before
         .two-from-rows .ensures) (c .before .before .before .before .before .before .before .before .decide .ensures)
-        (c .before .before .before .before .before .before .before .before .decide .kept .0) (c .before .before
-        .clear .ensures)
+        (c .before .before .before .before .before .before .before .before .decide .kept .0) (c .before .before .clear
+        .ensures)
       (accepted-call _ _ (c .before .before .before .before .before .before .before .before .before .before .before
         .before .before .before .before .before .before .before .before .before .before .before .before .before
         .before .before .before .before .before .before .before .before .before .before .before .args .words .now) (c
@@ -213,9 +223,10 @@ returns-4 c =
         .before .before .before .before .before .before .before .before .before .before .before .before .before
         .before .before .before .before .before .before .alike .ensures) (c .before .before .before .before .before
         .before .before .before .before .before .before .before .before .before .before .before .before .before
-        .before .pair-number .ensures)
+        .before .numbers-of .ensures) (c .before .before .before .before .before .before .before .before .before
+        .before .before .before .before .before .before .before .before .before .pair-number .ensures)
         (c .before .before .before .before .before .before .before .before .before .before .before .before .before
-          .before .before .before .before .before .if1 .left))
+          .before .before .before .before .if1 .left))
 
 pub examine-spec : {M : Type 1} → statement M
 examine-spec =
@@ -234,16 +245,16 @@ examine-spec =
     cast-all
     cast-more
     alike-requires
+    numbers-of-requires
     add-pair-number
     pair-number-requires
     both-cause-requires
     returns-3
-    numbers-of-requires
     two-from-rows-requires
     decide-requires
     clear-requires
-    add-t29
-    sub-t30
+    add-t30
+    sub-t31
     same-length
     same-length-2
     returns-4)

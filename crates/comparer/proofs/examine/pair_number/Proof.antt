@@ -9,15 +9,13 @@ returns : tie.Need-returns
 unfolding numberOf
 returns c = simp (not-true (c .before .args .matching) (c .if1 .taken))
 
-add-if2 : tie.Need-add-if2
-add-if2 c = search needs
-
-mul-if2 : tie.Need-mul-if2
-mul-if2 c = search needs
+words-asked-requires : tie.Need-words-asked-requires
+words-asked-requires c κs = search needs
 
 returns-2 : tie.Need-returns-2
 unfolding numberOf
-returns-2 c = simp (not-false (c .before .before .args .matching) (c .before .if1 .left), lt-ltb _ _ (c .if2 .taken))
+returns-2 c = simp (not-false (c .before .before .before .args .matching) (c .before .before .if1 .left), ← c .before
+    .words-asked .ensures, lt-ltb _ _ (c .if2 .taken))
 
 sub-if3 : tie.Need-sub-if3
 sub-if3 c = search needs
@@ -28,14 +26,14 @@ mul-if3 c = search needs
 returns-3 : tie.Need-returns-3
 unfolding numberOf
 returns-3 c =
-    simp (not-false (c .before .before .before .args .matching) (c .before .before .if1 .left), le-ltb _ _ (c .before
-      .if2 .left), lt-ltb _ _ (c .if3 .taken))
+    simp (not-false (c .before .before .before .before .args .matching) (c .before .before .before .if1 .left), ← c
+      .before .before .words-asked .ensures, le-ltb _ _ (c .before .if2 .left), lt-ltb _ _ (c .if3 .taken))
 
 returns-4 : tie.Need-returns-4
 unfolding numberOf
 returns-4 c =
-    simp (not-false (c .before .before .before .args .matching) (c .before .before .if1 .left), le-ltb _ _ (c .before
-      .if2 .left), le-ltb _ _ (c .if3 .left))
+    simp (not-false (c .before .before .before .before .args .matching) (c .before .before .before .if1 .left), ← c
+      .before .before .words-asked .ensures, le-ltb _ _ (c .before .if2 .left), le-ltb _ _ (c .if3 .left))
 
 pub pair-number-spec : {M : Type 1} → statement M
-pair-number-spec = tie.close (tie.spec returns add-if2 mul-if2 returns-2 sub-if3 mul-if3 returns-3 returns-4)
+pair-number-spec = tie.close (tie.spec returns words-asked-requires returns-2 sub-if3 mul-if3 returns-3 returns-4)

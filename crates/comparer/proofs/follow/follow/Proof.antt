@@ -3,7 +3,7 @@ use borrow.Author.Needs.{needs}
 use native.Mathlib.Omega.{arith}
 use mathlib.Core.Path.{refl, sym, ap, _∙_}
 use lib.ListN.{replicate}
-use Rattle.comparer.proofs.ReadSheets.{refused-sheet, taken, fit, fit-as}
+use Rattle.comparer.proofs.ReadSheets.{refused-sheet, taken, fit-as, size-small}
 use Rattle.comparer.proofs.FollowAnswers.{refuses-sheet, refuses-words, refuses-play, counted-enough,
     one-ready}
 use Rattle.comparer.proofs.FollowAnswers.{opened-markable, opened-graph, followed}
@@ -25,29 +25,32 @@ cause-of-requires c κs = search needs
 returns : tie.Need-returns
 returns c =
     refuses-sheet (c .before .before .before .before .before .before .before .before .args .sheet .now) (c .before
-        .before .before .before .before .before .before .before .args .play .now) (c .before .before .before .before
-        .before .before .before .before .args .words .now) _ (refused-sheet _ _ (c .before .before .before .load
+      .before .before .before .before .before .before .before .args .play .now) (c .before .before .before .before
+      .before .before .before .before .args .words .now) _ (refused-sheet _ _ (c .before .before .before .load
         .ensures) (c .before .enum-told .given .1)) (c .before .enum-told .given .1) (c .cause-of .ensures) refl
 
 cast-all : tie.Need-cast-all
 cast-all c = search needs
 
-add-if1 : tie.Need-add-if1
-add-if1 c = search needs
+numbers-of-requires : tie.Need-numbers-of-requires
+numbers-of-requires c κs = search needs
 
-mul-if1 : tie.Need-mul-if1
-mul-if1 c = search needs
+words-asked-requires : tie.Need-words-asked-requires
+words-asked-requires c κs = omega (arith, size-small (taken _ _ (c .before .before .before .before .load .ensures) (c
+    .before .before .x .given .1)))
 
 both-cause-requires : tie.Need-both-cause-requires
 both-cause-requires c κs = search needs
 
 returns-2 : tie.Need-returns-2
 returns-2 c =
-    let F = fit (taken _ _ (c .before .before .before .before .before .load .ensures) (c .before
-        .before .before .x .given .1)) in
-    refuses-words F (c .before .before .before .before .before .before .before .before .before .before .args
-        .play .now) (c .before .before .before .before .before .before .before .before .before .before .args
-        .words .now) _ (c .before .if1 .taken) (c .both-cause .ensures) refl
+    let F = fit-as (taken _ _ (c .before .before .before .before .before .before .before .load .ensures) (c .before
+            .before .before .before .before .x .given .1)) (sym (c .before .before .before .numbers-of .ensures)) refl
+            in
+    refuses-words F (c .before .before .before .before .before .before .before .before .before .before .before .before
+      .args .play .now) (c .before .before .before .before .before .before .before .before .before .before .before
+      .before .args .words .now) _ (rw (c .before .before .words-asked .ensures) at (c .before .if1 .taken))
+      (c .both-cause .ensures) refl
 
 count-moves-requires : tie.Need-count-moves-requires
 count-moves-requires c κs = search needs
@@ -63,25 +66,24 @@ play-cause-requires c κs = search needs
 
 returns-3 : tie.Need-returns-3
 returns-3 c =
-    let F = fit (taken _ _ (c .before .before .before .before .before .before .before .before .load .ensures)
-        (c .before .before .before .before .before .before .x .given .1)) in
-    refuses-play F (c .before .before .before .before .before .before .before .before .before .before .before
-        .before .before .args .play .now) (c .before .before .before .before .before .before .before .before
-        .before .before .before .before .before .args .words .now) _ (c .before .before .before .before .if1
-        .left) (c .before .before .before .count-moves .ensures)
-      (c .before .enum-told2 .given .1) (c .play-cause .ensures) refl
-
-numbers-of-requires : tie.Need-numbers-of-requires
-numbers-of-requires c κs = search needs
+    let F = fit-as (taken _ _ (c .before .before .before .before .before .before .before .before .before .before .load
+            .ensures) (c .before .before .before .before .before .before .before .before .x .given .1)) (sym (c
+            .before .before .before .before .before .before .numbers-of .ensures)) refl in
+    refuses-play F (c .before .before .before .before .before .before .before .before .before .before .before .before
+      .before .before .before .args .play .now) (c .before .before .before .before .before .before .before .before
+      .before .before .before .before .before .before .before .args .words .now) _ (rw (c .before .before .before
+      .before .before .words-asked .ensures) at (c .before .before .before .before .if1 .left))
+      (c .before .before .before .count-moves .ensures) (c .before .enum-told2 .given .1) (c .play-cause .ensures) refl
 
 one-from-rows-requires : tie.Need-one-from-rows-requires
 one-from-rows-requires c κs =
     let F = fit-as (taken _ _ (c .before .before .before .before .before .before .before .before .before .before
-        .before .load .ensures) (c .before .before .before .before .before .before .before .before .before .x .given
-        .1)) (sym (c .before .numbers-of .ensures)) refl in
+            .before .before .load .ensures) (c .before .before .before .before .before .before .before .before .before
+            .before .x .given
+        .1)) (sym (c .before .before .before .before .before .before .before .before .numbers-of .ensures)) refl in
     one-ready F (c .before .before .before .before .before .before .before .before .before .before .before .before
-        .before .before .before .before .args .words .now) (c .before .before .before .before .before .before .before
-        .if1 .left)
+      .before .before .before .before .before .args .words .now) (rw (c .before .before .before .before .before
+      .before .before .words-asked .ensures) at (c .before .before .before .before .before .before .if1 .left))
 
 add-mark-live : tie.Need-add-mark-live
 add-mark-live c = search needs
@@ -89,21 +91,24 @@ add-mark-live c = search needs
 sub-mark-live : tie.Need-sub-mark-live
 sub-mark-live c =
     let F = fit-as (taken _ _ (c .before .before .before .before .before .before .before .before .before .before
-        .before .before .before .before .before .load .ensures) (c .before .before .before .before .before .before
-        .before .before .before .before .before .before .before .x .given .1)) (sym (c .before .before .before
-        .before .before .numbers-of .ensures)) refl in
+            .before .before .before .before .before .before .load .ensures) (c .before .before .before .before .before
+            .before .before .before .before .before .before .before .before .before .x .given .1)) (sym (c .before
+            .before .before .before .before .before .before .before .before .before .before .before .numbers-of
+            .ensures)) refl in
     omega (arith, F .some)
 
 mark-live-requires : tie.Need-mark-live-requires
 mark-live-requires c κs =
     let F = fit-as (taken _ _ (c .before .before .before .before .before .before .before .before .before .before
-        .before .before .before .before .before .load .ensures) (c .before .before .before .before .before .before
-        .before .before .before .before .before .before .before .x .given .1)) (sym (c .before .before .before
-        .before .before .numbers-of .ensures)) refl in
+            .before .before .before .before .before .before .load .ensures) (c .before .before .before .before .before
+            .before .before .before .before .before .before .before .before .before .x .given .1)) (sym (c .before
+            .before .before .before .before .before .before .before .before .before .before .before .numbers-of
+            .ensures)) refl in
     opened-markable F (c .before .before .before .before .before .before .before .before .before .before .before
-        .before .before .before .before .before .before .before .before .before .args .words .now) _ (c .before
-        .before .before .before .before .before .before .before .before .before .before .if1 .left) (c .before
-        .before .before .one-from-rows .ensures) (c .before .before .before .one-from-rows .kept .1 .1 .1 .1 .0)
+      .before .before .before .before .before .before .before .before .before .before .args .words .now) _ (rw (c
+      .before .before .before .before .before .before .before .before .before .before .before .words-asked .ensures)
+      at (c .before .before .before .before .before .before .before .before .before .before .if1 .left)) (c .before
+      .before .before .one-from-rows .ensures) (c .before .before .before .one-from-rows .kept .1 .1 .1 .1 .0)
 
 add-longest : tie.Need-add-longest
 add-longest c = search needs
@@ -111,20 +116,22 @@ add-longest c = search needs
 longest-requires : tie.Need-longest-requires
 longest-requires c κs =
     let F = fit-as (taken _ _ (c .before .before .before .before .before .before .before .before .before .before
-        .before .before .before .before .before .before .before .before .before .load .ensures) (c .before .before
-        .before .before .before .before .before .before .before .before .before .before .before .before .before
-        .before .before .x .given .1)) (sym (c .before .before .before .before .before .before .before .before
-        .before .numbers-of .ensures)) refl in
-    (opened-graph F (c .before .before .before .before .before .before .before .before .before .before .before
-        .before .before .before .before .before .before .before .before .before .before .before .before .before .args
-        .words .now) _ (c .before .before .before .before .before .before .before .before .before .before .before
-        .before .before .before .before .if1 .left) (c .before .before .before .before .before .before .before
-        .one-from-rows .ensures) (c .before .before .before .mark-live .last .0)
+            .before .before .before .before .before .before .before .before .before .before .load .ensures) (c .before
+            .before .before .before .before .before .before .before .before .before .before .before .before .before
+            .before .before .before .before .x .given .1)) (sym (c .before .before .before .before .before .before
+            .before .before .before .before .before .before .before .before .before .before .numbers-of .ensures))
+            refl in
+    (opened-graph F (c .before .before .before .before .before .before .before .before .before .before .before .before
+      .before .before .before .before .before .before .before .before .before .before .before .before .before .args
+        .words .now) _ (rw (c .before .before .before .before .before .before .before .before .before .before .before
+          .before .before .before .before .words-asked .ensures) at (c .before .before .before .before .before .before
+          .before .before .before .before .before .before .before .before .if1 .left)) (c .before .before .before
+          .before .before .before .before .one-from-rows .ensures) (c .before .before .before .mark-live .last .0)
       (c .before .before .before .mark-live .ensures), counted-enough (c .before .before .before .before .before
-          .before .before .before .before .before .before .before .before .before .before .before .before .before
-          .before .before .before .before .before .before .args .play .now) (c .before .before .before .before
-          .before .before .before .before .before .before .before .before .before .before .count-moves .ensures) (c
-          .before .before .before .before .before .before .before .before .before .before .before .before .parsed
+        .before .before .before .before .before .before .before .before .before .before .before .before .before
+        .before .before .before .before .before .before .before .args .play .now) (c .before .before .before .before
+        .before .before .before .before .before .before .before .before .before .count-moves .ensures) (c .before
+        .before .before .before .before .before .before .before .before .before .before .parsed
           .given .1))
 
 clear-requires : tie.Need-clear-requires
@@ -133,11 +140,12 @@ clear-requires c κs = search needs
 sub-t17 : tie.Need-sub-t17
 sub-t17 c =
     let F = fit-as (taken _ _ (c .before .before .before .before .before .before .before .before .before .before
-        .before .before .before .before .before .before .before .before .before .before .before .before .before
-        .before .load .ensures) (c .before .before .before .before .before .before .before .before .before .before
-        .before .before .before .before .before .before .before .before .before .before .before .before .x .given
+            .before .before .before .before .before .before .before .before .before .before .before .before .before
+            .before .before .load .ensures) (c .before .before .before .before .before .before .before .before .before
+            .before .before .before .before .before .before .before .before .before .before .before .before .before
+            .before .x .given
         .1)) (sym (c .before .before .before .before .before .before .before .before .before .before .before .before
-        .before .before .numbers-of .ensures)) refl in
+          .before .before .before .before .before .before .before .before .before .numbers-of .ensures)) refl in
     omega (arith, F .some)
 
 same-length : tie.Need-same-length
@@ -146,30 +154,33 @@ same-length c = search needs
 returns-4 : tie.Need-returns-4
 returns-4 c =
     let F = fit-as (taken _ _ (c .before .before .before .before .before .before .before .before .before .before
-        .before .before .before .before .before .before .before .before .before .before .before .before .before
-        .before .load .ensures) (c .before .before .before .before .before .before .before .before .before .before
-        .before .before .before .before .before .before .before .before .before .before .before .before .x .given
+            .before .before .before .before .before .before .before .before .before .before .before .before .before
+            .before .before .load .ensures) (c .before .before .before .before .before .before .before .before .before
+            .before .before .before .before .before .before .before .before .before .before .before .before .before
+            .before .x .given
         .1)) (sym (c .before .before .before .before .before .before .before .before .before .before .before .before
-        .before .before .numbers-of .ensures)) refl in
+          .before .before .before .before .before .before .before .before .before .numbers-of .ensures)) refl in
     followed F (c .before .before .before .before .before .before .before .before .before .before .before .before
-        .before .before .before .before .before .before .before .before .before .before .before .before .before
-        .before .before .before .before .args .words .now) _ (c .before .before .before .before .before .before
-        .before .before .before .before .before .before .before .before .before .before .before .before .before
-        .before .if1 .left) (c .before .before .before .before .before .before .before .before .before .before
-        .before .before .one-from-rows .ensures) _ (c .before .before .before .before .before .before .before .before
-        .mark-live .ensures) (c .before .before .before .before .before .before .before .before .before .before
-        .before .before .before .before .before .before .before .before .before .before .before .before .before
-        .before .before .before .before .before .before .args .play .now) _
+      .before .before .before .before .before .before .before .before .before .before .before .before .before .before
+      .before .before .before .before .args .words .now) _ (rw (c .before .before .before .before .before .before
+      .before .before .before .before .before .before .before .before .before .before .before .before .before .before
+      .words-asked .ensures) at (c .before .before .before .before .before .before .before .before .before .before
+      .before .before .before .before .before .before .before .before .before .if1 .left)) (c .before .before .before
+      .before .before .before .before .before .before .before .before .before .one-from-rows .ensures) _ (c .before
+      .before .before .before .before .before .before .before .mark-live .ensures) (c .before .before .before .before
+      .before .before .before .before .before .before .before .before .before .before .before .before .before .before
+      .before .before .before .before .before .before .before .before .before .before .before .before .args .play
+      .now) _
       (λ i. omega (arith, c .before .before .before .before .before .before .before .before .before .before .before
-          .before .before .before .before .before .before .before .before .before .before .before .before .before
-          .before .before .before .shared-slice-known2 .given i)) (c .before .before .before .before .before .before
-          .before .before .before .before .before .before .before .before .before .before .before .before .before
-          .count-moves .ensures) (c .before .before .before .before .before .before .before .before .before .before
-          .before .before .before .before .before .before .before .parsed .given .1)
+        .before .before .before .before .before .before .before .before .before .before .before .before .before
+        .before .before .before .before .shared-slice-known2 .given i)) (c .before .before .before .before .before
+        .before .before .before .before .before .before .before .before .before .before .before .before .before
+        .count-moves .ensures) (c .before .before .before .before .before .before .before .before .before .before
+        .before .before .before .before .before .before .parsed .given .1)
       (c .before .before .before .before .longest .ensures)
       (c .before .before .clear .ensures ∙ ap (λ k. replicate k 0) (c .before .before .before .before .before .before
-          .before .before .mark-live .kept .0 ∙ c .before .before .before .before .before .before .before .before
-          .before .before .before .before .one-from-rows .kept .1 .1 .1 .1 .0))
+        .before .before .mark-live .kept .0 ∙ c .before .before .before .before .before .before .before .before
+        .before .before .before .before .one-from-rows .kept .1 .1 .1 .1 .0))
 
 pub follow-spec : {M : Type 1} → statement M
 follow-spec =
@@ -181,8 +192,8 @@ follow-spec =
     cause-of-requires
     returns
     cast-all
-    add-if1
-    mul-if1
+    numbers-of-requires
+    words-asked-requires
     both-cause-requires
     returns-2
     count-moves-requires
@@ -190,7 +201,6 @@ follow-spec =
     enum-told-2
     play-cause-requires
     returns-3
-    numbers-of-requires
     one-from-rows-requires
     add-mark-live
     sub-mark-live

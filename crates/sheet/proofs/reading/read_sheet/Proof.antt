@@ -44,8 +44,9 @@ refuse-requires-4 c κs = search needs
 
 returns-4 : tie.Need-returns-4
 returns-4 c =
-    rw (c .refuse4 .ensures) (sheet-refused _ _ _ (z-large _ _ (c .before .before .before .before .before .if1 .left) (some (c
-      .before .before .before .before .if2 .left)) (c .before .before .if3 .left) (c .before .if4 .taken)))
+    rw (c .refuse4 .ensures) (sheet-refused _ _ _ (z-large _ _ (c .before .before .before .before .before .if1 .left)
+      (some (c .before .before .before .before .if2 .left)) (c .before .before .if3 .left) (omega (arith, c .before
+      .if4 .taken))))
 
 refuse-requires-5 : tie.Need-refuse-requires-5
 refuse-requires-5 c κs = search needs
@@ -53,8 +54,8 @@ refuse-requires-5 c κs = search needs
 returns-5 : tie.Need-returns-5
 returns-5 c =
     rw (c .refuse5 .ensures) (sheet-refused _ _ _ (no-rule _ _ (c .before .before .before .before .before .before .if1
-      .left) (some (c .before .before .before .before .before .if2 .left)) (c .before .before .before .if3 .left) (c
-      .before .before .if4 .left) (c .before .if5 .taken)))
+      .left) (some (c .before .before .before .before .before .if2 .left)) (c .before .before .before .if3 .left)
+      (omega (arith, c .before .before .if4 .left)) (c .before .if5 .taken)))
 
 shared-slice-read-rule : tie.Need-shared-slice-read-rule
 shared-slice-read-rule c = search needs
@@ -65,9 +66,9 @@ refuse-requires-6 c κs = search needs
 returns-6 : tie.Need-returns-6
 returns-6 c =
     rw (c .refuse6 .ensures) (sheet-refused _ _ _ (rule-large _ _ (c .before .before .before .before .before .before
-      .before .before .if1 .left) (some (c .before .before .before .before .before .before .before .if2 .left)) (c .before
-      .before .before .before .before .if3 .left) (c .before .before .before .before .if4 .left) (c .before .before
-      .before .if5 .left) (c .before .if6 .taken)))
+      .before .before .if1 .left) (some (c .before .before .before .before .before .before .before .if2 .left)) (c
+      .before .before .before .before .before .if3 .left) (omega (arith, c .before .before .before .before .if4
+      .left)) (c .before .before .before .if5 .left) (c .before .if6 .taken)))
 
 read-names-requires : tie.Need-read-names-requires
 read-names-requires c κs = search needs
@@ -81,13 +82,12 @@ same-length c = search needs
 returns-7 : tie.Need-returns-7
 returns-7 c =
     sheet-closed _ _ _ _ (opened _ _ (c .before .before .before .before .before .before .before .before .before
-          .before .before .before .before .if1 .left) (some (c .before .before .before .before .before .before .before
-          .before .before .before .before .before .if2 .left)) (c .before .before .before .before .before .before
-          .before .before .before .before .if3 .left) (c .before .before .before .before .before .before .before
-          .before .before .if4
-        .left) (c .before .before .before .before .before .before .before .before .if5 .left) (c .before .before
-          .before .before .before .before .if6 .left)) (closes-sheet _ _ _ (c .before .before .before .read-names
-        .ensures) (c .close-sheet .ensures))
+      .before .before .before .before .if1 .left) (some (c .before .before .before .before .before .before .before
+      .before .before .before .before .before .if2 .left)) (c .before .before .before .before .before .before .before
+      .before .before .before .if3 .left) (omega (arith, c .before .before .before .before .before .before .before
+      .before .before .if4 .left)) (c .before .before .before .before .before .before .before .before .if5 .left) (c
+      .before .before .before .before .before .before .if6 .left)) (closes-sheet _ _ _ (c .before .before .before
+      .read-names .ensures) (c .close-sheet .ensures))
 
 pub read-sheet-spec : {M : Type 1} → statement M
 read-sheet-spec =
