@@ -1,5 +1,5 @@
-/* Negyvosal: checks, follows, compares, looks through and renumbers routines written as sheets. For C and C++; link
- * libabi.a. */
+/* Negyvosal: checks, profiles, follows, compares, looks through and renumbers routines written as sheets. For C and
+ * C++; link libabi.a. */
 #ifndef NEGYVOSAL_H
 #define NEGYVOSAL_H
 
@@ -14,7 +14,7 @@ extern "C" {
  *
  *   word 0                   word 1     word 2       word 3       word 4
  *   NEGYVOSAL_REFUSED (0)    number     sheet        place low    place high
- *   NEGYVOSAL_ACCEPTED (1)   type       size         0            0             check
+ *   NEGYVOSAL_ACCEPTED (1)   type       size         0            0             check, profile
  *   NEGYVOSAL_FOLLOWS (2)    complete   count low    count high   0             follow
  *   NEGYVOSAL_SAME (3)       0          0            0            0             compare
  *   NEGYVOSAL_SAME (3)       0          looked low   looked high  0             look
@@ -31,7 +31,7 @@ extern "C" {
  *   NEGYVOSAL_SO_FAR (6)     mark, used, unused       mark, used, unused
  *   any other                0, 0, 0                  0, 0, 0
  *
- * number:   the cause of the refusal, 1 to 17.
+ * number:   the cause of the refusal, 1 to 18.
  * sheet:    which sheet: NEGYVOSAL_OLD, NEGYVOSAL_NEW or NEGYVOSAL_BOTH. A service on one sheet names it old.
  * place:    the byte at which it is refused, counted from 0, or as the cause says.
  * type:     0 command, 1 truth expression, 2 number expression, 3 truth variable, 4 number variable.
@@ -120,6 +120,13 @@ extern "C" {
 
 /* Checks a sheet. */
 uint32_t negyvosal_check(const uint8_t *sheet, size_t sheet_length, uint32_t *out, size_t out_length);
+
+/* Checks a sheet, and then holds its expressions to have no side effects: inside a part of expression type (the whole
+ * term is a part, and a part's own record is inside it) there may be no sequence (kind 24), no procedure (kind 28), and
+ * no use of a name or a procedure of which an argument or a parameter is a command or a variable. Else number 18, at
+ * the kind byte of the first such record, after all that negyvosal_check refuses. Where nothing is refused the answer
+ * is that of negyvosal_check. */
+uint32_t negyvosal_profile(const uint8_t *sheet, size_t sheet_length, uint32_t *out, size_t out_length);
 
 /* Follows a play, given as move records, through a sheet. */
 uint32_t negyvosal_follow(const uint8_t *sheet, size_t sheet_length, const uint8_t *play, size_t play_length,

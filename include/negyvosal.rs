@@ -39,6 +39,8 @@ pub const fn state_words(z: u8) -> usize {
 extern "C" {
     pub fn negyvosal_check(sheet: *const u8, sheet_length: usize, out: *mut u32, out_length: usize) -> u32;
 
+    pub fn negyvosal_profile(sheet: *const u8, sheet_length: usize, out: *mut u32, out_length: usize) -> u32;
+
     pub fn negyvosal_follow(
         sheet: *const u8,
         sheet_length: usize,

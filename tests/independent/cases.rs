@@ -12,6 +12,7 @@ mod pairs;
 pub mod parts;
 mod plays;
 pub mod procedures;
+pub mod quiet;
 pub mod renumber;
 
 use crate::generate::{self, Generator};

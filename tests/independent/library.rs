@@ -1,7 +1,8 @@
 //! The proved library through its C boundary. Every call tests that the library changes nothing but what it may.
 
 pub use crate::boundary::WORDS;
-use crate::boundary::{negyvosal_check, negyvosal_compare, negyvosal_follow, negyvosal_look, negyvosal_renumber};
+use crate::boundary::{negyvosal_check, negyvosal_compare, negyvosal_follow, negyvosal_look};
+use crate::boundary::{negyvosal_profile, negyvosal_renumber};
 use crate::boundary::{ACCEPTED, APART, FOLLOWS, REFUSED, RENUMBERED, SAME, SO_FAR};
 use crate::boundary::{NEW_MARK, NEW_UNUSED, NEW_USED, OLD_MARK, OLD_UNUSED, OLD_USED};
 use crate::mark::Mark;
@@ -95,6 +96,15 @@ pub fn check(sheet: &[u8], room: usize) -> Result<Words, String> {
     let mut out = lent_words("out", room);
     // SAFETY: every pointer is to as many elements as its length says, and none overlap.
     let told = unsafe { negyvosal_check(sheet.start(), sheet.length(), out.start_mut(), out.length()) };
+    sheet.expect(&[])?;
+    answer(told, &out)
+}
+
+pub fn profile(sheet: &[u8], room: usize) -> Result<Words, String> {
+    let sheet = lent_bytes("sheet", sheet);
+    let mut out = lent_words("out", room);
+    // SAFETY: every pointer is to as many elements as its length says, and none overlap.
+    let told = unsafe { negyvosal_profile(sheet.start(), sheet.length(), out.start_mut(), out.length()) };
     sheet.expect(&[])?;
     answer(told, &out)
 }

@@ -9,7 +9,8 @@
 //!
 //! After the word `procedures`, `random` and `write` have cases with procedures, kind 28 of document 02; after the word
 //! `renumber`, sheets to renumber; after the word `names`, sheets with many name records, of which some are used; after
-//! the word `parts`, sheets that differ in one part, and the parts as sheets of their own.
+//! the word `parts`, sheets that differ in one part, and the parts as sheets of their own; with
+//! the word `quiet`, sheets in which few records or none offend against the profile.
 
 #[allow(dead_code)]
 #[path = "../../include/negyvosal.rs"]
@@ -25,6 +26,7 @@ mod machine;
 mod mark;
 mod moves;
 mod part;
+mod quiet;
 mod random;
 mod reader;
 mod related;
@@ -41,7 +43,7 @@ use cases::Case;
 use random::Random;
 use std::process::ExitCode;
 
-const USAGE: &str = "usage: independent [procedures | renumber | names | parts] \
+const USAGE: &str = "usage: independent [procedures | renumber | names | parts | quiet] \
     vectors FILE... | random SEED COUNT | near SEED COUNT | write SEED COUNT | stack FILE... | \
     compare OLD NEW [WORDS SPACE]";
 
@@ -59,6 +61,7 @@ fn run(arguments: &[String]) -> Result<bool, String> {
         Some((word, rest)) if word == "renumber" => run_mode(rest, cases::renumber::case),
         Some((word, rest)) if word == "names" => run_mode(rest, cases::names::case),
         Some((word, rest)) if word == "parts" => run_mode(rest, cases::parts::case),
+        Some((word, rest)) if word == "quiet" => run_mode(rest, cases::quiet::case),
         _ => run_mode(arguments, cases::case),
     }
 }

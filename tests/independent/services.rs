@@ -1,5 +1,5 @@
-//! The three services of document 01, and renumber and look of document 02: their refusals in order, their answers, and
-//! how they are printed.
+//! The three services of document 01, and the renumbering, the look and the profile of document 02: their refusals in
+//! order, their answers, and how they are printed.
 
 use crate::compare::{first_difference, Difference};
 use crate::look::{walk, Sight};
@@ -84,6 +84,14 @@ pub fn check(bytes: &[u8]) -> Answer {
     match read(bytes) {
         Err(fault) => refused(fault, Which::Old),
         Ok(sheet) => Answer::Accepted { kind: sheet.term.gives.byte() as u32, size: sheet.size, mark: sheet.mark() },
+    }
+}
+
+/// Check, and then the profile of quiet expressions.
+pub fn profile(bytes: &[u8]) -> Answer {
+    match read(bytes).ok().and_then(|sheet| sheet.first_offence()) {
+        Some(place) => Answer::Refused { number: 18, sheet: Which::Old, place },
+        None => check(bytes),
     }
 }
 

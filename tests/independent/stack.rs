@@ -49,6 +49,7 @@ fn shortest(machine: &Machine) -> Vec<Move> {
 fn run_sheet(sheet: &[u8]) -> Result<(), String> {
     run_renumber(sheet)?;
     expect("check", &services::check(sheet), answered(|| library::check(sheet, WORDS))?)?;
+    expect("profile", &services::profile(sheet), answered(|| library::profile(sheet, WORDS))?)?;
     let (z, size, play) = match read(sheet) {
         Ok(accepted) => {
             let play = services::records(&shortest(&Machine::of(&accepted)));

@@ -12,7 +12,7 @@ use crate::random::Random;
 use crate::reader::{read, read_under, Fault, Rule, Sheet};
 use crate::renumber::LIST;
 use crate::services::{self, Answer, Marks, Which};
-use crate::sheet::{written, Record};
+use crate::sheet::{written, Record, Type};
 use crate::vectors::hex;
 use parts::PartCounts;
 
@@ -40,7 +40,10 @@ struct Counts {
     same_once: usize,
     apart: usize,
     capped: usize,
-    refused: [usize; 18],
+    refused: [usize; 19],
+    /// Sheets in the profile, and those of them that are expressions with some play.
+    quiet: usize,
+    quiet_expressions: usize,
     /// Sheets that check refuses and that the rule before request [3] accepts.
     turned_away: usize,
     /// Looks: apart, same, same so far, and those walked in part only.
@@ -105,6 +108,7 @@ impl Counts {
             "check: up to {} names used; all {} times, none {} times",
             self.most_used, self.all_used, self.none_used
         );
+        println!("profile: {} accepted, {} of them expressions that play", self.quiet, self.quiet_expressions);
         println!("follow: {} followed, {} of them complete", self.followed, self.complete);
         println!("compare: {} same, {} of them without plays", self.same, self.empty);
         println!("compare: {} same with every name asking once too", self.same_once);
@@ -172,7 +176,8 @@ fn run_case(case: &Case, room: usize, counts: &mut Counts) -> Result<(), String>
             counts.note(&answer);
             counts.turned_away += (read(sheet).is_err() && read_under(Rule::Earlier, sheet).is_ok()) as usize;
             expect_words(&answer, library::check(sheet, room)?)?;
-            expect_mark(sheet)
+            expect_mark(sheet)?;
+            expect_profile(sheet, room, counts)
         }
         Case::Follow { sheet, play, words } => {
             let answer = services::follow(sheet, play, *words);
@@ -223,6 +228,39 @@ fn expect_mark(bytes: &[u8]) -> Result<(), String> {
         let refused = matches!(read(&written(&heading, &sheet.term)), Err(Fault { number: RETIRED, .. }));
         if refused != (mark.bits >> number & 1 == 1) {
             return Err(format!("bit {number} of the mark {} is wrong", mark.bits));
+        }
+    }
+    Ok(())
+}
+
+/// The profile; and of an expression in it, that all moves of its plays are *ask*, *read* and value.
+fn expect_profile(bytes: &[u8], room: usize, counts: &mut Counts) -> Result<(), String> {
+    let answer = services::profile(bytes);
+    expect_words(&answer, library::profile(bytes, room)?)?;
+    if !matches!(answer, Answer::Accepted { .. }) {
+        counts.refused[18] += matches!(answer, Answer::Refused { number: 18, .. }) as usize;
+        return Ok(());
+    }
+    counts.quiet += 1;
+    let Ok(sheet) = read(bytes) else {
+        return Err("profile accepts what check refuses".to_string());
+    };
+    if !matches!(sheet.term.gives, Type::Expression(_)) {
+        return Ok(());
+    }
+    let machine = Machine::of(&sheet);
+    let (mut seen, mut left) = (Vec::new(), Vec::from_iter(machine.start()));
+    counts.quiet_expressions += !left.is_empty() as usize;
+    while let Some(state) = left.pop() {
+        if seen.contains(&state) {
+            continue;
+        }
+        seen.push(state);
+        for (shown, to) in machine.moves(state) {
+            if ![2, 3, 5].contains(&shown.kind) {
+                return Err(format!("a quiet expression has a move of kind {}", shown.kind));
+            }
+            left.push(*to);
         }
     }
     Ok(())

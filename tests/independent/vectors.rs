@@ -146,6 +146,7 @@ fn outcome(case: &Case) -> Result<String, String> {
     let part = |name: &str| bytes(text(case, name)?);
     match text(case, "service")? {
         "check" => Ok(services::text(&services::check(&part("sheet")?))),
+        "profile" => Ok(services::text(&services::profile(&part("sheet")?))),
         "follow" => {
             let words = number(case, "words")?;
             Ok(services::text(&services::follow(&part("sheet")?, &part("play")?, words)))

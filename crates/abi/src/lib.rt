@@ -10,10 +10,12 @@ use comparer::compare::compare;
 use comparer::follow::follow;
 use comparer::look::look;
 use judge::check::check;
+use profile::profile::profile;
 use renumbering::renumber::renumber;
 ghost use mathlib.Core.Path.{_≡_};
 ghost use Rattle.sheet.specs.Reader.{readSheet};
 ghost use Rattle.judge.specs.Check.{checkedOf};
+ghost use Rattle.profile.specs.Profile.{profiledOf};
 ghost use Rattle.answers.specs.Words.{checkWords, answered, status};
 ghost use Rattle.abi.specs.Returned.{FollowReturned, CompareReturned, LookReturned, RenumberReturned};
 
@@ -26,6 +28,18 @@ pub extern "C" fn negyvosal_check(sheet: &[u8], out: &mut [u32]) -> u32
 {
     let r = check(sheet);
     answer_check(out, r)
+}
+
+// The service profile: the answer in the first eleven words of out, and 1; or 0, with out as it was, where it has
+// fewer.
+#[no_mangle]
+pub extern "C" fn negyvosal_profile(sheet: &[u8], out: &mut [u32]) -> u32
+    ensures returned { λ r. ⌜ r ≡ status (now (out .entry)) ⌝ }
+    ensures written { λ r. ⌜ now (out .exit)
+        ≡ answered (checkWords (profiledOf (readSheet (now (sheet .entry))))) (now (out .entry)) ⌝ }
+{
+    let p = profile(sheet);
+    answer_check(out, p)
 }
 
 // The service follow: the answer in the first eleven words of out, and 1; or 0, and nothing is changed, where out has

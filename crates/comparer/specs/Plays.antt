@@ -3,20 +3,11 @@
 use mathlib.Core.Path.{_≡_}
 use mathlib.Core.Logic.{_↔_}
 use Prim.Native.Nat.{ℕ, zero, suc}
-use Rattle.language.specs.Ty.{Ty}
 use Rattle.language.specs.Move.{Word, Before}
-use Rattle.language.specs.Play.{Complete}
 use Rattle.language.specs.Weight.{size}
 use Rattle.procedures.specs.Written.{Sheet}
-use Rattle.procedures.specs.Meaning.{tyOf, termOf, typeOf}
-
--- the type of the whole term
-abbrev pub wholeType : Sheet → Ty
-wholeType S = tyOf (S .numbers) (typeOf S)
-
--- "A complete play of a sheet is a play of its whole term by these rules"
-abbrev pub CompletePlay : Sheet → Word → Type 0
-CompletePlay S u = Complete (wholeType S) (termOf S) u
+use Rattle.procedures.specs.Meaning.{termOf}
+pub use Rattle.procedures.specs.Meaning.{wholeType, CompletePlay}
 
 -- the reckoned size of a sheet
 abbrev pub reckoned : Sheet → ℕ

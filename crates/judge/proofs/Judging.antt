@@ -103,6 +103,7 @@ module _ (ed : Edition) (s u : List ℕ) (root ty next : ℕ) (T : Tabled ed s r
           numbered = T .numbered;
           rooted = T .rooted;
           shown = T .shown;
+          seats = T .seats;
           used = f ∙ uses-right ed s S ty n a u (T .notes);
           marked = T .marked }
 

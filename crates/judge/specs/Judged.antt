@@ -1,8 +1,9 @@
--- What judging a sheet leaves for the passes over its parts: the sheet is accepted, the table shows its term, and the
--- marks are those of its parts; or why it is refused. Only inner contracts cite it.
+-- What judging a sheet leaves for the passes over its parts: the sheet is accepted, the table shows its term, with a
+-- row at the place of each record's kind byte, and the marks are those of its parts; or why it is refused. Only inner
+-- contracts cite it.
 use Prim.Native.Nat.{ℕ}
 use mathlib.Core.Path.{_≡_}
-use mathlib.Core.List.{List}
+use mathlib.Core.List.{List, []}
 use Rattle.records.specs.Refusal.{refusal, not-refused}
 use Rattle.records.specs.declared.edition.Edition.{Edition}
 use Rattle.records.specs.declared.refusal.Refusal.{Refusal}
@@ -13,6 +14,7 @@ use Rattle.procedures.specs.Marks.{Marked}
 use Rattle.sheet.specs.Encoding.{headingLength}
 use Rattle.sheet.specs.Reader.{numbersAt, readUnder, accepted, rejected}
 use Rattle.judge.specs.Mark.{usesOf}
+use Rattle.tabled.specs.Seats.{Seated}
 use Rattle.tabled.specs.Tabled.{places}
 use Rattle.weighing.specs.Stack.{marksIn}
 use Rattle.judge.specs.declared.mark.Uses.{Uses}
@@ -28,6 +30,7 @@ pub record Judged (ed : Edition) (s : List ℕ) (root ty size : ℕ) (uses : Use
   pub numbered : sheet .numbers ≡ numbersAt s
   pub rooted : root ≡ headingLength sheet
   pub shown : Shown (numbersAt s) (sheet .names) u whole places root end (sheet .term)
+  pub seats : Seated (sheet .names) u [] root (sheet .term)
   pub used : uses ≡ usesOf sheet
   pub marked : Marked (numbersAt s) (sheet .names) u (marksIn u) whole root (sheet .term)
 

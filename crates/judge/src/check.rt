@@ -22,7 +22,7 @@ pub enum Checked {
 }
 
 // The refusal of a sheet that is judged, its number 0 where the sheet is not refused.
-fn refusal_of(x: Judgement) -> Refusal
+pub fn refusal_of(x: Judgement) -> Refusal
     ensures { λ r. ⌜ r ≡ refusalIn x ⌝ }
 {
     let Judgement::Refused(refusal) = x else {

@@ -169,6 +169,7 @@ renumber-rule S W cs then A e =
     let p : (termOf S ≡ termOf T) × (typeOf S ≡ typeOf T) = mapped-sheet S W (takenAtFirst S) m in
     record {
       accepted = record { accepted = like-accepted S W l (g .so .fine) A; apart = g .so .apart };
+      like = l;
       same-term = p .0;
       same-sheets = same-sheets S T refl (p .1) (p .0);
       same-size = rw (p .0, p .1) refl;

@@ -26,6 +26,7 @@ pub mod PartKind
 pub mod Table
 pub mod Marks
 pub mod Width
+pub mod Pieces
 pub mod Hiding
 pub mod Renumber
 pub mod Uses

@@ -13,6 +13,8 @@ use Rattle.language.specs.Number.{finites, numbers, code, fromByte}
 use Rattle.language.specs.Ty.{Ty, command, expression, variable}
 use Rattle.language.specs.Term as t
 use Rattle.language.specs.Term.{Term, Often, Args, Operation}
+use Rattle.language.specs.Move.{Word}
+use Rattle.language.specs.Play.{Complete}
 use Rattle.language.specs.Typing.{operands}
 use Rattle.language.specs.declared.Numbers.{Numbers}
 use Rattle.parts.specs.Rule.{values, resultType}
@@ -199,3 +201,10 @@ termOf S = resolve (S .numbers) (S .names) [] no-terms 0 (S .term)
 
 unfoldable pub typeOf : Sheet → ℕ
 typeOf S = typed (S .names) [] (S .term)
+
+abbrev pub wholeType : Sheet → Ty
+wholeType S = tyOf (S .numbers) (typeOf S)
+
+-- "A complete play of a sheet is a play of its whole term by these rules" (01)
+abbrev pub CompletePlay : Sheet → Word → Type 0
+CompletePlay S u = Complete (wholeType S) (termOf S) u

@@ -8,6 +8,7 @@ use Rattle.language.specs.Weight.{size}
 use Rattle.procedures.specs.Written.{Written, Sheet}
 use Rattle.procedures.specs.Meaning.{tyOf, termOf, typeOf}
 use Rattle.procedures.specs.Fine.{Accepted}
+use Rattle.procedures.specs.Like.{Like}
 use Rattle.procedures.specs.Mapped.{put}
 use Rattle.procedures.specs.Rules.{SameSheets, withTerm}
 use Rattle.procedures.specs.Hiding.{Apart, AcceptedApart, Hiding, hiding}
@@ -52,6 +53,8 @@ pub record NoneLeft (taken : ℕ → Bool) (hs : List Hiding) (p : ℕ) : Type 0
 pub record Renumbered (S : Sheet) (W : Written) (cs : List Change) : Type 0 where
   -- "The sheet written is accepted"
   pub accepted : AcceptedApart (withTerm S W)
+  -- "the uses it governs follow": nothing but the ids of binders and of these uses is another
+  pub like : Like (S .names) [] [] (S .term) W
   -- "and has the plays the earlier rule gave the old one"
   pub same-term : termOf S ≡ termOf (withTerm S W)
   pub same-sheets : SameSheets S (withTerm S W)

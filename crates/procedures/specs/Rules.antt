@@ -6,11 +6,10 @@ use mathlib.Core.Option.{Option}
 use mathlib.Core.List.{List, []}
 use lib.ListN.{length}
 use Rattle.language.specs.Move.{Word}
-use Rattle.language.specs.Play.{Complete}
 use Rattle.language.specs.Weight.{weight}
 use Rattle.language.specs.declared.Numbers.{Numbers}
 use Rattle.procedures.specs.Written.{Written, call, procedure, Parameter, Writtens, Name, Sheet}
-use Rattle.procedures.specs.Meaning.{Binder, inside, after, typed, tyOf, termOf, typeOf}
+use Rattle.procedures.specs.Meaning.{Binder, inside, after, typed, termOf, typeOf, CompletePlay}
 use Rattle.procedures.specs.Fine.{Accepted}
 use Rattle.procedures.specs.Weigh.{Weights, weigh, weighed, weighSheet, with-body, with-passed}
 use Rattle.procedures.specs.Form.{no-forms}
@@ -44,7 +43,7 @@ pub record WeightRule : Type 0 where
 
 -- "The meaning is section 7 of document 001": the plays in an environment of plays are the plays of the let-free term
 unfoldable pub SectionSeven : Type 0
-SectionSeven = (S : Sheet) (u : Word) → CompleteIn S u ↔ Complete (tyOf (S .numbers) (typeOf S)) (termOf S) u
+SectionSeven = (S : Sheet) (u : Word) → CompleteIn S u ↔ CompletePlay S u
 
 -- two sheets of the same type, with the same plays and the same weight
 pub record SameSheets (S T : Sheet) : Type 0 where

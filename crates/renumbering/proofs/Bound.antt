@@ -27,9 +27,9 @@ use Rattle.renumbering.specs.Work.{Takes, tookParameters, tookIds, Lies}
 use Rattle.renumbering.specs.Found.{AllFine, Taken}
 use Rattle.renumbering.proofs.Leaves.{took-new, took-procedure, took-nothing}
 use Rattle.renumbering.proofs.Lists.{lies-get, lies-head, lies-after, lies-first}
-use Rattle.renumbering.proofs.Widths.{wide, pairs-length}
+use Rattle.tabled.proofs.Widths.{wide, pairs-length, width-some}
 use Rattle.renumbering.proofs.Entries.{takes-put, takes-same}
-use Rattle.renumbering.proofs.Steps.{width-some, use-arity}
+use Rattle.renumbering.proofs.Steps.{use-arity}
 use Rattle.renumbering.proofs.Plain.{one-bytes, two-bytes, three-bytes}
 use Rattle.renumbering.proofs.Names.{or-false, or-assoc, or-swap, put-or}
 

@@ -1,6 +1,5 @@
 pub mod Leaves
 pub mod Lists
-pub mod Widths
 pub mod Entries
 pub mod Finding
 pub mod Choosing

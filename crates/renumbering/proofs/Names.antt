@@ -28,7 +28,7 @@ use Rattle.renumbering.specs.Work.{Scoped}
 use Rattle.renumbering.specs.Work.{Lies}
 use Rattle.renumbering.specs.Found.{Headed}
 use Rattle.renumbering.proofs.Lists.{lies-get, lies-head, lies-after}
-use Rattle.renumbering.proofs.Widths.{wide-name}
+use Rattle.tabled.proofs.Widths.{wide-name}
 use Rattle.renumbering.proofs.Entries.{takes-put, takes-same}
 
 -- what is meant by the first that means something

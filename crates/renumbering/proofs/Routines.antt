@@ -21,7 +21,7 @@ use Rattle.renumbering.specs.Found.{RoutineFound}
 use Rattle.renumbering.specs.declared.step.Step.{Step}
 use Rattle.renumbering.specs.declared.step.Step.the-variants.{Done, Full}
 use Rattle.renumbering.proofs.Lists.{lies-get, lies-after, lies-first, rewrites-after, rewrites-then, rewrites-byte}
-use Rattle.renumbering.proofs.Widths.{wide, pairs-length}
+use Rattle.tabled.proofs.Widths.{wide, pairs-length}
 use Rattle.renumbering.proofs.Entries.{scoped-bound}
 use Rattle.renumbering.proofs.Finding.{found-over, found-so, found-full, found-next}
 use Rattle.renumbering.proofs.Steps.{onward-full, id-at}

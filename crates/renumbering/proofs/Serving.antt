@@ -32,7 +32,7 @@ use Rattle.renumbering.specs.Outcome.{RenumberedBy}
 use Rattle.renumbering.specs.Service.{WrittenRule, Accepted, AcceptedRule, UnalteredService, RenumberNumber}
 use Rattle.renumbering.specs.Service.{RenumberNumbers, RenumberUnique}
 use Rattle.renumbering.proofs.Lists.{listed-length}
-use Rattle.renumbering.proofs.Widths.{wide}
+use Rattle.tabled.proofs.Widths.{wide}
 
 -- what was written and changed
 record Made (S : Sheet) (a : Renumbering Written) (b : List ℕ) (cs : List Change) : Type 0 where

@@ -26,7 +26,7 @@ use Rattle.renumbering.specs.declared.step.Step.{Step}
 use Rattle.renumbering.specs.declared.step.Step.the-variants.{Done, Full}
 use Rattle.renumbering.proofs.Lists.{lies-get, lies-after, lies-first, rewrites-same, rewrites-after}
 use Rattle.renumbering.proofs.Lists.{rewrites-then, rewrites-byte}
-use Rattle.renumbering.proofs.Widths.{wide}
+use Rattle.tabled.proofs.Widths.{wide, width-some}
 use Rattle.renumbering.proofs.Entries.{scoped-bound}
 use Rattle.renumbering.proofs.Finding.{found-over, found-so, found-full, found-next}
 
@@ -49,22 +49,6 @@ depth-some (choose b x y) = omega arith
 depth-some (while x y) = omega arith
 depth-some (new id d c) = omega arith
 depth-some (procedure id ty ps x y) = omega arith
-
-pub width-some : (W : Written) → 0 < width W
-unfolding width
-width-some skip = omega arith
-width-some (diverge ty) = omega arith
-width-some (truth b) = omega arith
-width-some (number b) = omega arith
-width-some (call id ws) = omega arith
-width-some (fetch v) = omega arith
-width-some (operate op x y) = omega arith
-width-some (assign x y) = omega arith
-width-some (sequence x y) = omega arith
-width-some (choose b x y) = omega arith
-width-some (while x y) = omega arith
-width-some (new id d c) = omega arith
-width-some (procedure id ty ps x y) = omega arith
 
 -- no level left, or no byte
 pub part-deep : (s scope b l k : List ℕ) (left at n : ℕ) → left ≡ 0 → PartFound s scope b l k left at n (Full at) b l k

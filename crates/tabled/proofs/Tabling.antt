@@ -21,6 +21,7 @@ use Rattle.sheet.proofs.NameList.{NamesRead, names-read, extends-first}
 use Rattle.sheet.proofs.Right.{SheetRead, sheet-all}
 use Rattle.sheet.proofs.Sound.{sound}
 use Rattle.tabled.proofs.Shows.{shows-whole}
+use Rattle.tabled.proofs.Seating.{seats-whole}
 use Rattle.tabled.proofs.Noting.{notes-whole}
 use Rattle.tabled.proofs.weights.Weights.{weights-whole}
 use Rattle.sheet.proofs.Whole.{sheet-refused}
@@ -51,6 +52,7 @@ module _ (ed : Edition) (s t u : List ℕ) (blank : Blank t) where
         rooted = omega (arith, R .long, S .forward, S .inside, length-drop root s,
           sym (length-drop 2 s) ∙ ap length bytes ∙ length-append (encodeNames ns) (drop root s));
         shown = shows-whole (numbersAt s) s ns (R .short) p t (blank .long);
+        seats = seats-whole (numbersAt s) s ns (R .short) p t (blank .long);
         notes = λ id h. notes-whole (numbersAt s) s ns (R .short) id h p t blank;
         weighs = W .0;
         marked = W .1 })

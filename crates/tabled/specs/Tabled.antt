@@ -1,6 +1,6 @@
--- What reading a sheet leaves: the sheet is in order but for its size, the table shows its term, the uses of its names
--- are noted, its weight stands in the first form, held at 4,097, and its parts are marked. Only inner contracts cite
--- it.
+-- What reading a sheet leaves: the sheet is in order but for its size, the table shows its term, with a row at the
+-- place of each record's kind byte, the uses of its names are noted, its weight stands in the first form, held at
+-- 4,097, and its parts are marked. Only inner contracts cite it.
 use Prim.Native.Nat.{ℕ, _≤_, _<_}
 use mathlib.Core.Path.{_≡_}
 use mathlib.Core.List.{List, []}
@@ -24,6 +24,7 @@ use Rattle.procedures.specs.Uses.{uses}
 use Rattle.sheet.specs.Encoding.{headingLength}
 use Rattle.sheet.specs.Reader.{numbersAt, readUnder, accepted, rejected}
 use Rattle.sheet.specs.table.Notes.{isNoted}
+use Rattle.tabled.specs.Seats.{Seated}
 use Rattle.sheet.specs.declared.names.Reading.{Reading}
 use Rattle.sheet.specs.declared.names.Reading.the-variants.{Sheet, Refused}
 
@@ -51,6 +52,7 @@ pub record Tabled (ed : Edition) (s : List ℕ) (root ty next : ℕ) (u : List �
   pub shallow : depth (sheet .term) ≤ 32
   pub rooted : root ≡ headingLength sheet
   pub shown : Shown (numbersAt s) (sheet .names) u whole places root next (sheet .term)
+  pub seats : Seated (sheet .names) u [] root (sheet .term)
   pub notes : (id : ℕ) → id < 256 → isNoted u id ≡ uses (sheet .names) id [] (sheet .term)
   pub weighs : formWord u 0 1 ≡ held (formOf (numbersAt s) (sheet .names) [] no-forms (sheet .term) .constant)
   pub marked : Marked (numbersAt s) (sheet .names) u (marksIn u) whole root (sheet .term)

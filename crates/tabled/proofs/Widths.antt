@@ -1,5 +1,5 @@
 -- The widths of records are the lengths of their bytes.
-use Prim.Native.Nat.{ℕ, zero, suc, _+_, _*_}
+use Prim.Native.Nat.{ℕ, zero, suc, _+_, _*_, _<_}
 use native.Mathlib.Omega.{arith}
 use mathlib.Core.Path.{_≡_, refl, ap}
 use mathlib.Core.List.{List, [], _∷_, _++_}
@@ -41,6 +41,22 @@ mutual
   pub wides : (ws : Writtens) → length (encodes ws) ≡ widths ws
   wides none = refl
   wides (more w ws) = omega (arith, length-append (encode w) (encodes ws), wide w, wides ws)
+
+pub width-some : (W : Written) → 0 < width W
+unfolding width
+width-some skip = omega arith
+width-some (diverge ty) = omega arith
+width-some (truth b) = omega arith
+width-some (number b) = omega arith
+width-some (call id ws) = omega arith
+width-some (fetch v) = omega arith
+width-some (operate op x y) = omega arith
+width-some (assign x y) = omega arith
+width-some (sequence x y) = omega arith
+width-some (choose b x y) = omega arith
+width-some (while x y) = omega arith
+width-some (new id d c) = omega arith
+width-some (procedure id ty ps x y) = omega arith
 
 padded-length : (n : ℕ) (tys : List ℕ) → length (padded n tys) ≡ n
 unfolding padded

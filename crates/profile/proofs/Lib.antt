@@ -1,0 +1,11 @@
+pub mod Moves
+pub mod Pieces
+pub mod Insides
+pub mod Resolving
+pub mod Loud
+pub mod Walking
+pub mod Leaves
+pub mod Profiling
+pub mod Places
+pub mod Serving
+pub mod Worked

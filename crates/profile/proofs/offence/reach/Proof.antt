@@ -1,0 +1,32 @@
+use borrow.Author.Needs.{needs}
+use Rattle.profile.proofs.Leaves.{reach-inside, reach-opens, reach-outside}
+use Rattle.profile.proofs.offence.reach.Statement.{statement}
+use Rattle.profile.proofs.offence.reach.Tie as tie
+use Rattle.profile.proofs.offence.reach.Reads as reads
+use Rattle.profile.proofs.offence.reach.Lts as lts
+use Rattle.profile.proofs.offence.word_at.Reads as word-at-reads
+
+-- src/offence.rt:82:9
+returns : tie.Need-returns
+returns c = reach-inside _ _ _ (c .if1 .taken)
+
+-- src/offence.rt:84:8
+word-at-requires : tie.Need-word-at-requires
+word-at-requires c κs = search needs
+
+-- src/offence.rt:85:9
+word-at-requires-2 : tie.Need-word-at-requires-2
+word-at-requires-2 c κs = search needs
+
+-- src/offence.rt:85:9
+returns-2 : tie.Need-returns-2
+returns-2 c =
+    reach-opens _ _ _ _ _ (c .before .before .before .if1 .left) (c .before .before .word-at .ensures .0)
+    (c .before .if2 .taken) (c .word-at2 .ensures .0)
+
+-- src/offence.rt:77:1
+returns-3 : tie.Need-returns-3
+returns-3 c = reach-outside _ _ _ _ (c .before .before .if1 .left) (c .before .word-at .ensures .0) (c .if2 .left)
+
+pub reach-spec : {M : Type 1} → statement M
+reach-spec = tie.close (tie.spec returns word-at-requires word-at-requires-2 returns-2 returns-3)

@@ -1,0 +1,122 @@
+// The first record that offends against the profile, in one pass over the records of a sheet. The table says of each
+// where its part ends and the class of its type.
+use part_rows::row::CLASS;
+use part_rows::row::END;
+use part_rows::row::TABLE;
+use part_rows::row::WORDS;
+use records::kind::PROCEDURE;
+use records::kind::SEQUENCE;
+use records::kind::USE;
+use records::kind::body_of;
+use records::read::byte_at;
+use records::read::short_at;
+ghost use mathlib.Core.Path.{_≡_};
+ghost use Prim.Native.Nat.{_≤_, _<_};
+ghost use lib.ListN.{length};
+ghost use Rattle.part_rows.specs.Row.{word};
+ghost use Rattle.profile.specs.Pass.{loudFrom, loudAt, reachAt, offendsAt, Finds};
+
+// What the pass finds: no record that offends, or the place of the first.
+pub enum Offence {
+    Nothing,
+    At(usize),
+}
+
+// The class of expressions.
+const EXPRESSIONS: usize = 1;
+
+// How many arguments a use may have, and its bytes before them.
+const ARGUMENTS: usize = 4;
+
+const USE_BYTES: usize = 2;
+
+// Word i of the row at a place.
+fn word_at(t: &[u16], at: usize, i: usize) -> usize
+    requires { ⌜ (at < 65536) × (i < 9) ⌝ }
+    ensures { λ r. ⌜ (r ≡ word (now (t .entry)) at i) × (r < 65536) ⌝ }
+{
+    short_at(t, WORDS * at + i) as usize
+}
+
+// Whether one of at most `left` arguments, which stand from one place up to another, is no expression. The classes
+// looked at are those of the arguments; what offends is defined by the types that are declared (`loudUse`). In an
+// accepted sheet these are the same: so says `Finds`.
+fn any_loud(t: &[u16], left: usize, at: usize, end: usize) -> bool
+    requires { ⌜ at < 65536 ⌝ }
+    ensures { λ r. ⌜ r ≡ loudFrom (now (t .entry)) left at end ⌝ }
+{
+    if left == 0 {
+        return false;
+    }
+    if end <= at {
+        return false;
+    }
+    if word_at(t, at, CLASS) != EXPRESSIONS {
+        return true;
+    }
+    let next = word_at(t, at, END);
+    any_loud(t, left - 1, next, end)
+}
+
+// Whether the record of a kind at a place may not stand inside an expression.
+fn is_loud(t: &[u16], at: usize, kind: u8) -> bool
+    requires { ⌜ at ≤ 4096 ⌝ }
+    ensures { λ r. ⌜ r ≡ loudAt (now (t .entry)) at kind ⌝ }
+{
+    if kind == SEQUENCE {
+        return true;
+    }
+    if kind == PROCEDURE {
+        return true;
+    }
+    if kind == USE {
+        let end = word_at(t, at, END);
+        return any_loud(t, ARGUMENTS, at + USE_BYTES, end);
+    }
+    false
+}
+
+// Where the outermost expression ends that has the record at a place, or the last one before it, which ended at
+// `until`.
+fn reach(t: &[u16], at: usize, until: usize) -> usize
+    requires { ⌜ at ≤ 4096 ⌝ }
+    ensures { λ r. ⌜ r ≡ reachAt (now (t .entry)) at until ⌝ }
+{
+    if at < until {
+        return until;
+    }
+    if word_at(t, at, CLASS) == EXPRESSIONS {
+        return word_at(t, at, END);
+    }
+    until
+}
+
+// Whether the record of a kind at a place offends, where the outermost expression around it, or the last one before it,
+// ends at `until`.
+fn offends(t: &[u16], at: usize, until: usize, kind: u8) -> bool
+    requires { ⌜ at ≤ 4096 ⌝ }
+    ensures { λ r. ⌜ r ≡ offendsAt (now (t .entry)) at until kind ⌝ }
+{
+    if until <= at {
+        return false;
+    }
+    is_loud(t, at, kind)
+}
+
+// The first record that offends, of a sheet whose term is at `root`.
+pub(crate) fn first_offence(s: &[u8], t: &[u16; TABLE], root: usize) -> Offence
+    requires { ⌜ length (now s) ≤ 4096 ⌝ }
+    ensures { λ r. ⌜ Finds (now (s .entry)) (now (t .entry)) root r ⌝ }
+{
+    let mut at = root;
+    let mut until = 0;
+    while at < s.len() {
+        let kind = byte_at(s, at);
+        until = reach(t, at, until);
+        if offends(t, at, until, kind) {
+            return Offence::At(at);
+        }
+        at += 1 + body_of(kind);
+    }
+    Offence::Nothing
+}
