@@ -1,5 +1,5 @@
-/* Negyvosal: checks, profiles, follows, compares, looks through and renumbers routines written as sheets. For C and
- * C++; link libabi.a. */
+/* Negyvosal: checks, profiles, follows, compares, looks through and renumbers routines written as sheets, and makes a
+ * card for each. For C and C++; link libabi.a. */
 #ifndef NEGYVOSAL_H
 #define NEGYVOSAL_H
 
@@ -21,6 +21,7 @@ extern "C" {
  *   NEGYVOSAL_APART (4)      sheet      moves low    moves high   0             compare, look
  *   NEGYVOSAL_RENUMBERED (5) changes    0            0            0             renumber
  *   NEGYVOSAL_SO_FAR (6)     0          looked low   looked high  0             look
+ *   NEGYVOSAL_CARD (7)       0          length low   length high  0             card
  *
  * Words 5 to 7 tell of the names that the sheet checked or the old sheet uses, words 8 to 10 of those of the new sheet:
  *
@@ -42,14 +43,16 @@ extern "C" {
  * looked:   how many moves were looked through: where they are the same s + t - 1, for sheets of sizes s and t; where
  *           they are the same so far the caller's limit. Where they are apart it is the play's own number, moves.
  * changes:  how many ids that a new, a procedure or a parameter binds are others in the sheet written, at most 254.
+ * length:   how many bytes the card has, at the start of `space`.
  * mark:     a bit for each name record of the sheet, the first record lowest, set where some use in the sheet means that
  *           name. A retirement has a bit too, which is never set.
  * used:     how many bits of the mark are set.
  * unused:   the number of the first declared record whose bit is not set, counted from 0, or 32.
  *
- * A place, a count, a number of moves and one of moves looked through are 64-bit: the low and the high half, in that
- * order. NEGYVOSAL_WHOLE puts them together. A place in a sheet is at most 4,096, a number of moves and one of moves
- * looked through at most 8,191; in a play of 4 GiB and more a place and a count may need both.
+ * A place, a count, a number of moves, one of moves looked through and a length are 64-bit: the low and the high half,
+ * in that order. NEGYVOSAL_WHOLE puts them together. A place in a sheet is at most 4,096, a number of moves and one of
+ * moves looked through at most 8,191, a length at most 2,097,152; in a play of 4 GiB and more a place and a count may
+ * need both.
  */
 #define NEGYVOSAL_WORDS 11
 #define NEGYVOSAL_WHOLE(low, high) ((uint64_t)(high) << 32 | (low))
@@ -90,6 +93,7 @@ extern "C" {
 #define NEGYVOSAL_APART 4
 #define NEGYVOSAL_RENUMBERED 5
 #define NEGYVOSAL_SO_FAR 6
+#define NEGYVOSAL_CARD 7
 
 #define NEGYVOSAL_OLD 0
 #define NEGYVOSAL_NEW 1
@@ -98,11 +102,19 @@ extern "C" {
 /* Working words for each position counted, where Z, the first byte of a sheet, is z: it is from 1 to 31. */
 #define NEGYVOSAL_STATE_WORDS(z) ((size_t)((z) > 7 ? 128 : 32))
 
-/* Working words that follow needs for a sheet of size s, and compare and look for sheets of sizes s and t; and the
- * bytes of play space that compare and look need. Sheets that are compared have the same z, or are refused by 12. */
+/* Working words that follow and card need for a sheet of size s, and compare and look for sheets of sizes s and t; and
+ * the bytes of play space that compare and look need. Sheets that are compared have the same z, or are refused by 12. */
 #define NEGYVOSAL_FOLLOW_WORDS(z, s) (NEGYVOSAL_STATE_WORDS(z) * ((size_t)(s) + 1))
 #define NEGYVOSAL_COMPARE_WORDS(z, s, t) (NEGYVOSAL_STATE_WORDS(z) * ((size_t)(s) + (t) + 1))
 #define NEGYVOSAL_COMPARE_SPACE(s, t) (4 * ((size_t)(s) + (t) - 1))
+
+/* The bytes of card space that card needs for a sheet of size s. */
+#define NEGYVOSAL_CARD_SPACE(z, s) ((size_t)((z) > 7 ? 512 : 128) * (size_t)(s))
+
+/* The kinds of records in a card: a position; a move of it, and one with a value. */
+#define NEGYVOSAL_POSITION 40
+#define NEGYVOSAL_MOVE 41
+#define NEGYVOSAL_VALUED_MOVE 42
 
 /* The bytes of the list that renumber needs, and how many of them a change has. */
 #define NEGYVOSAL_LIST 1020
@@ -156,6 +168,21 @@ uint32_t negyvosal_look(const uint8_t *old_sheet, size_t old_length, const uint8
  * place 0, sheet NEGYVOSAL_BOTH. */
 uint32_t negyvosal_renumber(const uint8_t *sheet, size_t sheet_length, uint8_t *output, size_t output_length,
                             uint8_t *list, size_t list_length, uint32_t *out, size_t out_length);
+
+/* Makes the card of a sheet, at the start of `space`; the rest of `space` is as it was. Two sheets that compare accepts
+ * have equal cards exactly if it calls them the same.
+ *
+ * A card is the heading, all bytes of the sheet up to its term; one byte, the result type; then the positions of the
+ * smallest table that has exactly the complete plays of the sheet, no position with the same move twice. They are
+ * numbered from 0, in the order of the first beginning of a play that leads to each. A position is NEGYVOSAL_POSITION
+ * and one byte, 1 for the end and else 0; then its moves in the order of moves, each NEGYVOSAL_MOVE, the move record
+ * (kind, id, argument) and the number of the position it leads to in two bytes, low byte first; or
+ * NEGYVOSAL_VALUED_MOVE, the same with the value before the position. A sheet without complete plays has no positions.
+ *
+ * `words` must have NEGYVOSAL_FOLLOW_WORDS(z, s) words, else number 13, and `space` NEGYVOSAL_CARD_SPACE(z, s) bytes,
+ * else number 14, both at place 0, sheet NEGYVOSAL_BOTH. */
+uint32_t negyvosal_card(const uint8_t *sheet, size_t sheet_length, uint32_t *words, size_t words_length, uint8_t *space,
+                        size_t space_length, uint32_t *out, size_t out_length);
 
 #ifdef __cplusplus
 }

@@ -25,9 +25,10 @@ pub const APART: u32 = 4;
 pub const RENUMBERED: u32 = 5;
 /// The same so far: of a look only.
 pub const SO_FAR: u32 = 6;
+pub const CARD: u32 = 7;
 
-/// The working words for each position counted, where Z, the first byte of a sheet, is `z`. Follow needs them for its
-/// size and one position more, compare and look for both sizes and one more.
+/// The working words for each position counted, where Z, the first byte of a sheet, is `z`. Follow and card need them
+/// for its size and one position more, compare and look for both sizes and one more.
 pub const fn state_words(z: u8) -> usize {
     if z > 7 {
         128
@@ -35,6 +36,17 @@ pub const fn state_words(z: u8) -> usize {
         32
     }
 }
+
+/// The bytes of card space that card needs for a sheet of that size, where its Z is `z`.
+pub const fn card_space(z: u8, size: usize) -> usize {
+    let each = if z > 7 { 512 } else { 128 };
+    each * size
+}
+
+/// The kinds of records in a card: a position; a move of it, and one with a value.
+pub const POSITION: u8 = 40;
+pub const MOVE: u8 = 41;
+pub const VALUED_MOVE: u8 = 42;
 
 extern "C" {
     pub fn negyvosal_check(sheet: *const u8, sheet_length: usize, out: *mut u32, out_length: usize) -> u32;
@@ -87,6 +99,18 @@ extern "C" {
         output_length: usize,
         list: *mut u8,
         list_length: usize,
+        out: *mut u32,
+        out_length: usize,
+    ) -> u32;
+
+    /// The card stands at the start of `space`.
+    pub fn negyvosal_card(
+        sheet: *const u8,
+        sheet_length: usize,
+        words: *mut u32,
+        words_length: usize,
+        space: *mut u8,
+        space_length: usize,
         out: *mut u32,
         out_length: usize,
     ) -> u32;

@@ -1,5 +1,6 @@
 //! Random cases of the services.
 
+pub mod cards;
 mod counter;
 mod damage;
 pub mod deep;
@@ -10,7 +11,7 @@ pub mod names;
 pub mod near;
 mod pairs;
 pub mod parts;
-mod plays;
+pub mod plays;
 pub mod procedures;
 pub mod quiet;
 pub mod renumber;
@@ -53,6 +54,12 @@ pub enum Case {
         list: usize,
     },
     Parts(OnePart),
+    /// `words` and `space` are the working words and the bytes of card space lent.
+    Card {
+        sheet: Vec<u8>,
+        words: usize,
+        space: usize,
+    },
 }
 
 pub fn case(random: &mut Random) -> Case {

@@ -1,9 +1,9 @@
 //! The proved library through its C boundary. Every call tests that the library changes nothing but what it may.
 
 pub use crate::boundary::WORDS;
-use crate::boundary::{negyvosal_check, negyvosal_compare, negyvosal_follow, negyvosal_look};
+use crate::boundary::{negyvosal_card, negyvosal_check, negyvosal_compare, negyvosal_follow, negyvosal_look};
 use crate::boundary::{negyvosal_profile, negyvosal_renumber};
-use crate::boundary::{ACCEPTED, APART, FOLLOWS, REFUSED, RENUMBERED, SAME, SO_FAR};
+use crate::boundary::{ACCEPTED, APART, CARD, FOLLOWS, REFUSED, RENUMBERED, SAME, SO_FAR};
 use crate::boundary::{NEW_MARK, NEW_UNUSED, NEW_USED, OLD_MARK, OLD_UNUSED, OLD_USED};
 use crate::mark::Mark;
 use crate::services::{listed, records, Answer};
@@ -134,19 +134,19 @@ pub fn follow(sheet: &[u8], play: &[u8], words: usize, room: usize) -> Result<Wo
     Ok(got)
 }
 
-/// What compare and look give: the words of the answer, and play space.
+/// What compare, look and card give: the words of the answer, and play space or card space.
 pub struct Compared {
     pub words: Words,
     space: Lent<u8>,
 }
 
 impl Compared {
-    /// Play space starts with these bytes, and the rest of it is untouched.
+    /// The space starts with these bytes, and the rest of it is untouched.
     pub fn expect_space(&self, first: &[u8]) -> Result<(), String> {
         self.space.expect(first)
     }
 
-    /// Play space as it is now.
+    /// The space as it is now.
     pub fn space(&self) -> &[u8] {
         self.space.now()
     }
@@ -204,6 +204,30 @@ pub fn look(old: &[u8], new: &[u8], limit: u64, words: usize, space: usize, room
     };
     old.expect(&[])?;
     new.expect(&[])?;
+    let got = answer(told, &out)?;
+    expect_words(&words, got[0] != REFUSED)?;
+    Ok(Compared { words: got, space })
+}
+
+pub fn card(sheet: &[u8], words: usize, space: usize, room: usize) -> Result<Compared, String> {
+    let sheet = lent_bytes("sheet", sheet);
+    let mut words = lent_words("words", words);
+    let mut space = lent_space("space", space);
+    let mut out = lent_words("out", room);
+    // SAFETY: every pointer is to as many elements as its length says, and none overlap.
+    let told = unsafe {
+        negyvosal_card(
+            sheet.start(),
+            sheet.length(),
+            words.start_mut(),
+            words.length(),
+            space.start_mut(),
+            space.length(),
+            out.start_mut(),
+            out.length(),
+        )
+    };
+    sheet.expect(&[])?;
     let got = answer(told, &out)?;
     expect_words(&words, got[0] != REFUSED)?;
     Ok(Compared { words: got, space })
@@ -281,6 +305,10 @@ pub fn words_of(answer: &Answer) -> Words {
             words([if *same { SAME } else { SO_FAR }, 0, low, high, 0], marks)
         }
         Answer::Renumbered { changes, .. } => words([RENUMBERED, changes.len() as u32, 0, 0, 0], &[]),
+        Answer::Carded { card } => {
+            let [low, high] = halves(card.len());
+            words([CARD, 0, low, high, 0], &[])
+        }
         Answer::Unknown => [u32::MAX; WORDS],
     }
 }
@@ -300,10 +328,11 @@ fn words(first: [u32; OLD_MARK], marks: &[Mark]) -> Words {
     words
 }
 
-/// The bytes that an answer should write into play space.
+/// The bytes that an answer should write into play space or card space.
 pub fn bytes_of(answer: &Answer) -> Vec<u8> {
     match answer {
         Answer::Apart { play, .. } => records(play),
+        Answer::Carded { card } => card.clone(),
         _ => vec![],
     }
 }

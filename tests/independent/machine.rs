@@ -384,6 +384,19 @@ impl Machine {
         Machine { moves, all_moves, left, reached }
     }
 
+    /// The machine of a table of states, the first of them before the first move, with the moves of each in document
+    /// 01's order. Where there is no state it has no play.
+    pub fn of_table(mut table: Vec<Vec<(Move, usize)>>, end: Option<usize>) -> Machine {
+        if table.is_empty() {
+            table.push(vec![]);
+        }
+        let all_moves: Vec<Vec<(Move, Option<usize>)>> =
+            table.iter().map(|leaving| leaving.iter().map(|&(m, to)| (m, Some(to))).collect()).collect();
+        let left = left_to_end(&all_moves, end);
+        let reached = table.len();
+        Machine { moves: table, all_moves, left, reached }
+    }
+
     /// The state before the first move, or none where the sheet has no complete play.
     pub fn start(&self) -> Option<usize> {
         self.left[Machine::FIRST].map(|_| Machine::FIRST)

@@ -10,11 +10,13 @@
 //! After the word `procedures`, `random` and `write` have cases with procedures, kind 28 of document 02; after the word
 //! `renumber`, sheets to renumber; after the word `names`, sheets with many name records, of which some are used; after
 //! the word `parts`, sheets that differ in one part, and the parts as sheets of their own; with
-//! the word `quiet`, sheets in which few records or none offend against the profile.
+//! the word `quiet`, sheets in which few records or none offend against the profile; with the word `cards`, sheets of
+//! all sizes to make cards of, and pairs of sheets that may have one card.
 
 #[allow(dead_code)]
 #[path = "../../include/negyvosal.rs"]
 mod boundary;
+mod card;
 mod cases;
 mod compare;
 mod generate;
@@ -43,7 +45,7 @@ use cases::Case;
 use random::Random;
 use std::process::ExitCode;
 
-const USAGE: &str = "usage: independent [procedures | renumber | names | parts | quiet] \
+const USAGE: &str = "usage: independent [procedures | renumber | names | parts | quiet | cards] \
     vectors FILE... | random SEED COUNT | near SEED COUNT | write SEED COUNT | stack FILE... | \
     compare OLD NEW [WORDS SPACE]";
 
@@ -62,6 +64,7 @@ fn run(arguments: &[String]) -> Result<bool, String> {
         Some((word, rest)) if word == "names" => run_mode(rest, cases::names::case),
         Some((word, rest)) if word == "parts" => run_mode(rest, cases::parts::case),
         Some((word, rest)) if word == "quiet" => run_mode(rest, cases::quiet::case),
+        Some((word, rest)) if word == "cards" => run_mode(rest, cases::cards::case),
         _ => run_mode(arguments, cases::case),
     }
 }

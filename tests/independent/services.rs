@@ -1,6 +1,7 @@
-//! The three services of document 01, and the renumbering, the look and the profile of document 02: their refusals in
-//! order, their answers, and how they are printed.
+//! The three services of document 01, and the renumbering, the look, the profile and the card of document 02: their
+//! refusals in order, their answers, and how they are printed.
 
+use crate::card::{positions, written};
 use crate::compare::{first_difference, Difference};
 use crate::look::{walk, Sight};
 use crate::machine::{Machine, Move};
@@ -68,6 +69,9 @@ pub enum Answer {
         sheet: Vec<u8>,
         changes: Vec<Change>,
     },
+    Carded {
+        card: Vec<u8>,
+    },
     /// No answer of document 01: the search over pairs was given up.
     Unknown,
 }
@@ -110,6 +114,12 @@ pub fn words_to_compare(z: i8, old: u64, new: u64) -> u64 {
     words_each(z) * (old + new + 1)
 }
 
+/// The bytes of card space that card needs.
+pub fn space_for_card(z: i8, size: u64) -> u64 {
+    let each = if z > 7 { 512 } else { 128 };
+    each * size
+}
+
 /// The bytes of play space that compare needs.
 pub fn space_to_compare(old: u64, new: u64) -> u64 {
     4 * (old + new - 1)
@@ -130,6 +140,30 @@ pub fn follow(bytes: &[u8], play: &[u8], words: usize) -> Answer {
             Answer::Followed { count, complete }
         }
     }
+}
+
+/// `words` and `space` are the working words and the bytes of card space lent.
+pub fn card(bytes: &[u8], words: usize, space: usize) -> Answer {
+    let sheet = match read(bytes) {
+        Err(fault) => return refused(fault, Which::Old),
+        Ok(sheet) => sheet,
+    };
+    let z = sheet.heading.numbers.z;
+    if (words as u64) < words_to_follow(z, sheet.size) {
+        return refused_both(13);
+    }
+    if (space as u64) < space_for_card(z, sheet.size) {
+        return refused_both(14);
+    }
+    Answer::Carded { card: card_of(bytes, &sheet) }
+}
+
+/// The card of an accepted sheet with these bytes: the heading, the type and the table.
+pub fn card_of(bytes: &[u8], sheet: &Sheet) -> Vec<u8> {
+    let mut card = bytes[..sheet.heading_length].to_vec();
+    card.push(sheet.term.gives.byte());
+    card.extend(written(&positions(&Machine::of(sheet))));
+    card
 }
 
 /// The moves of a play, or the place of its first bad record.
@@ -277,6 +311,7 @@ pub fn text(answer: &Answer) -> String {
         Answer::Renumbered { sheet, changes } => {
             format!("renumbered {}\nsheet {}\nlist {}\n", changes.len(), hex(sheet), hex(&listed(changes)))
         }
+        Answer::Carded { card } => format!("card {}\n{}\n", card.len(), hex(card)),
         Answer::Unknown => "unknown\n".to_string(),
     }
 }

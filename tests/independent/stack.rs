@@ -6,7 +6,7 @@ use crate::library::{self, bytes_of, words_of, Words, WORDS};
 use crate::machine::{Machine, Move};
 use crate::reader::read;
 use crate::renumber::LIST;
-use crate::services::{self, space_to_compare, words_to_compare, words_to_follow, Answer};
+use crate::services::{self, space_for_card, space_to_compare, words_to_compare, words_to_follow, Answer};
 
 /// Bytes of the small stack: what a thread of Rust has where nothing is said.
 const STACK: usize = 2 << 20;
@@ -60,6 +60,7 @@ fn run_sheet(sheet: &[u8]) -> Result<(), String> {
     let words = words_to_follow(z, size) as usize;
     let answer = services::follow(sheet, &play, words);
     expect("follow", &answer, answered(|| library::follow(sheet, &play, words, WORDS))?)?;
+    run_card(sheet, words, space_for_card(z, size) as usize)?;
     run_pair(sheet, sheet, words_to_compare(z, size, size) as usize, space_to_compare(size, size) as usize)
 }
 
@@ -68,6 +69,13 @@ fn run_renumber(sheet: &[u8]) -> Result<(), String> {
     let got = answered(|| library::renumber(sheet, sheet.len(), LIST, WORDS))?;
     expect("renumber", &answer, got.words)?;
     got.expect(&answer)
+}
+
+fn run_card(sheet: &[u8], words: usize, space: usize) -> Result<(), String> {
+    let answer = services::card(sheet, words, space);
+    let got = answered(|| library::card(sheet, words, space, WORDS))?;
+    expect("card", &answer, got.words)?;
+    got.expect_space(&bytes_of(&answer))
 }
 
 fn run_pair(old: &[u8], new: &[u8], words: usize, space: usize) -> Result<(), String> {

@@ -1,5 +1,6 @@
 //! Runs random cases through the services here and through the library, and reports where they disagree.
 
+mod cards;
 mod parts;
 
 use crate::cases::parts::OnePart;
@@ -14,10 +15,14 @@ use crate::renumber::LIST;
 use crate::services::{self, Answer, Marks, Which};
 use crate::sheet::{written, Record, Type};
 use crate::vectors::hex;
+use cards::CardCounts;
 use parts::PartCounts;
 
 /// The number of the refusal of a use of a retired id.
 const RETIRED: u32 = 6;
+
+/// The number of the refusal of two sheets with different headings or types.
+const UNLIKE: u32 = 12;
 
 /// The most pairs that one comparison visits.
 const MOST_PAIRS: usize = 300_000;
@@ -64,6 +69,7 @@ struct Counts {
     /// Comparisons in which some silent walk goes round for ever.
     rounds: usize,
     parts: PartCounts,
+    cards: CardCounts,
 }
 
 impl Counts {
@@ -91,7 +97,7 @@ impl Counts {
                 self.unlike_marks += (old != new) as usize;
                 self.longest_play = self.longest_play.max(play.len());
             }
-            Answer::Looked { .. } => {}
+            Answer::Looked { .. } | Answer::Carded { .. } => {}
             Answer::Renumbered { changes, .. } => {
                 self.renumbered += 1;
                 self.most_changes = self.most_changes.max(changes.len());
@@ -123,6 +129,7 @@ impl Counts {
         println!("renumber: {} renumbered, {} of them unaltered", self.renumbered, self.unaltered);
         println!("renumber: up to {} changes", self.most_changes);
         self.parts.print();
+        self.cards.print();
         println!("refused, by number: {}", by_number(&self.refused));
     }
 }
@@ -162,6 +169,7 @@ fn shown(case: &Case) -> String {
             format!("compare {} and {} words {words} space {space}", hex(old), hex(new))
         }
         Case::Renumber { sheet, output, list } => format!("renumber {} output {output} list {list}", hex(sheet)),
+        Case::Card { sheet, words, space } => format!("card {} words {words} space {space}", hex(sheet)),
         Case::Parts(OnePart { wholes: [old, new], place, parts: [part_old, part_new], .. }) => {
             let parts = format!("parts {} and {}", hex(part_old), hex(part_new));
             format!("{parts} at {place} of {} and {}", hex(old), hex(new))
@@ -190,6 +198,7 @@ fn run_case(case: &Case, room: usize, counts: &mut Counts) -> Result<(), String>
                 Ok((a, b)) => {
                     run_compare(&a, &b, *alike, &got, counts)?;
                     expect_once(&a, &b, &got, room, counts)?;
+                    cards::expect_doubles(old, new, &got, room, counts)?;
                     let call = |limit| library::look(old, new, limit, *words, *space, room);
                     run_looks(&a, &b, &got, call, counts)
                 }
@@ -197,6 +206,9 @@ fn run_case(case: &Case, room: usize, counts: &mut Counts) -> Result<(), String>
                     counts.note(&answer);
                     expect_words(&answer, got.words)?;
                     got.expect_space(&[])?;
+                    if matches!(answer, Answer::Refused { number: UNLIKE, .. }) {
+                        cards::expect_doubles(old, new, &got, room, counts)?;
+                    }
                     let got = library::look(old, new, *words as u64, *words, *space, room)?;
                     expect_words(&answer, got.words)?;
                     got.expect_space(&[])
@@ -212,6 +224,7 @@ fn run_case(case: &Case, room: usize, counts: &mut Counts) -> Result<(), String>
             expect_renumbered(sheet, &answer)
         }
         Case::Parts(case) => parts::run(case, room, counts),
+        Case::Card { sheet, words, space } => cards::run(sheet, *words, *space, room, counts),
     }
 }
 

@@ -159,6 +159,10 @@ fn outcome(case: &Case) -> Result<String, String> {
             let (limit, words, space) = (number(case, "limit")?, number(case, "words")?, number(case, "space")?);
             Ok(services::look_text(&part("old")?, &part("new")?, limit as u64, words, space))
         }
+        "card" => {
+            let (words, space) = (number(case, "words")?, number(case, "space")?);
+            Ok(services::text(&services::card(&part("sheet")?, words, space)))
+        }
         "renumber" => {
             let (output, list) = (number(case, "out")?, number(case, "list")?);
             Ok(services::text(&services::renumber(&part("sheet")?, output, list)))
@@ -221,6 +225,10 @@ pub fn line(case: &cases::Case) -> String {
         cases::Case::Renumber { sheet, output, list } => (
             format!("\"renumber\", \"sheet\": \"{}\", \"out\": {output}, \"list\": {list}", hex(sheet)),
             services::text(&services::renumber(sheet, *output, *list)),
+        ),
+        cases::Case::Card { sheet, words, space } => (
+            format!("\"card\", \"sheet\": \"{}\", \"words\": {words}, \"space\": {space}", hex(sheet)),
+            services::text(&services::card(sheet, *words, *space)),
         ),
         cases::Case::Parts(OnePart { wholes: [old, new], place, parts: [part_old, part_new], .. }) => (
             format!(

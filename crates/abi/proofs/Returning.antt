@@ -12,9 +12,12 @@ use Rattle.comparer.specs.declared.Comparison.{Comparison}
 use Rattle.comparer.specs.declared.Looking.{Looking}
 use Rattle.renumbering.specs.Outcome.{RenumberPromise}
 use Rattle.renumbering.specs.declared.renumber.Renumbered.{Renumbered}
+use Rattle.cards.specs.Promise.{CardPromise}
+use Rattle.cards.specs.declared.Carding.{Carding}
 use Rattle.answers.specs.Words.{answer-words, checkWords, followWords, compareWords, lookWords, renumberWords}
-use Rattle.answers.specs.Words.{answered, status}
-use Rattle.abi.specs.Returned.{FollowReturned, CompareReturned, LookReturned, RenumberReturned, answers}
+use Rattle.answers.specs.Words.{cardWords, answered, status}
+use Rattle.abi.specs.Returned.{FollowReturned, CompareReturned, LookReturned, RenumberReturned, CardReturned}
+use Rattle.abi.specs.Returned.{answers}
 
 -- check's answer, by what check gives
 pub check-returned : (out out′ : List ℕ) (r y : Checked) (x : ℕ) → r ≡ y → x ≡ status out →
@@ -48,4 +51,11 @@ pub renumber-returned : (s output list out output′ list′ out′ : List ℕ) 
   out′ ≡ answered (renumberWords a) out → RenumberReturned s output list out x output′ list′ out′
 unfolding status answered
 renumber-returned s output list out output′ list′ out′ x a h p t w =
+    answers a h (rw (le-ltb (length out) answer-words h) at t) p (rw (le-ltb (length out) answer-words h) at w)
+
+pub card-returned : (s ws space out ws′ space′ out′ : List ℕ) (x : ℕ) (a : Carding) → answer-words ≤ length out →
+  CardPromise s ws space a ws′ space′ → x ≡ status out → out′ ≡ answered (cardWords a) out →
+  CardReturned s ws space out x ws′ space′ out′
+unfolding status answered
+card-returned s ws space out ws′ space′ out′ x a h p t w =
     answers a h (rw (le-ltb (length out) answer-words h) at t) p (rw (le-ltb (length out) answer-words h) at w)

@@ -1,5 +1,6 @@
--- What the boundary promises of follow, compare, look and renumber: where fewer words are lent than an answer has, 0, and
--- nothing changes; else 1, the answer in the first words of `out`, and what the service promises of all else.
+-- What the boundary promises of follow, compare, look, renumber and card: where fewer words are lent than an answer
+-- has, 0, and nothing changes; else 1, the answer in the first words of `out`, and what the service promises of all
+-- else.
 use mathlib.Core.Path.{_≡_}
 use mathlib.Core.List.{List, _++_}
 use Prim.Native.Nat.{ℕ, _≤_, _<_}
@@ -11,7 +12,9 @@ use Rattle.comparer.specs.declared.Comparison.{Comparison}
 use Rattle.comparer.specs.declared.Looking.{Looking}
 use Rattle.renumbering.specs.Outcome.{RenumberPromise}
 use Rattle.renumbering.specs.declared.renumber.Renumbered.{Renumbered}
-use Rattle.answers.specs.Words.{answer-words, followWords, compareWords, lookWords, renumberWords}
+use Rattle.cards.specs.Promise.{CardPromise}
+use Rattle.cards.specs.declared.Carding.{Carding}
+use Rattle.answers.specs.Words.{answer-words, followWords, compareWords, lookWords, renumberWords, cardWords}
 
 pub data FollowReturned (s play ws out : List ℕ) (r : ℕ) (ws′ out′ : List ℕ) : Type 0 where
   no-room : length out < answer-words → r ≡ 0 → ws′ ≡ ws → out′ ≡ out → FollowReturned s play ws out r ws′ out′
@@ -36,3 +39,9 @@ pub data RenumberReturned (s output list out : List ℕ) (r : ℕ) (output′ li
     RenumberReturned s output list out r output′ list′ out′
   answers : (a : Renumbered) → answer-words ≤ length out → r ≡ 1 → RenumberPromise s a output output′ list list′ →
     out′ ≡ renumberWords a ++ drop answer-words out → RenumberReturned s output list out r output′ list′ out′
+
+pub data CardReturned (s ws space out : List ℕ) (r : ℕ) (ws′ space′ out′ : List ℕ) : Type 0 where
+  no-room : length out < answer-words → r ≡ 0 → ws′ ≡ ws → space′ ≡ space → out′ ≡ out →
+    CardReturned s ws space out r ws′ space′ out′
+  answers : (a : Carding) → answer-words ≤ length out → r ≡ 1 → CardPromise s ws space a ws′ space′ →
+    out′ ≡ cardWords a ++ drop answer-words out → CardReturned s ws space out r ws′ space′ out′

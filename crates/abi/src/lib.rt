@@ -1,4 +1,5 @@
 // The services for callers in C and Rust. Each has its answer written as words (crate answers).
+use answers::card::answer_card;
 use answers::check::answer_check;
 use answers::compare::answer_compare;
 use answers::follow::answer_follow;
@@ -6,6 +7,7 @@ use answers::look::answer_look;
 use answers::renumber::answer_renumber;
 use answers::write::NO_ROOM;
 use answers::write::WORDS;
+use cards::card::card;
 use comparer::compare::compare;
 use comparer::follow::follow;
 use comparer::look::look;
@@ -17,7 +19,8 @@ ghost use Rattle.sheet.specs.Reader.{readSheet};
 ghost use Rattle.judge.specs.Check.{checkedOf};
 ghost use Rattle.profile.specs.Profile.{profiledOf};
 ghost use Rattle.answers.specs.Words.{checkWords, answered, status};
-ghost use Rattle.abi.specs.Returned.{FollowReturned, CompareReturned, LookReturned, RenumberReturned};
+ghost use Rattle.abi.specs.Returned.{FollowReturned, CompareReturned, LookReturned};
+ghost use Rattle.abi.specs.Returned.{RenumberReturned, CardReturned};
 
 // The service check: the answer in the first eleven words of out, and 1; or 0, with out as it was, where it has fewer.
 #[no_mangle]
@@ -117,4 +120,22 @@ pub extern "C" fn negyvosal_renumber(
     }
     let r = renumber(sheet, output, list);
     answer_renumber(out, r)
+}
+
+// The service card: likewise.
+#[no_mangle]
+pub extern "C" fn negyvosal_card(
+    sheet: &[u8],
+    words: &mut [u32],
+    space: &mut [u8],
+    out: &mut [u32],
+) -> u32
+    ensures { λ r. ⌜ CardReturned (now (sheet .entry)) (now (words .entry)) (now (space .entry)) (now (out .entry)) r
+        (now (words .exit)) (now (space .exit)) (now (out .exit)) ⌝ }
+{
+    if out.len() < WORDS {
+        return NO_ROOM;
+    }
+    let r = card(sheet, words, space);
+    answer_card(out, r)
 }

@@ -13,11 +13,14 @@ use Rattle.comparer.specs.declared.Comparison.{Comparison}
 use Rattle.comparer.specs.declared.Comparison.the-variants.{Same, Apart, Refused as NotCompared}
 use Rattle.comparer.specs.declared.Looking.{Looking}
 use Rattle.comparer.specs.declared.Looking.the-variants as looking
+use Rattle.cards.specs.declared.Carding.{Carding}
+use Rattle.cards.specs.declared.Carding.the-variants.{Card, Refused as NoCard}
 use Rattle.renumbering.specs.declared.renumber.Renumbered.{Renumbered}
 use Rattle.renumbering.specs.declared.renumber.Renumbered.the-variants.{Changed, Refused as NotRenumbered}
 use Rattle.answers.specs.Words.{kind-refused, kind-accepted, kind-follows, kind-same, kind-apart, kind-renumbered}
 use Rattle.answers.specs.Words.{lowHalf, highHalf, usesWords, no-uses, refusalWords, checkWords, followWords}
 use Rattle.answers.specs.Words.{compareWords, kind-so-far, lookWords, renumberWords, answered, status}
+use Rattle.answers.specs.Words.{kind-card, cardWords}
 
 -- an answer by other words for the same
 pub returned-as : (out out′ ws ws₂ : List ℕ) (x : ℕ) → ws ≡ ws₂ → x ≡ status out → out′ ≡ answered ws out →
@@ -102,3 +105,12 @@ words-renumbered r changes e = rw e refl
 pub words-not-renumbered : (r : Renumbered) (x : Cause) → r ≡ NotRenumbered x → refusalWords x ≡ renumberWords r
 unfolding renumberWords
 words-not-renumbered r x e = rw e refl
+
+pub words-card : (r : Carding) (length low high : ℕ) → r ≡ Card length → low ≡ lowHalf length → high ≡ highHalf length →
+  ((kind-card ∷ 0 ∷ low ∷ high ∷ 0 ∷ []) ++ no-uses ++ no-uses) ≡ cardWords r
+unfolding cardWords
+words-card r length low high e p q = rw (e, p, q) refl
+
+pub words-no-card : (r : Carding) (x : Cause) → r ≡ NoCard x → refusalWords x ≡ cardWords r
+unfolding cardWords
+words-no-card r x e = rw e refl

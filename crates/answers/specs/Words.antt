@@ -3,8 +3,8 @@
 -- Document 01, "Three services": "Check takes a sheet and gives its type and size"; follow gives "the greatest number
 -- of moves" and "whether the whole given play is complete"; compare gives ""same", or "apart" with the sheet that has
 -- the play, its number of moves"; "A refusal carries its number, which sheet, and the place". Document 02, [4]: of
--- renumber "the number of changes is given"; [6]: "Compare passes on both sheets' marks"; [9]: look "reports how many moves
--- were looked through".
+-- renumber "the number of changes is given"; [6]: "Compare passes on both sheets' marks"; [9]: look "reports how many
+-- moves were looked through"; [12]: "Make a card for each sheet and give its length".
 use Prim.Native.Nat.{ℕ, _+_, _*_, _/_, _%_}
 use mathlib.Core.Path.{_≡_}
 use mathlib.Core.List.{List, [], _∷_, _++_}
@@ -21,6 +21,8 @@ use Rattle.comparer.specs.declared.Comparison.{Comparison}
 use Rattle.comparer.specs.declared.Comparison.the-variants.{Same, Apart, Refused as NotCompared}
 use Rattle.comparer.specs.declared.Looking.{Looking}
 use Rattle.comparer.specs.declared.Looking.the-variants as looking
+use Rattle.cards.specs.declared.Carding.{Carding}
+use Rattle.cards.specs.declared.Carding.the-variants.{Card, Refused as NoCard}
 use Rattle.renumbering.specs.declared.renumber.Renumbered.{Renumbered}
 use Rattle.renumbering.specs.declared.renumber.Renumbered.the-variants.{Changed, Refused as NotRenumbered}
 
@@ -45,6 +47,9 @@ kind-renumbered = 5
 
 abbrev pub kind-so-far : ℕ
 kind-so-far = 6
+
+abbrev pub kind-card : ℕ
+kind-card = 7
 
 -- how many numbers a word of 32 bits can be
 abbrev pub word-values : ℕ
@@ -96,8 +101,8 @@ compareWords (Apart sheet moves old new) =
     (kind-apart ∷ sheet ∷ lowHalf moves ∷ highHalf moves ∷ 0 ∷ []) ++ usesWords old ++ usesWords new
 compareWords (NotCompared x) = refusalWords x
 
--- looked through: same, apart with the sheet, or same so far; how many moves were looked through, and the names that both
--- sheets use
+-- looked through: same, apart with the sheet, or same so far; how many moves were looked through, and the names that
+-- both sheets use
 unfoldable pub lookWords : Looking → List ℕ
 lookWords (looking.Same looked old new) =
     (kind-same ∷ 0 ∷ lowHalf looked ∷ highHalf looked ∷ 0 ∷ []) ++ usesWords old ++ usesWords new
@@ -111,6 +116,11 @@ lookWords (looking.Refused x) = refusalWords x
 unfoldable pub renumberWords : Renumbered → List ℕ
 renumberWords (Changed changes) = (kind-renumbered ∷ changes ∷ 0 ∷ 0 ∷ 0 ∷ []) ++ no-uses ++ no-uses
 renumberWords (NotRenumbered x) = refusalWords x
+
+-- the card: its length, how many bytes it has
+unfoldable pub cardWords : Carding → List ℕ
+cardWords (Card bytes) = (kind-card ∷ 0 ∷ lowHalf bytes ∷ highHalf bytes ∷ 0 ∷ []) ++ no-uses ++ no-uses
+cardWords (NoCard x) = refusalWords x
 
 -- the words lent, with an answer in the first of them; all as they were where there are too few
 unfoldable pub answered : List ℕ → List ℕ → List ℕ

@@ -12,3 +12,5 @@ pub(crate) const APART: u32 = 4;
 pub(crate) const RENUMBERED: u32 = 5;
 
 pub(crate) const SO_FAR: u32 = 6;
+
+pub(crate) const CARD: u32 = 7;

@@ -18,3 +18,5 @@ pub mod compare;
 pub mod look;
 // The answer of renumber.
 pub mod renumber;
+// The answer of card.
+pub mod card;

@@ -24,7 +24,7 @@ pub record OneReady (N : Numbers) (t : List ℕ) (root all : ℕ) (ws : List ℕ
   pub sized : size type term ≡ all
   pub room : words-asked N all ≤ length ws
 
--- the words hold its automaton of n states, settled; on average a state has at most (1 + K) / 2 edges
+-- the words hold its automaton of n states, settled; on average each but the dead one has at most (1 + K) / 2 edges
 pub record OneBuilt (N : Numbers) (T : Ty) (M : Term) (n : ℕ) (ws : List ℕ) : Type 0 where
   pub silent-words : List ℕ
   pub unsettled : List ℕ
@@ -33,7 +33,7 @@ pub record OneBuilt (N : Numbers) (T : Ty) (M : Term) (n : ℕ) (ws : List ℕ) 
   pub quiet : Silent n silent-words
   pub settled : Settling n silent-words unsettled (rest (5 * n) ws)
   pub barren : getD unsettled (n - 1) 0 ≡ getD unsettled n 0
-  pub few : 2 * getD unsettled n 0 ≤ (1 + numbers N) * n
+  pub few : 2 * getD unsettled n 0 ≤ (1 + numbers N) * size T M
 
 -- the same for two tables, whose terms have one type
 pub record TwoReady (N : Numbers) (t u : List ℕ) (root other all more : ℕ) (ws : List ℕ) : Type 0 where

@@ -5,7 +5,7 @@ ghost use Prim.Native.Nat.{_≤_};
 ghost use Rattle.build.specs.Lent.{words-asked};
 
 // The greatest Z for which the fewer words are asked for each state.
-const FEW_NUMBERS: u8 = 7;
+pub const FEW_NUMBERS: u8 = 7;
 
 // The words for each state: up to that Z, and above it.
 const FEW_WORDS: usize = 32;

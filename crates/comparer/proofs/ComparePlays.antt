@@ -69,7 +69,7 @@ unfolding compareRefusal onRead
 refused-new old new ws space most A h e f = refuses old new ws space most (rw (A .accepts, h)) (handed-on e f)
 
 -- equal first bytes
-same-byte : (n : ℕ) (s u : List ℕ) → sameFirst n s u ≡ true → (i : ℕ) → i < n → getD s i 0 ≡ getD u i 0
+pub same-byte : (n : ℕ) (s u : List ℕ) → sameFirst n s u ≡ true → (i : ℕ) → i < n → getD s i 0 ≡ getD u i 0
 unfolding sameFirst
 same-byte zero s u e i h = absurd (omega arith)
 same-byte (suc n) s u e i h = by (eqb (getD s n 0) (getD u n 0)) refl e (λ f. same-byte n s u f i)

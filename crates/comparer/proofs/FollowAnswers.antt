@@ -4,6 +4,7 @@ use mathlib.Core.Option.{Option, none, some}
 use mathlib.Core.List.{List}
 use Prim.Native.Nat.{ℕ, _+_, _*_, _-_, _≤_, _<_, min}
 use native.Mathlib.Omega.{arith}
+use native.Mathlib.Nat.{mul-le-mul-left}
 use lib.Dec.{eqb, ltb}
 use lib.ListN.{length, getD, replicate}
 use borrow.Author.Tests.{lt-ltb, le-ltb, eqb-true, eq-eqb}
@@ -130,8 +131,12 @@ module _ {N : Numbers} {ty : ℕ} {s : List ℕ} {row all : ℕ} {t : List ℕ} 
     pub opened-markable : length ws′ ≡ length ws → Markable (all + 1) (all - 1) ws′
     opened-markable len =
         let S = asked-suffices N all (F .z-below) room in
-        let few : 2 * getD (rest (5 * (all + 1)) ws′) (all + 1) 0 ≤ (1 + numbers N) * (all + 1) =
+        let edges : 2 * getD (rest (5 * (all + 1)) ws′) (all + 1) 0 ≤
+              (1 + numbers N) * size (tyOf N ty) (termOf (F .sheet)) =
               rw (built .settled .first (all + 1) (omega arith)) (built .few) in
+        let low : size (tyOf N ty) (termOf (F .sheet)) ≤ all + 1 = omega (arith, F .sized) in
+        let few : 2 * getD (rest (5 * (all + 1)) ws′) (all + 1) 0 ≤ (1 + numbers N) * (all + 1) =
+              omega (arith, edges, mul-le-mul-left (1 + numbers N) low) in
         record
           { single = opened-single; end = omega (arith, F .some)
           ; few = omega (arith, most-edges N (F .z-below) (all + 1) _ few, F .small)

@@ -13,7 +13,7 @@ ghost use Rattle.records.specs.Refusal.{cause, both-sheets};
 ghost use Rattle.comparer.specs.inner.Causes.{causeOf, playCause};
 
 // The refusal of a sheet, its number 0 where the sheet is not refused.
-pub(crate) fn cause_of(x: Loaded, sheet: u8) -> Cause
+pub fn cause_of(x: Loaded, sheet: u8) -> Cause
     ensures { λ r. ⌜ r ≡ causeOf x sheet ⌝ }
 {
     let Loaded::Refused(refusal) = x else {
@@ -23,7 +23,7 @@ pub(crate) fn cause_of(x: Loaded, sheet: u8) -> Cause
 }
 
 // The refusal of both sheets together.
-pub(crate) fn both_cause(number: u8) -> Cause
+pub fn both_cause(number: u8) -> Cause
     ensures { λ r. ⌜ r ≡ cause number both-sheets 0 ⌝ }
 {
     of_sheet(refuse(number, 0), BOTH)

@@ -19,10 +19,10 @@ pub mod look;
 pub(crate) const HEADINGS_DIFFER: u8 = 12;
 
 // There are too few working words.
-pub(crate) const TOO_FEW_WORDS: u8 = 13;
+pub const TOO_FEW_WORDS: u8 = 13;
 
 // Play space is too short.
-pub(crate) const SPACE_TOO_SHORT: u8 = 14;
+pub const SPACE_TOO_SHORT: u8 = 14;
 
 // A play has a record of an unknown kind or one that is cut short.
 pub(crate) const BAD_PLAY: u8 = 15;

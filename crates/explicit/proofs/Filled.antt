@@ -180,7 +180,7 @@ module _ {N : Numbers} {t : List ℕ} {root : ℕ} {T : Ty} {M : Term} (R : Read
         ; barren = first-of A (n - 1) (omega arith) ∙ sym (all-edges n one-rows (omega arith) dead) ∙
             sym (first-of A n (omega arith))
         ; few = omega (arith, first-of A n (omega arith), all-edges n one-rows (omega arith) dead,
-            ap (edgesBelow one-rows) last, first-all R n one-placed (omega arith)) })
+            ap (edgesBelow one-rows) last, first-few R n one-placed) })
 
 -- two sheets
 module _ {N : Numbers} {t t′ : List ℕ} {root root′ : ℕ} {T : Ty} {M M′ : Term} (R : Ready N t root T M)

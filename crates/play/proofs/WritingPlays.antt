@@ -111,7 +111,7 @@ unfolding GoodGiven
 good-moves s h rs e = rw e at (good-parse 0 s h)
 
 -- the record of a letter, as the code writes it
-unfoldable recordBy : ℕ → List ℕ
+unfoldable pub recordBy : ℕ → List ℕ
 recordBy l =
     pick (ltb (l / 16777216) 5)
     ((l / 16777216 % 256) ∷ (l / 65536 % 256) ∷ (l / 256 % 256) ∷ [])
@@ -171,7 +171,7 @@ module _ (N : Numbers) (few : N .z ≤ 125) where
       long 5 i j _ (omega arith) (omega arith) hi hj (byte-below v)
 
   -- it is the one that the code writes for its letter
-  record-by : (m : Move) → Small N m → record-of N m ≡ recordBy (letter N m)
+  pub record-by : (m : Move) → Small N m → record-of N m ≡ recordBy (letter N m)
   unfolding Small Values record-of letter kind valueOf bytes ranked
   record-by (move (private i) e) h = absurd h
   record-by (move (at i j) (question run)) (hi, hj, hv) = by-short 0 i j _ (omega arith) hi hj refl
@@ -210,7 +210,7 @@ module _ (N : Numbers) (few : N .z ≤ 125) where
   record-again g m h e = same-record g (record-good m h) (e ∙ sym (record-letter m h))
 
 -- one record, as a run of stores
-with-record : (s : List ℕ) (from l : ℕ) → withRecord s from l ≡ sets s from (recordBy l)
+pub with-record : (s : List ℕ) (from l : ℕ) → withRecord s from l ≡ sets s from (recordBy l)
 unfolding withRecord recordBy
 with-record s from l =
     let a : from + 1 ≡ suc from = omega arith in
@@ -223,12 +223,12 @@ pub record-length : (s : List ℕ) (from l : ℕ) → length (withRecord s from 
 record-length s from l = rw (with-record s from l) (length-sets s from (recordBy l))
 
 -- the place after a record
-after-record : (from l : ℕ) → afterRecord from l ≡ from + length (recordBy l)
+pub after-record : (from l : ℕ) → afterRecord from l ≡ from + length (recordBy l)
 unfolding afterRecord recordBy
 after-record from l = by-test (ltb (l / 16777216) 5) (λ t. rw t) (λ t. rw t)
 
 -- one run of stores after another
-sets-append : (xs ys s : List ℕ) (i : ℕ) → sets s i (xs ++ ys) ≡ sets (sets s i xs) (i + length xs) ys
+pub sets-append : (xs ys s : List ℕ) (i : ℕ) → sets s i (xs ++ ys) ≡ sets (sets s i xs) (i + length xs) ys
 sets-append [] ys s i = rw (add-zero i)
 sets-append (x ∷ xs) ys s i =
     let e : i + suc (length xs) ≡ suc i + length xs = omega arith in

@@ -94,15 +94,15 @@ pub fn first_letter(s: &[u8]) -> usize
 }
 
 // Byte i becomes v, where there is such a byte.
-fn put(s: &mut [u8], i: usize, v: usize)
+pub fn put(s: &mut [u8], i: usize, v: usize)
     ensures { λ r. ⌜ now (s .exit) ≡ set (now (s .entry)) i (v % 256) ⌝ }
 {
     put_byte(s, i, (v % BYTE) as u8);
 }
 
 // Writes the record of a letter from a place on: the place after it.
-pub(crate) fn write_record(s: &mut [u8], at: usize, l: usize) -> usize
-    requires { ⌜ at ≤ 32772 ⌝ }
+pub fn write_record(s: &mut [u8], at: usize, l: usize) -> usize
+    requires { ⌜ at ≤ 4294967297 ⌝ }
     ensures returned { λ r. ⌜ r ≡ afterRecord at l ⌝ }
     ensures written { λ r. ⌜ now (s .exit) ≡ withRecord (now (s .entry)) at l ⌝ }
 {

@@ -32,7 +32,7 @@ fn heading(random: &mut Random) -> Heading {
     heading
 }
 
-fn sheet(random: &mut Random) -> Vec<u8> {
+pub fn sheet(random: &mut Random) -> Vec<u8> {
     let heading = heading(random);
     let wanted = random.choose(&Type::ALL);
     let term = large(random, &heading, wanted);

@@ -29,7 +29,7 @@ pub fn play_for(random: &mut Random, machine: &Machine) -> Vec<u8> {
 }
 
 /// A random walk to the end; it hurries once it has taken many moves. Without plays it is empty.
-fn complete_play(random: &mut Random, machine: &Machine) -> Vec<Move> {
+pub fn complete_play(random: &mut Random, machine: &Machine) -> Vec<Move> {
     let mut play = Vec::new();
     let patience = random.choose(&[5, 20, 60, 400, 4000]);
     let Some(mut state) = machine.start() else {

@@ -176,7 +176,7 @@ fn at_the_depth(random: &mut Random) -> Vec<u8> {
 }
 
 /// Two sheets with the same heading: one without the procedures of the other, tidied, altered or another one.
-fn pair(random: &mut Random) -> Pair {
+pub fn pair(random: &mut Random) -> Pair {
     let (heading, old) = heading_and_term(random);
     let (style, steps) = (random.below(12), random.between(1, 4));
     let mut generator = Generator::with_procedures(random, &heading);

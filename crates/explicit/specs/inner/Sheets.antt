@@ -20,14 +20,14 @@ pub record Suffices (N : Numbers) (n words : ℕ) : Type 0 where
   pub links : (10 + 3 * numbers N) * n ≤ 2 * words
 
 -- the words vs, as long as ws, are an automaton of n states and show the machine of M; the dead state has no edges,
--- and on average a state has at most (1 + K) / 2
+-- and on average each of the others has at most (1 + K) / 2
 pub record OneSheet (N : Numbers) (T : Ty) (M : Term) (n : ℕ) (ws vs : List ℕ) : Type 0 where
   pub same-length : length vs ≡ length ws
   pub graph : Graph (rest (5 * n) vs) n
   pub silent : Silent n vs
   pub shows : Explicit N vs (rest (5 * n) vs) n 0 (steps T M)
   pub barren : getD (rest (5 * n) vs) (n - 1) 0 ≡ getD (rest (5 * n) vs) n 0
-  pub few : 2 * getD (rest (5 * n) vs) n 0 ≤ (1 + numbers N) * n
+  pub few : 2 * getD (rest (5 * n) vs) n 0 ≤ (1 + numbers N) * size T M
 
 -- the words vs, as long as ws, are an automaton of n states and show the machine of M, and after it that of M′
 pub record TwoSheets (N : Numbers) (T : Ty) (M M′ : Term) (n : ℕ) (ws vs : List ℕ) : Type 0 where

@@ -1,0 +1,113 @@
+-- What document 02 [12] says of cards, as statements.
+use mathlib.Core.List.{List, [], _++_, _∷_}
+use mathlib.Core.Logic.{_↔_, _⊎_}
+use mathlib.Core.Option.{none, some}
+use mathlib.Core.Path.{_≡_}
+use Prim.Native.Nat.{_+_, _<_, ℕ}
+use lib.ListN.{drop, getD, length, take}
+use Rattle.language.specs.declared.Numbers.{Numbers}
+use Rattle.language.specs.Number.{numbers}
+use Rattle.language.specs.Move.{Move, Word, at, move, private, valueOf}
+use Rattle.records.specs.Refusal.{both-sheets, cause, old-sheet}
+use Rattle.records.specs.declared.refusal.Cause.{Cause}
+use Rattle.procedures.specs.Written.{Sheet}
+use Rattle.judge.specs.declared.mark.Uses.{Uses}
+use Rattle.sheet.specs.Encoding.{headingLength}
+use Rattle.sheet.specs.Reader.{accepted, readSheet, rejected}
+use Rattle.comparer.specs.Demands.{CheckNumber}
+use Rattle.comparer.specs.Plays.{Alike, CompletePlay}
+use Rattle.comparer.specs.Promise.{ComparePromise}
+use Rattle.comparer.specs.Refusals.{compareRefusal, headings-differ, space-too-short, too-few-words}
+use Rattle.comparer.specs.declared.Comparison.{Comparison}
+use Rattle.comparer.specs.declared.Comparison.the-variants.{Same}
+use Rattle.cards.specs.Card.{cardBytes}
+use Rattle.cards.specs.Reading.{readTable}
+use Rattle.cards.specs.Positions.{Among, Position, no-position}
+use Rattle.cards.specs.Smallest.{HasPlays}
+use Rattle.cards.specs.Promise.{CardOf, CardPromise, cardRefusal}
+use Rattle.cards.specs.declared.Carding.{Carding}
+
+-- "For two sheets that compare accepts, the cards are equal bytes exactly if it says "same""
+abbrev pub SameCards : Type 0
+SameCards = (old new c d : List ℕ) (words space : ℕ) (C : CardOf old c) (D : CardOf new d)
+    → compareRefusal old new words space ≡ none
+    → (c ≡ d) ↔ ((u : Word) → Alike (C .sheet) (D .sheet) u)
+
+-- the same by compare's answer
+abbrev pub SaysSame : Comparison → Type 0
+SaysSame r = (old new : Uses) × (r ≡ Same old new)
+
+abbrev pub SameByCompare : Type 0
+SameByCompare = (old new c d ws space : List ℕ) (r : Comparison) (ws′ space′ : List ℕ) → CardOf old c → CardOf new d
+    → ComparePromise old new ws space r ws′ space′ → compareRefusal old new (length ws) (length space) ≡ none
+    → (c ≡ d) ↔ SaysSame r
+
+-- a sheet has one card
+abbrev pub OneCard : Type 0
+OneCard = (s c d : List ℕ) → CardOf s c → CardOf s d → c ≡ d
+
+-- what card promises allows one answer and one state of everything lent
+abbrev pub CardUnique : Type 0
+CardUnique = (s ws space : List ℕ) (r r₂ : Carding) (ws₁ ws₂ space₁ space₂ : List ℕ)
+    → CardPromise s ws space r ws₁ space₁ → CardPromise s ws space r₂ ws₂ space₂
+    → (r ≡ r₂) × ((ws₁ ≡ ws₂) × (space₁ ≡ space₂))
+
+-- a move that has a record: id and argument are bytes, and a value is one of the sheet's
+unfoldable pub ValueIn : Numbers → List ℕ → Type 0
+ValueIn N [] = Unit {0}
+ValueIn N (v ∷ vs) = v < numbers N
+
+unfoldable pub Recorded : Numbers → Move → Type 0
+Recorded N (move (at id j) e) = (id < 256) × (j < 256) × ValueIn N (valueOf e)
+Recorded N (move (private i) e) = ⊥
+
+-- a card tells the plays: whatever table of such moves has these bytes after the heading and the type has exactly the
+-- complete plays of the sheet
+abbrev pub CardTells : Type 0
+CardTells = (s c : List ℕ) (C : CardOf s c) (U : List Position)
+    → ((k : ℕ) → k < length U → (m : Move) (j : ℕ) → Among (getD U k no-position .arcs) m j
+      → Recorded (C .sheet .numbers) m)
+    → c ≡ cardBytes s (headingLength (C .sheet)) (C .type) (C .sheet .numbers) U → HasPlays (C .sheet) U
+
+-- what is read from a card after the heading and the type is its table, which has exactly the complete plays
+abbrev pub CardReads : Type 0
+CardReads = (s c : List ℕ) (C : CardOf s c)
+    → (readTable (C .sheet .numbers) (drop (headingLength (C .sheet) + 1) c) ≡ C .table)
+      × HasPlays (C .sheet) (readTable (C .sheet .numbers) (drop (headingLength (C .sheet) + 1) c))
+
+-- "A routine without plays has no positions"
+abbrev pub NoPositions : Type 0
+NoPositions = (s c : List ℕ) (C : CardOf s c) → ((u : Word) → CompletePlay (C .sheet) u → ⊥)
+    → c ≡ take (headingLength (C .sheet)) s ++ (C .type ∷ [])
+
+-- "Refused: the sheet's own, then 13, then 14": the sheet's own is check's
+pub record SheetRefused (s : List ℕ) (x : Cause) : Type 0 where
+  pub number : ℕ
+  pub place : ℕ
+  pub reads : readSheet s ≡ rejected number place
+  pub known : CheckNumber number
+  pub says : x ≡ cause number old-sheet place
+
+-- 13 and 14 are of a sheet that is accepted
+pub record LentRefused (s : List ℕ) (x : Cause) : Type 0 where
+  pub sheet : Sheet
+  pub type : ℕ
+  pub size : ℕ
+  pub reads : readSheet s ≡ accepted sheet type size
+  pub says : (x ≡ cause too-few-words both-sheets 0) ⊎ (x ≡ cause space-too-short both-sheets 0)
+
+-- card refuses by these, and by no others
+abbrev pub CardNumbers : Type 0
+CardNumbers = (s : List ℕ) (words space : ℕ) (x : Cause) → cardRefusal s words space ≡ some x
+    → SheetRefused s x ⊎ LentRefused s x
+
+-- sheets with other headings or types have other cards
+abbrev pub OtherHeading : Type 0
+OtherHeading = (old new c d : List ℕ) (C : CardOf old c) (D : CardOf new d) → c ≡ d
+    → (take (headingLength (C .sheet)) old ≡ take (headingLength (D .sheet)) new) × (C .type ≡ D .type)
+
+-- so any two sheets with equal cards are not refused by 12, whatever is lent, and have the same complete plays
+abbrev pub EqualCards : Type 0
+EqualCards = (old new c d : List ℕ) (C : CardOf old c) (D : CardOf new d) → c ≡ d
+    → ((words space : ℕ) (x : Cause) → compareRefusal old new words space ≡ some x → x .number ≡ headings-differ → ⊥)
+      × ((u : Word) → Alike (C .sheet) (D .sheet) u)

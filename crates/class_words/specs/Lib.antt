@@ -1,0 +1,4 @@
+pub mod Places
+pub mod Packed
+pub mod Parted
+pub mod inner

@@ -1,0 +1,2 @@
+-- What only invariants of loops cite.
+pub mod Laying
