@@ -4,6 +4,9 @@ use native.Mathlib.Omega.{arith}
 use native.Mathlib.Decide.{ℕ-discrete}
 use mathlib.Core.Path.{_≡_, refl}
 use mathlib.Core.List.{List}
+use mathlib.Core.Bool.{Bool, true, false}
+use lib.Dec.{ltb}
+use Rattle.language.specs.Choice.{pick}
 use borrow.Author.Tests.{ne-eqb}
 use Rattle.procedures.specs.PartKind.{NAME, FETCH, OPERATE, ASSIGN, SEQUENCE, IF, WHILE, NEW, PRIVATE, KIND, DETAIL}
 use Rattle.procedures.specs.PartKind.{ONCE}
@@ -28,6 +31,10 @@ plain-leaf : (k d v a b c : ℕ) → (k ≡ NAME → ⊥) → partsOf k d ≡ 0 
 unfolding partsOf plainWeight leafWeight
 plain-leaf k d v a b c n h = go (ℕ-discrete k PRIVATE)
   where
+    one : (x : Bool) → min (pick x 1 1) 4097 ≡ 1
+    one true = refl
+    one false = refl
+
     go : Dec (k ≡ PRIVATE) → min (plainWeight k v d a b c) 4097 ≡ leafWeight k d
     go (yes e) = rw e refl
     go (no e) =
@@ -38,7 +45,7 @@ plain-leaf k d v a b c n h = go (ℕ-discrete k PRIVATE)
           ne-eqb k SEQUENCE (λ x. let g : _≡_ {A = ℕ} 3 0 = rw x at h in absurd (omega arith)),
           ne-eqb k WHILE (λ x. let g : _≡_ {A = ℕ} 3 0 = rw x at h in absurd (omega arith)),
           ne-eqb k IF (λ x. let g : _≡_ {A = ℕ} 7 0 = rw x at h in absurd (omega arith)),
-          ne-eqb k NEW (λ x. let g : _≡_ {A = ℕ} 1 0 = rw x at h in absurd (omega arith))) refl
+          ne-eqb k NEW (λ x. let g : _≡_ {A = ℕ} 1 0 = rw x at h in absurd (omega arith))) (one (ltb k NAME))
 
 -- a name
 name-leaf : (t : List ℕ) (at a b c d : ℕ) → word t at DETAIL / 256 % 8 ≡ 0 →

@@ -83,14 +83,20 @@ nameWeight t at a b c d =
 -- the weight of a row of another kind: v are the values of its first part, d is its detail, a, b, c weigh its parts
 unfoldable pub plainWeight : ℕ → ℕ → ℕ → ℕ → ℕ → ℕ → ℕ
 plainWeight kind v d a b c =
-    pick (eqb kind PRIVATE) 2
-    (pick (eqb kind FETCH) a
+    -- constants; skip and diverge
+    pick (ltb kind NAME) 1
+    -- operators
     (pick (eqb kind OPERATE) (a + v * b)
-    (pick (eqb kind ASSIGN) (b + v * a)
+    -- commands
     (pick (eqb kind SEQUENCE) (a + b)
     (pick (eqb kind WHILE) (a + b)
     (pick (eqb kind IF) (a + (b + c))
-    (pick (eqb kind NEW) (d * a) 1)))))))
+    -- identifiers
+    (pick (eqb kind PRIVATE) 2
+    -- variables: fetch, assign and new
+    (pick (eqb kind FETCH) a
+    (pick (eqb kind ASSIGN) (b + v * a)
+    (pick (eqb kind NEW) (d * a) 1))))))))
 
 -- the values of the first part of the part at a place
 unfoldable pub firstValues : List ℕ → ℕ → ℕ

@@ -162,22 +162,20 @@ fn name_weight(t: &[u16], at: u16, a: u16, b: u16, c: u16, d: u16) -> u32
     )
 }
 
-// The weight of a row of another kind: v are the values of its first part, d is its detail, a, b, c weigh its parts.
+// The weight of a row of another kind: v are the values of its first part, d is its detail, a, b, c weigh its parts. In
+// the order in which document 001 defines the plays: constants, operators, commands, identifiers, then variables.
 fn plain_weight(kind: u16, v: u16, d: u16, a: u16, b: u16, c: u16) -> u32
     ensures { λ r. ⌜ r ≡ min (plainWeight kind v d a b c) held-at ⌝ }
 {
-    if kind == PRIVATE {
-        return 2;
+    // constants (definition 13); skip and diverge
+    if kind < NAME {
+        return 1;
     }
-    if kind == FETCH {
-        return sat_add(a as u32, 0);
-    }
+    // operators (definition 14)
     if kind == OPERATE {
         return sat_add(a as u32, sat_mul(v as u32, b as u32));
     }
-    if kind == ASSIGN {
-        return sat_add(b as u32, sat_mul(v as u32, a as u32));
-    }
+    // commands (definition 15)
     if kind == SEQUENCE {
         return sat_add(a as u32, b as u32);
     }
@@ -187,9 +185,21 @@ fn plain_weight(kind: u16, v: u16, d: u16, a: u16, b: u16, c: u16) -> u32
     if kind == IF {
         return sat_add(a as u32, sat_add(b as u32, c as u32));
     }
+    // identifiers (definition 18)
+    if kind == PRIVATE {
+        return 2;
+    }
+    // variables (definitions 24 to 26): fetch, assign and new
+    if kind == FETCH {
+        return sat_add(a as u32, 0);
+    }
+    if kind == ASSIGN {
+        return sat_add(b as u32, sat_mul(v as u32, a as u32));
+    }
     if kind == NEW {
         return sat_mul(d as u32, a as u32);
     }
+    // no kind of a row that is weighed here
     1
 }
 

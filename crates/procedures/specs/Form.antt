@@ -61,27 +61,32 @@ with-form k f m φ = record { form = beyond k (φ .form) (λ j. f); count = beyo
 
 unfoldable mutual
   pub formOf : Numbers → List Name → List Binder → Forms → Written → Form
-  formOf N ns bs φ skip = only 1
-  formOf N ns bs φ (diverge ty) = only 1
+  -- constants (definition 13)
   formOf N ns bs φ (truth b) = only 1
   formOf N ns bs φ (number b) = only 1
+  -- operators (definition 14)
+  formOf N ns bs φ (operate op l r) =
+      let o : Operation = record { over = N; operator = op } in
+      plus (formOf N ns bs φ l) (times (operands o) (formOf N ns bs φ r))
+  -- commands (definition 15)
+  formOf N ns bs φ skip = only 1
+  formOf N ns bs φ (diverge ty) = only 1
+  formOf N ns bs φ (sequence c m) = plus (formOf N ns bs φ c) (formOf N ns bs φ m)
+  formOf N ns bs φ (while b c) = plus (formOf N ns bs φ b) (formOf N ns bs φ c)
+  formOf N ns bs φ (choose b x y) = plus (formOf N ns bs φ b) (plus (formOf N ns bs φ x) (formOf N ns bs φ y))
+  -- identifiers (definition 18) and application (definition 22); parameters and procedures (definitions 31 and 32)
   formOf N ns bs φ (call id ws) =
       byMeaning (meaning ns bs id) (only 1)
         (λ k. only 2)
         (λ k. unit k)
         (λ k. instance k (φ .count k) (φ .form k) (λ j. formed N ns bs φ ws j))
         (λ often ty tys. plus (only (useWeight often)) (formArgs N ns bs φ ws tys))
-  formOf N ns bs φ (fetch v) = formOf N ns bs φ v
-  formOf N ns bs φ (operate op l r) =
-      let o : Operation = record { over = N; operator = op } in
-      plus (formOf N ns bs φ l) (times (operands o) (formOf N ns bs φ r))
-  formOf N ns bs φ (assign v e) = plus (formOf N ns bs φ e) (times (values N (typed ns bs v)) (formOf N ns bs φ v))
-  formOf N ns bs φ (sequence c m) = plus (formOf N ns bs φ c) (formOf N ns bs φ m)
-  formOf N ns bs φ (choose b x y) = plus (formOf N ns bs φ b) (plus (formOf N ns bs φ x) (formOf N ns bs φ y))
-  formOf N ns bs φ (while b c) = plus (formOf N ns bs φ b) (formOf N ns bs φ c)
-  formOf N ns bs φ (new id d c) = times (values N d) (formOf N ns (a-block id d ∷ bs) φ c)
   formOf N ns bs φ (procedure id ty ps body rest) =
       formOf N ns (after id ty ps bs) (with-form (length bs) (formOf N ns (inside ps bs) φ body) (length ps) φ) rest
+  -- variables (definitions 24 to 26)
+  formOf N ns bs φ (fetch v) = formOf N ns bs φ v
+  formOf N ns bs φ (assign v e) = plus (formOf N ns bs φ e) (times (values N (typed ns bs v)) (formOf N ns bs φ v))
+  formOf N ns bs φ (new id d c) = times (values N d) (formOf N ns (a-block id d ∷ bs) φ c)
 
   -- arguments of the given types, of a declared name
   pub formArgs : Numbers → List Name → List Binder → Forms → Writtens → List ℕ → Form

@@ -33,28 +33,33 @@ with-passed k xs ω = record { passed = beyond k (ω .passed) xs; body = ω .bod
 
 unfoldable mutual
   pub weigh : Numbers → List Name → List Binder → Weights → Written → ℕ
-  weigh N ns bs ω skip = 1
-  weigh N ns bs ω (diverge ty) = 1
+  -- constants (definition 13)
   weigh N ns bs ω (truth b) = 1
   weigh N ns bs ω (number b) = 1
+  -- operators (definition 14)
+  weigh N ns bs ω (operate op l r) =
+      let o : Operation = record { over = N; operator = op } in
+      weigh N ns bs ω l + operands o * weigh N ns bs ω r
+  -- commands (definition 15)
+  weigh N ns bs ω skip = 1
+  weigh N ns bs ω (diverge ty) = 1
+  weigh N ns bs ω (sequence c m) = weigh N ns bs ω c + weigh N ns bs ω m
+  weigh N ns bs ω (while b c) = weigh N ns bs ω b + weigh N ns bs ω c
+  weigh N ns bs ω (choose b x y) = weigh N ns bs ω b + (weigh N ns bs ω x + weigh N ns bs ω y)
+  -- identifiers (definition 18) and application (definition 22); parameters and procedures (definitions 31 and 32)
   weigh N ns bs ω (call id ws) =
       byMeaning (meaning ns bs id) 1
         (λ k. 2)
         (λ k. ω .passed k)
         (λ k. ω .body k (λ j. weighed N ns bs ω ws j))
         (λ often ty tys. useWeight often + weighArgs N ns bs ω ws tys)
-  weigh N ns bs ω (fetch v) = weigh N ns bs ω v
-  weigh N ns bs ω (operate op l r) =
-      let o : Operation = record { over = N; operator = op } in
-      weigh N ns bs ω l + operands o * weigh N ns bs ω r
-  weigh N ns bs ω (assign v e) = weigh N ns bs ω e + values N (typed ns bs v) * weigh N ns bs ω v
-  weigh N ns bs ω (sequence c m) = weigh N ns bs ω c + weigh N ns bs ω m
-  weigh N ns bs ω (choose b x y) = weigh N ns bs ω b + (weigh N ns bs ω x + weigh N ns bs ω y)
-  weigh N ns bs ω (while b c) = weigh N ns bs ω b + weigh N ns bs ω c
-  weigh N ns bs ω (new id d c) = values N d * weigh N ns (a-block id d ∷ bs) ω c
   weigh N ns bs ω (procedure id ty ps body rest) =
       weigh N ns (after id ty ps bs)
         (with-body (length bs) (λ xs. weigh N ns (inside ps bs) (with-passed (length bs) xs ω) body) ω) rest
+  -- variables (definitions 24 to 26)
+  weigh N ns bs ω (fetch v) = weigh N ns bs ω v
+  weigh N ns bs ω (assign v e) = weigh N ns bs ω e + values N (typed ns bs v) * weigh N ns bs ω v
+  weigh N ns bs ω (new id d c) = values N d * weigh N ns (a-block id d ∷ bs) ω c
 
   -- arguments of the given types, of a declared name
   pub weighArgs : Numbers → List Name → List Binder → Weights → Writtens → List ℕ → ℕ

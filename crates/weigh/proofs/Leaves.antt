@@ -41,19 +41,17 @@ unfolding factorOf
 factor-right t kind detail k at place j p r h n q e =
     rw (eq-eqb kind OPERATE h, ne-eqb j 0 n) (e ∙ ap (λ x. word t x VALUES) q)
 
-pub factor-target : (t : List ℕ) (kind detail k at place j r : ℕ) → (kind ≡ OPERATE → ⊥) → kind ≡ ASSIGN → j ≡ 0 →
-    r ≡ word t place VALUES → r ≡ factorOf t kind detail k at place j
+pub factor-use : (t : List ℕ) (kind detail k at place j p r : ℕ) → (kind ≡ OPERATE → ⊥) → (kind ≡ NAME → ⊥) →
+    kind ≡ USE → p ≡ termForm t detail → r ≡ coefficientOf t p (k + j) → r ≡ factorOf t kind detail k at place j
 unfolding factorOf
-factor-target t kind detail k at place j r h l z e =
-    rw (ne-eqb kind OPERATE h, eq-eqb kind ASSIGN l, eq-eqb j 0 z) e
+factor-use t kind detail k at place j p r a b u q e =
+    rw (ne-eqb kind OPERATE a, ne-eqb kind NAME b, eq-eqb kind USE u) (e ∙ ap (λ x. coefficientOf t x (k + j)) q)
 
-pub factor-use : (t : List ℕ) (kind detail k at place j p r : ℕ) → (kind ≡ OPERATE → ⊥) → (kind ≡ ASSIGN → ⊥) →
-    (kind ≡ NEW → ⊥) → (kind ≡ NAME → ⊥) → kind ≡ USE → p ≡ termForm t detail →
-    r ≡ coefficientOf t p (k + j) → r ≡ factorOf t kind detail k at place j
+pub factor-target : (t : List ℕ) (kind detail k at place j r : ℕ) → (kind ≡ OPERATE → ⊥) → (kind ≡ NAME → ⊥) →
+    (kind ≡ USE → ⊥) → kind ≡ ASSIGN → j ≡ 0 → r ≡ word t place VALUES → r ≡ factorOf t kind detail k at place j
 unfolding factorOf
-factor-use t kind detail k at place j p r a b c d u q e =
-    rw (ne-eqb kind OPERATE a, ne-eqb kind ASSIGN b, ne-eqb kind NEW c, ne-eqb kind NAME d, eq-eqb kind USE u)
-      (e ∙ ap (λ x. coefficientOf t x (k + j)) q)
+factor-target t kind detail k at place j r a b c l z e =
+    rw (ne-eqb kind OPERATE a, ne-eqb kind NAME b, ne-eqb kind USE c, eq-eqb kind ASSIGN l, eq-eqb j 0 z) e
 
 -- marks
 pub come-read : (t : List ℕ) (place x : ℕ) → x ≡ getD t (marks-from + place) 0 →

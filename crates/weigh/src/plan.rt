@@ -118,12 +118,22 @@ pub(crate) fn factor_of(
     requires { ⌜ (detail < 65536) × (k < 65536) × (at < 65536) × (place < 65536) × (j < 4) ⌝ }
     ensures { λ r. ⌜ r ≡ factorOf (now (t .entry)) kind detail k at place j ⌝ }
 {
+    // operators (definition 14)
     if kind == OPERATE {
         if j == 0 {
             return 1;
         }
         return values_at(t, word_of(t, at, PARTS));
     }
+    // application (definition 22), and uses of procedures
+    if kind == NAME {
+        return questions_at(t, place);
+    }
+    if kind == USE {
+        let term = term_form(t, detail);
+        return coefficient(t, term, k + j);
+    }
+    // variables (definitions 24 to 26): assign and new
     if kind == ASSIGN {
         if j == 0 {
             return values_at(t, place);
@@ -132,13 +142,6 @@ pub(crate) fn factor_of(
     }
     if kind == NEW {
         return short(detail);
-    }
-    if kind == NAME {
-        return questions_at(t, place);
-    }
-    if kind == USE {
-        let term = term_form(t, detail);
-        return coefficient(t, term, k + j);
     }
     1
 }

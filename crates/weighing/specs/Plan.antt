@@ -50,10 +50,10 @@ termForm t detail = slotOf t (termPlace t detail)
 unfoldable pub factorOf : List ℕ → ℕ → ℕ → ℕ → ℕ → ℕ → ℕ → ℕ
 factorOf t kind detail k at place j =
     pick (eqb kind OPERATE) (pick (eqb j 0) 1 (word t (word t at PARTS) VALUES))
-    (pick (eqb kind ASSIGN) (pick (eqb j 0) (word t place VALUES) 1)
-    (pick (eqb kind NEW) detail
     (pick (eqb kind NAME) (questionsBy (word t place CLASS) (word t place VALUES))
-    (pick (eqb kind USE) (coefficientOf t (termForm t detail) (k + j)) 1))))
+    (pick (eqb kind USE) (coefficientOf t (termForm t detail) (k + j))
+    (pick (eqb kind ASSIGN) (pick (eqb j 0) (word t place VALUES) 1)
+    (pick (eqb kind NEW) detail 1))))
 
 -- what the part at a place adds besides
 unfoldable pub extraOf : List ℕ → ℕ → ℕ → ℕ

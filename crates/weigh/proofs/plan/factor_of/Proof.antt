@@ -20,33 +20,12 @@ returns-2 : tie.Need-returns-2
 returns-2 c = factor-right _ _ _ _ _ _ _ _ _ (c .before .before .before .if1 .taken) (c .before .before .if2 .left) (c
     .before .word-of .ensures .0) (c .values-at .ensures .0)
 
-values-at-requires-2 : tie.Need-values-at-requires-2
-values-at-requires-2 c κs = search needs
-
-returns-3 : tie.Need-returns-3
-returns-3 c = factor-target _ _ _ _ _ _ _ _ (c .before .before .before .if1 .left) (c .before .before .if3 .taken) (c
-    .before .if4 .taken) (c .values-at2 .ensures .0)
-
-returns-4 : tie.Need-returns-4
-unfolding factorOf
-returns-4 c = simp (ne-eqb _ _ (c .before .before .if1 .left), eq-eqb _ _ (c .before .if3 .taken), ne-eqb _ _ (c .if4
-    .left))
-
-short-requires : tie.Need-short-requires
-short-requires c κs = search needs
-
-returns-5 : tie.Need-returns-5
-unfolding factorOf
-returns-5 c = rw (ne-eqb _ _ (c .before .before .before .if1 .left), ne-eqb _ _ (c .before .before .if3 .left), eq-eqb
-    _ _ (c .before .if5 .taken)) (c .short .ensures .0)
-
 questions-at-requires : tie.Need-questions-at-requires
 questions-at-requires c κs = search needs
 
-returns-6 : tie.Need-returns-6
+returns-3 : tie.Need-returns-3
 unfolding factorOf
-returns-6 c = simp (← c .questions-at .ensures, ne-eqb _ _ (c .before .before .before .before .if1 .left), ne-eqb _ _
-    (c .before .before .before .if3 .left), ne-eqb _ _ (c .before .before .if5 .left), eq-eqb _ _ (c .before .if6
+returns-3 c = simp (← c .questions-at .ensures, ne-eqb _ _ (c .before .before .if1 .left), eq-eqb _ _ (c .before .if3
     .taken))
 
 term-form-requires : tie.Need-term-form-requires
@@ -58,20 +37,41 @@ add-coefficient c = search needs
 coefficient-requires : tie.Need-coefficient-requires
 coefficient-requires c κs = search needs
 
+returns-4 : tie.Need-returns-4
+returns-4 c = factor-use _ _ _ _ _ _ _ _ _ (c .before .before .before .before .if1 .left) (c .before .before .before
+    .if3 .left) (c .before .before .if4 .taken) (c .before .term-form .ensures .0) (c .coefficient .ensures .0)
+
+values-at-requires-2 : tie.Need-values-at-requires-2
+values-at-requires-2 c κs = search needs
+
+returns-5 : tie.Need-returns-5
+returns-5 c = factor-target _ _ _ _ _ _ _ _ (c .before .before .before .before .before .if1 .left) (c .before .before
+    .before .before .if3 .left) (c .before .before .before .if4 .left) (c .before .before .if5 .taken) (c .before .if6
+    .taken) (c .values-at2 .ensures .0)
+
+returns-6 : tie.Need-returns-6
+unfolding factorOf
+returns-6 c = simp (ne-eqb _ _ (c .before .before .before .before .if1 .left), ne-eqb _ _ (c .before .before .before
+    .if3 .left), ne-eqb _ _ (c .before .before .if4 .left), eq-eqb _ _ (c .before .if5 .taken), ne-eqb _ _ (c .if6
+    .left))
+
+short-requires : tie.Need-short-requires
+short-requires c κs = search needs
+
 returns-7 : tie.Need-returns-7
-returns-7 c = factor-use _ _ _ _ _ _ _ _ _ (c .before .before .before .before .before .before .if1 .left) (c .before
-    .before .before .before .before .if3 .left) (c .before .before .before .before .if5 .left) (c .before .before
-    .before .if6 .left) (c .before .before .if7 .taken) (c .before .term-form .ensures .0) (c .coefficient .ensures
-    .0)
+unfolding factorOf
+returns-7 c = rw (ne-eqb _ _ (c .before .before .before .before .before .if1 .left), ne-eqb _ _ (c .before .before
+    .before .before .if3 .left), ne-eqb _ _ (c .before .before .before .if4 .left), ne-eqb _ _ (c .before .before .if5
+    .left), eq-eqb _ _ (c .before .if7 .taken)) (c .short .ensures .0)
 
 returns-8 : tie.Need-returns-8
 unfolding factorOf
 returns-8 c = simp (ne-eqb _ _ (c .before .before .before .before .if1 .left), ne-eqb _ _ (c .before .before .before
-    .if3 .left), ne-eqb _ _ (c .before .before .if5 .left), ne-eqb _ _ (c .before .if6 .left), ne-eqb _ _ (c .if7
+    .if3 .left), ne-eqb _ _ (c .before .before .if4 .left), ne-eqb _ _ (c .before .if5 .left), ne-eqb _ _ (c .if7
     .left))
 
 pub factor-of-spec : {M : Type 1} → statement M
 factor-of-spec =
-    tie.close (tie.spec returns word-of-requires values-at-requires returns-2 values-at-requires-2 returns-3 returns-4
-    short-requires returns-5 questions-at-requires returns-6 term-form-requires add-coefficient coefficient-requires
-    returns-7 returns-8)
+    tie.close (tie.spec returns word-of-requires values-at-requires returns-2 questions-at-requires returns-3
+    term-form-requires add-coefficient coefficient-requires returns-4 values-at-requires-2 returns-5 returns-6
+    short-requires returns-7 returns-8)
