@@ -27,3 +27,4 @@ pub mod Exactly
 pub mod LookSteps
 pub mod LookPlays
 pub mod LookRuling
+pub mod Recorded

@@ -2,17 +2,20 @@
 -- (2), and the length rules (3), for all bytes and for all sheets in order. SHEETS 8.
 use mathlib.Core.Path.{_≡_}
 use mathlib.Core.Logic.{_↔_, _⊎_}
-use mathlib.Core.List.{List}
+use mathlib.Core.List.{List, [], map}
 use mathlib.Core.Option.{none, some}
-use Prim.Native.Nat.{ℕ, _+_, _-_, _≤_}
+use Prim.Native.Nat.{ℕ, _+_, _-_, _≤_, _<_}
 use lib.ListN.{length, take}
-use Rattle.language.specs.Move.{Word, records}
+use Rattle.language.specs.Move.{Word, record-of, records}
 use Rattle.records.specs.declared.edition.Edition.the-variants.{Present}
 use Rattle.records.specs.declared.refusal.Cause.{Cause}
 use Rattle.procedures.specs.Written.{Sheet}
 use Rattle.procedures.specs.Meaning.{typeOf}
+use Rattle.records.specs.Limits.{greatest-z}
+use Rattle.procedures.specs.Fine.{Fine, FineNames}
 use Rattle.sheet.specs.Fine.{Accepted}
 use Rattle.sheet.specs.Reader.{readSheet, rejected}
+use Rattle.play.specs.Records.{moves, parse}
 use Rattle.judge.specs.Check.{NumberOf}
 use Rattle.judge.specs.Mark.{usesOf}
 use Rattle.comparer.specs.Plays.{CompletePlay, reckoned, Alike, Only, FirstPlay}
@@ -83,6 +86,20 @@ ExactAnswer = (old new ws space : List ℕ) (r : Comparison) (ws′ space′ : L
   ComparePromise old new ws space r ws′ space′ → compareRefusal old new (length ws) (length space) ≡ none →
   Exact old new r space′
 
+-- "its number of moves is how many they are": the records of a complete play, read as a play is given to follow, are one
+-- for each move
+abbrev pub RecordsOfMoves : Type 0
+RecordsOfMoves = (S : Sheet) (u : Word) → Accepted S → CompletePlay S u →
+  parse 0 (records (S .numbers) u) ≡ moves (map (record-of (S .numbers)) u)
+
+-- Demand 3 speaks of more sheets than check accepts: of all that are in order but for the limits on bytes, records, depth
+-- and size, by either rule. Each has a reckoned size
+pub record InOrder (S : Sheet) : Type 0 where
+  pub z-above : 0 < S .numbers .z
+  pub z-below : S .numbers .z ≤ greatest-z
+  pub fine-names : FineNames [] (S .names)
+  pub fine-term : Fine (S .numbers) (S .names) [] (S .term)
+
 -- Demand 3. The ranges, the rules and the result types are equal, as they are where headings and result types are
 pub record Comparable (S T : Sheet) : Type 0 where
   pub numbers : S .numbers ≡ T .numbers
@@ -90,11 +107,11 @@ pub record Comparable (S T : Sheet) : Type 0 where
 
 -- the complete plays are the same exactly when no complete play of at most S + T - 1 moves belongs to exactly one sheet
 abbrev pub DifferShort : Type 0
-DifferShort = (S T : Sheet) → Accepted S → Accepted T → Comparable S T →
+DifferShort = (S T : Sheet) → InOrder S → InOrder T → Comparable S T →
   ((u : Word) → Alike S T u) ↔
     ((which : ℕ) (u : Word) → length u ≤ reckoned S + reckoned T - 1 → Only which S T u → ⊥)
 
 -- a sheet has a complete play exactly when it has one of at most S - 1 moves
 abbrev pub PlayShort : Type 0
-PlayShort = (S : Sheet) → Accepted S →
+PlayShort = (S : Sheet) → InOrder S →
   ((u : Word) × CompletePlay S u) ↔ ((u : Word) × (CompletePlay S u × (length u ≤ reckoned S - 1)))

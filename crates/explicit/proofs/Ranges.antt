@@ -180,12 +180,17 @@ module _ (N : Numbers) (above : 0 < N .z) (ns : List Name) (f : (id : ℕ) → F
     resolved-in (more w ws) bs ρ n (ty ∷ tys) zero e h = term-in w bs ρ n e (h .0)
     resolved-in (more w ws) bs ρ n (ty ∷ tys) (suc j) e h = resolved-in ws bs ρ n tys j e (h .2)
 
--- THEOREM: the term of an accepted sheet is in range
-pub sheet-range : (S : Sheet) → Accepted S → InRange (S .numbers) (termOf S)
+-- THEOREM: the term of a sheet in order is in range, whatever its size
+pub order-range : (S : Sheet) → 0 < S .numbers .z → FineNames [] (S .names) → Fine (S .numbers) (S .names) [] (S .term) →
+    InRange (S .numbers) (termOf S)
 unfolding termOf
-sheet-range S A =
-    term-in (S .numbers) (A .z-above) (S .names) (few-declared [] (S .names) (A .fine-names)) (S .term) [] no-terms 0
-      (nothing-in (S .numbers)) (A .fine-term)
+order-range S z ns h =
+    term-in (S .numbers) z (S .names) (few-declared [] (S .names) ns) (S .term) [] no-terms 0
+      (nothing-in (S .numbers)) h
+
+-- so is that of an accepted sheet
+pub sheet-range : (S : Sheet) → Accepted S → InRange (S .numbers) (termOf S)
+sheet-range S A = order-range S (A .z-above) (A .fine-names) (A .fine-term)
 
 -- THEOREM: every move of a complete play of an accepted sheet has a letter
 pub sheet-small : (S : Sheet) → Accepted S → (u : Word) → Complete (tyOf (S .numbers) (typeOf S)) (termOf S) u →
