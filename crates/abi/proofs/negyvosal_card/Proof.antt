@@ -9,21 +9,6 @@ use Rattle.abi.proofs.negyvosal_card.Tie as tie
 returns : tie.Need-returns
 returns c = no-room (c .if1 .taken) refl refl refl refl
 
-card-requires : tie.Need-card-requires
-card-requires c κs = search needs
-
-answer-card-requires : tie.Need-answer-card-requires
-answer-card-requires c κs = search needs
-
-same-length : tie.Need-same-length
-same-length c = search needs
-
-same-length-2 : tie.Need-same-length-2
-same-length-2 c = search needs
-
-same-length-3 : tie.Need-same-length-3
-same-length-3 c = search needs
-
 returns-2 : tie.Need-returns-2
 returns-2 c =
     card-returned _ _ _ _ _ _ _ _ _ (c .before .before .before .before .before .before .before .before .before .before
@@ -32,4 +17,5 @@ returns-2 c =
 
 pub negyvosal-card-spec : {M : Type 1} → statement M
 negyvosal-card-spec = tie.close
-    (tie.spec returns card-requires answer-card-requires same-length same-length-2 same-length-3 returns-2)
+    (tie.spec returns (λ c κs. search needs) (λ c κs. search needs) (search needs) (search needs) (search needs)
+    returns-2)

@@ -4,19 +4,10 @@ use Rattle.abi.proofs.Returning.{check-returned}
 use Rattle.abi.proofs.negyvosal_check.Statement.{statement}
 use Rattle.abi.proofs.negyvosal_check.Tie as tie
 
-check-requires : tie.Need-check-requires
-check-requires c κs = search needs
-
-answer-check-requires : tie.Need-answer-check-requires
-answer-check-requires c κs = search needs
-
-same-length : tie.Need-same-length
-same-length c = search needs
-
 returns : tie.Need-returns
 returns c =
     check-returned _ _ _ _ _ (c .before .before .before .before .check .ensures)
     (c .before .before .answer-check .ensures .0) (c .before .before .answer-check .ensures .1)
 
 pub negyvosal-check-spec : {M : Type 1} → statement M
-negyvosal-check-spec = tie.close (tie.spec check-requires answer-check-requires same-length returns)
+negyvosal-check-spec = tie.close (tie.spec (λ c κs. search needs) (λ c κs. search needs) (search needs) returns)

@@ -9,18 +9,6 @@ use Rattle.abi.proofs.negyvosal_follow.Tie as tie
 returns : tie.Need-returns
 returns c = no-room (c .if1 .taken) refl refl refl
 
-follow-requires : tie.Need-follow-requires
-follow-requires c κs = search needs
-
-answer-follow-requires : tie.Need-answer-follow-requires
-answer-follow-requires c κs = search needs
-
-same-length : tie.Need-same-length
-same-length c = search needs
-
-same-length-2 : tie.Need-same-length-2
-same-length-2 c = search needs
-
 returns-2 : tie.Need-returns-2
 returns-2 c =
     follow-returned _ _ _ _ _ _ _ _ (c .before .before .before .before .before .before .before .before .if1 .left) (c
@@ -29,4 +17,4 @@ returns-2 c =
 
 pub negyvosal-follow-spec : {M : Type 1} → statement M
 negyvosal-follow-spec = tie.close
-    (tie.spec returns follow-requires answer-follow-requires same-length same-length-2 returns-2)
+    (tie.spec returns (λ c κs. search needs) (λ c κs. search needs) (search needs) (search needs) returns-2)

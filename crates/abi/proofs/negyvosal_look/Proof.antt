@@ -9,21 +9,6 @@ use Rattle.abi.proofs.negyvosal_look.Tie as tie
 returns : tie.Need-returns
 returns c = no-room (c .if1 .taken) refl refl refl refl
 
-look-requires : tie.Need-look-requires
-look-requires c κs = search needs
-
-answer-look-requires : tie.Need-answer-look-requires
-answer-look-requires c κs = search needs
-
-same-length : tie.Need-same-length
-same-length c = search needs
-
-same-length-2 : tie.Need-same-length-2
-same-length-2 c = search needs
-
-same-length-3 : tie.Need-same-length-3
-same-length-3 c = search needs
-
 returns-2 : tie.Need-returns-2
 returns-2 c =
     look-returned _ _ _ _ _ _ _ _ _ _ _ (c .before .before .before .before .before .before .before .before .before
@@ -31,5 +16,5 @@ returns-2 c =
     (c .before .before .answer-look .ensures .0) (c .before .before .answer-look .ensures .1)
 
 pub negyvosal-look-spec : {M : Type 1} → statement M
-negyvosal-look-spec = tie.close (tie.spec returns look-requires answer-look-requires same-length
-    same-length-2 same-length-3 returns-2)
+negyvosal-look-spec = tie.close (tie.spec returns (λ c κs. search needs) (λ c κs. search needs) (search needs)
+    (search needs) (search needs) returns-2)

@@ -4,19 +4,10 @@ use Rattle.abi.proofs.Returning.{check-returned}
 use Rattle.abi.proofs.negyvosal_profile.Statement.{statement}
 use Rattle.abi.proofs.negyvosal_profile.Tie as tie
 
-profile-requires : tie.Need-profile-requires
-profile-requires c κs = search needs
-
-answer-check-requires : tie.Need-answer-check-requires
-answer-check-requires c κs = search needs
-
-same-length : tie.Need-same-length
-same-length c = search needs
-
 returns : tie.Need-returns
 returns c =
     check-returned _ _ _ _ _ (c .before .before .before .before .profile .ensures)
     (c .before .before .answer-check .ensures .0) (c .before .before .answer-check .ensures .1)
 
 pub negyvosal-profile-spec : {M : Type 1} → statement M
-negyvosal-profile-spec = tie.close (tie.spec profile-requires answer-check-requires same-length returns)
+negyvosal-profile-spec = tie.close (tie.spec (λ c κs. search needs) (λ c κs. search needs) (search needs) returns)

@@ -5,14 +5,8 @@ use mathlib.Core.Path.{sym, _∙_}
 use Rattle.live.proofs.is_marked.Statement.{statement}
 use Rattle.live.proofs.is_marked.Tie as tie
 
-add-at : tie.Need-add-at
-add-at c = search needs
-
-at-requires : tie.Need-at-requires
-at-requires c κs = search needs
-
 returns : tie.Need-returns
 returns c = ((λ h. sym (c .at .ensures) ∙ eqb-true _ _ h), (λ h. eq-eqb _ _ (c .at .ensures ∙ h)))
 
 pub is-marked-spec : {M : Type 1} → statement M
-is-marked-spec = tie.close (tie.spec add-at at-requires returns)
+is-marked-spec = tie.close (tie.spec (search needs) (λ c κs. search needs) returns)

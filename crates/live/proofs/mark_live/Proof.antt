@@ -7,18 +7,9 @@ use Rattle.live.proofs.laws.Marked.{linkable, marked, unmarked}
 use Rattle.live.proofs.mark_live.Statement.{statement}
 use Rattle.live.proofs.mark_live.Tie as tie
 
-mul-cut : tie.Need-mul-cut
-mul-cut c = search needs
-
-slice-relend-prefix-clear : tie.Need-slice-relend-prefix-clear
-slice-relend-prefix-clear c = search needs
-
 slice-aggregate-clear : tie.Need-slice-aggregate-clear
 slice-aggregate-clear c = omega (arith, length-take (2 * c .before .before .args .n)
     (c .before .before .args .words .now), c .before .before .pre .room)
-
-clear-requires : tie.Need-clear-requires
-clear-requires c κs = search needs
 
 link-edges-requires : tie.Need-link-edges-requires
 link-edges-requires c κs = linkable _ _ _ _ (c .before .before .before .before .before .before .pre)
@@ -29,9 +20,6 @@ mark-requires c κs = unmarked _ _ _ _ (c .before .before .before .before .befor
     .before .pre) (c .before .before .before .before .before .before .before .clear .ensures) _
     (c .before .before .before .link-edges .ensures)
 
-same-length : tie.Need-same-length
-same-length c = search needs
-
 returns : tie.Need-returns
 returns c = marked _ _ _ _ (c .before .before .before .before .before .before .before .before .before .before .before
     .before .before .pre) (c .before .before .before .before .before .before .before .before .before .before .clear
@@ -41,12 +29,5 @@ returns c = marked _ _ _ _ (c .before .before .before .before .before .before .b
 pub mark-live-spec : {M : Type 1} → statement M
 mark-live-spec =
     tie.close
-    (tie.spec
-    mul-cut
-    slice-relend-prefix-clear
-    slice-aggregate-clear
-    clear-requires
-    link-edges-requires
-    mark-requires
-    same-length
-    returns)
+    (tie.spec (search needs) (search needs) slice-aggregate-clear (λ c κs. search needs) link-edges-requires
+    mark-requires (search needs) returns)

@@ -22,9 +22,6 @@ redirect-requires c κs = (graph-of
     (c .before .before .before .before .before .before .before .begin .ensures)
     (c .before .before .before .find-paths .ensures), whole-of _ _ _ (c .before .before .before .find-paths .ensures))
 
-same-length : tie.Need-same-length
-same-length c = search needs
-
 returns : tie.Need-returns
 returns c = settling (c .before .before .before .before .before .before .before .before .before .before .before
     .before .before .args .n) _ _ _ _ (c .before .before .before .before .before .before .before .before .before
@@ -33,4 +30,4 @@ returns c = settling (c .before .before .before .before .before .before .before 
     (c .before .before .before .before .before .before .find-paths .ensures) (c .before .before .redirect .ensures)
 
 pub settle-spec : {M : Type 1} → statement M
-settle-spec = tie.close (tie.spec begin-requires find-paths-requires redirect-requires same-length returns)
+settle-spec = tie.close (tie.spec begin-requires find-paths-requires redirect-requires (search needs) returns)

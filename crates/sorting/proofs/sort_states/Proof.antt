@@ -5,15 +5,6 @@ use borrow.Author.Needs.{needs}
 use Rattle.sorting.proofs.sort_states.Statement.{statement}
 use Rattle.sorting.proofs.sort_states.Tie as tie
 
-mul-g : tie.Need-mul-g
-mul-g c = search needs
-
-add-g : tie.Need-add-g
-add-g c = search needs
-
-first-edge-requires : tie.Need-first-edge-requires
-first-edge-requires c κs = search needs
-
 mul-g-2 : tie.Need-mul-g-2
 mul-g-2 c = let S = c .before .before .before .pre in omega (arith, S .few, S .edges, end-is _ _ _ S _
     (c .first-edge .ensures))
@@ -21,9 +12,6 @@ mul-g-2 c = let S = c .before .before .before .pre in omega (arith, S .few, S .e
 add-g-2 : tie.Need-add-g-2
 add-g-2 c = let S = c .before .before .before .pre in omega (arith, S .few, S .edges, end-is _ _ _ S _
     (c .first-edge .ensures))
-
-mul-zero : tie.Need-mul-zero
-mul-zero c = search needs
 
 zero-requires : tie.Need-zero-requires
 zero-requires c κs = zero-asks _ _ _ (c .before .before .before .before .pre) _ (g-is _ _ _
@@ -34,9 +22,6 @@ link-edges-requires c κs = record { graph = _; linking = linkable _ _ _
     (c .before .before .before .before .before .before .before .before .pre) _ (g-is _ _ _
     (c .before .before .before .before .before .before .before .before .pre) _
     (c .before .before .before .before .before .first-edge .ensures)) _ (c .before .before .before .zero .ensures) }
-
-place-states-requires : tie.Need-place-states-requires
-place-states-requires c κs = search needs
 
 first-classes-requires : tie.Need-first-classes-requires
 first-classes-requires c κs = let Λ = linkable _ _ _
@@ -83,9 +68,6 @@ refine-requires c κs = let Λ = linkable _ _ _
               (c .before .before .before .first-classes .ensures);
     }
 
-same-length : tie.Need-same-length
-same-length c = search needs
-
 returns : tie.Need-returns
 returns c = let Λ = linkable _ _ _
     (c .before .before .before .before .before .before .before .before .before .before .before .before .before .before .before .before .before .before .before .before .before .before .before .pre)
@@ -126,17 +108,5 @@ returns c = let Λ = linkable _ _ _
 pub sort-states-spec : {M : Type 1} → statement M
 sort-states-spec =
     tie.close
-    (tie.spec
-    mul-g
-    add-g
-    first-edge-requires
-    mul-g-2
-    add-g-2
-    mul-zero
-    zero-requires
-    link-edges-requires
-    place-states-requires
-    first-classes-requires
-    refine-requires
-    same-length
-    returns)
+    (tie.spec (search needs) (search needs) (λ c κs. search needs) mul-g-2 add-g-2 (search needs) zero-requires
+    link-edges-requires (λ c κs. search needs) first-classes-requires refine-requires (search needs) returns)

@@ -4,31 +4,10 @@ use Rattle.answers.proofs.Wording.{returned-as, words-accepted, words-n
 use Rattle.answers.proofs.check.answer_check.Statement.{statement}
 use Rattle.answers.proofs.check.answer_check.Tie as tie
 
-enum-known-r : tie.Need-enum-known-r
-enum-known-r c = search needs
-
-cast-t : tie.Need-cast-t
-cast-t c = search needs
-
-answer-requires : tie.Need-answer-requires
-answer-requires c κs = search needs
-
-enum-known-r-2 : tie.Need-enum-known-r-2
-enum-known-r-2 c = search needs
-
-refuse-requires : tie.Need-refuse-requires
-refuse-requires c κs = search needs
-
-same-length : tie.Need-same-length
-same-length c = search needs
-
 returns : tie.Need-returns
 returns c =
     returned-as _ _ _ _ _ (words-accepted _ _ _ _ (c .before .before .before .before .before .r .given .1))
     (c .before .before .answer .ensures .0) (c .before .before .answer .ensures .1)
-
-same-length-2 : tie.Need-same-length-2
-same-length-2 c = search needs
 
 returns-2 : tie.Need-returns-2
 returns-2 c =
@@ -36,5 +15,5 @@ returns-2 c =
     (c .before .before .refuse .ensures .0) (c .before .before .refuse .ensures .1)
 
 pub answer-check-spec : {M : Type 1} → statement M
-answer-check-spec = tie.close (tie.spec enum-known-r cast-t answer-requires enum-known-r-2 refuse-requires same-length
-    returns same-length-2 returns-2)
+answer-check-spec = tie.close (tie.spec (search needs) (search needs) (λ c κs. search needs) (search needs)
+    (λ c κs. search needs) (search needs) returns (search needs) returns-2)

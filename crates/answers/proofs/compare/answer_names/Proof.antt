@@ -3,14 +3,8 @@ use borrow.Author.Needs.{needs}
 use Rattle.answers.proofs.compare.answer_names.Statement.{statement}
 use Rattle.answers.proofs.compare.answer_names.Tie as tie
 
-answer-requires : tie.Need-answer-requires
-answer-requires c κs = search needs
-
-same-length : tie.Need-same-length
-same-length c = search needs
-
 returns : tie.Need-returns
 returns c = (c .before .before .answer .ensures .0, c .before .before .answer .ensures .1)
 
 pub answer-names-spec : {M : Type 1} → statement M
-answer-names-spec = tie.close (tie.spec answer-requires same-length returns)
+answer-names-spec = tie.close (tie.spec (λ c κs. search needs) (search needs) returns)

@@ -4,39 +4,12 @@ use Rattle.answers.proofs.Wording.{returned-as, words-complete, words-b
 use Rattle.answers.proofs.follow.answer_follow.Statement.{statement}
 use Rattle.answers.proofs.follow.answer_follow.Tie as tie
 
-enum-known-r : tie.Need-enum-known-r
-enum-known-r c = search needs
-
-low-half-requires : tie.Need-low-half-requires
-low-half-requires c κs = search needs
-
-high-half-requires : tie.Need-high-half-requires
-high-half-requires c κs = search needs
-
-answer-requires : tie.Need-answer-requires
-answer-requires c κs = search needs
-
-same-length : tie.Need-same-length
-same-length c = search needs
-
 returns : tie.Need-returns
 returns c =
     returned-as _ _ _ _ _ (words-complete _ _ _ _ _ (c .before .before .before .before .before .before .before .before
     .r .given .1) (c .before .before .before .before .if1 .taken) (c .before .before .before .before .before .before
     .low-half .ensures) (c .before .before .before .before .before .high-half .ensures))
     (c .before .before .answer .ensures .0) (c .before .before .answer .ensures .1)
-
-answer-requires-2 : tie.Need-answer-requires-2
-answer-requires-2 c κs = search needs
-
-enum-known-r-2 : tie.Need-enum-known-r-2
-enum-known-r-2 c = search needs
-
-refuse-requires : tie.Need-refuse-requires
-refuse-requires c κs = search needs
-
-same-length-2 : tie.Need-same-length-2
-same-length-2 c = search needs
 
 returns-2 : tie.Need-returns-2
 returns-2 c =
@@ -45,14 +18,12 @@ returns-2 c =
     .low-half .ensures) (c .before .before .before .before .before .high-half .ensures))
     (c .before .before .answer2 .ensures .0) (c .before .before .answer2 .ensures .1)
 
-same-length-3 : tie.Need-same-length-3
-same-length-3 c = search needs
-
 returns-3 : tie.Need-returns-3
 returns-3 c =
     returned-as _ _ _ _ _ (words-not-followed _ _ (c .before .before .before .before .before .r2 .given .1))
     (c .before .before .refuse .ensures .0) (c .before .before .refuse .ensures .1)
 
 pub answer-follow-spec : {M : Type 1} → statement M
-answer-follow-spec = tie.close (tie.spec enum-known-r low-half-requires high-half-requires answer-requires same-length
-    returns answer-requires-2 enum-known-r-2 refuse-requires same-length-2 returns-2 same-length-3 returns-3)
+answer-follow-spec = tie.close (tie.spec (search needs) (λ c κs. search needs) (λ c κs. search needs)
+    (λ c κs. search needs) (search needs) returns (λ c κs. search needs) (search needs) (λ c κs. search needs)
+    (search needs) returns-2 (search needs) returns-3)

@@ -5,32 +5,14 @@ use Rattle.automaton.specs.walk.Down.{condIn}
 use Rattle.automaton.proofs.down.cond_in.Statement.{statement}
 use Rattle.automaton.proofs.down.cond_in.Tie as tie
 
-sum-requires : tie.Need-sum-requires
-sum-requires c κs = search needs
-
-framed-requires : tie.Need-framed-requires
-framed-requires c κs = search needs
-
 returns : tie.Need-returns
 unfolding condIn
 returns c = simp (← c .before .sum .ensures, ← c .framed .ensures, lt-ltb _ _ (c .before .before .if1 .taken))
-
-framed-requires-2 : tie.Need-framed-requires-2
-framed-requires-2 c κs = search needs
 
 returns-2 : tie.Need-returns-2
 unfolding condIn
 returns-2 c =
     simp (← c .framed2 .ensures, le-ltb _ _ (c .before .before .if1 .left), lt-ltb _ _ (c .before .if2 .taken))
-
-sum-requires-2 : tie.Need-sum-requires-2
-sum-requires-2 c κs = search needs
-
-framed-requires-3 : tie.Need-framed-requires-3
-framed-requires-3 c κs = search needs
-
-sub-t16 : tie.Need-sub-t16
-sub-t16 c = search needs
 
 returns-3 : tie.Need-returns-3
 unfolding condIn
@@ -40,5 +22,5 @@ returns-3 c =
 
 pub cond-in-spec : {M : Type 1} → statement M
 cond-in-spec =
-    tie.close (tie.spec sum-requires framed-requires returns framed-requires-2 returns-2 sum-requires-2
-    framed-requires-3 sub-t16 returns-3)
+    tie.close (tie.spec (λ c κs. search needs) (λ c κs. search needs) returns (λ c κs. search needs) returns-2
+    (λ c κs. search needs) (λ c κs. search needs) (search needs) returns-3)

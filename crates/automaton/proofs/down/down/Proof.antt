@@ -5,42 +5,6 @@ use Rattle.automaton.specs.walk.Down.{downAs}
 use Rattle.automaton.proofs.down.down.Statement.{statement}
 use Rattle.automaton.proofs.down.down.Tie as tie
 
-cell-requires : tie.Need-cell-requires
-cell-requires c κs = search needs
-
-leaves-requires : tie.Need-leaves-requires
-leaves-requires c κs = search needs
-
-cell-requires-2 : tie.Need-cell-requires-2
-cell-requires-2 c κs = search needs
-
-leaves-requires-2 : tie.Need-leaves-requires-2
-leaves-requires-2 c κs = search needs
-
-in-name-requires : tie.Need-in-name-requires
-in-name-requires c κs = search needs
-
-in-fetch-requires : tie.Need-in-fetch-requires
-in-fetch-requires c κs = search needs
-
-in-operate-requires : tie.Need-in-operate-requires
-in-operate-requires c κs = search needs
-
-in-assign-requires : tie.Need-in-assign-requires
-in-assign-requires c κs = search needs
-
-in-seq-requires : tie.Need-in-seq-requires
-in-seq-requires c κs = search needs
-
-in-cond-requires : tie.Need-in-cond-requires
-in-cond-requires c κs = search needs
-
-in-while-requires : tie.Need-in-while-requires
-in-while-requires c κs = search needs
-
-in-new-requires : tie.Need-in-new-requires
-in-new-requires c κs = search needs
-
 returns : tie.Need-returns
 unfolding downAs
 returns c s other = simp (← c .before .before .cell .ensures, ← c .leaves .ensures, c .before .match .keys1)
@@ -93,7 +57,7 @@ returns-11 c s other =
 
 pub down-spec : {M : Type 1} → statement M
 down-spec =
-    tie.close (tie.spec cell-requires leaves-requires cell-requires-2 leaves-requires-2 in-name-requires
-    in-fetch-requires in-operate-requires in-assign-requires in-seq-requires in-cond-requires in-while-requires
-    in-new-requires returns returns-2 returns-3 returns-4 returns-5 returns-6 returns-7 returns-8
-    returns-9 returns-10 returns-11)
+    tie.close (tie.spec (λ c κs. search needs) (λ c κs. search needs) (λ c κs. search needs) (λ c κs. search needs)
+    (λ c κs. search needs) (λ c κs. search needs) (λ c κs. search needs) (λ c κs. search needs)
+    (λ c κs. search needs) (λ c κs. search needs) (λ c κs. search needs) (λ c κs. search needs) returns returns-2
+    returns-3 returns-4 returns-5 returns-6 returns-7 returns-8 returns-9 returns-10 returns-11)

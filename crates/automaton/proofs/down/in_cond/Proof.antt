@@ -4,24 +4,6 @@ use Rattle.automaton.specs.walk.Down.{inCond}
 use Rattle.automaton.proofs.down.in_cond.Statement.{statement}
 use Rattle.automaton.proofs.down.in_cond.Tie as tie
 
-part-weight-requires : tie.Need-part-weight-requires
-part-weight-requires c κs = search needs
-
-part-weight-requires-2 : tie.Need-part-weight-requires-2
-part-weight-requires-2 c κs = search needs
-
-part-at-requires : tie.Need-part-at-requires
-part-at-requires c κs = search needs
-
-part-at-requires-2 : tie.Need-part-at-requires-2
-part-at-requires-2 c κs = search needs
-
-part-at-requires-3 : tie.Need-part-at-requires-3
-part-at-requires-3 c κs = search needs
-
-cond-in-requires : tie.Need-cond-in-requires
-cond-in-requires c κs = search needs
-
 returns : tie.Need-returns
 unfolding inCond
 returns c =
@@ -31,5 +13,5 @@ returns c =
 
 pub in-cond-spec : {M : Type 1} → statement M
 in-cond-spec =
-    tie.close (tie.spec part-weight-requires part-weight-requires-2 part-at-requires part-at-requires-2
-    part-at-requires-3 cond-in-requires returns)
+    tie.close (tie.spec (λ c κs. search needs) (λ c κs. search needs) (λ c κs. search needs) (λ c κs. search needs)
+    (λ c κs. search needs) (λ c κs. search needs) returns)

@@ -4,15 +4,9 @@ use Rattle.automaton.specs.walk.Down.{inFetch}
 use Rattle.automaton.proofs.down.in_fetch.Statement.{statement}
 use Rattle.automaton.proofs.down.in_fetch.Tie as tie
 
-part-at-requires : tie.Need-part-at-requires
-part-at-requires c κs = search needs
-
-framed-requires : tie.Need-framed-requires
-framed-requires c κs = search needs
-
 returns : tie.Need-returns
 unfolding inFetch
 returns c = simp (← c .before .part-at .ensures, ← c .framed .ensures)
 
 pub in-fetch-spec : {M : Type 1} → statement M
-in-fetch-spec = tie.close (tie.spec part-at-requires framed-requires returns)
+in-fetch-spec = tie.close (tie.spec (λ c κs. search needs) (λ c κs. search needs) returns)

@@ -5,9 +5,6 @@ use Rattle.automaton.specs.walk.Down.{operateIn}
 use Rattle.automaton.proofs.down.operate_in.Statement.{statement}
 use Rattle.automaton.proofs.down.operate_in.Tie as tie
 
-framed-requires : tie.Need-framed-requires
-framed-requires c κs = search needs
-
 returns : tie.Need-returns
 unfolding operateIn
 returns c = simp (← c .framed .ensures, lt-ltb _ _ (c .before .if1 .taken))
@@ -15,18 +12,6 @@ returns c = simp (← c .framed .ensures, lt-ltb _ _ (c .before .if1 .taken))
 returns-2 : tie.Need-returns-2
 unfolding operateIn
 returns-2 c = simp (le-ltb _ _ (c .before .if1 .left), eq-eqb _ _ (c .if2 .taken))
-
-div-x : tie.Need-div-x
-div-x c = search needs
-
-mul-add-requires : tie.Need-mul-add-requires
-mul-add-requires c κs = search needs
-
-framed-requires-2 : tie.Need-framed-requires-2
-framed-requires-2 c κs = search needs
-
-rem-t14 : tie.Need-rem-t14
-rem-t14 c = search needs
 
 returns-3 : tie.Need-returns-3
 unfolding operateIn
@@ -36,4 +21,5 @@ returns-3 c =
 
 pub operate-in-spec : {M : Type 1} → statement M
 operate-in-spec =
-    tie.close (tie.spec framed-requires returns returns-2 div-x mul-add-requires framed-requires-2 rem-t14 returns-3)
+    tie.close (tie.spec (λ c κs. search needs) returns returns-2 (search needs) (λ c κs. search needs)
+    (λ c κs. search needs) (search needs) returns-3)

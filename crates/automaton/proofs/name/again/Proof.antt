@@ -4,12 +4,6 @@ use mathlib.Core.Path.{sym}
 use Rattle.automaton.proofs.name.again.Statement.{statement}
 use Rattle.automaton.proofs.name.again.Tie as tie
 
-enum-known-d : tie.Need-enum-known-d
-enum-known-d c = search needs
-
-enum-known-d-2 : tie.Need-enum-known-d-2
-enum-known-d-2 c = search needs
-
 returns : tie.Need-returns
 returns c = sym (c .before .d .given .1)
 
@@ -17,4 +11,4 @@ returns-2 : tie.Need-returns-2
 returns-2 c = sym (c .before .d2 .given .1)
 
 pub again-spec : {M : Type 1} → statement M
-again-spec = tie.close (tie.spec enum-known-d enum-known-d-2 returns returns-2)
+again-spec = tie.close (tie.spec (search needs) (search needs) returns returns-2)

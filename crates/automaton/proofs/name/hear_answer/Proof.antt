@@ -5,15 +5,6 @@ use Rattle.automaton.specs.walk.Name.{hearAnswer}
 use Rattle.automaton.proofs.name.hear_answer.Statement.{statement}
 use Rattle.automaton.proofs.name.hear_answer.Tie as tie
 
-cell-requires : tie.Need-cell-requires
-cell-requires c κs = search needs
-
-cell-requires-2 : tie.Need-cell-requires-2
-cell-requires-2 c κs = search needs
-
-answer-number-requires : tie.Need-answer-number-requires
-answer-number-requires c κs = search needs
-
 returns : tie.Need-returns
 unfolding hearAnswer
 returns c =
@@ -27,4 +18,5 @@ returns-2 c =
     .ensures, ne-eqb _ _ (c .if1 .left))
 
 pub hear-answer-spec : {M : Type 1} → statement M
-hear-answer-spec = tie.close (tie.spec cell-requires cell-requires-2 answer-number-requires returns returns-2)
+hear-answer-spec = tie.close (tie.spec (λ c κs. search needs) (λ c κs. search needs) (λ c κs. search needs) returns
+    returns-2)

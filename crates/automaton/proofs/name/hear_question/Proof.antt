@@ -9,39 +9,12 @@ returns : tie.Need-returns
 unfolding hearQuestion
 returns c = simp (le-leb _ _ (c .if1 .taken))
 
-part-class-requires : tie.Need-part-class-requires
-part-class-requires c κs = search needs
-
-part-values-requires : tie.Need-part-values-requires
-part-values-requires c κs = search needs
-
-question-number-requires : tie.Need-question-number-requires
-question-number-requires c κs = search needs
-
 returns-2 : tie.Need-returns-2
 unfolding hearQuestion
 returns-2 c =
     simp (← c .before .before .before .part-class .ensures, ← c .before .before .part-values .ensures, ← c .before
       .question-number .ensures, lt-leb _ _ (c .before .before .before .before .if1 .left), eq-eqb _ _ (c .if2
       .taken))
-
-inner-requires : tie.Need-inner-requires
-inner-requires c κs = search needs
-
-spots-requires : tie.Need-spots-requires
-spots-requires c κs = search needs
-
-sum-requires : tie.Need-sum-requires
-sum-requires c κs = search needs
-
-sub-mul-add : tie.Need-sub-mul-add
-sub-mul-add c = search needs
-
-part-weight-requires : tie.Need-part-weight-requires
-part-weight-requires c κs = search needs
-
-mul-add-requires : tie.Need-mul-add-requires
-mul-add-requires c κs = search needs
 
 returns-3 : tie.Need-returns-3
 unfolding hearQuestion
@@ -55,5 +28,6 @@ returns-3 c =
 
 pub hear-question-spec : {M : Type 1} → statement M
 hear-question-spec =
-    tie.close (tie.spec returns part-class-requires part-values-requires question-number-requires returns-2
-      inner-requires spots-requires sum-requires sub-mul-add part-weight-requires mul-add-requires returns-3)
+    tie.close (tie.spec returns (λ c κs. search needs) (λ c κs. search needs) (λ c κs. search needs) returns-2
+    (λ c κs. search needs) (λ c κs. search needs) (λ c κs. search needs) (search needs) (λ c κs. search needs)
+    (λ c κs. search needs) returns-3)

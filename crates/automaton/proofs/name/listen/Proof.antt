@@ -5,27 +5,15 @@ use Rattle.automaton.specs.walk.Name.{listenOf}
 use Rattle.automaton.proofs.name.listen.Statement.{statement}
 use Rattle.automaton.proofs.name.listen.Tie as tie
 
-name-id-requires : tie.Need-name-id-requires
-name-id-requires c κs = search needs
-
 returns : tie.Need-returns
 unfolding listenOf
 returns c = simp (← c .before .before .name-id .ensures, ne-eqb _ _ (c .if1 .taken))
-
-hear-answer-requires : tie.Need-hear-answer-requires
-hear-answer-requires c κs = search needs
 
 returns-2 : tie.Need-returns-2
 unfolding listenOf
 returns-2 c =
     simp (← c .before .before .before .before .name-id .ensures, ← c .hear-answer .ensures, eq-eqb _ _
     (c .before .before .if1 .left), eq-eqb _ _ (c .before .if2 .taken))
-
-sub-hear-question : tie.Need-sub-hear-question
-sub-hear-question c = search needs
-
-hear-question-requires : tie.Need-hear-question-requires
-hear-question-requires c κs = search needs
 
 returns-3 : tie.Need-returns-3
 unfolding listenOf
@@ -35,5 +23,5 @@ returns-3 c =
 
 pub listen-spec : {M : Type 1} → statement M
 listen-spec =
-    tie.close (tie.spec name-id-requires returns hear-answer-requires returns-2 sub-hear-question
-    hear-question-requires returns-3)
+    tie.close (tie.spec (λ c κs. search needs) returns (λ c κs. search needs) returns-2 (search needs)
+    (λ c κs. search needs) returns-3)

@@ -5,27 +5,19 @@ use Rattle.automaton.specs.walk.Name.{replyHere}
 use Rattle.automaton.proofs.name.reply_here.Statement.{statement}
 use Rattle.automaton.proofs.name.reply_here.Tie as tie
 
-said-requires : tie.Need-said-requires
-said-requires c κs = search needs
-
 returns : tie.Need-returns
 unfolding replyHere
 returns c = simp (← c .said .ensures, eq-eqb _ _ (c .before .if1 .taken))
-
-said-requires-2 : tie.Need-said-requires-2
-said-requires-2 c κs = search needs
 
 returns-2 : tie.Need-returns-2
 unfolding replyHere
 returns-2 c =
     simp (← c .said2 .ensures, ne-eqb _ _ (c .before .before .if1 .left), le-leb _ _ (c .before .if2 .taken))
 
-said-requires-3 : tie.Need-said-requires-3
-said-requires-3 c κs = search needs
-
 returns-3 : tie.Need-returns-3
 unfolding replyHere
 returns-3 c = simp (← c .said3 .ensures, ne-eqb _ _ (c .before .before .if1 .left), lt-leb _ _ (c .before .if2 .left))
 
 pub reply-here-spec : {M : Type 1} → statement M
-reply-here-spec = tie.close (tie.spec said-requires returns said-requires-2 returns-2 said-requires-3 returns-3)
+reply-here-spec = tie.close (tie.spec (λ c κs. search needs) returns (λ c κs. search needs) returns-2
+    (λ c κs. search needs) returns-3)

@@ -9,12 +9,9 @@ returns : tie.Need-returns
 unfolding atWait
 returns c = simp (eq-eqb _ _ (c .if1 .taken))
 
-listen-requires : tie.Need-listen-requires
-listen-requires c κs = search needs
-
 returns-2 : tie.Need-returns-2
 unfolding atWait
 returns-2 c = simp (← c .listen .ensures, ne-eqb _ _ (c .before .if1 .left))
 
 pub waiting-spec : {M : Type 1} → statement M
-waiting-spec = tie.close (tie.spec returns listen-requires returns-2)
+waiting-spec = tie.close (tie.spec returns (λ c κs. search needs) returns-2)

@@ -13,24 +13,9 @@ use Rattle.automaton.proofs.row.cell.Tie as tie
 returns : tie.Need-returns
 returns c = past (now (c .before .args .t)) (c .before .args .at) (c .before .args .i) (omega arith)
 
-mul-row : tie.Need-mul-row
-mul-row c = search needs
-
-sub-if2 : tie.Need-sub-if2
-sub-if2 c = search needs
-
 returns-2 : tie.Need-returns-2
 returns-2 c =
     past (now (c .before .before .args .t)) (c .before .before .args .at) (c .before .before .args .i) (omega arith)
-
-add-index : tie.Need-add-index
-add-index c = search needs
-
-mul-result : tie.Need-mul-result
-mul-result c = search needs
-
-shared-slice-read-result : tie.Need-shared-slice-read-result
-shared-slice-read-result c = search needs
 
 cast-result : tie.Need-cast-result
 cast-result c =
@@ -44,4 +29,5 @@ returns-3 c = refl
 pub cell-spec : {M : Type 1} → statement M
 cell-spec =
     tie.close
-    (tie.spec returns mul-row sub-if2 returns-2 add-index mul-result shared-slice-read-result cast-result returns-3)
+    (tie.spec returns (search needs) (search needs) returns-2 (search needs) (search needs) (search needs)
+    cast-result returns-3)

@@ -4,12 +4,9 @@ use Rattle.automaton.specs.walk.Row.{nameCount}
 use Rattle.automaton.proofs.row.name_count.Statement.{statement}
 use Rattle.automaton.proofs.row.name_count.Tie as tie
 
-cell-requires : tie.Need-cell-requires
-cell-requires c κs = search needs
-
 returns : tie.Need-returns
 unfolding nameCount
 returns c = simp (← c .cell .ensures)
 
 pub name-count-spec : {M : Type 1} → statement M
-name-count-spec = tie.close (tie.spec cell-requires returns)
+name-count-spec = tie.close (tie.spec (λ c κs. search needs) returns)

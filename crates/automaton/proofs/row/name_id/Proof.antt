@@ -4,12 +4,9 @@ use Rattle.automaton.specs.walk.Row.{nameId}
 use Rattle.automaton.proofs.row.name_id.Statement.{statement}
 use Rattle.automaton.proofs.row.name_id.Tie as tie
 
-cell-requires : tie.Need-cell-requires
-cell-requires c κs = search needs
-
 returns : tie.Need-returns
 unfolding nameId
 returns c = simp (← c .cell .ensures)
 
 pub name-id-spec : {M : Type 1} → statement M
-name-id-spec = tie.close (tie.spec cell-requires returns)
+name-id-spec = tie.close (tie.spec (λ c κs. search needs) returns)

@@ -4,12 +4,9 @@ use Rattle.automaton.specs.walk.Row.{nameSpent}
 use Rattle.automaton.proofs.row.name_spent.Statement.{statement}
 use Rattle.automaton.proofs.row.name_spent.Tie as tie
 
-cell-requires : tie.Need-cell-requires
-cell-requires c κs = search needs
-
 returns : tie.Need-returns
 unfolding nameSpent
 returns c = simp (← c .cell .ensures)
 
 pub name-spent-spec : {M : Type 1} → statement M
-name-spent-spec = tie.close (tie.spec cell-requires returns)
+name-spent-spec = tie.close (tie.spec (λ c κs. search needs) returns)

@@ -5,9 +5,6 @@ use Rattle.automaton.specs.walk.Row.{sumOf}
 use Rattle.automaton.proofs.row.sum.Statement.{statement}
 use Rattle.automaton.proofs.row.sum.Tie as tie
 
-add-result : tie.Need-add-result
-add-result c = search needs
-
 returns : tie.Need-returns
 unfolding sumOf
 returns c = simp (lt-ltb _ _ (c .before .if1 .taken), lt-ltb _ _ (c .if2 .taken))
@@ -21,4 +18,4 @@ unfolding sumOf
 returns-3 c = simp (le-ltb _ _ (c .if1 .left))
 
 pub sum-spec : {M : Type 1} → statement M
-sum-spec = tie.close (tie.spec add-result returns returns-2 returns-3)
+sum-spec = tie.close (tie.spec (search needs) returns returns-2 returns-3)

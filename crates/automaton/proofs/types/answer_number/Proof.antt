@@ -19,9 +19,6 @@ returns-3 : tie.Need-returns-3
 unfolding answerNumber
 returns-3 c = simp (eq-eqb _ _ (c .before .if1 .taken), ne-eqb _ _ (c .if2 .left))
 
-value-answer-requires : tie.Need-value-answer-requires
-value-answer-requires c κs = search needs
-
 returns-4 : tie.Need-returns-4
 unfolding answerNumber
 returns-4 c =
@@ -33,20 +30,11 @@ unfolding answerNumber
 returns-5 c =
     simp (ne-eqb _ _ (c .before .before .if1 .left), eq-eqb _ _ (c .before .if4 .taken), ne-eqb _ _ (c .if5 .left))
 
-value-answer-requires-2 : tie.Need-value-answer-requires-2
-value-answer-requires-2 c κs = search needs
-
 returns-6 : tie.Need-returns-6
 unfolding answerNumber
 returns-6 c =
     simp (← c .value-answer2 .ensures, ne-eqb _ _ (c .before .before .before .if1 .left), ne-eqb _ _
     (c .before .before .if4 .left), eq-eqb _ _ (c .before .if6 .taken))
-
-sum-requires : tie.Need-sum-requires
-sum-requires c κs = search needs
-
-sum-requires-2 : tie.Need-sum-requires-2
-sum-requires-2 c κs = search needs
 
 returns-7 : tie.Need-returns-7
 unfolding answerNumber
@@ -80,5 +68,6 @@ returns-10 c =
 
 pub answer-number-spec : {M : Type 1} → statement M
 answer-number-spec =
-    tie.close (tie.spec returns returns-2 returns-3 value-answer-requires returns-4 returns-5 value-answer-requires-2
-    returns-6 sum-requires sum-requires-2 returns-7 returns-8 returns-9 returns-10)
+    tie.close (tie.spec returns returns-2 returns-3 (λ c κs. search needs) returns-4 returns-5
+    (λ c κs. search needs) returns-6 (λ c κs. search needs) (λ c κs. search needs) returns-7 returns-8 returns-9
+    returns-10)

@@ -13,12 +13,9 @@ returns-2 : tie.Need-returns-2
 unfolding answersOf
 returns-2 c = simp (ne-eqb _ _ (c .before .if1 .left), eq-eqb _ _ (c .if2 .taken))
 
-sum-requires : tie.Need-sum-requires
-sum-requires c κs = search needs
-
 returns-3 : tie.Need-returns-3
 unfolding answersOf
 returns-3 c = simp (← c .sum .ensures, ne-eqb _ _ (c .before .before .if1 .left), ne-eqb _ _ (c .before .if2 .left))
 
 pub answers-spec : {M : Type 1} → statement M
-answers-spec = tie.close (tie.spec returns returns-2 sum-requires returns-3)
+answers-spec = tie.close (tie.spec returns returns-2 (λ c κs. search needs) returns-3)

@@ -5,12 +5,6 @@ use Rattle.automaton.specs.walk.Types.{questionNumber}
 use Rattle.automaton.proofs.types.question_number.Statement.{statement}
 use Rattle.automaton.proofs.types.question_number.Tie as tie
 
-question-limit-requires : tie.Need-question-limit-requires
-question-limit-requires c κs = search needs
-
-sum-requires : tie.Need-sum-requires
-sum-requires c κs = search needs
-
 returns : tie.Need-returns
 unfolding questionNumber
 returns c =
@@ -27,4 +21,5 @@ unfolding questionNumber
 returns-3 c = simp (← c .before .question-limit .ensures, ne-eqb _ _ (c .if1 .left))
 
 pub question-number-spec : {M : Type 1} → statement M
-question-number-spec = tie.close (tie.spec question-limit-requires sum-requires returns returns-2 returns-3)
+question-number-spec = tie.close (tie.spec (λ c κs. search needs) (λ c κs. search needs) returns returns-2
+    returns-3)

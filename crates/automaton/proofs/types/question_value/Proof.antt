@@ -5,9 +5,6 @@ use Rattle.automaton.specs.walk.Types.{questionValue}
 use Rattle.automaton.proofs.types.question_value.Statement.{statement}
 use Rattle.automaton.proofs.types.question_value.Tie as tie
 
-sub-result : tie.Need-sub-result
-sub-result c = search needs
-
 returns : tie.Need-returns
 unfolding questionValue
 returns c = simp (eq-eqb _ _ (c .before .if1 .taken), lt-ltb _ _ (c .if2 .taken))
@@ -21,4 +18,4 @@ unfolding questionValue
 returns-3 c = simp (ne-eqb _ _ (c .if1 .left))
 
 pub question-value-spec : {M : Type 1} → statement M
-question-value-spec = tie.close (tie.spec sub-result returns returns-2 returns-3)
+question-value-spec = tie.close (tie.spec (search needs) returns returns-2 returns-3)

@@ -5,9 +5,6 @@ use Rattle.automaton.specs.walk.Types.{questionsOf}
 use Rattle.automaton.proofs.types.questions.Statement.{statement}
 use Rattle.automaton.proofs.types.questions.Tie as tie
 
-sum-requires : tie.Need-sum-requires
-sum-requires c κs = search needs
-
 returns : tie.Need-returns
 unfolding questionsOf
 returns c = simp (← c .sum .ensures, eq-eqb _ _ (c .before .if1 .taken))
@@ -17,4 +14,4 @@ unfolding questionsOf
 returns-2 c = simp (ne-eqb _ _ (c .if1 .left))
 
 pub questions-spec : {M : Type 1} → statement M
-questions-spec = tie.close (tie.spec sum-requires returns returns-2)
+questions-spec = tie.close (tie.spec (λ c κs. search needs) returns returns-2)

@@ -5,9 +5,6 @@ use Rattle.automaton.specs.walk.Types.{valueAnswer}
 use Rattle.automaton.proofs.types.value_answer.Statement.{statement}
 use Rattle.automaton.proofs.types.value_answer.Tie as tie
 
-sum-requires : tie.Need-sum-requires
-sum-requires c κs = search needs
-
 returns : tie.Need-returns
 unfolding valueAnswer
 returns c = simp (← c .sum .ensures, eq-eqb _ _ (c .before .before .if1 .taken), lt-ltb _ _ (c .before .if2 .taken))
@@ -21,4 +18,4 @@ unfolding valueAnswer
 returns-3 c = simp (ne-eqb _ _ (c .if1 .left))
 
 pub value-answer-spec : {M : Type 1} → statement M
-value-answer-spec = tie.close (tie.spec sum-requires returns returns-2 returns-3)
+value-answer-spec = tie.close (tie.spec (λ c κs. search needs) returns returns-2 returns-3)

@@ -5,21 +5,6 @@ use Rattle.automaton.specs.walk.Up.{exitArgument}
 use Rattle.automaton.proofs.up.exit_argument.Statement.{statement}
 use Rattle.automaton.proofs.up.exit_argument.Tie as tie
 
-question-kind-requires : tie.Need-question-kind-requires
-question-kind-requires c κs = search needs
-
-question-value-requires : tie.Need-question-value-requires
-question-value-requires c κs = search needs
-
-answer-number-requires : tie.Need-answer-number-requires
-answer-number-requires c κs = search needs
-
-sub-sum : tie.Need-sub-sum
-sub-sum c = search needs
-
-sum-requires : tie.Need-sum-requires
-sum-requires c κs = search needs
-
 returns : tie.Need-returns
 unfolding exitArgument
 returns c =
@@ -34,5 +19,5 @@ returns-2 c =
 
 pub exit-argument-spec : {M : Type 1} → statement M
 exit-argument-spec =
-    tie.close (tie.spec question-kind-requires question-value-requires answer-number-requires sub-sum sum-requires
-    returns returns-2)
+    tie.close (tie.spec (λ c κs. search needs) (λ c κs. search needs) (λ c κs. search needs) (search needs)
+    (λ c κs. search needs) returns returns-2)

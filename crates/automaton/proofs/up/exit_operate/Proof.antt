@@ -7,27 +7,6 @@ use Rattle.automaton.specs.walk.Up.{exitOperate}
 use Rattle.automaton.proofs.up.exit_operate.Statement.{statement}
 use Rattle.automaton.proofs.up.exit_operate.Tie as tie
 
-cast-op : tie.Need-cast-op
-cast-op c = search needs
-
-cast-x : tie.Need-cast-x
-cast-x c = search needs
-
-cast-y : tie.Need-cast-y
-cast-y c = search needs
-
-operate-requires : tie.Need-operate-requires
-operate-requires c κs = search needs
-
-enum-known-result : tie.Need-enum-known-result
-enum-known-result c = search needs
-
-cast-t16 : tie.Need-cast-t16
-cast-t16 c = search needs
-
-enum-told : tie.Need-enum-told
-enum-told c = search needs
-
 returns : tie.Need-returns
 unfolding exitOperate
 returns c =
@@ -52,5 +31,5 @@ returns-4 c = simp (ne-eqb _ _ (c .if1 .left))
 
 pub exit-operate-spec : {M : Type 1} → statement M
 exit-operate-spec =
-    tie.close (tie.spec cast-op cast-x cast-y operate-requires enum-known-result cast-t16 enum-told returns returns-2
-    returns-3 returns-4)
+    tie.close (tie.spec (search needs) (search needs) (search needs) (λ c κs. search needs) (search needs)
+    (search needs) (search needs) returns returns-2 returns-3 returns-4)

@@ -5,9 +5,6 @@ use Rattle.automaton.specs.walk.Up.{exitValue}
 use Rattle.automaton.proofs.up.exit_value.Statement.{statement}
 use Rattle.automaton.proofs.up.exit_value.Tie as tie
 
-mul-add-requires : tie.Need-mul-add-requires
-mul-add-requires c κs = search needs
-
 returns : tie.Need-returns
 unfolding exitValue
 returns c =
@@ -22,4 +19,4 @@ unfolding exitValue
 returns-3 c = simp (ne-eqb _ _ (c .if1 .left))
 
 pub exit-value-spec : {M : Type 1} → statement M
-exit-value-spec = tie.close (tie.spec mul-add-requires returns returns-2 returns-3)
+exit-value-spec = tie.close (tie.spec (λ c κs. search needs) returns returns-2 returns-3)

@@ -5,27 +5,6 @@ use Rattle.automaton.specs.walk.Up.{exitsOf}
 use Rattle.automaton.proofs.up.exits.Statement.{statement}
 use Rattle.automaton.proofs.up.exits.Tie as tie
 
-exit-done-requires : tie.Need-exit-done-requires
-exit-done-requires c κs = search needs
-
-exit-truth-requires : tie.Need-exit-truth-requires
-exit-truth-requires c κs = search needs
-
-exit-value-requires : tie.Need-exit-value-requires
-exit-value-requires c κs = search needs
-
-exit-operate-requires : tie.Need-exit-operate-requires
-exit-operate-requires c κs = search needs
-
-exit-assign-requires : tie.Need-exit-assign-requires
-exit-assign-requires c κs = search needs
-
-exit-argument-requires : tie.Need-exit-argument-requires
-exit-argument-requires c κs = search needs
-
-exit-new-requires : tie.Need-exit-new-requires
-exit-new-requires c κs = search needs
-
 returns : tie.Need-returns
 unfolding exitsOf
 returns c = simp (← c .exit-done .ensures, c .before .match .keys1)
@@ -63,6 +42,6 @@ returns-8 c =
 
 pub exits-spec : {M : Type 1} → statement M
 exits-spec =
-    tie.close (tie.spec exit-done-requires exit-truth-requires exit-value-requires exit-operate-requires
-    exit-assign-requires exit-argument-requires exit-new-requires returns returns-2 returns-3 returns-4 returns-5
-    returns-6 returns-7 returns-8)
+    tie.close (tie.spec (λ c κs. search needs) (λ c κs. search needs) (λ c κs. search needs) (λ c κs. search needs)
+    (λ c κs. search needs) (λ c κs. search needs) (λ c κs. search needs) returns returns-2 returns-3 returns-4
+    returns-5 returns-6 returns-7 returns-8)

@@ -5,28 +5,20 @@ use Rattle.automaton.specs.walk.Up.{goesOf}
 use Rattle.automaton.proofs.up.goes.Statement.{statement}
 use Rattle.automaton.proofs.up.goes.Tie as tie
 
-mul-add-requires : tie.Need-mul-add-requires
-mul-add-requires c κs = search needs
-
 returns : tie.Need-returns
 unfolding goesOf
 returns c = simp (← c .mul-add .ensures, eq-eqb _ _ (c .before .before .before .before .if1 .taken), eq-eqb _ _
     (c .before .if2 .taken))
-
-sum-requires : tie.Need-sum-requires
-sum-requires c κs = search needs
 
 returns-2 : tie.Need-returns-2
 unfolding goesOf
 returns-2 c = simp (← c .sum .ensures, eq-eqb _ _ (c .before .before .before .before .if1 .taken), ne-eqb _ _
     (c .before .if2 .left))
 
-sum-requires-2 : tie.Need-sum-requires-2
-sum-requires-2 c κs = search needs
-
 returns-3 : tie.Need-returns-3
 unfolding goesOf
 returns-3 c = simp (← c .sum2 .ensures, ne-eqb _ _ (c .before .if1 .left))
 
 pub goes-spec : {M : Type 1} → statement M
-goes-spec = tie.close (tie.spec mul-add-requires returns sum-requires returns-2 sum-requires-2 returns-3)
+goes-spec = tie.close (tie.spec (λ c κs. search needs) returns (λ c κs. search needs) returns-2
+    (λ c κs. search needs) returns-3)

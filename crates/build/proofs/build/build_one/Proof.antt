@@ -14,9 +14,6 @@ fill-requires : tie.Need-fill-requires
 fill-requires c κs = (one-fits (c .before .before .before .before .pre) (λ i. omega (arith, c .before .before .before
     .shared-slice-known .given i)), refl)
 
-close-requires : tie.Need-close-requires
-close-requires c κs = search needs
-
 settle-requires : tie.Need-settle-requires
 settle-requires c κs =
     one-settles (c .before .before .before .before .before .before .before .before .before .before .before .before
@@ -25,9 +22,6 @@ settle-requires c κs =
         .shared-slice-known .given i)) (c .before .before .before .before .before .before .before .fill .ensures .1
         .0) (c .before .before .before .before .before .before .before .fill .ensures .0)
     (c .before .before .before .close .ensures)
-
-same-length : tie.Need-same-length
-same-length c = search needs
 
 returns : tie.Need-returns
 returns c = λ R.
@@ -38,4 +32,5 @@ returns c = λ R.
     (c .before .before .before .before .before .before .close .ensures) (c .before .before .settle .ensures)
 
 pub build-one-spec : {M : Type 1} → statement M
-build-one-spec = tie.close (tie.spec add-states fill-requires close-requires settle-requires same-length returns)
+build-one-spec = tie.close (tie.spec add-states fill-requires (λ c κs. search needs) settle-requires (search needs)
+    returns)

@@ -22,9 +22,6 @@ fill-requires-2 c κs = (new-fits (c .before .before .before .before .before .be
     .pre) (λ i. omega (arith, c .before .before .before .before .before .before .before .before .shared-slice-known2
     .given i)), c .before .before .before .before .fill .ensures .1 .1)
 
-close-requires : tie.Need-close-requires
-close-requires c κs = search needs
-
 settle-requires : tie.Need-settle-requires
 settle-requires c κs =
     two-settles (c .before .before .before .before .before .before .before .before .before .before .before .before
@@ -38,9 +35,6 @@ settle-requires c κs =
         .before .before .before .before .before .before .fill2 .ensures .1 .0) (c .before .before .before .before
         .before .before .before .fill2 .ensures .0) (c .before .before .before .close
     .ensures)
-
-same-length : tie.Need-same-length
-same-length c = search needs
 
 returns : tie.Need-returns
 returns c = λ R.
@@ -56,5 +50,5 @@ returns c = λ R.
         .before .before .before .before .before .before .close .ensures) (c .before .before .settle .ensures)
 
 pub build-two-spec : {M : Type 1} → statement M
-build-two-spec = tie.close (tie.spec add-states add-states-2 fill-requires fill-requires-2 close-requires
-    settle-requires same-length returns)
+build-two-spec = tie.close (tie.spec add-states add-states-2 fill-requires fill-requires-2 (λ c κs. search needs)
+    settle-requires (search needs) returns)

@@ -6,24 +6,12 @@ use Rattle.build.proofs.Figures.{old-figure, new-figure}
 use Rattle.build.proofs.lent.words_asked.Statement.{statement}
 use Rattle.build.proofs.lent.words_asked.Tie as tie
 
-add-result : tie.Need-add-result
-add-result c = search needs
-
-mul-result : tie.Need-mul-result
-mul-result c = search needs
-
 returns : tie.Need-returns
 returns c = sym (new-figure _ _ (omega (arith, c .if1 .taken)))
-
-add-result-2 : tie.Need-add-result-2
-add-result-2 c = search needs
-
-mul-result-2 : tie.Need-mul-result-2
-mul-result-2 c = search needs
 
 returns-2 : tie.Need-returns-2
 returns-2 c = sym (old-figure _ _ (omega (arith, c .if1 .left)))
 
 pub words-asked-spec : {M : Type 1} → statement M
 words-asked-spec =
-    tie.close (tie.spec add-result mul-result returns add-result-2 mul-result-2 returns-2)
+    tie.close (tie.spec (search needs) (search needs) returns (search needs) (search needs) returns-2)

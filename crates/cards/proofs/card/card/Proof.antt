@@ -10,18 +10,6 @@ use Rattle.cards.proofs.Answers.{words-enough}
 use Rattle.cards.proofs.card.card.Statement.{statement}
 use Rattle.cards.proofs.card.card.Tie as tie
 
-load-requires : tie.Need-load-requires
-load-requires c κs = search needs
-
-enum-known-x : tie.Need-enum-known-x
-enum-known-x c = search needs
-
-enum-told : tie.Need-enum-told
-enum-told c = search needs
-
-cause-of-requires : tie.Need-cause-of-requires
-cause-of-requires c κs = search needs
-
 returns : tie.Need-returns
 returns c =
     let a = c .before .before .before .before .before .before .before .before .args in
@@ -29,19 +17,10 @@ returns c =
     refuses-sheet (a .sheet .now) (a .words .now) (a .space .now)
     (refused-sheet _ _ (c .before .before .before .load .ensures) e) e (c .cause-of .ensures)
 
-cast-all : tie.Need-cast-all
-cast-all c = search needs
-
-numbers-of-requires : tie.Need-numbers-of-requires
-numbers-of-requires c κs = search needs
-
 lent-number-requires : tie.Need-lent-number-requires
 lent-number-requires c κs =
     let A = taken _ _ (c .before .before .before .before .load .ensures) (c .before .before .x .given .1) in
     omega (arith, size-small A)
-
-both-cause-requires : tie.Need-both-cause-requires
-both-cause-requires c κs = search needs
 
 -- from here on d is what is known when the number has been looked at
 returns-2 : tie.Need-returns-2
@@ -83,15 +62,6 @@ write-table-requires c κs =
     (a .sheet .now, (_, card-drawable F (a .words .now) (a .space .now) (d .before .lent-number .ensures) (d .if1 .left)
       _ _ _ (rooted A F) (h .0) (o .kept .1 .1 .1 .1 .0) (o .ensures)))
 
-clear-requires : tie.Need-clear-requires
-clear-requires c κs = search needs
-
-same-length : tie.Need-same-length
-same-length c = search needs
-
-same-length-2 : tie.Need-same-length-2
-same-length-2 c = search needs
-
 returns-3 : tie.Need-returns-3
 returns-3 c =
     let d = c .before .before .before .before .before .before .before .before .before .before .before .before
@@ -111,6 +81,7 @@ returns-3 c =
 
 pub card-spec : {M : Type 1} → statement M
 card-spec =
-    tie.close (tie.spec load-requires enum-known-x enum-told cause-of-requires returns cast-all numbers-of-requires
-    lent-number-requires both-cause-requires returns-2 one-from-rows-requires write-heading-requires
-    write-table-requires clear-requires same-length same-length-2 returns-3)
+    tie.close (tie.spec (λ c κs. search needs) (search needs) (search needs) (λ c κs. search needs) returns
+    (search needs) (λ c κs. search needs) lent-number-requires (λ c κs. search needs) returns-2
+    one-from-rows-requires write-heading-requires write-table-requires (λ c κs. search needs) (search needs)
+    (search needs) returns-3)

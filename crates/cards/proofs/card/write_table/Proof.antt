@@ -43,12 +43,6 @@ write-positions-requires c κs =
     let M = d .number-states .ensures _ _ _ (drawn-countable _ _ _ _ _ D _ _ O) in
     (drawn-legible _ _ _ _ _ D _ _ O _ _ M, (drawn-states _ _ _ _ _ D _ _ O _ _ M, drawn-room _ _ _ _ _ D _ _ O _ _ M))
 
-same-length : tie.Need-same-length
-same-length c = search needs
-
-same-length-2 : tie.Need-same-length-2
-same-length-2 c = search needs
-
 returns : tie.Need-returns
 returns c = λ s ty D.
     let d = c .before .before .before .before .before .before .before in
@@ -59,5 +53,6 @@ returns c = λ s ty D.
 
 pub write-table-spec : {M : Type 1} → statement M
 write-table-spec =
-    tie.close (tie.spec add-sort-states sub-sort-states sort-states-requires add-number-states number-states-requires
-    add-write-positions sub-write-positions write-positions-requires same-length same-length-2 returns)
+    tie.close (tie.spec add-sort-states sub-sort-states sort-states-requires add-number-states
+    number-states-requires add-write-positions sub-write-positions write-positions-requires (search needs)
+    (search needs) returns)

@@ -13,9 +13,6 @@ returns : tie.Need-returns
 unfolding numberOf
 returns c = simp (← c .before .words-asked .ensures, lt-ltb _ _ (c .if1 .taken))
 
-space-asked-requires : tie.Need-space-asked-requires
-space-asked-requires c κs = search needs
-
 returns-2 : tie.Need-returns-2
 unfolding numberOf
 returns-2 c =
@@ -29,4 +26,4 @@ returns-3 c =
       le-ltb _ _ (c .before .before .if1 .left), le-ltb _ _ (c .if2 .left))
 
 pub lent-number-spec : {M : Type 1} → statement M
-lent-number-spec = tie.close (tie.spec words-asked-requires returns space-asked-requires returns-2 returns-3)
+lent-number-spec = tie.close (tie.spec words-asked-requires returns (λ c κs. search needs) returns-2 returns-3)

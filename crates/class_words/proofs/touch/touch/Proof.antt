@@ -33,9 +33,6 @@ place-requires c κs = let T = c .before .before .before .before .before .before
     = T .packed .sized in (c .before .before .before .before .before .before .before .before .pre .low, (z .few, omega
     arith))
 
-same-length : tie.Need-same-length
-same-length c = search needs
-
 returns : tie.Need-returns
 returns c = λ G s own count T I. touch-done _ _ _ _ _ _ _ _ T _ _ _ _ _
     (c .before .before .before .before .before .before .before .before .before .before .pre .low) I
@@ -79,9 +76,6 @@ set-touched-requires c κs = let T =
         c .before .before .before .before .before .before .before .before .from .ensures))
         (c .before .before .before .before .before .before .place .ensures)
         (c .before .before .before .before .before .if1 .left) _ (c .before .before .before .exchange .ensures)
-
-same-length-2 : tie.Need-same-length-2
-same-length-2 c = search needs
 
 returns-2 : tie.Need-returns-2
 returns-2 c = λ G s own count T I. touched-more _ _ _ _ _ _ _ _ T _ _ _ _ _
@@ -131,9 +125,6 @@ add-result c = let T =
         (c .before .before .before .before .before .before .before .set-touched .ensures) in
     omega (arith, r .0, r .1 .1 .0)
 
-same-length-3 : tie.Need-same-length-3
-same-length-3 c = search needs
-
 returns-3 : tie.Need-returns-3
 returns-3 c = λ G s own count T I. touched-new _ _ _ _ _ _ _ _ T _ _ _ _ _
     (c .before .before .before .before .before .before .before .before .before .before .before .before .before .before .before .before .before .before .before .before .before .before .before .pre .low)
@@ -152,20 +143,6 @@ returns-3 c = λ G s own count T I. touched-new _ _ _ _ _ _ _ _ T _ _ _ _ _
 pub touch-spec : {M : Type 1} → statement M
 touch-spec =
     tie.close
-    (tie.spec
-    at-requires
-    touched-requires
-    from-requires
-    add-first
-    place-requires
-    same-length
-    returns
-    exchange-requires
-    add-set-touched
-    set-touched-requires
-    same-length-2
-    returns-2
-    set-listed-requires
-    add-result
-    same-length-3
-    returns-3)
+    (tie.spec at-requires touched-requires from-requires add-first place-requires (search needs) returns
+    exchange-requires add-set-touched set-touched-requires (search needs) returns-2 set-listed-requires add-result
+    (search needs) returns-3)

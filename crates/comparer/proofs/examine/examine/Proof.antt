@@ -7,18 +7,6 @@ use Rattle.comparer.proofs.ComparePlays.{both, accepted-call, two-ready
 use Rattle.comparer.proofs.examine.examine.Statement.{statement}
 use Rattle.comparer.proofs.examine.examine.Tie as tie
 
-load-requires : tie.Need-load-requires
-load-requires c κs = search needs
-
-enum-known-x : tie.Need-enum-known-x
-enum-known-x c = search needs
-
-enum-told : tie.Need-enum-told
-enum-told c = search needs
-
-cause-of-requires : tie.Need-cause-of-requires
-cause-of-requires c κs = search needs
-
 returns : tie.Need-returns
 returns c =
     refused-old _ _ (c .before .before .before .before .before .before .before .before .before .args .words
@@ -26,18 +14,6 @@ returns c =
         (refused-sheet _ _ (c .before .before .before .load .ensures) (c .before .enum-told .given
         .1))
       (c .before .enum-told .given .1) (c .cause-of .ensures)
-
-load-requires-2 : tie.Need-load-requires-2
-load-requires-2 c κs = search needs
-
-enum-known-y : tie.Need-enum-known-y
-enum-known-y c = search needs
-
-enum-told-2 : tie.Need-enum-told-2
-enum-told-2 c = search needs
-
-cause-of-requires-2 : tie.Need-cause-of-requires-2
-cause-of-requires-2 c κs = search needs
 
 returns-2 : tie.Need-returns-2
 returns-2 c =
@@ -49,18 +25,6 @@ returns-2 c =
         .before .args .space .now) (c .before .before .before .before .before .before .before .before .before .before
         .before .before .before .before .args .most) A (refused-sheet _ _ (c .before .before .before .load2 .ensures)
         (c .before .enum-told2 .given .1)) (c .before .enum-told2 .given .1) (c .cause-of2 .ensures)
-
-cast-all : tie.Need-cast-all
-cast-all c = search needs
-
-cast-more : tie.Need-cast-more
-cast-more c = search needs
-
-alike-requires : tie.Need-alike-requires
-alike-requires c κs = search needs
-
-numbers-of-requires : tie.Need-numbers-of-requires
-numbers-of-requires c κs = search needs
 
 add-pair-number : tie.Need-add-pair-number
 add-pair-number c =
@@ -77,9 +41,6 @@ pair-number-requires c κs =
     let B = taken _ _ (c .before .before .before .before .before .load2 .ensures) (c .before .before .before .y .given
             .1) in
     (omega (arith, size-some A), omega (arith, size-small A, size-small B))
-
-both-cause-requires : tie.Need-both-cause-requires
-both-cause-requires c κs = search needs
 
 returns-3 : tie.Need-returns-3
 returns-3 c =
@@ -140,15 +101,6 @@ decide-requires c κs =
       .before .before .args .words .now) _ _ (P .words-enough)
       (c .before .before .before .before .two-from-rows .kept .1 .1 .1 .1 .1 .1 .1 .0) (P .space-enough) (c .before
         .before .before .before .two-from-rows .ensures)
-
-clear-requires : tie.Need-clear-requires
-clear-requires c κs = search needs
-
-same-length : tie.Need-same-length
-same-length c = search needs
-
-same-length-2 : tie.Need-same-length-2
-same-length-2 c = search needs
 
 add-t30 : tie.Need-add-t30
 add-t30 c =
@@ -231,30 +183,8 @@ returns-4 c =
 pub examine-spec : {M : Type 1} → statement M
 examine-spec =
     tie.close
-    (tie.spec
-    load-requires
-    enum-known-x
-    enum-told
-    cause-of-requires
-    returns
-    load-requires-2
-    enum-known-y
-    enum-told-2
-    cause-of-requires-2
-    returns-2
-    cast-all
-    cast-more
-    alike-requires
-    numbers-of-requires
-    add-pair-number
-    pair-number-requires
-    both-cause-requires
-    returns-3
-    two-from-rows-requires
-    decide-requires
-    clear-requires
-    add-t30
-    sub-t31
-    same-length
-    same-length-2
-    returns-4)
+    (tie.spec (λ c κs. search needs) (search needs) (search needs) (λ c κs. search needs) returns
+    (λ c κs. search needs) (search needs) (search needs) (λ c κs. search needs) returns-2 (search needs)
+    (search needs) (λ c κs. search needs) (λ c κs. search needs) add-pair-number pair-number-requires
+    (λ c κs. search needs) returns-3 two-from-rows-requires decide-requires (λ c κs. search needs) add-t30 sub-t31
+    (search needs) (search needs) returns-4)

@@ -10,18 +10,6 @@ use Rattle.comparer.proofs.FollowAnswers.{opened-markable, opened-graph
 use Rattle.comparer.proofs.follow.follow.Statement.{statement}
 use Rattle.comparer.proofs.follow.follow.Tie as tie
 
-load-requires : tie.Need-load-requires
-load-requires c κs = search needs
-
-enum-known-x : tie.Need-enum-known-x
-enum-known-x c = search needs
-
-enum-told : tie.Need-enum-told
-enum-told c = search needs
-
-cause-of-requires : tie.Need-cause-of-requires
-cause-of-requires c κs = search needs
-
 returns : tie.Need-returns
 returns c =
     refuses-sheet (c .before .before .before .before .before .before .before .before .args .sheet .now) (c .before
@@ -29,18 +17,9 @@ returns c =
       .before .before .before .before .args .words .now) _ (refused-sheet _ _ (c .before .before .before .load
         .ensures) (c .before .enum-told .given .1)) (c .before .enum-told .given .1) (c .cause-of .ensures) refl
 
-cast-all : tie.Need-cast-all
-cast-all c = search needs
-
-numbers-of-requires : tie.Need-numbers-of-requires
-numbers-of-requires c κs = search needs
-
 words-asked-requires : tie.Need-words-asked-requires
 words-asked-requires c κs = omega (arith, size-small (taken _ _ (c .before .before .before .before .load .ensures) (c
     .before .before .x .given .1)))
-
-both-cause-requires : tie.Need-both-cause-requires
-both-cause-requires c κs = search needs
 
 returns-2 : tie.Need-returns-2
 returns-2 c =
@@ -51,18 +30,6 @@ returns-2 c =
       .args .play .now) (c .before .before .before .before .before .before .before .before .before .before .before
       .before .args .words .now) _ (rw (c .before .before .words-asked .ensures) at (c .before .if1 .taken))
       (c .both-cause .ensures) refl
-
-count-moves-requires : tie.Need-count-moves-requires
-count-moves-requires c κs = search needs
-
-enum-known-parsed : tie.Need-enum-known-parsed
-enum-known-parsed c = search needs
-
-enum-told-2 : tie.Need-enum-told-2
-enum-told-2 c = search needs
-
-play-cause-requires : tie.Need-play-cause-requires
-play-cause-requires c κs = search needs
 
 returns-3 : tie.Need-returns-3
 returns-3 c =
@@ -84,9 +51,6 @@ one-from-rows-requires c κs =
     one-ready F (c .before .before .before .before .before .before .before .before .before .before .before .before
       .before .before .before .before .before .args .words .now) (rw (c .before .before .before .before .before
       .before .before .words-asked .ensures) at (c .before .before .before .before .before .before .if1 .left))
-
-add-mark-live : tie.Need-add-mark-live
-add-mark-live c = search needs
 
 sub-mark-live : tie.Need-sub-mark-live
 sub-mark-live c =
@@ -110,9 +74,6 @@ mark-live-requires c κs =
       at (c .before .before .before .before .before .before .before .before .before .before .if1 .left)) (c .before
       .before .before .one-from-rows .ensures) (c .before .before .before .one-from-rows .kept .1 .1 .1 .1 .0)
 
-add-longest : tie.Need-add-longest
-add-longest c = search needs
-
 longest-requires : tie.Need-longest-requires
 longest-requires c κs =
     let F = fit-as (taken _ _ (c .before .before .before .before .before .before .before .before .before .before
@@ -134,9 +95,6 @@ longest-requires c κs =
         .before .before .before .before .before .before .before .before .before .before .parsed
           .given .1))
 
-clear-requires : tie.Need-clear-requires
-clear-requires c κs = search needs
-
 sub-t17 : tie.Need-sub-t17
 sub-t17 c =
     let F = fit-as (taken _ _ (c .before .before .before .before .before .before .before .before .before .before
@@ -147,9 +105,6 @@ sub-t17 c =
         .1)) (sym (c .before .before .before .before .before .before .before .before .before .before .before .before
           .before .before .before .before .before .before .before .before .before .numbers-of .ensures)) refl in
     omega (arith, F .some)
-
-same-length : tie.Need-same-length
-same-length c = search needs
 
 returns-4 : tie.Need-returns-4
 returns-4 c =
@@ -185,29 +140,8 @@ returns-4 c =
 pub follow-spec : {M : Type 1} → statement M
 follow-spec =
     tie.close
-    (tie.spec
-    load-requires
-    enum-known-x
-    enum-told
-    cause-of-requires
-    returns
-    cast-all
-    numbers-of-requires
-    words-asked-requires
-    both-cause-requires
-    returns-2
-    count-moves-requires
-    enum-known-parsed
-    enum-told-2
-    play-cause-requires
-    returns-3
-    one-from-rows-requires
-    add-mark-live
-    sub-mark-live
-    mark-live-requires
-    add-longest
-    longest-requires
-    clear-requires
-    sub-t17
-    same-length
+    (tie.spec (λ c κs. search needs) (search needs) (search needs) (λ c κs. search needs) returns (search needs)
+    (λ c κs. search needs) words-asked-requires (λ c κs. search needs) returns-2 (λ c κs. search needs)
+    (search needs) (search needs) (λ c κs. search needs) returns-3 one-from-rows-requires (search needs)
+    sub-mark-live mark-live-requires (search needs) longest-requires (λ c κs. search needs) sub-t17 (search needs)
     returns-4)

@@ -9,9 +9,6 @@ returns : tie.Need-returns
 unfolding matching
 returns c = simp (ne-eqb _ _ (c .if1 .taken))
 
-same-first-requires : tie.Need-same-first-requires
-same-first-requires c κs = search needs
-
 returns-2 : tie.Need-returns-2
 unfolding matching
 returns-2 c = simp (← c .before .same-first .ensures, eq-eqb _ _ (c .before .before .if1 .left), not-true (c .before
@@ -23,4 +20,4 @@ returns-3 c = simp (← c .before .same-first .ensures, eq-eqb _ _ (c .before .b
     .same-first .result) (c .if2 .left))
 
 pub alike-spec : {M : Type 1} → statement M
-alike-spec = tie.close (tie.spec returns same-first-requires returns-2 returns-3)
+alike-spec = tie.close (tie.spec returns (λ c κs. search needs) returns-2 returns-3)

@@ -5,14 +5,8 @@ use Rattle.comparer.proofs.LookSteps.{so-far-said, same-said}
 use Rattle.comparer.proofs.look.answer.Statement.{statement}
 use Rattle.comparer.proofs.look.answer.Tie as tie
 
-enum-told : tie.Need-enum-told
-enum-told c = search needs
-
 returns : tie.Need-returns
 returns c = so-far-said _ _ _ _ _ (c .before .enum-told .given .1) (c .if1 .taken)
-
-enum-known-found : tie.Need-enum-known-found
-enum-known-found c = search needs
 
 returns-2 : tie.Need-returns-2
 returns-2 c = same-said _ _ _ _ _ (c .before .enum-told .given .1) (c .if1 .left)
@@ -22,4 +16,4 @@ unfolding rulingOf depthOf saying
 returns-3 c = simp (c .before .found .given .1)
 
 pub answer-spec : {M : Type 1} → statement M
-answer-spec = tie.close (tie.spec enum-told returns enum-known-found returns-2 returns-3)
+answer-spec = tie.close (tie.spec (search needs) returns (search needs) returns-2 returns-3)

@@ -6,12 +6,6 @@ use Rattle.dfa.proofs.laws.Rest.{rest-length}
 use Rattle.dfa.proofs.graph.next_state.Statement.{statement}
 use Rattle.dfa.proofs.graph.next_state.Tie as tie
 
-mul-g : tie.Need-mul-g
-mul-g c = search needs
-
-mul-scan : tie.Need-mul-scan
-mul-scan c = search needs
-
 sub-scan : tie.Need-sub-scan
 sub-scan c = let r = rest-length (5 * c .before .args .n) (c .before .args .words .now) in
     omega (arith, c .before .pre .0 .room, c .before .pre .0 .few)
@@ -20,16 +14,8 @@ part-scan-start : tie.Need-part-scan-start
 part-scan-start c = let r = rest-length (5 * c .before .args .n) (c .before .args .words .now) in
     omega (arith, c .before .pre .0 .room, c .before .pre .0 .few)
 
-part-scan-end : tie.Need-part-scan-end
-part-scan-end c = search needs
-
-scan-requires : tie.Need-scan-requires
-scan-requires c κs = search needs
-
-returns : tie.Need-returns
-returns c = search needs
-
 pub next-state-spec : {M : Type 1} → statement M
 next-state-spec =
     tie.close
-    (tie.spec mul-g mul-scan sub-scan part-scan-start part-scan-end scan-requires returns)
+    (tie.spec (search needs) (search needs) sub-scan part-scan-start (search needs) (λ c κs. search needs)
+    (search needs))

@@ -9,21 +9,6 @@ use Rattle.dfa.proofs.step.past.Tie as tie
 returns : tie.Need-returns
 returns c = past-stay _ _ _ _ _ (c .before .before .pre .0) (λ h. absurd (omega arith))
 
-add-at : tie.Need-add-at
-add-at c = search needs
-
-mul-at : tie.Need-mul-at
-mul-at c = search needs
-
-add-at-2 : tie.Need-add-at-2
-add-at-2 c = search needs
-
-at-requires : tie.Need-at-requires
-at-requires c κs = search needs
-
-add-result : tie.Need-add-result
-add-result c = search needs
-
 returns-2 : tie.Need-returns-2
 returns-2 c = past-hit _ _ _ _ _ (c .before .before .before .before .pre .0) (omega arith)
     (sym (c .before .at .ensures) ∙ c .if2 .taken)
@@ -34,4 +19,5 @@ returns-3 c = past-stay _ _ _ _ _ (c .before .before .before .before .pre .0)
 
 pub past-spec : {M : Type 1} → statement M
 past-spec =
-    tie.close (tie.spec returns add-at mul-at add-at-2 at-requires add-result returns-2 returns-3)
+    tie.close (tie.spec returns (search needs) (search needs) (search needs) (λ c κs. search needs) (search needs)
+    returns-2 returns-3)

@@ -4,15 +4,6 @@ use Rattle.dfa.proofs.laws.Step.{next}
 use Rattle.dfa.proofs.step.step.Statement.{statement}
 use Rattle.dfa.proofs.step.step.Tie as tie
 
-next-letter-requires : tie.Need-next-letter-requires
-next-letter-requires c κs = search needs
-
-next-letter-requires-2 : tie.Need-next-letter-requires-2
-next-letter-requires-2 c κs = search needs
-
-smaller-requires : tie.Need-smaller-requires
-smaller-requires c κs = search needs
-
 target-by-requires : tie.Need-target-by-requires
 target-by-requires c κs = (c .before .before .before .before .pre .0, (c .before .before .before .before .pre .1 .1 .0,
     (next _ _ _ _ _ _ _ _ _ (c .before .before .before .before .pre .0) (c .before .before .before .before .pre .1 .0)
@@ -60,12 +51,5 @@ returns c = record { next = (next _ _ _ _ _ _ _ _ _
 pub step-spec : {M : Type 1} → statement M
 step-spec =
     tie.close
-    (tie.spec
-    next-letter-requires
-    next-letter-requires-2
-    smaller-requires
-    target-by-requires
-    target-by-requires-2
-    past-requires
-    past-requires-2
-    returns)
+    (tie.spec (λ c κs. search needs) (λ c κs. search needs) (λ c κs. search needs) target-by-requires
+    target-by-requires-2 past-requires past-requires-2 returns)

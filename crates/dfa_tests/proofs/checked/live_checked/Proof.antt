@@ -7,21 +7,6 @@ use Rattle.dfa.proofs.laws.Live.{no-true}
 use Rattle.dfa_tests.proofs.checked.live_checked.Statement.{statement}
 use Rattle.dfa_tests.proofs.checked.live_checked.Tie as tie
 
-live-ok-requires : tie.Need-live-ok-requires
-live-ok-requires c κs = search needs
-
-same-length : tie.Need-same-length
-same-length c = search needs
-
-returns : tie.Need-returns
-returns c = search needs
-
-same-length-2 : tie.Need-same-length-2
-same-length-2 c = search needs
-
-returns-2 : tie.Need-returns-2
-returns-2 c = search needs
-
 mark-live-requires : tie.Need-mark-live-requires
 mark-live-requires c κs = c .before .before .before .live-ok .ensures (not-false _ (c .before .before .if1 .left))
 
@@ -31,16 +16,10 @@ is-marked-requires c κs = let m = c .before .before .before .before .before .be
     (m .single .graph .few, (c .before .before .before .before .before .if2 .left, omega
         (arith, m .room, c .before .before .before .mark-live .kept .0)))
 
-same-length-3 : tie.Need-same-length-3
-same-length-3 c = search needs
-
 returns-3 : tie.Need-returns-3
 returns-3 c = c .before .before .before .before .before .mark-live .ensures .0 _
     (c .before .before .before .before .before .before .before .if2 .left) .0 (c .before .is-marked .ensures .0
     (c .if3 .taken))
-
-same-length-4 : tie.Need-same-length-4
-same-length-4 c = search needs
 
 returns-4 : tie.Need-returns-4
 returns-4 c = λ l. no-true (sym (c .if3 .left) ∙ c .before .is-marked .ensures .1
@@ -50,15 +29,5 @@ returns-4 c = λ l. no-true (sym (c .if3 .left) ∙ c .before .is-marked .ensure
 pub live-checked-spec : {M : Type 1} → statement M
 live-checked-spec =
     tie.close
-    (tie.spec
-    live-ok-requires
-    same-length
-    returns
-    same-length-2
-    returns-2
-    mark-live-requires
-    is-marked-requires
-    same-length-3
-    returns-3
-    same-length-4
-    returns-4)
+    (tie.spec (λ c κs. search needs) (search needs) (search needs) (search needs) (search needs) mark-live-requires
+    is-marked-requires (search needs) returns-3 (search needs) returns-4)

@@ -5,26 +5,11 @@ use Rattle.dfa.proofs.laws.Live.{no-true}
 use Rattle.dfa_tests.proofs.checked.settle_checked.Statement.{statement}
 use Rattle.dfa_tests.proofs.checked.settle_checked.Tie as tie
 
-words-ok-requires : tie.Need-words-ok-requires
-words-ok-requires c κs = search needs
-
-same-length : tie.Need-same-length
-same-length c = search needs
-
 returns : tie.Need-returns
 returns c = λ e. no-true e
 
-same-length-2 : tie.Need-same-length-2
-same-length-2 c = search needs
-
 returns-2 : tie.Need-returns-2
 returns-2 c = λ e. no-true e
-
-silent-ok-requires : tie.Need-silent-ok-requires
-silent-ok-requires c κs = search needs
-
-same-length-3 : tie.Need-same-length-3
-same-length-3 c = search needs
 
 returns-3 : tie.Need-returns-3
 returns-3 c = λ e. no-true e
@@ -34,24 +19,11 @@ settle-requires c κs = (c .before .before .before .before .before .before .word
     (not-false _ (c .before .before .before .before .before .if1 .left)), c .before .before .silent-ok .ensures
     (not-false _ (c .before .if3 .left)))
 
-same-length-4 : tie.Need-same-length-4
-same-length-4 c = search needs
-
 returns-4 : tie.Need-returns-4
 returns-4 c = λ e. c .before .before .settle .ensures
 
 pub settle-checked-spec : {M : Type 1} → statement M
 settle-checked-spec =
     tie.close
-    (tie.spec
-    words-ok-requires
-    same-length
-    returns
-    same-length-2
-    returns-2
-    silent-ok-requires
-    same-length-3
-    returns-3
-    settle-requires
-    same-length-4
-    returns-4)
+    (tie.spec (λ c κs. search needs) (search needs) returns (search needs) returns-2 (λ c κs. search needs)
+    (search needs) returns-3 settle-requires (search needs) returns-4)

@@ -7,9 +7,6 @@ use Rattle.dfa.proofs.laws.Live.{no-true}
 use Rattle.dfa_tests.proofs.tested.live_ok.Statement.{statement}
 use Rattle.dfa_tests.proofs.tested.live_ok.Tie as tie
 
-words-ok-requires : tie.Need-words-ok-requires
-words-ok-requires c κs = search needs
-
 returns : tie.Need-returns
 returns c = λ e. no-true e
 
@@ -33,9 +30,6 @@ at-requires c κs = let g = c .before .before .words-ok .ensures (not-false _ (c
 mul-at-2 : tie.Need-mul-at-2
 mul-at-2 c = let g = c .before .before .before .words-ok .ensures (not-false _
     (c .before .before .if1 .left)) in omega (arith, g .few)
-
-sub-at : tie.Need-sub-at
-sub-at c = search needs
 
 add-at-2 : tie.Need-add-at-2
 add-at-2 c = let g = c .before .before .before .words-ok .ensures (not-false _
@@ -61,9 +55,6 @@ add-result : tie.Need-add-result
 add-result c = let g = c .before .before .before .before .before .before .words-ok .ensures (not-false _
     (c .before .before .before .before .before .if1 .left)) in omega (arith, g .few)
 
-mul-result-2 : tie.Need-mul-result-2
-mul-result-2 c = search needs
-
 add-result-2 : tie.Need-add-result-2
 add-result-2 c = let g = c .before .before .before .before .before .before .words-ok .ensures (not-false _
     (c .before .before .before .before .before .if1 .left)) in omega (arith, g .few, c .if4 .left)
@@ -78,22 +69,5 @@ returns-5 c = λ e. markable-of _ _ _ _ (c .before .before .before .before .befo
 pub live-ok-spec : {M : Type 1} → statement M
 live-ok-spec =
     tie.close
-    (tie.spec
-    words-ok-requires
-    returns
-    sub-if2
-    returns-2
-    mul-at
-    add-at
-    at-requires
-    mul-at-2
-    sub-at
-    add-at-2
-    at-requires-2
-    returns-3
-    returns-4
-    mul-result
-    add-result
-    mul-result-2
-    add-result-2
-    returns-5)
+    (tie.spec (λ c κs. search needs) returns sub-if2 returns-2 mul-at add-at at-requires mul-at-2 (search needs)
+    add-at-2 at-requires-2 returns-3 returns-4 mul-result add-result (search needs) add-result-2 returns-5)

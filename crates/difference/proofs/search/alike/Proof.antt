@@ -6,9 +6,6 @@ use Rattle.difference.proofs.laws.Alike.{first-is-f, first-is-g, second
 use Rattle.difference.proofs.search.alike.Statement.{statement}
 use Rattle.difference.proofs.search.alike.Tie as tie
 
-accepts-requires : tie.Need-accepts-requires
-accepts-requires c κs = search needs
-
 returns : tie.Need-returns
 returns c = c .accepts .ensures ∙ first-is-f _ _ _ _ (c .before .if1 .taken)
 
@@ -23,4 +20,4 @@ returns-4 c = simp (ne-eqb _ _ (c .before .before .if1 .left), ne-eqb _ _ (c .be
     .left))
 
 pub alike-spec : {M : Type 1} → statement M
-alike-spec = tie.close (tie.spec accepts-requires returns returns-2 returns-3 returns-4)
+alike-spec = tie.close (tie.spec (λ c κs. search needs) returns returns-2 returns-3 returns-4)

@@ -16,12 +16,6 @@ returns c = (λ x l. ap (λ z. accepting (c .before .before .args .t .f) (c .bef
     (after (δ (rest (5 * c .before .before .args .t .n) (c .before .before .args .words .now))
     (c .before .before .args .t .n)) z x)) (c .if1 .taken), refl)
 
-mul-g : tie.Need-mul-g
-mul-g c = search needs
-
-slice-relend-prefix-prepare : tie.Need-slice-relend-prefix-prepare
-slice-relend-prefix-prepare c = search needs
-
 slice-aggregate-prepare : tie.Need-slice-aggregate-prepare
 slice-aggregate-prepare c = omega (arith, length-take (5 * c .before .before .before .args .t .n)
     (c .before .before .before .args .words .now), c .before .before .before .pre .1)
@@ -36,9 +30,6 @@ run-requires : tie.Need-run-requires
 run-requires c κs = prepared _ _ _ (c .before .before .before .before .before .before .before .pre .1)
     (c .before .before .before .prepare .kept .0) (c .before .before .before .before .before .before .before .pre .0)
     (c .before .before .before .prepare .ensures)
-
-same-length : tie.Need-same-length
-same-length c = search needs
 
 returns-2 : tie.Need-returns-2
 returns-2 c = (outcome-of (c .before .before .before .before .before .before .before .before .before .before .args .t)
@@ -58,12 +49,5 @@ returns-2 c = (outcome-of (c .before .before .before .before .before .before .be
 pub first-difference-spec : {M : Type 1} → statement M
 first-difference-spec =
     tie.close
-    (tie.spec
-    returns
-    mul-g
-    slice-relend-prefix-prepare
-    slice-aggregate-prepare
-    prepare-requires
-    run-requires
-    same-length
-    returns-2)
+    (tie.spec returns (search needs) (search needs) slice-aggregate-prepare prepare-requires run-requires
+    (search needs) returns-2)

@@ -6,19 +6,10 @@ use Rattle.difference.proofs.laws.Run.{start-state}
 use Rattle.difference.proofs.search.prepare.Statement.{statement}
 use Rattle.difference.proofs.search.prepare.Tie as tie
 
-singles-requires : tie.Need-singles-requires
-singles-requires c κs = search needs
-
 link-requires : tie.Need-link-requires
 link-requires c κs = let n = c .before .before .before .before .before .before .pre .1 .0 in
     omega (arith, c .before .before .before .singles .kept, c .before .before .before .before .before .before .pre .0,
     c .before .before .before .before .before .before .pre .1 .1)
-
-push-requires : tie.Need-push-requires
-push-requires c κs = search needs
-
-same-length : tie.Need-same-length
-same-length c = search needs
 
 returns : tie.Need-returns
 returns c = λ G s. start-state G _ s
@@ -31,4 +22,4 @@ returns c = λ G s. start-state G _ s
 
 pub prepare-spec : {M : Type 1} → statement M
 prepare-spec =
-    tie.close (tie.spec singles-requires link-requires push-requires same-length returns)
+    tie.close (tie.spec (λ c κs. search needs) link-requires (λ c κs. search needs) (search needs) returns)

@@ -16,9 +16,6 @@ find-requires-2 c κs = sinks-of _ _ _ (c .before .before .before .find .ensures
     (c .before .before .before .before .before .before .pre .1 .1 .1 .1 .0) .low)
     (c .before .before .before .before .before .before .pre .1 .1 .1 .1 .1)
 
-same-length : tie.Need-same-length
-same-length c = search needs
-
 returns : tie.Need-returns
 returns c = let a = c .before .before .before .before .before .before .before .find .ensures _
     (c .before .before .before .before .before .before .before .before .before .before .pre .0)
@@ -43,12 +40,6 @@ push-requires c κs = let l = c .before .before .before .before .before .before 
     .before .before .find .kept, c .before .before .before .before .before .before .before .before .find2 .kept,
     c .before .before .before .link .kept)
 
-add-result : tie.Need-add-result
-add-result c = search needs
-
-same-length-2 : tie.Need-same-length-2
-same-length-2 c = search needs
-
 returns-2 : tie.Need-returns-2
 returns-2 c = let a = c .before .before .before .before .before .before .before .before .before .before .before
     .before .before .before .before .find .ensures _
@@ -70,13 +61,5 @@ returns-2 c = let a = c .before .before .before .before .before .before .before 
 pub visit-spec : {M : Type 1} → statement M
 visit-spec =
     tie.close
-    (tie.spec
-    find-requires
-    find-requires-2
-    same-length
-    returns
-    link-requires
-    push-requires
-    add-result
-    same-length-2
-    returns-2)
+    (tie.spec find-requires find-requires-2 (search needs) returns link-requires push-requires (search needs)
+    (search needs) returns-2)

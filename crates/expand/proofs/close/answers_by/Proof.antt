@@ -13,12 +13,9 @@ returns-2 : tie.Need-returns-2
 unfolding answersBy
 returns-2 c = simp (ne-eqb _ _ (c .before .if1 .left), eq-eqb _ _ (c .if2 .taken))
 
-mul-result : tie.Need-mul-result
-mul-result c = search needs
-
 returns-3 : tie.Need-returns-3
 unfolding answersBy
 returns-3 c = simp (ne-eqb _ _ (c .before .if1 .left), ne-eqb _ _ (c .if2 .left))
 
 pub answers-by-spec : {M : Type 1} → statement M
-answers-by-spec = tie.close (tie.spec returns returns-2 mul-result returns-3)
+answers-by-spec = tie.close (tie.spec returns returns-2 (search needs) returns-3)

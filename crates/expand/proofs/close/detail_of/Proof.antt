@@ -5,22 +5,10 @@ use borrow.Author.Tests.{eq-eqb, ne-eqb}
 use Rattle.expand.proofs.close.detail_of.Statement.{statement}
 use Rattle.expand.proofs.close.detail_of.Tie as tie
 
-word-at-requires : tie.Need-word-at-requires
-word-at-requires c κs = search needs
-
-word-at-requires-2 : tie.Need-word-at-requires-2
-word-at-requires-2 c κs = search needs
-
-slot-at-requires : tie.Need-slot-at-requires
-slot-at-requires c κs = search needs
-
 returns : tie.Need-returns
 unfolding detailOf
 returns c = simp (← c .before .before .before .word-at .ensures, ← c .before .before .word-at2 .ensures, ← c
     .slot-at .ensures, eq-eqb _ _ (c .before .if1 .taken))
-
-first-values-requires : tie.Need-first-values-requires
-first-values-requires c κs = search needs
 
 returns-2 : tie.Need-returns-2
 unfolding detailOf
@@ -34,5 +22,5 @@ returns-3 c = simp (← c .before .before .before .word-at .ensures, ← c .befo
     _ (c .before .if1 .left), ne-eqb _ _ (c .if2 .left))
 
 pub detail-of-spec : {M : Type 1} → statement M
-detail-of-spec = tie.close (tie.spec word-at-requires word-at-requires-2 slot-at-requires returns
-    first-values-requires returns-2 returns-3)
+detail-of-spec = tie.close (tie.spec (λ c κs. search needs) (λ c κs. search needs) (λ c κs. search needs) returns
+    (λ c κs. search needs) returns-2 returns-3)

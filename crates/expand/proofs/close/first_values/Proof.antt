@@ -4,15 +4,9 @@ use borrow.Author.Needs.{needs}
 use Rattle.expand.proofs.close.first_values.Statement.{statement}
 use Rattle.expand.proofs.close.first_values.Tie as tie
 
-word-at-requires : tie.Need-word-at-requires
-word-at-requires c κs = search needs
-
-word-at-requires-2 : tie.Need-word-at-requires-2
-word-at-requires-2 c κs = search needs
-
 returns : tie.Need-returns
 unfolding firstValues
 returns c = simp (← c .before .word-at .ensures, ← c .word-at2 .ensures)
 
 pub first-values-spec : {M : Type 1} → statement M
-first-values-spec = tie.close (tie.spec word-at-requires word-at-requires-2 returns)
+first-values-spec = tie.close (tie.spec (λ c κs. search needs) (λ c κs. search needs) returns)

@@ -5,9 +5,6 @@ use borrow.Author.Tests.{eq-eqb, ne-eqb}
 use Rattle.expand.proofs.close.leaf_weight.Statement.{statement}
 use Rattle.expand.proofs.close.leaf_weight.Tie as tie
 
-own-of-requires : tie.Need-own-of-requires
-own-of-requires c κs = search needs
-
 returns : tie.Need-returns
 unfolding leafWeight
 returns c = simp (← c .own-of .ensures, eq-eqb _ _ (c .before .if1 .taken))
@@ -21,4 +18,4 @@ unfolding leafWeight
 returns-3 c = simp (ne-eqb _ _ (c .before .if1 .left), ne-eqb _ _ (c .if2 .left))
 
 pub leaf-weight-spec : {M : Type 1} → statement M
-leaf-weight-spec = tie.close (tie.spec own-of-requires returns returns-2 returns-3)
+leaf-weight-spec = tie.close (tie.spec (λ c κs. search needs) returns returns-2 returns-3)

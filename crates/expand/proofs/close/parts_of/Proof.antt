@@ -5,12 +5,6 @@ use borrow.Author.Tests.{eq-eqb, ne-eqb}
 use Rattle.expand.proofs.close.parts_of.Statement.{statement}
 use Rattle.expand.proofs.close.parts_of.Tie as tie
 
-arguments-of-requires : tie.Need-arguments-of-requires
-arguments-of-requires c κs = search needs
-
-first-bits-requires : tie.Need-first-bits-requires
-first-bits-requires c κs = search needs
-
 returns : tie.Need-returns
 unfolding partsOf
 returns c = simp (← c .before .arguments-of .ensures, ← c .first-bits .ensures, eq-eqb _ _ (c .before .before .if1
@@ -66,5 +60,5 @@ returns-9 c = simp (ne-eqb _ _ (c .before .before .before .before .before .befor
     .if8 .left))
 
 pub parts-of-spec : {M : Type 1} → statement M
-parts-of-spec = tie.close (tie.spec arguments-of-requires first-bits-requires returns returns-2 returns-3 returns-4
-    returns-5 returns-6 returns-7 returns-8 returns-9)
+parts-of-spec = tie.close (tie.spec (λ c κs. search needs) (λ c κs. search needs) returns returns-2 returns-3
+    returns-4 returns-5 returns-6 returns-7 returns-8 returns-9)

@@ -10,39 +10,21 @@ returns : tie.Need-returns
 unfolding plainWeight
 returns c = rw (lt-ltb _ _ (c .if1 .taken)) (omega arith)
 
-sat-mul-requires : tie.Need-sat-mul-requires
-sat-mul-requires c κs = search needs
-
-sat-add-requires : tie.Need-sat-add-requires
-sat-add-requires c κs = search needs
-
 returns-2 : tie.Need-returns-2
 unfolding plainWeight
 returns-2 c = rw (le-ltb _ _ (c .before .before .before .if1 .left), eq-eqb _ _ (c .before .before .if2 .taken))
     (omega (arith, c .before .sat-mul .ensures, c .sat-add .ensures))
-
-sat-add-requires-2 : tie.Need-sat-add-requires-2
-sat-add-requires-2 c κs = search needs
 
 returns-3 : tie.Need-returns-3
 unfolding plainWeight
 returns-3 c = rw (le-ltb _ _ (c .before .before .before .if1 .left), ne-eqb _ _ (c .before .before .if2 .left), eq-eqb
     _ _ (c .before .if3 .taken)) (omega (arith, c .sat-add2 .ensures))
 
-sat-add-requires-3 : tie.Need-sat-add-requires-3
-sat-add-requires-3 c κs = search needs
-
 returns-4 : tie.Need-returns-4
 unfolding plainWeight
 returns-4 c = rw (le-ltb _ _ (c .before .before .before .before .if1 .left), ne-eqb _ _ (c .before .before .before
     .if2 .left), ne-eqb _ _ (c .before .before .if3 .left), eq-eqb _ _ (c .before .if4 .taken)) (omega (arith, c
     .sat-add3 .ensures))
-
-sat-add-requires-4 : tie.Need-sat-add-requires-4
-sat-add-requires-4 c κs = search needs
-
-sat-add-requires-5 : tie.Need-sat-add-requires-5
-sat-add-requires-5 c κs = search needs
 
 returns-5 : tie.Need-returns-5
 unfolding plainWeight
@@ -57,9 +39,6 @@ returns-6 c = rw (le-ltb _ _ (c .before .before .before .before .before .if1 .le
     .before .before .if2 .left), ne-eqb _ _ (c .before .before .before .if3 .left), ne-eqb _ _ (c .before .before .if4
     .left), ne-eqb _ _ (c .before .if5 .left), eq-eqb _ _ (c .if6 .taken)) (omega arith)
 
-sat-add-requires-6 : tie.Need-sat-add-requires-6
-sat-add-requires-6 c κs = search needs
-
 returns-7 : tie.Need-returns-7
 unfolding plainWeight
 returns-7 c = rw (le-ltb _ _ (c .before .before .before .before .before .before .before .if1 .left), ne-eqb _ _ (c
@@ -67,12 +46,6 @@ returns-7 c = rw (le-ltb _ _ (c .before .before .before .before .before .before 
     .if3 .left), ne-eqb _ _ (c .before .before .before .before .if4 .left), ne-eqb _ _ (c .before .before .before .if5
     .left), ne-eqb _ _ (c .before .before .if6 .left), eq-eqb _ _ (c .before .if7 .taken)) (omega (arith, c .sat-add6
     .ensures))
-
-sat-mul-requires-2 : tie.Need-sat-mul-requires-2
-sat-mul-requires-2 c κs = search needs
-
-sat-add-requires-7 : tie.Need-sat-add-requires-7
-sat-add-requires-7 c κs = search needs
 
 returns-8 : tie.Need-returns-8
 unfolding plainWeight
@@ -82,9 +55,6 @@ returns-8 c = rw (le-ltb _ _ (c .before .before .before .before .before .before 
     .before .if4 .left), ne-eqb _ _ (c .before .before .before .before .before .if5 .left), ne-eqb _ _ (c .before
     .before .before .before .if6 .left), ne-eqb _ _ (c .before .before .before .if7 .left), eq-eqb _ _ (c .before
     .before .if8 .taken)) (omega (arith, c .before .sat-mul2 .ensures, c .sat-add7 .ensures))
-
-sat-mul-requires-3 : tie.Need-sat-mul-requires-3
-sat-mul-requires-3 c κs = search needs
 
 returns-9 : tie.Need-returns-9
 unfolding plainWeight
@@ -104,7 +74,7 @@ returns-10 c = rw (le-ltb _ _ (c .before .before .before .before .before .before
     .before .before .if7 .left), ne-eqb _ _ (c .before .if8 .left), ne-eqb _ _ (c .if9 .left)) (omega arith)
 
 pub plain-weight-spec : {M : Type 1} → statement M
-plain-weight-spec = tie.close (tie.spec returns sat-mul-requires sat-add-requires returns-2 sat-add-requires-2
-    returns-3 sat-add-requires-3 returns-4 sat-add-requires-4 sat-add-requires-5 returns-5 returns-6
-    sat-add-requires-6 returns-7 sat-mul-requires-2 sat-add-requires-7 returns-8 sat-mul-requires-3 returns-9
-    returns-10)
+plain-weight-spec = tie.close (tie.spec returns (λ c κs. search needs) (λ c κs. search needs) returns-2
+    (λ c κs. search needs) returns-3 (λ c κs. search needs) returns-4 (λ c κs. search needs) (λ c κs. search needs)
+    returns-5 returns-6 (λ c κs. search needs) returns-7 (λ c κs. search needs) (λ c κs. search needs) returns-8
+    (λ c κs. search needs) returns-9 returns-10)

@@ -5,24 +5,6 @@ use borrow.Author.Needs.{needs}
 use Rattle.expand.proofs.close.put_head_each.Statement.{statement}
 use Rattle.expand.proofs.close.put_head_each.Tie as tie
 
-put-word-requires : tie.Need-put-word-requires
-put-word-requires c κs = search needs
-
-put-word-requires-2 : tie.Need-put-word-requires-2
-put-word-requires-2 c κs = search needs
-
-put-word-requires-3 : tie.Need-put-word-requires-3
-put-word-requires-3 c κs = search needs
-
-put-word-requires-4 : tie.Need-put-word-requires-4
-put-word-requires-4 c κs = search needs
-
-put-word-requires-5 : tie.Need-put-word-requires-5
-put-word-requires-5 c κs = search needs
-
-same-length : tie.Need-same-length
-same-length c = search needs
-
 returns : tie.Need-returns
 returns c = five-put (now (c .before .before .before .before .before .before .before .before .before .before .before
     .before .before .before .before .before .before .before .before .before .before .args .rows)) (c .before .before
@@ -43,5 +25,5 @@ returns c = five-put (now (c .before .before .before .before .before .before .be
     .put-word4 .ensures) (c .before .before .put-word5 .ensures)
 
 pub put-head-each-spec : {M : Type 1} → statement M
-put-head-each-spec = tie.close (tie.spec put-word-requires put-word-requires-2 put-word-requires-3 put-word-requires-4
-    put-word-requires-5 same-length returns)
+put-head-each-spec = tie.close (tie.spec (λ c κs. search needs) (λ c κs. search needs) (λ c κs. search needs)
+    (λ c κs. search needs) (λ c κs. search needs) (search needs) returns)

@@ -6,24 +6,6 @@ use borrow.Author.Tests.{eq-eqb, ne-eqb}
 use Rattle.expand.proofs.close.weight_of.Statement.{statement}
 use Rattle.expand.proofs.close.weight_of.Tie as tie
 
-word-at-requires : tie.Need-word-at-requires
-word-at-requires c κs = search needs
-
-word-at-requires-2 : tie.Need-word-at-requires-2
-word-at-requires-2 c κs = search needs
-
-word-at-requires-3 : tie.Need-word-at-requires-3
-word-at-requires-3 c κs = search needs
-
-word-at-requires-4 : tie.Need-word-at-requires-4
-word-at-requires-4 c κs = search needs
-
-word-at-requires-5 : tie.Need-word-at-requires-5
-word-at-requires-5 c κs = search needs
-
-name-weight-requires : tie.Need-name-weight-requires
-name-weight-requires c κs = search needs
-
 cast-result : tie.Need-cast-result
 cast-result c = omega (arith, c .name-weight .ensures)
 
@@ -33,15 +15,6 @@ returns c = rw (← c .before .before .before .before .before .before .word-at .
     .if1 .taken), ← c .before .before .before .before .before .word-at2 .ensures, ← c .before .before .before
     .before .word-at3 .ensures, ← c .before .before .before .word-at4 .ensures, ← c .before .word-at5 .ensures) (c
     .name-weight .ensures)
-
-first-values-requires : tie.Need-first-values-requires
-first-values-requires c κs = search needs
-
-word-at-requires-6 : tie.Need-word-at-requires-6
-word-at-requires-6 c κs = search needs
-
-plain-weight-requires : tie.Need-plain-weight-requires
-plain-weight-requires c κs = search needs
 
 cast-result-2 : tie.Need-cast-result-2
 cast-result-2 c = omega (arith, c .plain-weight .ensures)
@@ -54,6 +27,6 @@ returns-2 c = rw (← c .before .before .before .before .before .before .before 
     .ensures, ← c .before .word-at6 .ensures, ← c .before .before .first-values .ensures) (c .plain-weight .ensures)
 
 pub weight-of-spec : {M : Type 1} → statement M
-weight-of-spec = tie.close (tie.spec word-at-requires word-at-requires-2 word-at-requires-3 word-at-requires-4
-    word-at-requires-5 name-weight-requires cast-result returns first-values-requires word-at-requires-6
-    plain-weight-requires cast-result-2 returns-2)
+weight-of-spec = tie.close (tie.spec (λ c κs. search needs) (λ c κs. search needs) (λ c κs. search needs)
+    (λ c κs. search needs) (λ c κs. search needs) (λ c κs. search needs) cast-result returns (λ c κs. search needs)
+    (λ c κs. search needs) (λ c κs. search needs) cast-result-2 returns-2)

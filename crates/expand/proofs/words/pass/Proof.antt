@@ -5,27 +5,6 @@ use borrow.Author.Needs.{needs}
 use Rattle.expand.proofs.words.pass.Statement.{statement}
 use Rattle.expand.proofs.words.pass.Tie as tie
 
-put-requires : tie.Need-put-requires
-put-requires c κs = search needs
-
-add-put : tie.Need-add-put
-add-put c = search needs
-
-put-requires-2 : tie.Need-put-requires-2
-put-requires-2 c κs = search needs
-
-add-put-2 : tie.Need-add-put-2
-add-put-2 c = search needs
-
-put-requires-3 : tie.Need-put-requires-3
-put-requires-3 c κs = search needs
-
-add-put-3 : tie.Need-add-put-3
-add-put-3 c = search needs
-
-put-requires-4 : tie.Need-put-requires-4
-put-requires-4 c κs = search needs
-
 returns : tie.Need-returns
 returns c = four-passed (now (c .before .before .before .before .before .before .before .before .args .slots)) (c
     .before .before .before .before .before .before .before .before .args .k) (c .before .before .before .before
@@ -36,5 +15,5 @@ returns c = four-passed (now (c .before .before .before .before .before .before 
     .ensures)
 
 pub pass-spec : {M : Type 1} → statement M
-pass-spec = tie.close (tie.spec put-requires add-put put-requires-2 add-put-2 put-requires-3 add-put-3
-    put-requires-4 returns)
+pass-spec = tie.close (tie.spec (λ c κs. search needs) (search needs) (λ c κs. search needs) (search needs)
+    (λ c κs. search needs) (search needs) (λ c κs. search needs) returns)

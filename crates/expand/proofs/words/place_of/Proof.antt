@@ -5,15 +5,9 @@ use borrow.Author.Needs.{needs}
 use Rattle.expand.proofs.words.place_of.Statement.{statement}
 use Rattle.expand.proofs.words.place_of.Tie as tie
 
-mul-result : tie.Need-mul-result
-mul-result c = search needs
-
-add-result : tie.Need-add-result
-add-result c = search needs
-
 returns : tie.Need-returns
 unfolding cell
 returns c = omega arith
 
 pub place-of-spec : {M : Type 1} → statement M
-place-of-spec = tie.close (tie.spec mul-result add-result returns)
+place-of-spec = tie.close (tie.spec (search needs) (search needs) returns)

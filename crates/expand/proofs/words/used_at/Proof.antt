@@ -4,12 +4,9 @@ use borrow.Author.Needs.{needs}
 use Rattle.expand.proofs.words.used_at.Statement.{statement}
 use Rattle.expand.proofs.words.used_at.Tie as tie
 
-mark-at-requires : tie.Need-mark-at-requires
-mark-at-requires c κs = search needs
-
 returns : tie.Need-returns
 unfolding usedOf
 returns c = simp (← c .mark-at .ensures)
 
 pub used-at-spec : {M : Type 1} → statement M
-used-at-spec = tie.close (tie.spec mark-at-requires returns)
+used-at-spec = tie.close (tie.spec (λ c κs. search needs) returns)

@@ -4,15 +4,9 @@ use borrow.Author.Needs.{needs}
 use Rattle.expand.proofs.words.word_at.Statement.{statement}
 use Rattle.expand.proofs.words.word_at.Tie as tie
 
-place-of-requires : tie.Need-place-of-requires
-place-of-requires c κs = search needs
-
-short-at-requires : tie.Need-short-at-requires
-short-at-requires c κs = search needs
-
 returns : tie.Need-returns
 unfolding word
 returns c = rw (← c .before .place-of .ensures) (c .short-at .ensures)
 
 pub word-at-spec : {M : Type 1} → statement M
-word-at-spec = tie.close (tie.spec place-of-requires short-at-requires returns)
+word-at-spec = tie.close (tie.spec (λ c κs. search needs) (λ c κs. search needs) returns)

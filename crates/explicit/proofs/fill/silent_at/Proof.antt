@@ -6,39 +6,6 @@ use Rattle.part_path.proofs.PathSays.{frames-owned}
 use Rattle.explicit.proofs.fill.silent_at.Statement.{statement}
 use Rattle.explicit.proofs.fill.silent_at.Tie as tie
 
-enum-told : tie.Need-enum-told
-enum-told c = search needs
-
-reach-requires : tie.Need-reach-requires
-reach-requires c κs = search needs
-
-sum-requires : tie.Need-sum-requires
-sum-requires c κs = search needs
-
-enum-told-2 : tie.Need-enum-told-2
-enum-told-2 c = search needs
-
-reach-requires-2 : tie.Need-reach-requires-2
-reach-requires-2 c κs = search needs
-
-sum-requires-2 : tie.Need-sum-requires-2
-sum-requires-2 c κs = search needs
-
-enum-told-3 : tie.Need-enum-told-3
-enum-told-3 c = search needs
-
-enum-told-4 : tie.Need-enum-told-4
-enum-told-4 c = search needs
-
-enum-told-5 : tie.Need-enum-told-5
-enum-told-5 c = search needs
-
-dead-requires : tie.Need-dead-requires
-dead-requires c κs = search needs
-
-sum-requires-3 : tie.Need-sum-requires-3
-sum-requires-3 c κs = search needs
-
 returns : tie.Need-returns
 returns c = silent-quiet _ _ _ _ _ _ (is-go (c .before .before .enum-told .given .1)) (c .before .reach .ensures) (c
     .sum .ensures)
@@ -58,5 +25,6 @@ returns-5 c = silent-stuck _ _ _ _ _ _ (c .before .before .enum-told5 .given .1)
     .ensures)
 
 pub silent-at-spec : {M : Type 1} → statement M
-silent-at-spec = tie.close (tie.spec enum-told reach-requires sum-requires enum-told-2 reach-requires-2 sum-requires-2
-    enum-told-3 enum-told-4 enum-told-5 dead-requires sum-requires-3 returns returns-2 returns-3 returns-4 returns-5)
+silent-at-spec = tie.close (tie.spec (search needs) (λ c κs. search needs) (λ c κs. search needs) (search needs)
+    (λ c κs. search needs) (λ c κs. search needs) (search needs) (search needs) (search needs)
+    (λ c κs. search needs) (λ c κs. search needs) returns returns-2 returns-3 returns-4 returns-5)

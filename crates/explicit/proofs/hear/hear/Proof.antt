@@ -8,24 +8,12 @@ use Rattle.explicit.proofs.hear.hear.Tie as tie
 hear-all-requires : tie.Need-hear-all-requires
 hear-all-requires c κs = c .before .before .before .before .before .pre
 
-same-length : tie.Need-same-length
-same-length c = search needs
-
 returns : tie.Need-returns
 returns c = c .before .before .hear-all .ensures
-
-cell-requires : tie.Need-cell-requires
-cell-requires c κs = search needs
-
-answer-kind-requires : tie.Need-answer-kind-requires
-answer-kind-requires c κs = search needs
 
 hear-answers-requires : tie.Need-hear-answers-requires
 hear-answers-requires c κs = (c .before .before .before .before .before .before .before .before .before .pre,
     c .before .before .before .before .before .if1 .left)
-
-same-length-2 : tie.Need-same-length-2
-same-length-2 c = search needs
 
 returns-2 : tie.Need-returns-2
 returns-2 c = plain-told _ _ _ _ _ _ _ _ _ _ (c .before .before .before .before .before .before .before .before .if1
@@ -37,12 +25,10 @@ hear-called-requires : tie.Need-hear-called-requires
 hear-called-requires c κs = (c .before .before .before .before .before .before .before .pre,
     c .before .before .before .if1 .left)
 
-same-length-3 : tie.Need-same-length-3
-same-length-3 c = search needs
-
 returns-3 : tie.Need-returns-3
 returns-3 c = c .before .before .hear-called .ensures
 
 pub hear-spec : {M : Type 1} → statement M
-hear-spec = tie.close (tie.spec hear-all-requires same-length returns cell-requires
-    answer-kind-requires hear-answers-requires same-length-2 returns-2 hear-called-requires same-length-3 returns-3)
+hear-spec = tie.close (tie.spec hear-all-requires (search needs) returns (λ c κs. search needs)
+    (λ c κs. search needs) hear-answers-requires (search needs) returns-2 hear-called-requires (search needs)
+    returns-3)

@@ -10,15 +10,6 @@ use Rattle.explicit.proofs.hear.hear_argument.Tie as tie
 sub-j : tie.Need-sub-j
 sub-j c = omega (arith, c .before .before .pre .1 .some)
 
-part-class-requires : tie.Need-part-class-requires
-part-class-requires c κs = search needs
-
-part-values-requires : tie.Need-part-values-requires
-part-values-requires c κs = search needs
-
-question-limit-requires : tie.Need-question-limit-requires
-question-limit-requires c κs = search needs
-
 returns : tie.Need-returns
 returns c = told (block-none _ _ _ _ _ _ _ _ _ (limit-question _ _ _ _ _ _ _ (c .before .before .before .before .before
     .before .pre .1) (c .before .before .before .part-class .ensures) (c .before .before .part-values .ensures) (c
@@ -26,9 +17,6 @@ returns c = told (block-none _ _ _ _ _ _ _ _ _ (limit-question _ _ _ _ _ _ _ (c 
 
 hear-values-requires : tie.Need-hear-values-requires
 hear-values-requires c κs = c .before .before .before .before .before .before .before .pre .0
-
-same-length : tie.Need-same-length
-same-length c = search needs
 
 returns-2 : tie.Need-returns-2
 returns-2 c = told (block-some _ _ _ _ _ _ _ _ _ _ _ _ (limit-question _ _ _ _ _ _ _ (c .before .before .before .before
@@ -38,5 +26,5 @@ returns-2 c = told (block-some _ _ _ _ _ _ _ _ _ _ _ _ (limit-question _ _ _ _ _
     .before .before .hear-values .ensures .0) (c .before .before .hear-values .ensures .1)))
 
 pub hear-argument-spec : {M : Type 1} → statement M
-hear-argument-spec = tie.close (tie.spec sub-j part-class-requires part-values-requires question-limit-requires returns
-    hear-values-requires same-length returns-2)
+hear-argument-spec = tie.close (tie.spec sub-j (λ c κs. search needs) (λ c κs. search needs) (λ c κs. search needs)
+    returns hear-values-requires (search needs) returns-2)

@@ -5,17 +5,11 @@ use Rattle.explicit.proofs.Loops.{told, wrote, block-none, block-some}
 use Rattle.explicit.proofs.hear.hear_block.Statement.{statement}
 use Rattle.explicit.proofs.hear.hear_block.Tie as tie
 
-limit-requires : tie.Need-limit-requires
-limit-requires c κs = search needs
-
 returns : tie.Need-returns
 returns c = told (block-none _ _ _ _ _ _ _ _ _ (c .before .limit .ensures) (c .if1 .taken))
 
 hear-values-requires : tie.Need-hear-values-requires
 hear-values-requires c κs = c .before .before .before .before .before .pre
-
-same-length : tie.Need-same-length
-same-length c = search needs
 
 returns-2 : tie.Need-returns-2
 returns-2 c = told (block-some _ _ _ _ _ _ _ _ _ _ _ _ (c .before .before .before .before .before .limit .ensures) (c
@@ -23,4 +17,4 @@ returns-2 c = told (block-some _ _ _ _ _ _ _ _ _ _ _ _ (c .before .before .befor
     .before .hear-values .ensures .1)))
 
 pub hear-block-spec : {M : Type 1} → statement M
-hear-block-spec = tie.close (tie.spec limit-requires returns hear-values-requires same-length returns-2)
+hear-block-spec = tie.close (tie.spec (λ c κs. search needs) returns hear-values-requires (search needs) returns-2)

@@ -7,15 +7,6 @@ use Rattle.explicit.proofs.HeardQuestions.{arguments, called-told}
 use Rattle.explicit.proofs.hear.hear_called.Statement.{statement}
 use Rattle.explicit.proofs.hear.hear_called.Tie as tie
 
-cell-requires : tie.Need-cell-requires
-cell-requires c κs = search needs
-
-answer-kind-requires : tie.Need-answer-kind-requires
-answer-kind-requires c κs = search needs
-
-asking-requires : tie.Need-asking-requires
-asking-requires c κs = search needs
-
 hear-kinds-requires : tie.Need-hear-kinds-requires
 hear-kinds-requires c κs = (c .before .before .before .before .before .before .pre .0, (arguments _ _ (c .before
     .before .before .before .before .before .pre .1) (c .before .asking .ensures), omega arith))
@@ -27,18 +18,12 @@ add-hear-kinds : tie.Need-add-hear-kinds
 add-hear-kinds c = omega (arith, own-small _ _ _ (c .before .before .before .before .before .before .before .before
     .before .before .answer-kind .ensures))
 
-add-hear-kinds-2 : tie.Need-add-hear-kinds-2
-add-hear-kinds-2 c = search needs
-
 hear-kinds-requires-2 : tie.Need-hear-kinds-requires-2
 hear-kinds-requires-2 c κs = (c .before .before .before .before .before .before .before .before .before .before .before
     .before .before .before .pre .0, (arguments _ _ (c .before .before .before .before .before .before .before .before
     .before .before .before .before .before .before .pre .1) (c .before .before .before .before .before .before .before
     .before .before .asking .ensures), omega (arith, own-small _ _ _ (c .before .before .before .before .before .before
     .before .before .before .before .answer-kind .ensures))))
-
-same-length : tie.Need-same-length
-same-length c = search needs
 
 returns : tie.Need-returns
 returns c = called-told _ _ _ _ _ _ _ _ _ _ _ _ _ _ _ (c .before .before .before .before .before .before .before .before
@@ -53,5 +38,6 @@ returns c = called-told _ _ _ _ _ _ _ _ _ _ _ _ _ _ _ (c .before .before .before
     .hear-kinds2 .ensures .1))
 
 pub hear-called-spec : {M : Type 1} → statement M
-hear-called-spec = tie.close (tie.spec cell-requires answer-kind-requires asking-requires hear-kinds-requires
-    hear-block-requires add-hear-kinds add-hear-kinds-2 hear-kinds-requires-2 same-length returns)
+hear-called-spec = tie.close (tie.spec (λ c κs. search needs) (λ c κs. search needs) (λ c κs. search needs)
+    hear-kinds-requires hear-block-requires add-hear-kinds (search needs) hear-kinds-requires-2 (search needs)
+    returns)

@@ -4,26 +4,11 @@ use Rattle.explicit.proofs.Loops.{told, value-none, value-some}
 use Rattle.explicit.proofs.hear.hear_value.Statement.{statement}
 use Rattle.explicit.proofs.hear.hear_value.Tie as tie
 
-code-at-requires : tie.Need-code-at-requires
-code-at-requires c κs = search needs
-
 returns : tie.Need-returns
 returns c = told (value-none _ _ _ _ _ _ _ _ _ _ _ (c .before .code-at .ensures) (c .if1 .taken))
 
-letter-of-requires : tie.Need-letter-of-requires
-letter-of-requires c κs = search needs
-
 heard-requires : tie.Need-heard-requires
 heard-requires c κs = c .before .before .before .before .before .before .pre
-
-write-edge-requires : tie.Need-write-edge-requires
-write-edge-requires c κs = search needs
-
-sum-requires : tie.Need-sum-requires
-sum-requires c κs = search needs
-
-same-length : tie.Need-same-length
-same-length c = search needs
 
 returns-2 : tie.Need-returns-2
 returns-2 c = told (value-some _ _ _ _ _ _ _ _ _ _ _ _ _ _ _ (c .before .before .before .before .before .before .before
@@ -32,5 +17,5 @@ returns-2 c = told (value-some _ _ _ _ _ _ _ _ _ _ _ _ _ _ _ (c .before .before 
     (c .before .before .before .write-edge .ensures) (c .sum .ensures))
 
 pub hear-value-spec : {M : Type 1} → statement M
-hear-value-spec = tie.close (tie.spec code-at-requires returns letter-of-requires heard-requires write-edge-requires
-    sum-requires same-length returns-2)
+hear-value-spec = tie.close (tie.spec (λ c κs. search needs) returns (λ c κs. search needs) heard-requires
+    (λ c κs. search needs) (λ c κs. search needs) (search needs) returns-2)

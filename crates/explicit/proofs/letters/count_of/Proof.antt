@@ -5,14 +5,8 @@ use Rattle.language.proofs.NumberLaws.{finites-are}
 use Rattle.explicit.proofs.letters.count_of.Statement.{statement}
 use Rattle.explicit.proofs.letters.count_of.Tie as tie
 
-finites-requires : tie.Need-finites-requires
-finites-requires c κs = search needs
-
-cast-result : tie.Need-cast-result
-cast-result c = search needs
-
 returns : tie.Need-returns
 returns c = (c .finites .ensures, omega (arith, c .finites .ensures, finites-are (c .before .args .n)))
 
 pub count-of-spec : {M : Type 1} → statement M
-count-of-spec = tie.close (tie.spec finites-requires cast-result returns)
+count-of-spec = tie.close (tie.spec (λ c κs. search needs) (search needs) returns)

@@ -5,15 +5,6 @@ use Rattle.explicit.specs.inner.Moves.{limitOf}
 use Rattle.explicit.proofs.letters.limit.Statement.{statement}
 use Rattle.explicit.proofs.letters.limit.Tie as tie
 
-cell-requires : tie.Need-cell-requires
-cell-requires c κs = search needs
-
-cell-requires-2 : tie.Need-cell-requires-2
-cell-requires-2 c κs = search needs
-
-question-limit-requires : tie.Need-question-limit-requires
-question-limit-requires c κs = search needs
-
 returns : tie.Need-returns
 unfolding limitOf
 returns c =
@@ -23,15 +14,6 @@ returns c =
 returns-2 : tie.Need-returns-2
 unfolding limitOf
 returns-2 c = simp (eq-eqb _ _ (c .before .if1 .taken), ne-eqb _ _ (c .if2 .left))
-
-cell-requires-3 : tie.Need-cell-requires-3
-cell-requires-3 c κs = search needs
-
-cell-requires-4 : tie.Need-cell-requires-4
-cell-requires-4 c κs = search needs
-
-answer-limit-requires : tie.Need-answer-limit-requires
-answer-limit-requires c κs = search needs
 
 returns-3 : tie.Need-returns-3
 unfolding limitOf
@@ -44,21 +26,6 @@ unfolding limitOf
 returns-4 c = simp (ne-eqb _ _ (c .before .before .before .if1 .left), ne-eqb _ _ (c .before .before .if3 .left),
     lt-ltb _ _ (c .if4 .taken))
 
-sub-part-class : tie.Need-sub-part-class
-sub-part-class c = search needs
-
-part-class-requires : tie.Need-part-class-requires
-part-class-requires c κs = search needs
-
-sub-part-values : tie.Need-sub-part-values
-sub-part-values c = search needs
-
-part-values-requires : tie.Need-part-values-requires
-part-values-requires c κs = search needs
-
-question-limit-requires-2 : tie.Need-question-limit-requires-2
-question-limit-requires-2 c κs = search needs
-
 returns-5 : tie.Need-returns-5
 unfolding limitOf
 returns-5 c =
@@ -69,6 +36,6 @@ returns-5 c =
 
 pub limit-spec : {M : Type 1} → statement M
 limit-spec = tie.close
-    (tie.spec cell-requires cell-requires-2 question-limit-requires returns returns-2 cell-requires-3 cell-requires-4
-    answer-limit-requires returns-3 returns-4 sub-part-class part-class-requires sub-part-values
-    part-values-requires question-limit-requires-2 returns-5)
+    (tie.spec (λ c κs. search needs) (λ c κs. search needs) (λ c κs. search needs) returns returns-2
+    (λ c κs. search needs) (λ c κs. search needs) (λ c κs. search needs) returns-3 returns-4 (search needs)
+    (λ c κs. search needs) (search needs) (λ c κs. search needs) (λ c κs. search needs) returns-5)

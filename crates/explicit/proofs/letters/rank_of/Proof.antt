@@ -6,33 +6,15 @@ use Rattle.language.specs.Order.{rank}
 use Rattle.explicit.proofs.letters.rank_of.Statement.{statement}
 use Rattle.explicit.proofs.letters.rank_of.Tie as tie
 
-cast-z : tie.Need-cast-z
-cast-z c = search needs
-
-add-result : tie.Need-add-result
-add-result c = search needs
-
 returns : tie.Need-returns
 unfolding rank
 returns c = rw (le-leb _ _ (c .if1 .taken))
-
-count-of-requires : tie.Need-count-of-requires
-count-of-requires c κs = search needs
-
-add-if3 : tie.Need-add-if3
-add-if3 c = search needs
 
 returns-2 : tie.Need-returns-2
 unfolding rank
 returns-2 c =
     rw (lt-leb _ _ (c .before .before .before .if1 .left), ← c .before .before .count-of .ensures .0,
       lt-ltb _ _ (c .before .if2 .taken)) (omega (arith, c .if3 .taken))
-
-add-result-2 : tie.Need-add-result-2
-add-result-2 c = search needs
-
-sub-result : tie.Need-sub-result
-sub-result c = search needs
 
 returns-3 : tie.Need-returns-3
 unfolding rank
@@ -45,9 +27,6 @@ unfolding rank
 returns-4 c =
     rw (lt-leb _ _ (c .before .before .before .if1 .left), ← c .before .before .count-of .ensures .0,
       le-ltb _ _ (c .before .if2 .left), eq-eqb _ _ (c .if4 .taken))
-
-add-if5 : tie.Need-add-if5
-add-if5 c = search needs
 
 returns-5 : tie.Need-returns-5
 unfolding rank
@@ -64,5 +43,5 @@ returns-6 c =
 pub rank-of-spec : {M : Type 1} → statement M
 rank-of-spec =
     tie.close
-    (tie.spec cast-z add-result returns count-of-requires add-if3 returns-2 add-result-2 sub-result returns-3
-    returns-4 add-if5 returns-5 returns-6)
+    (tie.spec (search needs) (search needs) returns (λ c κs. search needs) (search needs) returns-2 (search needs)
+    (search needs) returns-3 returns-4 (search needs) returns-5 returns-6)

@@ -9,12 +9,9 @@ returns : tie.Need-returns
 unfolding waitOf
 returns c = simp (eq-eqb _ _ (c .if1 .taken))
 
-name-id-requires : tie.Need-name-id-requires
-name-id-requires c κs = search needs
-
 returns-2 : tie.Need-returns-2
 unfolding waitOf
 returns-2 c = simp (← c .name-id .ensures, ne-eqb _ _ (c .before .if1 .left))
 
 pub wait-of-spec : {M : Type 1} → statement M
-wait-of-spec = tie.close (tie.spec returns name-id-requires returns-2)
+wait-of-spec = tie.close (tie.spec returns (λ c κs. search needs) returns-2)

@@ -5,23 +5,8 @@ use mathlib.Core.Path.{sym}
 use Rattle.explicit.proofs.rows.put.Statement.{statement}
 use Rattle.explicit.proofs.rows.put.Tie as tie
 
-cast-words : tie.Need-cast-words
-cast-words c = search needs
-
-mul-words : tie.Need-mul-words
-mul-words c = search needs
-
-slice-write-words : tie.Need-slice-write-words
-slice-write-words c = search needs
-
-same-length : tie.Need-same-length
-same-length c = search needs
-
-returns : tie.Need-returns
-returns c = search needs
-
 returns-2 : tie.Need-returns-2
 returns-2 c = sym (set-out _ _ _ (c .if1 .left))
 
 pub put-spec : {M : Type 1} → statement M
-put-spec = tie.close (tie.spec cast-words mul-words slice-write-words same-length returns returns-2)
+put-spec = tie.close (tie.spec (search needs) (search needs) (search needs) (search needs) (search needs) returns-2)

@@ -5,27 +5,6 @@ use Rattle.explicit.specs.inner.Rows.{withEdge, edgeAt}
 use Rattle.explicit.proofs.rows.write_edge.Statement.{statement}
 use Rattle.explicit.proofs.rows.write_edge.Tie as tie
 
-mul-add-requires : tie.Need-mul-add-requires
-mul-add-requires c κs = search needs
-
-sum-requires : tie.Need-sum-requires
-sum-requires c κs = search needs
-
-sum-requires-2 : tie.Need-sum-requires-2
-sum-requires-2 c κs = search needs
-
-put-requires : tie.Need-put-requires
-put-requires c κs = search needs
-
-sum-requires-3 : tie.Need-sum-requires-3
-sum-requires-3 c κs = search needs
-
-put-requires-2 : tie.Need-put-requires-2
-put-requires-2 c κs = search needs
-
-same-length : tie.Need-same-length
-same-length c = search needs
-
 returns : tie.Need-returns
 unfolding withEdge edgeAt
 returns c =
@@ -37,5 +16,5 @@ returns c =
 
 pub write-edge-spec : {M : Type 1} → statement M
 write-edge-spec = tie.close
-    (tie.spec mul-add-requires sum-requires sum-requires-2 put-requires sum-requires-3 put-requires-2 same-length
-    returns)
+    (tie.spec (λ c κs. search needs) (λ c κs. search needs) (λ c κs. search needs) (λ c κs. search needs)
+    (λ c κs. search needs) (λ c κs. search needs) (search needs) returns)

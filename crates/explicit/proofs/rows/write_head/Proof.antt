@@ -5,18 +5,6 @@ use Rattle.explicit.specs.inner.Rows.{withHead}
 use Rattle.explicit.proofs.rows.write_head.Statement.{statement}
 use Rattle.explicit.proofs.rows.write_head.Tie as tie
 
-put-requires : tie.Need-put-requires
-put-requires c κs = search needs
-
-mul-add-requires : tie.Need-mul-add-requires
-mul-add-requires c κs = search needs
-
-put-requires-2 : tie.Need-put-requires-2
-put-requires-2 c κs = search needs
-
-same-length : tie.Need-same-length
-same-length c = search needs
-
 returns : tie.Need-returns
 unfolding withHead
 returns c =
@@ -24,4 +12,5 @@ returns c =
     .mul-add .ensures, ← c .before .before .put2 .ensures)
 
 pub write-head-spec : {M : Type 1} → statement M
-write-head-spec = tie.close (tie.spec put-requires mul-add-requires put-requires-2 same-length returns)
+write-head-spec = tie.close (tie.spec (λ c κs. search needs) (λ c κs. search needs) (λ c κs. search needs)
+    (search needs) returns)

@@ -5,18 +5,6 @@ use Rattle.forms.proofs.Made.{coefficient-read, coefficient-none}
 use Rattle.forms.proofs.read.coefficient.Statement.{statement}
 use Rattle.forms.proofs.read.coefficient.Tie as tie
 
-width-requires : tie.Need-width-requires
-width-requires c κs = search needs
-
-add-word-at : tie.Need-add-word-at
-add-word-at c = search needs
-
-word-at-requires : tie.Need-word-at-requires
-word-at-requires c κs = search needs
-
-cast-result : tie.Need-cast-result
-cast-result c = search needs
-
 returns : tie.Need-returns
 returns c = (coefficient-read _ _ _ _ _ (c .before .before .width .ensures .0) (c .before .if1 .taken)
     (c .word-at .ensures), omega arith)
@@ -27,4 +15,4 @@ returns-2 c = (coefficient-none _ _ _ _ (c .before .width .ensures .0) (c .if1 .
 pub coefficient-spec : {M : Type 1} → statement M
 coefficient-spec =
     tie.close
-    (tie.spec width-requires add-word-at word-at-requires cast-result returns returns-2)
+    (tie.spec (λ c κs. search needs) (search needs) (λ c κs. search needs) (search needs) returns returns-2)

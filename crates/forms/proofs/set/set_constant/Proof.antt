@@ -5,20 +5,8 @@ use Rattle.forms.proofs.Made.{held-itself, constant-made}
 use Rattle.forms.proofs.set.set_constant.Statement.{statement}
 use Rattle.forms.proofs.set.set_constant.Tie as tie
 
-sat-add-requires : tie.Need-sat-add-requires
-sat-add-requires c κs = search needs
-
 cast-v : tie.Need-cast-v
 cast-v c = omega arith
-
-put-word-requires : tie.Need-put-word-requires
-put-word-requires c κs = search needs
-
-put-word-requires-2 : tie.Need-put-word-requires-2
-put-word-requires-2 c κs = search needs
-
-same-length : tie.Need-same-length
-same-length c = search needs
 
 returns : tie.Need-returns
 returns c =
@@ -29,4 +17,4 @@ returns c =
 pub set-constant-spec : {M : Type 1} → statement M
 set-constant-spec =
     tie.close
-    (tie.spec sat-add-requires cast-v put-word-requires put-word-requires-2 same-length returns)
+    (tie.spec (λ c κs. search needs) cast-v (λ c κs. search needs) (λ c κs. search needs) (search needs) returns)

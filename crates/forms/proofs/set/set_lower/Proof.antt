@@ -4,27 +4,6 @@ use Rattle.forms.proofs.Made.{lower-made}
 use Rattle.forms.proofs.set.set_lower.Statement.{statement}
 use Rattle.forms.proofs.set.set_lower.Tie as tie
 
-width-requires : tie.Need-width-requires
-width-requires c κs = search needs
-
-least-requires : tie.Need-least-requires
-least-requires c κs = search needs
-
-cast-put-word : tie.Need-cast-put-word
-cast-put-word c = search needs
-
-put-word-requires : tie.Need-put-word-requires
-put-word-requires c κs = search needs
-
-add-copy : tie.Need-add-copy
-add-copy c = search needs
-
-copy-requires : tie.Need-copy-requires
-copy-requires c κs = search needs
-
-same-length : tie.Need-same-length
-same-length c = search needs
-
 returns : tie.Need-returns
 returns c =
     lower-made _ _ _ _ _ _ _ _
@@ -35,4 +14,5 @@ returns c =
 pub set-lower-spec : {M : Type 1} → statement M
 set-lower-spec =
     tie.close
-    (tie.spec width-requires least-requires cast-put-word put-word-requires add-copy copy-requires same-length returns)
+    (tie.spec (λ c κs. search needs) (λ c κs. search needs) (search needs) (λ c κs. search needs) (search needs)
+    (λ c κs. search needs) (search needs) returns)

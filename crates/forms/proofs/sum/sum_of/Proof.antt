@@ -4,12 +4,6 @@ use Rattle.procedures.specs.Held.{held}
 use Rattle.forms.proofs.sum.sum_of.Statement.{statement}
 use Rattle.forms.proofs.sum.sum_of.Tie as tie
 
-sat-mul-requires : tie.Need-sat-mul-requires
-sat-mul-requires c κs = search needs
-
-sat-add-requires : tie.Need-sat-add-requires
-sat-add-requires c κs = search needs
-
 returns : tie.Need-returns
 unfolding held
 returns c = search needs
@@ -17,4 +11,4 @@ returns c = search needs
 pub sum-of-spec : {M : Type 1} → statement M
 sum-of-spec =
     tie.close
-    (tie.spec sat-mul-requires sat-add-requires returns)
+    (tie.spec (λ c κs. search needs) (λ c κs. search needs) returns)

@@ -5,32 +5,11 @@ use Rattle.forms.proofs.Made.{spot-below, widened-made, widened-same}
 use Rattle.forms.proofs.sum.widen.Statement.{statement}
 use Rattle.forms.proofs.sum.widen.Tie as tie
 
-width-requires : tie.Need-width-requires
-width-requires c κs = search needs
-
-add-spot : tie.Need-add-spot
-add-spot c = search needs
-
-spot-requires : tie.Need-spot-requires
-spot-requires c κs = search needs
-
-sub-clear : tie.Need-sub-clear
-sub-clear c = search needs
-
 clear-requires : tie.Need-clear-requires
 clear-requires c κs =
     (spot-below _ _ _ (c .before .before .before .before .before .before .pre .0)
     (omega (arith, c .before .before .before .width .ensures .1)) (c .before .spot .ensures), omega
     (arith, c .before .before .before .before .before .before .pre))
-
-cast-put-word : tie.Need-cast-put-word
-cast-put-word c = search needs
-
-put-word-requires : tie.Need-put-word-requires
-put-word-requires c κs = search needs
-
-same-length : tie.Need-same-length
-same-length c = search needs
 
 returns : tie.Need-returns
 returns c =
@@ -41,14 +20,11 @@ returns c =
     (c .before .before .before .before .before .before .clear .ensures)
     (c .before .before .put-word .ensures)
 
-same-length-2 : tie.Need-same-length-2
-same-length-2 c = search needs
-
 returns-2 : tie.Need-returns-2
 returns-2 c = widened-same _ _ _ _ (c .before .width .ensures .0) (c .if1 .left)
 
 pub widen-spec : {M : Type 1} → statement M
 widen-spec =
     tie.close
-    (tie.spec width-requires add-spot spot-requires sub-clear clear-requires cast-put-word put-word-requires
-    same-length returns same-length-2 returns-2)
+    (tie.spec (λ c κs. search needs) (search needs) (λ c κs. search needs) (search needs) clear-requires
+    (search needs) (λ c κs. search needs) (search needs) returns (search needs) returns-2)

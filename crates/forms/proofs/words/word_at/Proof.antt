@@ -4,14 +4,8 @@ use Rattle.forms.proofs.Made.{word-read}
 use Rattle.forms.proofs.words.word_at.Statement.{statement}
 use Rattle.forms.proofs.words.word_at.Tie as tie
 
-spot-requires : tie.Need-spot-requires
-spot-requires c κs = search needs
-
-short-at-requires : tie.Need-short-at-requires
-short-at-requires c κs = search needs
-
 returns : tie.Need-returns
 returns c = word-read _ _ _ _ _ (c .before .spot .ensures) (c .short-at .ensures)
 
 pub word-at-spec : {M : Type 1} → statement M
-word-at-spec = tie.close (tie.spec spot-requires short-at-requires returns)
+word-at-spec = tie.close (tie.spec (λ c κs. search needs) (λ c κs. search needs) returns)

@@ -4,15 +4,9 @@ use Rattle.heads.specs.Head.{blank}
 use Rattle.heads.proofs.head.blank_record.Statement.{statement}
 use Rattle.heads.proofs.head.blank_record.Tie as tie
 
-add-t6 : tie.Need-add-t6
-add-t6 c = search needs
-
-add-t8 : tie.Need-add-t8
-add-t8 c = search needs
-
 returns : tie.Need-returns
 unfolding blank
 returns c = search needs
 
 pub blank-record-spec : {M : Type 1} → statement M
-blank-record-spec = tie.close (tie.spec add-t6 add-t8 returns)
+blank-record-spec = tie.close (tie.spec (search needs) (search needs) returns)

@@ -4,66 +4,6 @@ use Rattle.heads.specs.Head.{bodyOf}
 use Rattle.heads.proofs.head.body_at.Statement.{statement}
 use Rattle.heads.proofs.head.body_at.Tie as tie
 
-enum-told : tie.Need-enum-told
-enum-told c = search needs
-
-enum-told-2 : tie.Need-enum-told-2
-enum-told-2 c = search needs
-
-limited-body-requires : tie.Need-limited-body-requires
-limited-body-requires c κs = search needs
-
-enum-told-3 : tie.Need-enum-told-3
-enum-told-3 c = search needs
-
-limited-body-requires-2 : tie.Need-limited-body-requires-2
-limited-body-requires-2 c κs = search needs
-
-enum-told-4 : tie.Need-enum-told-4
-enum-told-4 c = search needs
-
-constant-body-requires : tie.Need-constant-body-requires
-constant-body-requires c κs = search needs
-
-enum-told-5 : tie.Need-enum-told-5
-enum-told-5 c = search needs
-
-use-body-requires : tie.Need-use-body-requires
-use-body-requires c κs = search needs
-
-enum-told-6 : tie.Need-enum-told-6
-enum-told-6 c = search needs
-
-enum-told-7 : tie.Need-enum-told-7
-enum-told-7 c = search needs
-
-limited-body-requires-3 : tie.Need-limited-body-requires-3
-limited-body-requires-3 c κs = search needs
-
-enum-told-8 : tie.Need-enum-told-8
-enum-told-8 c = search needs
-
-enum-told-9 : tie.Need-enum-told-9
-enum-told-9 c = search needs
-
-enum-told-10 : tie.Need-enum-told-10
-enum-told-10 c = search needs
-
-enum-told-11 : tie.Need-enum-told-11
-enum-told-11 c = search needs
-
-enum-told-12 : tie.Need-enum-told-12
-enum-told-12 c = search needs
-
-new-body-requires : tie.Need-new-body-requires
-new-body-requires c κs = search needs
-
-enum-told-13 : tie.Need-enum-told-13
-enum-told-13 c = search needs
-
-procedure-body-requires : tie.Need-procedure-body-requires
-procedure-body-requires c κs = search needs
-
 returns : tie.Need-returns
 unfolding bodyOf
 returns c = simp (c .enum-told .given .1)
@@ -118,8 +58,8 @@ returns-13 c = simp (c .before .enum-told13 .given .1, ← c .procedure-body .en
 
 pub body-at-spec : {M : Type 1} → statement M
 body-at-spec =
-    tie.close (tie.spec enum-told enum-told-2 limited-body-requires enum-told-3 limited-body-requires-2 enum-told-4
-    constant-body-requires enum-told-5 use-body-requires enum-told-6 enum-told-7 limited-body-requires-3 enum-told-8
-    enum-told-9 enum-told-10 enum-told-11 enum-told-12 new-body-requires enum-told-13 procedure-body-requires returns
-    returns-2 returns-3 returns-4 returns-5 returns-6 returns-7 returns-8 returns-9 returns-10 returns-11 returns-12
-    returns-13)
+    tie.close (tie.spec (search needs) (search needs) (λ c κs. search needs) (search needs) (λ c κs. search needs)
+    (search needs) (λ c κs. search needs) (search needs) (λ c κs. search needs) (search needs) (search needs)
+    (λ c κs. search needs) (search needs) (search needs) (search needs) (search needs) (search needs)
+    (λ c κs. search needs) (search needs) (λ c κs. search needs) returns returns-2 returns-3 returns-4 returns-5
+    returns-6 returns-7 returns-8 returns-9 returns-10 returns-11 returns-12 returns-13)

@@ -6,21 +6,12 @@ use Rattle.heads.specs.Head.{byteOf}
 use Rattle.heads.proofs.head.byte_below.Statement.{statement}
 use Rattle.heads.proofs.head.byte_below.Tie as tie
 
-refuse-requires : tie.Need-refuse-requires
-refuse-requires c κs = search needs
-
 returns : tie.Need-returns
 unfolding byteOf
 returns c = simp (← c .refuse .ensures, le-leb _ _ (c .before .if1 .taken))
 
-shared-slice-read-b : tie.Need-shared-slice-read-b
-shared-slice-read-b c = search needs
-
 cast-if2 : tie.Need-cast-if2
 cast-if2 c = omega (arith, c .before .before .shared-slice-known .given (c .before .before .before .args .at))
-
-refuse-requires-2 : tie.Need-refuse-requires-2
-refuse-requires-2 c κs = search needs
 
 returns-2 : tie.Need-returns-2
 unfolding byteOf
@@ -37,5 +28,5 @@ returns-3 c = simp (lt-leb _ _ (c .before .before .if1 .left), lt-leb _ _ (c .if
 
 pub byte-below-spec : {M : Type 1} → statement M
 byte-below-spec =
-    tie.close (tie.spec
-    refuse-requires returns shared-slice-read-b cast-if2 refuse-requires-2 returns-2 returns-3)
+    tie.close (tie.spec (λ c κs. search needs) returns (search needs) cast-if2 (λ c κs. search needs) returns-2
+    returns-3)

@@ -5,24 +5,6 @@ use Rattle.heads.specs.Head.{constant, onByte}
 use Rattle.heads.proofs.head.constant_body.Statement.{statement}
 use Rattle.heads.proofs.head.constant_body.Tie as tie
 
-add-at : tie.Need-add-at
-add-at c = search needs
-
-byte-below-requires : tie.Need-byte-below-requires
-byte-below-requires c κs = search needs
-
-enum-known-found : tie.Need-enum-known-found
-enum-known-found c = search needs
-
-enum-known-found-2 : tie.Need-enum-known-found-2
-enum-known-found-2 c = search needs
-
-in-range-requires : tie.Need-in-range-requires
-in-range-requires c κs = search needs
-
-with-body-requires : tie.Need-with-body-requires
-with-body-requires c κs = search needs
-
 returns : tie.Need-returns
 unfolding constant onByte
 returns c =
@@ -33,9 +15,6 @@ returns c =
       c .before .if1 .taken,
       ← c .with-body .ensures,
     )
-
-refuse-requires : tie.Need-refuse-requires
-refuse-requires c κs = search needs
 
 returns-2 : tie.Need-returns-2
 unfolding constant onByte
@@ -55,6 +34,5 @@ returns-3 c =
 
 pub constant-body-spec : {M : Type 1} → statement M
 constant-body-spec =
-    tie.close (tie.spec
-    add-at byte-below-requires enum-known-found enum-known-found-2 in-range-requires with-body-requires returns
-    refuse-requires returns-2 returns-3)
+    tie.close (tie.spec (search needs) (λ c κs. search needs) (search needs) (search needs) (λ c κs. search needs)
+    (λ c κs. search needs) returns (λ c κs. search needs) returns-2 returns-3)

@@ -7,48 +7,12 @@ use Rattle.heads.specs.Head.{blank, headOf, headOfShape}
 use Rattle.heads.proofs.head.head_at.Statement.{statement}
 use Rattle.heads.proofs.head.head_at.Tie as tie
 
-too-deep-requires : tie.Need-too-deep-requires
-too-deep-requires c κs = search needs
-
 returns : tie.Need-returns
 returns c = rw (c .before .if1 .taken) (c .too-deep .ensures _ _ _)
-
-refuse-requires : tie.Need-refuse-requires
-refuse-requires c κs = search needs
 
 returns-2 : tie.Need-returns-2
 unfolding headOf headOfShape
 returns-2 c = simp (← c .refuse .ensures, le-leb _ _ (c .before .if2 .taken))
-
-shared-slice-read-kind : tie.Need-shared-slice-read-kind
-shared-slice-read-kind c = search needs
-
-shape-of-requires : tie.Need-shape-of-requires
-shape-of-requires c κs = search needs
-
-enum-told : tie.Need-enum-told
-enum-told c = search needs
-
-refuse-requires-2 : tie.Need-refuse-requires-2
-refuse-requires-2 c κs = search needs
-
-enum-told-2 : tie.Need-enum-told-2
-enum-told-2 c = search needs
-
-refuse-requires-3 : tie.Need-refuse-requires-3
-refuse-requires-3 c κs = search needs
-
-enum-told-3 : tie.Need-enum-told-3
-enum-told-3 c = search needs
-
-refuse-requires-4 : tie.Need-refuse-requires-4
-refuse-requires-4 c κs = search needs
-
-enum-known-shape : tie.Need-enum-known-shape
-enum-known-shape c = search needs
-
-blank-record-requires : tie.Need-blank-record-requires
-blank-record-requires c κs = search needs
 
 body-at-requires : tie.Need-body-at-requires
 unfolding blank
@@ -88,7 +52,7 @@ returns-6 c =
 
 pub head-at-spec : {M : Type 1} → statement M
 head-at-spec =
-    tie.close (tie.spec
-    too-deep-requires returns refuse-requires returns-2 shared-slice-read-kind shape-of-requires enum-told
-    refuse-requires-2 enum-told-2 refuse-requires-3 enum-told-3 refuse-requires-4 enum-known-shape
-    blank-record-requires body-at-requires returns-3 returns-4 returns-5 returns-6)
+    tie.close (tie.spec (λ c κs. search needs) returns (λ c κs. search needs) returns-2 (search needs)
+    (λ c κs. search needs) (search needs) (λ c κs. search needs) (search needs) (λ c κs. search needs)
+    (search needs) (λ c κs. search needs) (search needs) (λ c κs. search needs) body-at-requires returns-3 returns-4
+    returns-5 returns-6)

@@ -5,21 +5,6 @@ use Rattle.heads.specs.Head.{limited, onByte}
 use Rattle.heads.proofs.head.limited_body.Statement.{statement}
 use Rattle.heads.proofs.head.limited_body.Tie as tie
 
-add-at : tie.Need-add-at
-add-at c = search needs
-
-byte-below-requires : tie.Need-byte-below-requires
-byte-below-requires c κs = search needs
-
-enum-known-found : tie.Need-enum-known-found
-enum-known-found c = search needs
-
-enum-known-found-2 : tie.Need-enum-known-found-2
-enum-known-found-2 c = search needs
-
-with-body-requires : tie.Need-with-body-requires
-with-body-requires c κs = search needs
-
 returns : tie.Need-returns
 unfolding limited onByte
 returns c =
@@ -35,5 +20,5 @@ returns-2 c =
 
 pub limited-body-spec : {M : Type 1} → statement M
 limited-body-spec =
-    tie.close (tie.spec
-    add-at byte-below-requires enum-known-found enum-known-found-2 with-body-requires returns returns-2)
+    tie.close (tie.spec (search needs) (λ c κs. search needs) (search needs) (search needs) (λ c κs. search needs)
+    returns returns-2)

@@ -4,12 +4,9 @@ use Rattle.heads.specs.Head.{used}
 use Rattle.heads.proofs.head.used_record.Statement.{statement}
 use Rattle.heads.proofs.head.used_record.Tie as tie
 
-count-of-requires : tie.Need-count-of-requires
-count-of-requires c κs = search needs
-
 returns : tie.Need-returns
 unfolding used
 returns c = simp (← c .count-of .ensures)
 
 pub used-record-spec : {M : Type 1} → statement M
-used-record-spec = tie.close (tie.spec count-of-requires returns)
+used-record-spec = tie.close (tie.spec (λ c κs. search needs) returns)

@@ -4,15 +4,6 @@ use Rattle.heads.specs.Judge.{hides}
 use Rattle.heads.proofs.judgement.is_hiding.Statement.{statement}
 use Rattle.heads.proofs.judgement.is_hiding.Tie as tie
 
-enum-told : tie.Need-enum-told
-enum-told c = search needs
-
-enum-told-2 : tie.Need-enum-told-2
-enum-told-2 c = search needs
-
-is-held-requires : tie.Need-is-held-requires
-is-held-requires c κs = search needs
-
 returns : tie.Need-returns
 unfolding hides
 returns c = simp (c .enum-told .given .1)
@@ -22,4 +13,4 @@ unfolding hides
 returns-2 c = simp (c .before .enum-told2 .given .1, ← c .is-held .ensures)
 
 pub is-hiding-spec : {M : Type 1} → statement M
-is-hiding-spec = tie.close (tie.spec enum-told enum-told-2 is-held-requires returns returns-2)
+is-hiding-spec = tie.close (tie.spec (search needs) (search needs) (λ c κs. search needs) returns returns-2)

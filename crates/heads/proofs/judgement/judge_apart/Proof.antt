@@ -4,18 +4,6 @@ use Rattle.heads.specs.Judge.{apart}
 use Rattle.heads.proofs.judgement.judge_apart.Statement.{statement}
 use Rattle.heads.proofs.judgement.judge_apart.Tie as tie
 
-byte-at-requires : tie.Need-byte-at-requires
-byte-at-requires c κs = search needs
-
-standing-of-requires : tie.Need-standing-of-requires
-standing-of-requires c κs = search needs
-
-is-hiding-requires : tie.Need-is-hiding-requires
-is-hiding-requires c κs = search needs
-
-refuse-requires : tie.Need-refuse-requires
-refuse-requires c κs = search needs
-
 returns : tie.Need-returns
 unfolding apart
 returns c =
@@ -30,4 +18,5 @@ returns-2 c =
 
 pub judge-apart-spec : {M : Type 1} → statement M
 judge-apart-spec =
-    tie.close (tie.spec byte-at-requires standing-of-requires is-hiding-requires refuse-requires returns returns-2)
+    tie.close (tie.spec (λ c κs. search needs) (λ c κs. search needs) (λ c κs. search needs) (λ c κs. search needs)
+    returns returns-2)

@@ -5,18 +5,9 @@ use Rattle.heads.specs.Judge.{below}
 use Rattle.heads.proofs.judgement.judge_below.Statement.{statement}
 use Rattle.heads.proofs.judgement.judge_below.Tie as tie
 
-refuse-requires : tie.Need-refuse-requires
-refuse-requires c κs = search needs
-
 returns : tie.Need-returns
 unfolding below
 returns c = simp (← c .refuse .ensures, le-leb _ _ (c .before .if1 .taken))
-
-shared-slice-read-if2 : tie.Need-shared-slice-read-if2
-shared-slice-read-if2 c = search needs
-
-refuse-requires-2 : tie.Need-refuse-requires-2
-refuse-requires-2 c κs = search needs
 
 returns-2 : tie.Need-returns-2
 unfolding below
@@ -30,4 +21,4 @@ returns-3 c = simp (lt-leb _ _ (c .before .before .if1 .left), lt-leb _ _ (c .if
 
 pub judge-below-spec : {M : Type 1} → statement M
 judge-below-spec =
-    tie.close (tie.spec refuse-requires returns shared-slice-read-if2 refuse-requires-2 returns-2 returns-3)
+    tie.close (tie.spec (λ c κs. search needs) returns (search needs) (λ c κs. search needs) returns-2 returns-3)

@@ -4,12 +4,6 @@ use Rattle.heads.specs.Judge.{andThen}
 use Rattle.heads.proofs.judgement.judge_both.Statement.{statement}
 use Rattle.heads.proofs.judgement.judge_both.Tie as tie
 
-enum-told : tie.Need-enum-told
-enum-told c = search needs
-
-enum-known-first : tie.Need-enum-known-first
-enum-known-first c = search needs
-
 returns : tie.Need-returns
 unfolding andThen
 returns c = simp (c .enum-told .given .1)
@@ -19,4 +13,4 @@ unfolding andThen
 returns-2 c = simp (c .before .first .given .1)
 
 pub judge-both-spec : {M : Type 1} → statement M
-judge-both-spec = tie.close (tie.spec enum-told enum-known-first returns returns-2)
+judge-both-spec = tie.close (tie.spec (search needs) (search needs) returns returns-2)

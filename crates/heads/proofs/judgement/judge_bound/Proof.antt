@@ -5,27 +5,6 @@ use Rattle.heads.specs.Judge.{andThen, bound}
 use Rattle.heads.proofs.judgement.judge_bound.Statement.{statement}
 use Rattle.heads.proofs.judgement.judge_bound.Tie as tie
 
-judge-below-requires : tie.Need-judge-below-requires
-judge-below-requires c κs = search needs
-
-enum-known-range : tie.Need-enum-known-range
-enum-known-range c = search needs
-
-enum-told : tie.Need-enum-told
-enum-told c = search needs
-
-byte-at-requires : tie.Need-byte-at-requires
-byte-at-requires c κs = search needs
-
-standing-of-requires : tie.Need-standing-of-requires
-standing-of-requires c κs = search needs
-
-is-named-requires : tie.Need-is-named-requires
-is-named-requires c κs = search needs
-
-refuse-requires : tie.Need-refuse-requires
-refuse-requires c κs = search needs
-
 returns : tie.Need-returns
 unfolding bound andThen
 returns c =
@@ -47,5 +26,5 @@ returns-3 c =
 
 pub judge-bound-spec : {M : Type 1} → statement M
 judge-bound-spec =
-    tie.close (tie.spec judge-below-requires enum-known-range enum-told byte-at-requires standing-of-requires
-    is-named-requires refuse-requires returns returns-2 returns-3)
+    tie.close (tie.spec (λ c κs. search needs) (search needs) (search needs) (λ c κs. search needs)
+    (λ c κs. search needs) (λ c κs. search needs) (λ c κs. search needs) returns returns-2 returns-3)

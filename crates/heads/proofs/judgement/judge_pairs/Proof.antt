@@ -3,27 +3,6 @@ use borrow.Author.Needs.{needs}
 use Rattle.heads.proofs.judgement.judge_pairs.Statement.{statement}
 use Rattle.heads.proofs.judgement.judge_pairs.Tie as tie
 
-judge-pair-requires : tie.Need-judge-pair-requires
-judge-pair-requires c κs = search needs
-
-judge-pair-requires-2 : tie.Need-judge-pair-requires-2
-judge-pair-requires-2 c κs = search needs
-
-judge-both-requires : tie.Need-judge-both-requires
-judge-both-requires c κs = search needs
-
-judge-pair-requires-3 : tie.Need-judge-pair-requires-3
-judge-pair-requires-3 c κs = search needs
-
-judge-pair-requires-4 : tie.Need-judge-pair-requires-4
-judge-pair-requires-4 c κs = search needs
-
-judge-both-requires-2 : tie.Need-judge-both-requires-2
-judge-both-requires-2 c κs = search needs
-
-judge-both-requires-3 : tie.Need-judge-both-requires-3
-judge-both-requires-3 c κs = search needs
-
 returns : tie.Need-returns
 returns c =
     simp (← c .before .before .before .before .before .before .judge-pair .ensures, ← c .before .before .before
@@ -33,5 +12,5 @@ returns c =
 
 pub judge-pairs-spec : {M : Type 1} → statement M
 judge-pairs-spec =
-    tie.close (tie.spec judge-pair-requires judge-pair-requires-2 judge-both-requires judge-pair-requires-3
-    judge-pair-requires-4 judge-both-requires-2 judge-both-requires-3 returns)
+    tie.close (tie.spec (λ c κs. search needs) (λ c κs. search needs) (λ c κs. search needs) (λ c κs. search needs)
+    (λ c κs. search needs) (λ c κs. search needs) (λ c κs. search needs) returns)

@@ -5,22 +5,13 @@ use Rattle.heads.specs.Judge.{unused}
 use Rattle.heads.proofs.judgement.judge_unused.Statement.{statement}
 use Rattle.heads.proofs.judgement.judge_unused.Tie as tie
 
-refuse-requires : tie.Need-refuse-requires
-refuse-requires c κs = search needs
-
 returns : tie.Need-returns
 unfolding unused
 returns c = simp (← c .refuse .ensures, le-leb _ _ (c .before .if1 .taken))
 
-shared-slice-read-if2 : tie.Need-shared-slice-read-if2
-shared-slice-read-if2 c = search needs
-
 returns-2 : tie.Need-returns-2
 unfolding unused
 returns-2 c = simp (lt-leb _ _ (c .before .before .if1 .left), eq-eqb _ _ (c .if2 .taken))
-
-refuse-requires-2 : tie.Need-refuse-requires-2
-refuse-requires-2 c κs = search needs
 
 returns-3 : tie.Need-returns-3
 unfolding unused
@@ -29,4 +20,4 @@ returns-3 c =
 
 pub judge-unused-spec : {M : Type 1} → statement M
 judge-unused-spec =
-    tie.close (tie.spec refuse-requires returns shared-slice-read-if2 returns-2 refuse-requires-2 returns-3)
+    tie.close (tie.spec (λ c κs. search needs) returns (search needs) returns-2 (λ c κs. search needs) returns-3)

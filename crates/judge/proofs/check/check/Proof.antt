@@ -9,18 +9,6 @@ use Rattle.judge.proofs.check.check.Tie as tie
 judge-sheet-requires : tie.Need-judge-sheet-requires
 judge-sheet-requires c κs = blank-made 58313 refl
 
-enum-known-x : tie.Need-enum-known-x
-enum-known-x c = search needs
-
-enum-told : tie.Need-enum-told
-enum-told c = search needs
-
-refusal-of-requires : tie.Need-refusal-of-requires
-refusal-of-requires c κs = search needs
-
-of-sheet-requires : tie.Need-of-sheet-requires
-of-sheet-requires c κs = search needs
-
 returns : tie.Need-returns
 returns c =
     checked-refused _ _ (c .before .before .before .before .judge-sheet .ensures) (c .before .before .enum-told
@@ -31,4 +19,5 @@ returns-2 c = checked-accepted _ _ (c .before .before .before .judge-sheet .ensu
 
 pub check-spec : {M : Type 1} → statement M
 check-spec = tie.close
-    (tie.spec judge-sheet-requires enum-known-x enum-told refusal-of-requires of-sheet-requires returns returns-2)
+    (tie.spec judge-sheet-requires (search needs) (search needs) (λ c κs. search needs) (λ c κs. search needs)
+    returns returns-2)

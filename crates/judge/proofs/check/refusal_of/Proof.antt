@@ -3,15 +3,6 @@ use Rattle.judge.specs.Judged.{refusalIn}
 use Rattle.judge.proofs.check.refusal_of.Statement.{statement}
 use Rattle.judge.proofs.check.refusal_of.Tie as tie
 
-enum-known-x : tie.Need-enum-known-x
-enum-known-x c = search needs
-
-enum-told : tie.Need-enum-told
-enum-told c = search needs
-
-refuse-requires : tie.Need-refuse-requires
-refuse-requires c κs = search needs
-
 returns : tie.Need-returns
 unfolding refusalIn
 returns c = simp (c .before .enum-told .given .1, c .refuse .ensures)
@@ -21,4 +12,4 @@ unfolding refusalIn
 returns-2 c = simp (c .before .x .given .1)
 
 pub refusal-of-spec : {M : Type 1} → statement M
-refusal-of-spec = tie.close (tie.spec enum-known-x enum-told refuse-requires returns returns-2)
+refusal-of-spec = tie.close (tie.spec (search needs) (search needs) (λ c κs. search needs) returns returns-2)

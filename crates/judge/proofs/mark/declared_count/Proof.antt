@@ -8,9 +8,6 @@ use Rattle.judge.proofs.Masking.{count-small, counted}
 use Rattle.judge.proofs.mark.declared_count.Statement.{statement}
 use Rattle.judge.proofs.mark.declared_count.Tie as tie
 
-declared-from-requires : tie.Need-declared-from-requires
-declared-from-requires c κs = search needs
-
 cast-result : tie.Need-cast-result
 cast-result c = let h = count-small _ _ (c .declared-from .ensures) in record { fits = omega arith }
 
@@ -18,4 +15,4 @@ returns : tie.Need-returns
 returns c = λ S ty n e. ap ones (c .declared-from .ensures) ∙ counted Present _ S ty n e
 
 pub declared-count-spec : {M : Type 1} → statement M
-declared-count-spec = tie.close (tie.spec declared-from-requires cast-result returns)
+declared-count-spec = tie.close (tie.spec (λ c κs. search needs) cast-result returns)

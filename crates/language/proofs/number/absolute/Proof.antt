@@ -7,9 +7,6 @@ use Rattle.language.proofs.Bits.{mag-back, test-back, abs-below, abs-ab
 use Rattle.language.proofs.number.absolute.Statement.{statement}
 use Rattle.language.proofs.number.absolute.Tie as tie
 
-magnitude-requires : tie.Need-magnitude-requires
-magnitude-requires c κs = search needs
-
 add-result : tie.Need-add-result
 add-result c =
     let e = mag-back (c .before .before .fits .v) (c .magnitude .ensures) in
@@ -21,9 +18,6 @@ returns c =
     ap (λ (m : ℕ). m + 1) (mag-back f (c .magnitude .ensures))
     ∙ abs-below (c .before .before .args .v) (test-back f (c .before .if1 .taken))
 
-magnitude-requires-2 : tie.Need-magnitude-requires-2
-magnitude-requires-2 c κs = search needs
-
 returns-2 : tie.Need-returns-2
 returns-2 c =
     let f = c .before .before .fits .v in
@@ -32,4 +26,4 @@ returns-2 c =
 
 pub absolute-spec : {M : Type 1} → statement M
 absolute-spec =
-    tie.close (tie.spec magnitude-requires add-result returns magnitude-requires-2 returns-2)
+    tie.close (tie.spec (λ c κs. search needs) add-result returns (λ c κs. search needs) returns-2)

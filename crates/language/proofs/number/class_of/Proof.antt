@@ -9,9 +9,6 @@ use Rattle.language.proofs.NumberLaws.{finites-are}
 use Rattle.language.proofs.number.class_of.Statement.{statement}
 use Rattle.language.proofs.number.class_of.Tie as tie
 
-finites-requires : tie.Need-finites-requires
-finites-requires c κs = search needs
-
 returns : tie.Need-returns
 unfolding classOf
 returns c =
@@ -54,4 +51,4 @@ returns-4 c =
         (λ x. c .if3 .left (x ∙ ap (λ (y : ℕ). y + 1) (sym e))))
 
 pub class-of-spec : {M : Type 1} → statement M
-class-of-spec = tie.close (tie.spec finites-requires returns returns-2 add-if3 returns-3 returns-4)
+class-of-spec = tie.close (tie.spec (λ c κs. search needs) returns returns-2 add-if3 returns-3 returns-4)

@@ -7,9 +7,6 @@ use Rattle.language.proofs.NumberSteps.{code-is}
 use Rattle.language.proofs.number.code.Statement.{statement}
 use Rattle.language.proofs.number.code.Tie as tie
 
-finites-requires : tie.Need-finites-requires
-finites-requires c κs = search needs
-
 modulo-requires : tie.Need-modulo-requires
 modulo-requires c κs = omega (arith, c .finites .ensures, finites-above (c .before .args .n))
 
@@ -19,4 +16,4 @@ returns c =
     (c .before .before .fits .v)) at (c .modulo .ensures))
 
 pub code-spec : {M : Type 1} → statement M
-code-spec = tie.close (tie.spec finites-requires modulo-requires returns)
+code-spec = tie.close (tie.spec (λ c κs. search needs) modulo-requires returns)

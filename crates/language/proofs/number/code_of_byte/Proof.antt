@@ -6,16 +6,10 @@ use Rattle.language.proofs.Bits.{read}
 use Rattle.language.proofs.number.code_of_byte.Statement.{statement}
 use Rattle.language.proofs.number.code_of_byte.Tie as tie
 
-from-byte-requires : tie.Need-from-byte-requires
-from-byte-requires c κs = search needs
-
-code-requires : tie.Need-code-requires
-code-requires c κs = search needs
-
 returns : tie.Need-returns
 returns c =
     c .code .ensures
     ∙ ap (code (c .before .before .args .n)) (read (c .before .from-byte .ok) (c .before .from-byte .ensures))
 
 pub code-of-byte-spec : {M : Type 1} → statement M
-code-of-byte-spec = tie.close (tie.spec from-byte-requires code-requires returns)
+code-of-byte-spec = tie.close (tie.spec (λ c κs. search needs) (λ c κs. search needs) returns)

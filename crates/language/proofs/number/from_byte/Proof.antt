@@ -6,17 +6,11 @@ use Rattle.language.proofs.NumberSteps.{byte-low, byte-high}
 use Rattle.language.proofs.number.from_byte.Statement.{statement}
 use Rattle.language.proofs.number.from_byte.Tie as tie
 
-cast-result : tie.Need-cast-result
-cast-result c = search needs
-
 returns : tie.Need-returns
 returns c = byte-low (c .before .args .b) (omega arith)
-
-minus-requires : tie.Need-minus-requires
-minus-requires c κs = search needs
 
 returns-2 : tie.Need-returns-2
 returns-2 c = read (c .minus .ok) (byte-high (c .before .before .args .b) (omega arith) (c .minus .ensures))
 
 pub from-byte-spec : {M : Type 1} → statement M
-from-byte-spec = tie.close (tie.spec cast-result returns minus-requires returns-2)
+from-byte-spec = tie.close (tie.spec (search needs) returns (λ c κs. search needs) returns-2)

@@ -8,16 +8,10 @@ use Rattle.language.proofs.number.in_range.Tie as tie
 returns : tie.Need-returns
 returns c = range-low (c .before .before .args .n) (c .before .before .args .b) (omega arith)
 
-cast-result : tie.Need-cast-result
-cast-result c = search needs
-
-sub-result : tie.Need-sub-result
-sub-result c = search needs
-
 returns-2 : tie.Need-returns-2
 returns-2 c =
     let a = c .before .before .before .args in
     range-high (a .n) (a .b) (omega arith)
 
 pub in-range-spec : {M : Type 1} → statement M
-in-range-spec = tie.close (tie.spec returns cast-result sub-result returns-2)
+in-range-spec = tie.close (tie.spec returns (search needs) (search needs) returns-2)

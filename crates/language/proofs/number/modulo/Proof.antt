@@ -7,17 +7,8 @@ use Rattle.language.proofs.NumberSteps.{modulo-below-0, modulo-from-0}
 use Rattle.language.proofs.number.modulo.Statement.{statement}
 use Rattle.language.proofs.number.modulo.Tie as tie
 
-magnitude-requires : tie.Need-magnitude-requires
-magnitude-requires c κs = search needs
-
-rem-m : tie.Need-rem-m
-rem-m c = search needs
-
 cast-m : tie.Need-cast-m
 cast-m c = record { fits = omega (arith, mod-lt (c .magnitude .result) (c .before .pre)) }
-
-sub-result : tie.Need-sub-result
-sub-result c = search needs
 
 sub-result-2 : tie.Need-sub-result-2
 sub-result-2 c = omega (arith, mod-lt (c .before .magnitude .result) (c .before .before .pre))
@@ -38,4 +29,4 @@ returns-2 c =
 
 pub modulo-spec : {M : Type 1} → statement M
 modulo-spec =
-    tie.close (tie.spec magnitude-requires rem-m cast-m sub-result sub-result-2 returns returns-2)
+    tie.close (tie.spec (λ c κs. search needs) (search needs) cast-m (search needs) sub-result-2 returns returns-2)

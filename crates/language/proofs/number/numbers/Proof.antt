@@ -7,9 +7,6 @@ use Rattle.language.proofs.NumberLaws.{finites-are}
 use Rattle.language.proofs.number.numbers.Statement.{statement}
 use Rattle.language.proofs.number.numbers.Tie as tie
 
-finites-requires : tie.Need-finites-requires
-finites-requires c κs = search needs
-
 add-result : tie.Need-add-result
 add-result c = record { fits = omega (arith, c .finites .ensures, finites-are (c .before .before .before .args .n)) }
 
@@ -19,9 +16,6 @@ returns c =
     rw (eq-eqb (c .before .before .before .args .n .rule) 2 (c .before .if1 .taken)) (omega (arith,
     c .finites .ensures))
 
-finites-requires-2 : tie.Need-finites-requires-2
-finites-requires-2 c κs = search needs
-
 returns-2 : tie.Need-returns-2
 unfolding numbers extras
 returns-2 c =
@@ -29,4 +23,4 @@ returns-2 c =
     c .finites2 .ensures))
 
 pub numbers-spec : {M : Type 1} → statement M
-numbers-spec = tie.close (tie.spec finites-requires add-result returns finites-requires-2 returns-2)
+numbers-spec = tie.close (tie.spec (λ c κs. search needs) add-result returns (λ c κs. search needs) returns-2)

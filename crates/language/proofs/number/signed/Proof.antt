@@ -8,20 +8,8 @@ use Rattle.language.proofs.NumberSteps.{signed-no-number}
 use Rattle.language.proofs.number.signed.Statement.{statement}
 use Rattle.language.proofs.number.signed.Tie as tie
 
-cast-if1 : tie.Need-cast-if1
-cast-if1 c = search needs
-
-cast-result : tie.Need-cast-result
-cast-result c = search needs
-
 returns : tie.Need-returns
 returns c = signed-low (c .before .before .args .n) (c .before .before .args .c) (omega arith) (omega arith)
-
-finites-requires : tie.Need-finites-requires
-finites-requires c κs = search needs
-
-minus-requires : tie.Need-minus-requires
-minus-requires c κs = search needs
 
 returns-2 : tie.Need-returns-2
 returns-2 c =
@@ -57,5 +45,5 @@ returns-5 c =
 pub signed-spec : {M : Type 1} → statement M
 signed-spec =
     tie.close
-    (tie.spec cast-if1 cast-result returns finites-requires minus-requires returns-2 returns-3 add-if4 returns-4
-    returns-5)
+    (tie.spec (search needs) (search needs) returns (λ c κs. search needs) (λ c κs. search needs) returns-2
+    returns-3 add-if4 returns-4 returns-5)

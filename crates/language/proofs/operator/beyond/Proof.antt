@@ -8,18 +8,12 @@ use Rattle.language.proofs.operator.beyond.Tie as tie
 returns : tie.Need-returns
 returns c = beyond-none (c .before .before .args .n) (c .before .before .args .v) (c .if1 .taken)
 
-infinity-by-requires : tie.Need-infinity-by-requires
-infinity-by-requires c κs = search needs
-
 returns-2 : tie.Need-returns-2
 returns-2 c =
     beyond-infinite (c .before .before .before .before .before .args .n)
     (c .before .before .before .before .before .args .v) (c .before .before .before .if1 .left)
     (c .before .if2 .taken)
     (rw (back (c .before .before .before .before .before .fits .v)) at (c .infinity-by .ensures))
-
-kept-requires : tie.Need-kept-requires
-kept-requires c κs = search needs
 
 returns-3 : tie.Need-returns-3
 returns-3 c =
@@ -28,4 +22,4 @@ returns-3 c =
     (rw (back (c .before .before .before .before .before .fits .v)) at (c .kept .ensures))
 
 pub beyond-spec : {M : Type 1} → statement M
-beyond-spec = tie.close (tie.spec returns infinity-by-requires returns-2 kept-requires returns-3)
+beyond-spec = tie.close (tie.spec returns (λ c κs. search needs) returns-2 (λ c κs. search needs) returns-3)

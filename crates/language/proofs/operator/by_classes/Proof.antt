@@ -7,12 +7,6 @@ use Rattle.language.proofs.OperatorLaws.{class-below}
 use Rattle.language.proofs.operator.by_classes.Statement.{statement}
 use Rattle.language.proofs.operator.by_classes.Tie as tie
 
-class-of-requires : tie.Need-class-of-requires
-class-of-requires c κs = search needs
-
-class-of-requires-2 : tie.Need-class-of-requires-2
-class-of-requires-2 c κs = search needs
-
 entry-requires : tie.Need-entry-requires
 entry-requires c κs =
     (omega (arith, c .before .class-of .ensures, class-below (c .before .before .args .n) (c .before .before .args .x)),
@@ -24,4 +18,4 @@ returns c =
     (c .before .class-of2 .ensures)
 
 pub by-classes-spec : {M : Type 1} → statement M
-by-classes-spec = tie.close (tie.spec class-of-requires class-of-requires-2 entry-requires returns)
+by-classes-spec = tie.close (tie.spec (λ c κs. search needs) (λ c κs. search needs) entry-requires returns)

@@ -5,19 +5,13 @@ use Rattle.language.specs.Operator.{compared}
 use Rattle.language.proofs.operator.compared.Statement.{statement}
 use Rattle.language.proofs.operator.compared.Tie as tie
 
-truth-requires : tie.Need-truth-requires
-truth-requires c κs = search needs
-
 returns : tie.Need-returns
 unfolding compared
 returns c = rw (eq-eqb (c .before .before .args .k) 0 (c .before .if1 .taken)) (c .truth .ensures)
-
-truth-requires-2 : tie.Need-truth-requires-2
-truth-requires-2 c κs = search needs
 
 returns-2 : tie.Need-returns-2
 unfolding compared
 returns-2 c = rw (ne-eqb (c .before .before .args .k) 0 (c .before .if1 .left)) (c .truth2 .ensures)
 
 pub compared-spec : {M : Type 1} → statement M
-compared-spec = tie.close (tie.spec truth-requires returns truth-requires-2 returns-2)
+compared-spec = tie.close (tie.spec (λ c κs. search needs) returns (λ c κs. search needs) returns-2)

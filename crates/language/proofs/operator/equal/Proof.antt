@@ -8,12 +8,6 @@ use Rattle.language.specs.Operator.{equalOf, compared, truth, outcome}
 use Rattle.language.proofs.operator.equal.Statement.{statement}
 use Rattle.language.proofs.operator.equal.Tie as tie
 
-by-classes-requires : tie.Need-by-classes-requires
-by-classes-requires c κs = search needs
-
-compared-requires : tie.Need-compared-requires
-compared-requires c κs = search needs
-
 returns : tie.Need-returns
 unfolding equalOf
 returns c =
@@ -22,4 +16,4 @@ returns c =
     (c .before .before .args .y)))))) (c .before .by-classes .ensures)
 
 pub equal-spec : {M : Type 1} → statement M
-equal-spec = tie.close (tie.spec by-classes-requires compared-requires returns)
+equal-spec = tie.close (tie.spec (λ c κs. search needs) (λ c κs. search needs) returns)

@@ -6,23 +6,11 @@ use Rattle.language.proofs.OperatorSteps.{fit-outside, fit-kept}
 use Rattle.language.proofs.operator.fit.Statement.{statement}
 use Rattle.language.proofs.operator.fit.Tie as tie
 
-cast-if1 : tie.Need-cast-if1
-cast-if1 c = search needs
-
-absolute-requires : tie.Need-absolute-requires
-absolute-requires c κs = search needs
-
-beyond-requires : tie.Need-beyond-requires
-beyond-requires c κs = search needs
-
 returns : tie.Need-returns
 returns c =
     fit-outside (c .before .before .before .before .args .n) (c .before .before .before .before .args .v) (rw (back
     (c .before .before .before .before .fits .v)) at (c .before .before .absolute .ensures)) (omega arith) (rw (back
     (c .before .before .before .before .fits .v)) at (c .beyond .ensures))
-
-kept-requires : tie.Need-kept-requires
-kept-requires c κs = search needs
 
 returns-2 : tie.Need-returns-2
 returns-2 c =
@@ -31,4 +19,5 @@ returns-2 c =
     (c .before .before .before .before .fits .v)) at (c .kept .ensures))
 
 pub fit-spec : {M : Type 1} → statement M
-fit-spec = tie.close (tie.spec cast-if1 absolute-requires beyond-requires returns kept-requires returns-2)
+fit-spec = tie.close (tie.spec (search needs) (λ c κs. search needs) (λ c κs. search needs) returns
+    (λ c κs. search needs) returns-2)

@@ -5,26 +5,11 @@ use Rattle.language.proofs.OperatorSteps.{infinity-none, infinity-low, 
 use Rattle.language.proofs.operator.infinity_by.Statement.{statement}
 use Rattle.language.proofs.operator.infinity_by.Tie as tie
 
-absolute-requires : tie.Need-absolute-requires
-absolute-requires c κs = search needs
-
-cast-outside : tie.Need-cast-outside
-cast-outside c = search needs
-
-outside-requires : tie.Need-outside-requires
-outside-requires c κs = search needs
-
 returns : tie.Need-returns
 returns c =
     infinity-none (c .before .before .before .args .n) (c .before .before .before .args .v) (rw (back
     (c .before .before .before .fits .v)) at (c .before .before .absolute .ensures)) (c .before .if1 .taken)
     (c .outside .ensures)
-
-cast-outside-2 : tie.Need-cast-outside-2
-cast-outside-2 c = search needs
-
-outside-requires-2 : tie.Need-outside-requires-2
-outside-requires-2 c κs = search needs
 
 returns-2 : tie.Need-returns-2
 returns-2 c =
@@ -32,12 +17,6 @@ returns-2 c =
     (c .before .before .before .before .fits .v)) at (c .before .before .before .absolute .ensures))
     (c .before .before .if1 .left) (test-back (c .before .before .before .before .fits .v) (c .before .if2 .taken))
     (c .outside2 .ensures)
-
-cast-outside-3 : tie.Need-cast-outside-3
-cast-outside-3 c = search needs
-
-outside-requires-3 : tie.Need-outside-requires-3
-outside-requires-3 c κs = search needs
 
 returns-3 : tie.Need-returns-3
 returns-3 c =
@@ -49,5 +28,5 @@ returns-3 c =
 pub infinity-by-spec : {M : Type 1} → statement M
 infinity-by-spec =
     tie.close
-    (tie.spec absolute-requires cast-outside outside-requires returns cast-outside-2 outside-requires-2 returns-2
-    cast-outside-3 outside-requires-3 returns-3)
+    (tie.spec (λ c κs. search needs) (search needs) (λ c κs. search needs) returns (search needs)
+    (λ c κs. search needs) returns-2 (search needs) (λ c κs. search needs) returns-3)

@@ -8,12 +8,9 @@ use Rattle.language.proofs.Bits.{back}
 use Rattle.language.proofs.operator.kept.Statement.{statement}
 use Rattle.language.proofs.operator.kept.Tie as tie
 
-code-requires : tie.Need-code-requires
-code-requires c κs = search needs
-
 returns : tie.Need-returns
 unfolding outcome
 returns c = ap Is (c .code .ensures ∙ ap (code (c .before .args .n)) (back (c .before .fits .v)))
 
 pub kept-spec : {M : Type 1} → statement M
-kept-spec = tie.close (tie.spec code-requires returns)
+kept-spec = tie.close (tie.spec (λ c κs. search needs) returns)

@@ -4,21 +4,6 @@ use Rattle.language.proofs.OperatorSteps.{less-is}
 use Rattle.language.proofs.operator.less.Statement.{statement}
 use Rattle.language.proofs.operator.less.Tie as tie
 
-by-classes-requires : tie.Need-by-classes-requires
-by-classes-requires c κs = search needs
-
-signed-requires : tie.Need-signed-requires
-signed-requires c κs = search needs
-
-signed-requires-2 : tie.Need-signed-requires-2
-signed-requires-2 c κs = search needs
-
-below-requires : tie.Need-below-requires
-below-requires c κs = search needs
-
-compared-requires : tie.Need-compared-requires
-compared-requires c κs = search needs
-
 returns : tie.Need-returns
 returns c =
     less-is (c .before .before .before .before .before .args .n) (c .before .before .before .before .before .args .x)
@@ -30,4 +15,5 @@ returns c =
 pub less-spec : {M : Type 1} → statement M
 less-spec =
     tie.close
-    (tie.spec by-classes-requires signed-requires signed-requires-2 below-requires compared-requires returns)
+    (tie.spec (λ c κs. search needs) (λ c κs. search needs) (λ c κs. search needs) (λ c κs. search needs)
+    (λ c κs. search needs) returns)

@@ -5,33 +5,6 @@ use Rattle.language.specs.Operator.{operate}
 use Rattle.language.proofs.operator.operate.Statement.{statement}
 use Rattle.language.proofs.operator.operate.Tie as tie
 
-plus-requires : tie.Need-plus-requires
-plus-requires c κs = search needs
-
-minus-requires : tie.Need-minus-requires
-minus-requires c κs = search needs
-
-times-requires : tie.Need-times-requires
-times-requires c κs = search needs
-
-modulus-requires : tie.Need-modulus-requires
-modulus-requires c κs = search needs
-
-equal-requires : tie.Need-equal-requires
-equal-requires c κs = search needs
-
-less-requires : tie.Need-less-requires
-less-requires c κs = search needs
-
-both-requires : tie.Need-both-requires
-both-requires c κs = search needs
-
-either-requires : tie.Need-either-requires
-either-requires c κs = search needs
-
-same-truth-requires : tie.Need-same-truth-requires
-same-truth-requires c κs = search needs
-
 returns : tie.Need-returns
 unfolding operate
 returns c = rw (c .before .match .keys1) (c .plus .ensures)
@@ -84,6 +57,6 @@ returns-9 c =
 pub operate-spec : {M : Type 1} → statement M
 operate-spec =
     tie.close
-    (tie.spec plus-requires minus-requires times-requires modulus-requires equal-requires less-requires
-    both-requires either-requires same-truth-requires returns returns-2 returns-3 returns-4 returns-5 returns-6
-    returns-7 returns-8 returns-9)
+    (tie.spec (λ c κs. search needs) (λ c κs. search needs) (λ c κs. search needs) (λ c κs. search needs)
+    (λ c κs. search needs) (λ c κs. search needs) (λ c κs. search needs) (λ c κs. search needs)
+    (λ c κs. search needs) returns returns-2 returns-3 returns-4 returns-5 returns-6 returns-7 returns-8 returns-9)

@@ -6,12 +6,9 @@ use Rattle.language.specs.declared.operator.Outcome.the-variants.{Is}
 use Rattle.language.proofs.operator.outside.Statement.{statement}
 use Rattle.language.proofs.operator.outside.Tie as tie
 
-special-requires : tie.Need-special-requires
-special-requires c κs = search needs
-
 returns : tie.Need-returns
 unfolding outcome
 returns c = ap Is (c .special .ensures)
 
 pub outside-spec : {M : Type 1} → statement M
-outside-spec = tie.close (tie.spec special-requires returns)
+outside-spec = tie.close (tie.spec (λ c κs. search needs) returns)

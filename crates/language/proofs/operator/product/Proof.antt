@@ -5,20 +5,11 @@ use Rattle.language.proofs.OperatorSteps.{operands, product-is}
 use Rattle.language.proofs.operator.product.Statement.{statement}
 use Rattle.language.proofs.operator.product.Tie as tie
 
-signed-requires : tie.Need-signed-requires
-signed-requires c κs = search needs
-
-signed-requires-2 : tie.Need-signed-requires-2
-signed-requires-2 c κs = search needs
-
 mul-requires : tie.Need-mul-requires
 mul-requires c κs =
     operands (c .before .before .args .n) (c .before .before .args .x) (c .before .before .args .y)
     (c .before .signed .ok) (c .before .signed .ensures) (c .signed2 .ok) (c .signed2 .ensures)
     (omega arith) (omega arith) (omega arith)
-
-scale-requires : tie.Need-scale-requires
-scale-requires c κs = search needs
 
 returns : tie.Need-returns
 returns c =
@@ -29,4 +20,5 @@ returns c =
     (c .before .mul .ok) (c .before .mul .ensures) (c .scale .ensures)
 
 pub product-spec : {M : Type 1} → statement M
-product-spec = tie.close (tie.spec signed-requires signed-requires-2 mul-requires scale-requires returns)
+product-spec = tie.close (tie.spec (λ c κs. search needs) (λ c κs. search needs) mul-requires (λ c κs. search needs)
+    returns)

@@ -7,24 +7,12 @@ use Rattle.language.proofs.OperatorSteps.{operands, remainder-is, remai
 use Rattle.language.proofs.operator.remainder.Statement.{statement}
 use Rattle.language.proofs.operator.remainder.Tie as tie
 
-signed-requires : tie.Need-signed-requires
-signed-requires c κs = search needs
-
-absolute-requires : tie.Need-absolute-requires
-absolute-requires c κs = search needs
-
-undivided-requires : tie.Need-undivided-requires
-undivided-requires c κs = search needs
-
 returns : tie.Need-returns
 returns c =
     remainder-none (c .before .before .before .before .args .n) (c .before .before .before .before .args .x)
     (c .before .before .before .before .args .y) (read (c .before .before .before .signed .ok)
     (c .before .before .before .signed .ensures)) (c .before .before .absolute .ensures)
     (c .before .if1 .taken) (c .undivided .ensures)
-
-signed-requires-2 : tie.Need-signed-requires-2
-signed-requires-2 c κs = search needs
 
 rem-euclid-requires : tie.Need-rem-euclid-requires
 rem-euclid-requires c κs =
@@ -33,9 +21,6 @@ rem-euclid-requires c κs =
     (c .before .before .before .signed .ok) (c .before .before .before .signed .ensures)
       (omega arith) (omega arith) (omega arith),
       λ e. c .before .if1 .left (c .before .before .absolute .ensures ∙ e))
-
-fit-requires : tie.Need-fit-requires
-fit-requires c κs = search needs
 
 returns-2 : tie.Need-returns-2
 returns-2 c =
@@ -50,5 +35,5 @@ returns-2 c =
 pub remainder-spec : {M : Type 1} → statement M
 remainder-spec =
     tie.close
-    (tie.spec signed-requires absolute-requires undivided-requires returns signed-requires-2 rem-euclid-requires
-    fit-requires returns-2)
+    (tie.spec (λ c κs. search needs) (λ c κs. search needs) (λ c κs. search needs) returns (λ c κs. search needs)
+    rem-euclid-requires (λ c κs. search needs) returns-2)

@@ -5,12 +5,6 @@ use Rattle.language.proofs.OperatorSteps.{scaled-finite, scaled-right, 
 use Rattle.language.proofs.operator.scale.Statement.{statement}
 use Rattle.language.proofs.operator.scale.Tie as tie
 
-finites-requires : tie.Need-finites-requires
-finites-requires c κs = search needs
-
-fit-requires : tie.Need-fit-requires
-fit-requires c κs = search needs
-
 returns : tie.Need-returns
 returns c =
     scaled-finite (c .before .before .before .before .args .n) (c .before .before .before .before .args .x)
@@ -18,18 +12,12 @@ returns c =
     (c .before .before .before .finites .ensures) (c .before .before .if1 .taken) (c .before .if2 .taken)
     (rw (back (c .before .before .before .before .fits .v)) at (c .fit .ensures))
 
-infinity-by-requires : tie.Need-infinity-by-requires
-infinity-by-requires c κs = search needs
-
 returns-2 : tie.Need-returns-2
 returns-2 c =
     scaled-right (c .before .before .before .before .args .n) (c .before .before .before .before .args .x)
     (c .before .before .before .before .args .y) (c .before .before .before .before .args .v)
     (c .before .before .before .finites .ensures) (c .before .before .if1 .taken) (c .before .if2 .left)
     (rw (back (c .before .before .before .before .fits .v)) at (c .infinity-by .ensures))
-
-infinity-by-requires-2 : tie.Need-infinity-by-requires-2
-infinity-by-requires-2 c κs = search needs
 
 returns-3 : tie.Need-returns-3
 returns-3 c =
@@ -41,4 +29,5 @@ returns-3 c =
 pub scale-spec : {M : Type 1} → statement M
 scale-spec =
     tie.close
-    (tie.spec finites-requires fit-requires returns infinity-by-requires returns-2 infinity-by-requires-2 returns-3)
+    (tie.spec (λ c κs. search needs) (λ c κs. search needs) returns (λ c κs. search needs) returns-2
+    (λ c κs. search needs) returns-3)

@@ -9,15 +9,9 @@ returns : tie.Need-returns
 unfolding fitSome outcome
 returns c = rw (ne-eqb (c .before .before .args .n .rule) 2 (c .if1 .taken))
 
-cast-outside : tie.Need-cast-outside
-cast-outside c = search needs
-
-outside-requires : tie.Need-outside-requires
-outside-requires c κs = search needs
-
 returns-2 : tie.Need-returns-2
 unfolding fitSome
 returns-2 c = rw (eq-eqb (c .before .before .before .args .n .rule) 2 (c .before .if1 .left)) (c .outside .ensures)
 
 pub undivided-spec : {M : Type 1} → statement M
-undivided-spec = tie.close (tie.spec returns cast-outside outside-requires returns-2)
+undivided-spec = tie.close (tie.spec returns (search needs) (λ c κs. search needs) returns-2)

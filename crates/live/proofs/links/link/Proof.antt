@@ -5,33 +5,15 @@ use Rattle.live.proofs.laws.Links.{link-stores}
 use Rattle.live.proofs.links.link.Statement.{statement}
 use Rattle.live.proofs.links.link.Tie as tie
 
-at-requires : tie.Need-at-requires
-at-requires c κs = search needs
-
-mul-put : tie.Need-mul-put
-mul-put c = search needs
-
-add-put : tie.Need-add-put
-add-put c = search needs
-
 put-requires : tie.Need-put-requires
 put-requires c κs =
     (c .before .before .before .before .pre .1 .0, omega (arith, c .before .at .ensures,
     c .before .before .before .before .pre .1 .1 .0, c .before .before .before .before .pre .1 .1 .1 .0,
     c .before .before .before .before .pre .1 .1 .1 .1))
 
-add-put-2 : tie.Need-add-put-2
-add-put-2 c = search needs
-
-mul-put-2 : tie.Need-mul-put-2
-mul-put-2 c = search needs
-
 put-requires-2 : tie.Need-put-requires-2
 put-requires-2 c κs =
     (search needs, omega (arith, c .before .before .before .before .before .before .before .before .pre .1 .1 .1 .0))
-
-same-length : tie.Need-same-length
-same-length c = search needs
 
 returns : tie.Need-returns
 returns c =
@@ -47,4 +29,5 @@ returns c =
 pub link-spec : {M : Type 1} → statement M
 link-spec =
     tie.close
-    (tie.spec at-requires mul-put add-put put-requires add-put-2 mul-put-2 put-requires-2 same-length returns)
+    (tie.spec (λ c κs. search needs) (search needs) (search needs) put-requires (search needs) (search needs)
+    put-requires-2 (search needs) returns)

@@ -5,35 +5,11 @@ use Rattle.live.proofs.laws.Marks.{note-kept, note-stores}
 use Rattle.live.proofs.marks.note.Statement.{statement}
 use Rattle.live.proofs.marks.note.Tie as tie
 
-add-at : tie.Need-add-at
-add-at c = search needs
-
-at-requires : tie.Need-at-requires
-at-requires c κs = search needs
-
-same-length : tie.Need-same-length
-same-length c = search needs
-
 returns : tie.Need-returns
 returns c =
     note-kept (c .before .before .before .before .args .words .now) (c .before .before .before .before .args .n)
     (c .before .before .before .before .args .tail) (c .before .before .before .before .args .p) _
     (c .before .at .ensures) (c .if1 .taken)
-
-add-put : tie.Need-add-put
-add-put c = search needs
-
-put-requires : tie.Need-put-requires
-put-requires c κs = search needs
-
-at-requires-2 : tie.Need-at-requires-2
-at-requires-2 c κs = search needs
-
-mul-put : tie.Need-mul-put
-mul-put c = search needs
-
-add-put-2 : tie.Need-add-put-2
-add-put-2 c = search needs
 
 put-requires-2 : tie.Need-put-requires-2
 put-requires-2 c κs =
@@ -41,12 +17,6 @@ put-requires-2 c κs =
     (c .before .before .before .before .before .before .before .before .before .before .before .args .tail),
     c .before .at2 .ensures,
     c .before .before .before .before .before .before .before .before .before .before .before .pre .1 .1))
-
-add-result : tie.Need-add-result
-add-result c = search needs
-
-same-length-2 : tie.Need-same-length-2
-same-length-2 c = search needs
 
 returns-2 : tie.Need-returns-2
 returns-2 c =
@@ -67,5 +37,5 @@ returns-2 c =
 pub note-spec : {M : Type 1} → statement M
 note-spec =
     tie.close
-    (tie.spec add-at at-requires same-length returns add-put put-requires at-requires-2 mul-put add-put-2
-    put-requires-2 add-result same-length-2 returns-2)
+    (tie.spec (search needs) (λ c κs. search needs) (search needs) returns (search needs) (λ c κs. search needs)
+    (λ c κs. search needs) (search needs) (search needs) put-requires-2 (search needs) (search needs) returns-2)

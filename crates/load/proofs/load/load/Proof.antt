@@ -10,12 +10,6 @@ use Rattle.load.proofs.load.load.Tie as tie
 judge-sheet-requires : tie.Need-judge-sheet-requires
 judge-sheet-requires c κs = blank-made 58313 refl
 
-enum-known-x : tie.Need-enum-known-x
-enum-known-x c = search needs
-
-enum-known-x-2 : tie.Need-enum-known-x-2
-enum-known-x-2 c = search needs
-
 expand-root-requires : tie.Need-expand-root-requires
 expand-root-requires c κs =
     let J = judged-of _ _ (c .before .before .before .before .before .judge-sheet .ensures)
@@ -35,4 +29,4 @@ returns-2 c =
 pub load-spec : {M : Type 1} → statement M
 load-spec =
     tie.close
-    (tie.spec judge-sheet-requires enum-known-x enum-known-x-2 expand-root-requires returns returns-2)
+    (tie.spec judge-sheet-requires (search needs) (search needs) expand-root-requires returns returns-2)

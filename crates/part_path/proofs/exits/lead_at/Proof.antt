@@ -19,9 +19,6 @@ add-sum : tie.Need-add-sum
 add-sum c = omega (arith, lead-low _ _ _ (c .before .before .before .pre .0) (c .start-at .ensures), c .before .before
     .if1 .left)
 
-sum-requires : tie.Need-sum-requires
-sum-requires c κs = search needs
-
 returns-2 : tie.Need-returns-2
 returns-2 c = λ N s e. lead-plain N _ _ _ _ _ _ _ _ (c .before .before .before .before .pre .0) (c .before .before .before
     .if1 .left) (c .before .start-at .ensures) (c .before .before .before .before .pre .1) _ (c .before .before .if2
@@ -36,5 +33,5 @@ returns-3 : tie.Need-returns-3
 returns-3 c = c .moved .ensures
 
 pub lead-at-spec : {M : Type 1} → statement M
-lead-at-spec = tie.close (tie.spec far-requires returns start-at-requires add-sum sum-requires returns-2 moved-requires
-    returns-3)
+lead-at-spec = tie.close (tie.spec far-requires returns start-at-requires add-sum (λ c κs. search needs) returns-2
+    moved-requires returns-3)

@@ -19,9 +19,6 @@ add-sum : tie.Need-add-sum
 add-sum c = omega (arith, lead-low _ _ _ (c .before .before .before .before .pre .0) (c .start-at .ensures), c
     .before .if3 .taken)
 
-sum-requires : tie.Need-sum-requires
-sum-requires c κs = search needs
-
 returns-2 : tie.Need-returns-2
 returns-2 c = λ N s e. led-own N _ _ _ _ _ _ _ _ (c .before .before .before .before .if1 .left)
     (lead-plain N _ _ _ _ _ _ _ _ (c .before .before .before .before .before .pre .0) (c .before .before .if3
@@ -36,6 +33,5 @@ returns-3 : tie.Need-returns-3
 returns-3 c = λ N s e. led-own N _ _ _ _ _ _ _ _ (c .before .before .if1 .left) (c .lead-at .ensures N s e)
 
 pub led-spec : {M : Type 1} → statement M
-led-spec = tie.close (tie.spec lead-requires returns start-at-requires add-sum sum-requires returns-2
-    lead-at-requires
-    returns-3)
+led-spec = tie.close (tie.spec lead-requires returns start-at-requires add-sum (λ c κs. search needs) returns-2
+    lead-at-requires returns-3)

@@ -6,9 +6,6 @@ use Rattle.part_path.proofs.PathCode.{from-first, fewer}
 use Rattle.part_path.proofs.exits.moved.Statement.{statement}
 use Rattle.part_path.proofs.exits.moved.Tie as tie
 
-sub-field : tie.Need-sub-field
-sub-field c = search needs
-
 field-requires : tie.Need-field-requires
 field-requires c κs = (omega (arith, c .pre .0 .few, block-within _ _ _ _ (c .pre .1 .1 .0) (λ z. omega (arith, c .pre
     .1 .1 .1))), omega arith)
@@ -30,17 +27,11 @@ sub-mul-add c = lead-within _ _ _ _ _ _ (c .before .before .before .pre .0) (c .
     .before .start-at .ensures) (c .before .before .before .pre .1 .1 .0) (λ z. omega (arith, c .before .before .before
     .pre .1 .1 .1)) _ (c .start-at2 .ensures)
 
-mul-add-requires : tie.Need-mul-add-requires
-mul-add-requires c κs = search needs
-
 far-requires : tie.Need-far-requires
 far-requires c κs = c .before .before .before .before .before .pre .0
 
 returns : tie.Need-returns
 returns c = c .far .ensures
-
-sub-start-at : tie.Need-sub-start-at
-sub-start-at c = search needs
 
 start-at-requires-3 : tie.Need-start-at-requires-3
 start-at-requires-3 c κs = fewer _ _ _ (c .before .before .before .before .before .pre .0) (omega (arith, block-within _
@@ -52,9 +43,6 @@ add-sum c = omega (arith, lead-low _ _ _ (fewer _ _ _ (c .before .before .before
     (arith, block-within _ _ _ _ (c .before .before .before .before .before .before .pre .1 .1 .0) (λ z. omega (arith, c
     .before .before .before .before .before .before .pre .1 .1 .1))))) (c .start-at3 .ensures), c .before .if1 .left)
 
-sum-requires : tie.Need-sum-requires
-sum-requires c κs = search needs
-
 returns-2 : tie.Need-returns-2
 returns-2 c = λ N s e. lead-copy N _ _ _ _ _ _ _ _ (c .before .before .before .before .before .before .before .pre .0) (c
     .before .before .before .before .before .before .before .pre .1 .0) (c .before .before .before .before .before
@@ -64,5 +52,6 @@ returns-2 c = λ N s e. lead-copy N _ _ _ _ _ _ _ _ (c .before .before .before .
     .mul-add .ensures) (c .before .before .if1 .left) (c .before .start-at3 .ensures) (from-first _ _ _ _ e (c .sum .ensures))
 
 pub moved-spec : {M : Type 1} → statement M
-moved-spec = tie.close (tie.spec sub-field field-requires start-at-requires add-mul-add start-at-requires-2 sub-mul-add
-    mul-add-requires far-requires returns sub-start-at start-at-requires-3 add-sum sum-requires returns-2)
+moved-spec = tie.close (tie.spec (search needs) field-requires start-at-requires add-mul-add start-at-requires-2
+    sub-mul-add (λ c κs. search needs) far-requires returns (search needs) start-at-requires-3 add-sum
+    (λ c κs. search needs) returns-2)

@@ -6,21 +6,9 @@ use Rattle.part_path.specs.Levels.{fieldOf}
 use Rattle.part_path.proofs.levels.field.Statement.{statement}
 use Rattle.part_path.proofs.levels.field.Tie as tie
 
-mul-at : tie.Need-mul-at
-mul-at c = search needs
-
-add-at : tie.Need-add-at
-add-at c = search needs
-
-mul-result : tie.Need-mul-result
-mul-result c = search needs
-
-element-copy-out-result : tie.Need-element-copy-out-result
-element-copy-out-result c = search needs
-
 returns : tie.Need-returns
 unfolding fieldOf
 returns c = refl
 
 pub field-spec : {M : Type 1} → statement M
-field-spec = tie.close (tie.spec mul-at add-at mul-result element-copy-out-result returns)
+field-spec = tie.close (tie.spec (search needs) (search needs) (search needs) (search needs) returns)

@@ -8,17 +8,11 @@ use Rattle.part_path.proofs.levels.innermost.Tie as tie
 returns : tie.Need-returns
 returns c = innermost-none _ _ (c .if1 .taken)
 
-sub-field : tie.Need-sub-field
-sub-field c = search needs
-
 field-requires : tie.Need-field-requires
 field-requires c κs = (omega (arith, c .before .pre .few), omega arith)
 
 returns-2 : tie.Need-returns-2
 returns-2 c = innermost-here _ _ _ (c .before .before .if1 .left) (c .before .field .ensures) (c .if2 .taken)
-
-sub-field-2 : tie.Need-sub-field-2
-sub-field-2 c = search needs
 
 field-requires-2 : tie.Need-field-requires-2
 field-requires-2 c κs = (omega (arith, c .before .before .before .pre .few), omega arith)
@@ -28,4 +22,5 @@ returns-3 c = innermost-outside _ _ _ _ (c .before .before .before .before .pre)
     (c .before .before .field .ensures) (c .before .if2 .left) (c .field2 .ensures)
 
 pub innermost-spec : {M : Type 1} → statement M
-innermost-spec = tie.close (tie.spec returns sub-field field-requires returns-2 sub-field-2 field-requires-2 returns-3)
+innermost-spec = tie.close (tie.spec returns (search needs) field-requires returns-2 (search needs) field-requires-2
+    returns-3)

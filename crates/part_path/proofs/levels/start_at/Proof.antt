@@ -11,9 +11,6 @@ returns : tie.Need-returns
 unfolding startOf
 returns c = simp (eq-eqb _ _ (c .if1 .taken))
 
-sub-field : tie.Need-sub-field
-sub-field c = search needs
-
 field-requires : tie.Need-field-requires
 field-requires c κs = (omega (arith, c .before .pre .few), omega arith)
 
@@ -22,4 +19,4 @@ unfolding startOf levelAt
 returns-2 c = simp (← c .field .ensures, ne-eqb _ _ (c .before .if1 .left))
 
 pub start-at-spec : {M : Type 1} → statement M
-start-at-spec = tie.close (tie.spec returns sub-field field-requires returns-2)
+start-at-spec = tie.close (tie.spec returns (search needs) field-requires returns-2)

@@ -9,9 +9,6 @@ use Rattle.part_path.proofs.levels.up_at.Tie as tie
 returns : tie.Need-returns
 returns c = up-none _ _ (c .if1 .taken)
 
-sub-field : tie.Need-sub-field
-sub-field c = search needs
-
 field-requires : tie.Need-field-requires
 field-requires c κs = (omega (arith, c .before .pre .few), omega arith)
 
@@ -19,4 +16,4 @@ returns-2 : tie.Need-returns-2
 returns-2 c = up-some _ _ _ (c .before .before .pre) (c .before .if1 .left) (c .field .ensures)
 
 pub up-at-spec : {M : Type 1} → statement M
-up-at-spec = tie.close (tie.spec returns sub-field field-requires returns-2)
+up-at-spec = tie.close (tie.spec returns (search needs) field-requires returns-2)

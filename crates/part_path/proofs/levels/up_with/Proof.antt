@@ -7,15 +7,9 @@ use borrow.Author.Tests.{le-leb, lt-leb, lt-ltb, le-ltb, eq-eqb, ne-eqb}
 use Rattle.part_path.proofs.levels.up_with.Statement.{statement}
 use Rattle.part_path.proofs.levels.up_with.Tie as tie
 
-up-at-requires : tie.Need-up-at-requires
-up-at-requires c κs = search needs
-
 returns : tie.Need-returns
 unfolding passesOf
 returns c = simp (← c .up-at .ensures, eq-eqb _ _ (c .before .if1 .taken))
-
-up-at-requires-2 : tie.Need-up-at-requires-2
-up-at-requires-2 c κs = search needs
 
 returns-2 : tie.Need-returns-2
 unfolding passesOf
@@ -29,4 +23,5 @@ unfolding passesOf
 returns-3 c = simp (ne-eqb _ _ (c .before .if1 .left), ne-eqb _ _ (c .if2 .left), add-one)
 
 pub up-with-spec : {M : Type 1} → statement M
-up-with-spec = tie.close (tie.spec up-at-requires returns up-at-requires-2 returns-2 add-result returns-3)
+up-with-spec = tie.close (tie.spec (λ c κs. search needs) returns (λ c κs. search needs) returns-2 add-result
+    returns-3)

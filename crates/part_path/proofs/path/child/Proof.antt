@@ -9,32 +9,11 @@ use borrow.Author.Tests.{le-leb, lt-leb, lt-ltb, le-ltb, eq-eqb, ne-eqb}
 use Rattle.part_path.proofs.path.child.Statement.{statement}
 use Rattle.part_path.proofs.path.child.Tie as tie
 
-start-at-requires : tie.Need-start-at-requires
-start-at-requires c κs = search needs
-
-add-base : tie.Need-add-base
-add-base c = search needs
-
-cell-requires : tie.Need-cell-requires
-cell-requires c κs = search needs
-
 add-until : tie.Need-add-until
 add-until c = omega (arith, c .cell .ensures, small-word (now (c .before .before .before .before .args .t))
     (λ i. omega (arith, c .before .before .before .shared-slice-known .given i)) (c .before .before .before .before
         .args .part) 1, c .before .before .before .before .pre .1 .0, c .before .before .before .before .pre .1 .1, c
         .before .before .start-at .ensures)
-
-stop-at-requires : tie.Need-stop-at-requires
-stop-at-requires c κs = search needs
-
-until-requires : tie.Need-until-requires
-until-requires c κs = search needs
-
-innermost-requires : tie.Need-innermost-requires
-innermost-requires c κs = search needs
-
-up-with-requires : tie.Need-up-with-requires
-up-with-requires c κs = search needs
 
 returns : tie.Need-returns
 returns c = child-is _ _ _ _ _ _ _ _ _ _ _ _ _ _ _ (c .before .before .before .before .before .before .start-at
@@ -42,5 +21,5 @@ returns c = child-is _ _ _ _ _ _ _ _ _ _ _ _ _ _ _ (c .before .before .before .b
     .before .before .until .ensures) (c .before .innermost .ensures) (c .up-with .ensures)
 
 pub child-spec : {M : Type 1} → statement M
-child-spec = tie.close (tie.spec start-at-requires add-base cell-requires add-until stop-at-requires until-requires
-    innermost-requires up-with-requires returns)
+child-spec = tie.close (tie.spec (λ c κs. search needs) (search needs) (λ c κs. search needs) add-until
+    (λ c κs. search needs) (λ c κs. search needs) (λ c κs. search needs) (λ c κs. search needs) returns)

@@ -8,9 +8,6 @@ use borrow.Author.Tests.{le-leb, lt-leb, lt-ltb, le-ltb, eq-eqb, ne-eqb}
 use Rattle.part_path.proofs.path.private_at.Statement.{statement}
 use Rattle.part_path.proofs.path.private_at.Tie as tie
 
-cell-requires : tie.Need-cell-requires
-cell-requires c κs = search needs
-
 returns : tie.Need-returns
 unfolding inPrivate
 returns c = simp (eq-eqb _ _ (c .if1 .taken))
@@ -24,12 +21,6 @@ returns-2 : tie.Need-returns-2
 unfolding inPrivate
 returns-2 c = simp (← c .value-at .ensures, ← c .before .before .before .cell .ensures, ne-eqb _ _ (c .before .before
     .if1 .left), eq-eqb _ _ (c .before .if2 .taken))
-
-cell-requires-2 : tie.Need-cell-requires-2
-cell-requires-2 c κs = search needs
-
-sum-requires : tie.Need-sum-requires
-sum-requires c κs = search needs
 
 returns-3 : tie.Need-returns-3
 unfolding inPrivate
@@ -49,5 +40,5 @@ returns-5 c = simp (ne-eqb _ _ (c .before .before .if1 .left), ne-eqb _ _ (c .be
     .left))
 
 pub private-at-spec : {M : Type 1} → statement M
-private-at-spec = tie.close (tie.spec cell-requires returns value-at-requires returns-2 cell-requires-2 sum-requires
-    returns-3 returns-4 returns-5)
+private-at-spec = tie.close (tie.spec (λ c κs. search needs) returns value-at-requires returns-2
+    (λ c κs. search needs) (λ c κs. search needs) returns-3 returns-4 returns-5)

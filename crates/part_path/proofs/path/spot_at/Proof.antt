@@ -10,15 +10,9 @@ use borrow.Author.Tests.{le-leb, lt-leb, lt-ltb, le-ltb, eq-eqb, ne-eqb}
 use Rattle.part_path.proofs.path.spot_at.Statement.{statement}
 use Rattle.part_path.proofs.path.spot_at.Tie as tie
 
-sheet-spot-requires : tie.Need-sheet-spot-requires
-sheet-spot-requires c κs = search needs
-
 returns : tie.Need-returns
 unfolding spotIn
 returns c = simp (← c .sheet-spot .ensures, eq-eqb _ _ (c .before .if1 .taken))
-
-sub-i : tie.Need-sub-i
-sub-i c = search needs
 
 field-requires : tie.Need-field-requires
 field-requires c κs = (omega (arith, c .before .before .pre .sound .few), omega arith)
@@ -38,9 +32,6 @@ sub-inner c = omega (arith, c .field4 .ensures, c .before .before .before .befor
     .begun (c .before .before .before .before .before .before .args .c - 1) (omega (arith, c .before .before .before
         .before .if1 .left)))
 
-cell-requires : tie.Need-cell-requires
-cell-requires c κs = search needs
-
 private-at-requires : tie.Need-private-at-requires
 private-at-requires c κs = c .before .before .before .before .before .before .before .before .pre .sound
 
@@ -50,9 +41,6 @@ returns-2 c = spot-private _ _ _ _ _ _ _ _ _ _ (c .before .before .before .befor
         .before .field2 .ensures) (c .before .before .before .before .field3 .ensures) (c .before .before .before
         .field4 .ensures) (sym (c .before .before .cell .ensures) ∙ c .before .if2 .taken) (c .private-at .ensures)
 
-down-requires : tie.Need-down-requires
-down-requires c κs = search needs
-
 returns-3 : tie.Need-returns-3
 returns-3 c = spot-down _ _ _ _ _ _ _ _ _ _ (c .before .before .before .before .before .before .before .if1
     .left) (c .before .before .before .before .before .before .field .ensures) (c .before .before .before
@@ -61,6 +49,6 @@ returns-3 c = spot-down _ _ _ _ _ _ _ _ _ _ (c .before .before .before .before .
         .before .if2 .left (c .before .before .cell .ensures ∙ e)))
 
 pub spot-at-spec : {M : Type 1} → statement M
-spot-at-spec = tie.close (tie.spec sheet-spot-requires returns sub-i field-requires field-requires-2
-    field-requires-3 field-requires-4 sub-inner cell-requires private-at-requires returns-2
-    down-requires returns-3)
+spot-at-spec = tie.close (tie.spec (λ c κs. search needs) returns (search needs) field-requires field-requires-2
+    field-requires-3 field-requires-4 sub-inner (λ c κs. search needs) private-at-requires returns-2
+    (λ c κs. search needs) returns-3)

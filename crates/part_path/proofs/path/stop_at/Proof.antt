@@ -7,15 +7,9 @@ use borrow.Author.Tests.{le-leb, lt-leb, lt-ltb, le-ltb, eq-eqb, ne-eqb}
 use Rattle.part_path.proofs.path.stop_at.Statement.{statement}
 use Rattle.part_path.proofs.path.stop_at.Tie as tie
 
-after-of-requires : tie.Need-after-of-requires
-after-of-requires c κs = search needs
-
 returns : tie.Need-returns
 unfolding stopOf
 returns c = simp (← c .after-of .ensures, eq-eqb _ _ (c .before .if1 .taken))
-
-sub-field : tie.Need-sub-field
-sub-field c = search needs
 
 field-requires : tie.Need-field-requires
 field-requires c κs = (omega (arith, c .before .before .pre .few), omega arith)
@@ -25,4 +19,4 @@ unfolding stopOf levelAt
 returns-2 c = simp (← c .field .ensures, ne-eqb _ _ (c .before .if1 .left))
 
 pub stop-at-spec : {M : Type 1} → statement M
-stop-at-spec = tie.close (tie.spec after-of-requires returns sub-field field-requires returns-2)
+stop-at-spec = tie.close (tie.spec (λ c κs. search needs) returns (search needs) field-requires returns-2)

@@ -5,21 +5,6 @@ use Rattle.part_path.specs.States.{afterOf}
 use Rattle.part_path.proofs.whole.after_of.Statement.{statement}
 use Rattle.part_path.proofs.whole.after_of.Tie as tie
 
-cell-requires : tie.Need-cell-requires
-cell-requires c κs = search needs
-
-cell-requires-2 : tie.Need-cell-requires-2
-cell-requires-2 c κs = search needs
-
-questions-requires : tie.Need-questions-requires
-questions-requires c κs = search needs
-
-cell-requires-3 : tie.Need-cell-requires-3
-cell-requires-3 c κs = search needs
-
-mul-add-requires : tie.Need-mul-add-requires
-mul-add-requires c κs = search needs
-
 returns : tie.Need-returns
 unfolding afterOf
 returns c =
@@ -28,4 +13,5 @@ returns c =
 
 pub after-of-spec : {M : Type 1} → statement M
 after-of-spec = tie.close
-    (tie.spec cell-requires cell-requires-2 questions-requires cell-requires-3 mul-add-requires returns)
+    (tie.spec (λ c κs. search needs) (λ c κs. search needs) (λ c κs. search needs) (λ c κs. search needs)
+    (λ c κs. search needs) returns)

@@ -9,12 +9,9 @@ returns : tie.Need-returns
 unfolding atStart
 returns c = simp (eq-eqb _ _ (c .if1 .taken))
 
-opened-requires : tie.Need-opened-requires
-opened-requires c κs = search needs
-
 returns-2 : tie.Need-returns-2
 unfolding atStart
 returns-2 c = simp (← c .opened .ensures, ne-eqb _ _ (c .before .if1 .left))
 
 pub at-start-spec : {M : Type 1} → statement M
-at-start-spec = tie.close (tie.spec returns opened-requires returns-2)
+at-start-spec = tie.close (tie.spec returns (λ c κs. search needs) returns-2)

@@ -13,30 +13,12 @@ returns-2 : tie.Need-returns-2
 unfolding openedOf
 returns-2 c = simp (eq-eqb _ _ (c .before .before .if1 .left), ne-eqb _ _ (c .if2 .taken))
 
-cell-requires : tie.Need-cell-requires
-cell-requires c κs = search needs
-
-cell-requires-2 : tie.Need-cell-requires-2
-cell-requires-2 c κs = search needs
-
-question-number-requires : tie.Need-question-number-requires
-question-number-requires c κs = search needs
-
 returns-3 : tie.Need-returns-3
 unfolding openedOf
 returns-3 c =
     simp (← c .before .before .before .cell .ensures, ← c .before .before .cell2 .ensures, ← c .before
     .question-number .ensures, eq-eqb _ _ (c .before .before .before .before .before .before .if1 .left), eq-eqb _ _
     (c .before .before .before .before .if2 .left), eq-eqb _ _ (c .if3 .taken))
-
-sub-mul-add : tie.Need-sub-mul-add
-sub-mul-add c = search needs
-
-cell-requires-3 : tie.Need-cell-requires-3
-cell-requires-3 c κs = search needs
-
-mul-add-requires : tie.Need-mul-add-requires
-mul-add-requires c κs = search needs
 
 returns-4 : tie.Need-returns-4
 unfolding openedOf
@@ -48,5 +30,5 @@ returns-4 c =
 
 pub opened-spec : {M : Type 1} → statement M
 opened-spec = tie.close
-    (tie.spec returns returns-2 cell-requires cell-requires-2 question-number-requires returns-3 sub-mul-add
-    cell-requires-3 mul-add-requires returns-4)
+    (tie.spec returns returns-2 (λ c κs. search needs) (λ c κs. search needs) (λ c κs. search needs) returns-3
+    (search needs) (λ c κs. search needs) (λ c κs. search needs) returns-4)

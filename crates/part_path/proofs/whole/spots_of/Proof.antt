@@ -5,21 +5,6 @@ use Rattle.part_path.specs.States.{spotsOf}
 use Rattle.part_path.proofs.whole.spots_of.Statement.{statement}
 use Rattle.part_path.proofs.whole.spots_of.Tie as tie
 
-after-of-requires : tie.Need-after-of-requires
-after-of-requires c κs = search needs
-
-cell-requires : tie.Need-cell-requires
-cell-requires c κs = search needs
-
-cell-requires-2 : tie.Need-cell-requires-2
-cell-requires-2 c κs = search needs
-
-answers-requires : tie.Need-answers-requires
-answers-requires c κs = search needs
-
-sum-requires : tie.Need-sum-requires
-sum-requires c κs = search needs
-
 returns : tie.Need-returns
 unfolding spotsOf
 returns c =
@@ -28,4 +13,5 @@ returns c =
 
 pub spots-of-spec : {M : Type 1} → statement M
 spots-of-spec = tie.close
-    (tie.spec after-of-requires cell-requires cell-requires-2 answers-requires sum-requires returns)
+    (tie.spec (λ c κs. search needs) (λ c κs. search needs) (λ c κs. search needs) (λ c κs. search needs)
+    (λ c κs. search needs) returns)

@@ -4,15 +4,9 @@ use Rattle.part_rows.specs.Row.{cell}
 use Rattle.part_rows.proofs.row.cell_at.Statement.{statement}
 use Rattle.part_rows.proofs.row.cell_at.Tie as tie
 
-mul-result : tie.Need-mul-result
-mul-result c = search needs
-
-add-result : tie.Need-add-result
-add-result c = search needs
-
 returns : tie.Need-returns
 unfolding cell
 returns c = search needs
 
 pub cell-at-spec : {M : Type 1} → statement M
-cell-at-spec = tie.close (tie.spec mul-result add-result returns)
+cell-at-spec = tie.close (tie.spec (search needs) (search needs) returns)

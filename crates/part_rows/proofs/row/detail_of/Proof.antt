@@ -4,60 +4,6 @@ use Rattle.part_rows.specs.Row.{detail}
 use Rattle.part_rows.proofs.row.detail_of.Statement.{statement}
 use Rattle.part_rows.proofs.row.detail_of.Tie as tie
 
-enum-told : tie.Need-enum-told
-enum-told c = search needs
-
-enum-told-2 : tie.Need-enum-told-2
-enum-told-2 c = search needs
-
-enum-told-3 : tie.Need-enum-told-3
-enum-told-3 c = search needs
-
-cast-result : tie.Need-cast-result
-cast-result c = search needs
-
-enum-told-4 : tie.Need-enum-told-4
-enum-told-4 c = search needs
-
-code-of-byte-requires : tie.Need-code-of-byte-requires
-code-of-byte-requires c κs = search needs
-
-enum-told-5 : tie.Need-enum-told-5
-enum-told-5 c = search needs
-
-use-detail-requires : tie.Need-use-detail-requires
-use-detail-requires c κs = search needs
-
-enum-told-6 : tie.Need-enum-told-6
-enum-told-6 c = search needs
-
-enum-told-7 : tie.Need-enum-told-7
-enum-told-7 c = search needs
-
-cast-result-2 : tie.Need-cast-result-2
-cast-result-2 c = search needs
-
-enum-told-8 : tie.Need-enum-told-8
-enum-told-8 c = search needs
-
-enum-told-9 : tie.Need-enum-told-9
-enum-told-9 c = search needs
-
-enum-told-10 : tie.Need-enum-told-10
-enum-told-10 c = search needs
-
-enum-told-11 : tie.Need-enum-told-11
-enum-told-11 c = search needs
-
-enum-told-12 : tie.Need-enum-told-12
-enum-told-12 c = search needs
-
-values-of-requires : tie.Need-values-of-requires
-values-of-requires c κs = search needs
-
-enum-told-13 : tie.Need-enum-told-13
-enum-told-13 c = search needs
-
 returns : tie.Need-returns
 unfolding detail
 returns c = simp (c .enum-told .given .1)
@@ -112,7 +58,8 @@ returns-13 c = simp (c .enum-told13 .given .1)
 
 pub detail-of-spec : {M : Type 1} → statement M
 detail-of-spec =
-    tie.close (tie.spec enum-told enum-told-2 enum-told-3 cast-result enum-told-4 code-of-byte-requires enum-told-5
-    use-detail-requires enum-told-6 enum-told-7 cast-result-2 enum-told-8 enum-told-9 enum-told-10 enum-told-11
-    enum-told-12 values-of-requires enum-told-13 returns returns-2 returns-3 returns-4 returns-5 returns-6 returns-7
-    returns-8 returns-9 returns-10 returns-11 returns-12 returns-13)
+    tie.close (tie.spec (search needs) (search needs) (search needs) (search needs) (search needs)
+    (λ c κs. search needs) (search needs) (λ c κs. search needs) (search needs) (search needs) (search needs)
+    (search needs) (search needs) (search needs) (search needs) (search needs) (λ c κs. search needs) (search needs)
+    returns returns-2 returns-3 returns-4 returns-5 returns-6 returns-7 returns-8 returns-9 returns-10 returns-11
+    returns-12 returns-13)

@@ -6,15 +6,6 @@ use lib.Seq.{set-out}
 use Rattle.part_rows.proofs.row.put.Statement.{statement}
 use Rattle.part_rows.proofs.row.put.Tie as tie
 
-mul-t : tie.Need-mul-t
-mul-t c = search needs
-
-slice-write-t : tie.Need-slice-write-t
-slice-write-t c = search needs
-
-same-length : tie.Need-same-length
-same-length c = search needs
-
 returns : tie.Need-returns
 returns c = refl
 
@@ -22,4 +13,4 @@ returns-2 : tie.Need-returns-2
 returns-2 c = sym (set-out (now (c .before .args .t)) (c .before .args .i) (c .before .args .v) (c .if1 .left))
 
 pub put-spec : {M : Type 1} → statement M
-put-spec = tie.close (tie.spec mul-t slice-write-t same-length returns returns-2)
+put-spec = tie.close (tie.spec (search needs) (search needs) (search needs) returns returns-2)

@@ -5,24 +5,6 @@ use Rattle.part_rows.proofs.RowSteps.{five-words}
 use Rattle.part_rows.proofs.row.put_each.Statement.{statement}
 use Rattle.part_rows.proofs.row.put_each.Tie as tie
 
-put-cell-requires : tie.Need-put-cell-requires
-put-cell-requires c κs = search needs
-
-put-cell-requires-2 : tie.Need-put-cell-requires-2
-put-cell-requires-2 c κs = search needs
-
-put-cell-requires-3 : tie.Need-put-cell-requires-3
-put-cell-requires-3 c κs = search needs
-
-put-cell-requires-4 : tie.Need-put-cell-requires-4
-put-cell-requires-4 c κs = search needs
-
-put-cell-requires-5 : tie.Need-put-cell-requires-5
-put-cell-requires-5 c κs = search needs
-
-same-length : tie.Need-same-length
-same-length c = search needs
-
 returns : tie.Need-returns
 returns c =
     let p₅ = c .before .before in
@@ -37,6 +19,5 @@ returns c =
 
 pub put-each-spec : {M : Type 1} → statement M
 put-each-spec =
-    tie.close (tie.spec
-    put-cell-requires put-cell-requires-2 put-cell-requires-3 put-cell-requires-4 put-cell-requires-5 same-length
-    returns)
+    tie.close (tie.spec (λ c κs. search needs) (λ c κs. search needs) (λ c κs. search needs) (λ c κs. search needs)
+    (λ c κs. search needs) (search needs) returns)

@@ -7,50 +7,17 @@ use Rattle.part_rows.specs.Row.{fiveFrom}
 use Rattle.part_rows.proofs.row.put_words.Statement.{statement}
 use Rattle.part_rows.proofs.row.put_words.Tie as tie
 
-mul-t : tie.Need-mul-t
-mul-t c = search needs
-
-slice-write-t : tie.Need-slice-write-t
-slice-write-t c = search needs
-
-add-t : tie.Need-add-t
-add-t c = search needs
-
-mul-t-2 : tie.Need-mul-t-2
-mul-t-2 c = search needs
-
 slice-write-t-2 : tie.Need-slice-write-t-2
 slice-write-t-2 c = simp length-set (omega arith)
-
-add-t-2 : tie.Need-add-t-2
-add-t-2 c = search needs
-
-mul-t-3 : tie.Need-mul-t-3
-mul-t-3 c = search needs
 
 slice-write-t-3 : tie.Need-slice-write-t-3
 slice-write-t-3 c = simp length-set (omega arith)
 
-add-t-3 : tie.Need-add-t-3
-add-t-3 c = search needs
-
-mul-t-4 : tie.Need-mul-t-4
-mul-t-4 c = search needs
-
 slice-write-t-4 : tie.Need-slice-write-t-4
 slice-write-t-4 c = simp length-set (omega arith)
 
-add-t-4 : tie.Need-add-t-4
-add-t-4 c = search needs
-
-mul-t-5 : tie.Need-mul-t-5
-mul-t-5 c = search needs
-
 slice-write-t-5 : tie.Need-slice-write-t-5
 slice-write-t-5 c = simp length-set (omega arith)
-
-same-length : tie.Need-same-length
-same-length c = search needs
 
 returns : tie.Need-returns
 unfolding fiveFrom
@@ -58,6 +25,6 @@ returns c = refl
 
 pub put-words-spec : {M : Type 1} → statement M
 put-words-spec =
-    tie.close (tie.spec
-    mul-t slice-write-t add-t mul-t-2 slice-write-t-2 add-t-2 mul-t-3 slice-write-t-3 add-t-3 mul-t-4
-    slice-write-t-4 add-t-4 mul-t-5 slice-write-t-5 same-length returns)
+    tie.close (tie.spec (search needs) (search needs) (search needs) (search needs) slice-write-t-2 (search needs)
+    (search needs) slice-write-t-3 (search needs) (search needs) slice-write-t-4 (search needs) (search needs)
+    slice-write-t-5 (search needs) returns)

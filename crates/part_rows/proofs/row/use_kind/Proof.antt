@@ -5,27 +5,6 @@ use Rattle.part_rows.specs.Row.{useKind}
 use Rattle.part_rows.proofs.row.use_kind.Statement.{statement}
 use Rattle.part_rows.proofs.row.use_kind.Tie as tie
 
-meaning-of-requires : tie.Need-meaning-of-requires
-meaning-of-requires c κs = search needs
-
-enum-told : tie.Need-enum-told
-enum-told c = search needs
-
-enum-told-2 : tie.Need-enum-told-2
-enum-told-2 c = search needs
-
-enum-told-3 : tie.Need-enum-told-3
-enum-told-3 c = search needs
-
-enum-told-4 : tie.Need-enum-told-4
-enum-told-4 c = search needs
-
-enum-told-5 : tie.Need-enum-told-5
-enum-told-5 c = search needs
-
-enum-told-6 : tie.Need-enum-told-6
-enum-told-6 c = search needs
-
 returns : tie.Need-returns
 unfolding useKind
 returns c = simp (sym (c .before .before .meaning-of .ensures) ∙ c .enum-told .given .1)
@@ -52,5 +31,5 @@ returns-6 c = simp (sym (c .before .before .meaning-of .ensures) ∙ c .enum-tol
 
 pub use-kind-spec : {M : Type 1} → statement M
 use-kind-spec =
-    tie.close (tie.spec meaning-of-requires enum-told enum-told-2 enum-told-3 enum-told-4 enum-told-5 enum-told-6
-    returns returns-2 returns-3 returns-4 returns-5 returns-6)
+    tie.close (tie.spec (λ c κs. search needs) (search needs) (search needs) (search needs) (search needs)
+    (search needs) (search needs) returns returns-2 returns-3 returns-4 returns-5 returns-6)

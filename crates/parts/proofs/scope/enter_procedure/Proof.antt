@@ -4,15 +4,9 @@ use Rattle.parts.specs.Scope.{usable}
 use Rattle.parts.proofs.scope.enter_procedure.Statement.{statement}
 use Rattle.parts.proofs.scope.enter_procedure.Tie as tie
 
-procedure-standing-requires : tie.Need-procedure-standing-requires
-procedure-standing-requires c κs = search needs
-
-put-standing-requires : tie.Need-put-standing-requires
-put-standing-requires c κs = search needs
-
 returns : tie.Need-returns
 unfolding usable
 returns c = rw (← c .before .procedure-standing .ensures) (c .put-standing .ensures)
 
 pub enter-procedure-spec : {M : Type 1} → statement M
-enter-procedure-spec = tie.close (tie.spec procedure-standing-requires put-standing-requires returns)
+enter-procedure-spec = tie.close (tie.spec (λ c κs. search needs) (λ c κs. search needs) returns)

@@ -6,15 +6,6 @@ use lib.Seq.{set-out}
 use Rattle.parts.proofs.scope.put_standing.Statement.{statement}
 use Rattle.parts.proofs.scope.put_standing.Tie as tie
 
-mul-st : tie.Need-mul-st
-mul-st c = search needs
-
-slice-write-st : tie.Need-slice-write-st
-slice-write-st c = search needs
-
-same-length : tie.Need-same-length
-same-length c = search needs
-
 returns : tie.Need-returns
 returns c = refl
 
@@ -23,4 +14,4 @@ returns-2 c =
     sym (set-out (now (c .before .args .st)) (c .before .args .id) (c .before .args .standing) (c .if1 .left))
 
 pub put-standing-spec : {M : Type 1} → statement M
-put-standing-spec = tie.close (tie.spec mul-st slice-write-st same-length returns returns-2)
+put-standing-spec = tie.close (tie.spec (search needs) (search needs) (search needs) returns returns-2)

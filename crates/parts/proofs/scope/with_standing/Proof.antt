@@ -6,12 +6,6 @@ use lib.Seq.{set-out}
 use Rattle.parts.proofs.scope.with_standing.Statement.{statement}
 use Rattle.parts.proofs.scope.with_standing.Tie as tie
 
-mul-inner : tie.Need-mul-inner
-mul-inner c = search needs
-
-array-write-inner : tie.Need-array-write-inner
-array-write-inner c = search needs
-
 returns : tie.Need-returns
 returns c = refl
 
@@ -21,4 +15,4 @@ returns-2 c =
     sym (set-out (a .st) (a .id) (a .standing) (omega (arith, c .before .good .0 .1 .0 .1)))
 
 pub with-standing-spec : {M : Type 1} → statement M
-with-standing-spec = tie.close (tie.spec mul-inner array-write-inner returns returns-2)
+with-standing-spec = tie.close (tie.spec (search needs) (search needs) returns returns-2)

@@ -5,45 +5,6 @@ use Rattle.parts.specs.Rule.{acceptsPart}
 use Rattle.parts.proofs.typing.accepts_part.Statement.{statement}
 use Rattle.parts.proofs.typing.accepts_part.Tie as tie
 
-enum-told : tie.Need-enum-told
-enum-told c = search needs
-
-enum-told-2 : tie.Need-enum-told-2
-enum-told-2 c = search needs
-
-enum-told-3 : tie.Need-enum-told-3
-enum-told-3 c = search needs
-
-enum-told-4 : tie.Need-enum-told-4
-enum-told-4 c = search needs
-
-enum-told-5 : tie.Need-enum-told-5
-enum-told-5 c = search needs
-
-argument-of-requires : tie.Need-argument-of-requires
-argument-of-requires c κs = search needs
-
-enum-told-6 : tie.Need-enum-told-6
-enum-told-6 c = search needs
-
-enum-told-7 : tie.Need-enum-told-7
-enum-told-7 c = search needs
-
-operand-type-requires : tie.Need-operand-type-requires
-operand-type-requires c κs = search needs
-
-enum-told-8 : tie.Need-enum-told-8
-enum-told-8 c = search needs
-
-add-result : tie.Need-add-result
-add-result c = search needs
-
-enum-told-9 : tie.Need-enum-told-9
-enum-told-9 c = search needs
-
-enum-told-10 : tie.Need-enum-told-10
-enum-told-10 c = search needs
-
 returns : tie.Need-returns
 unfolding acceptsPart
 returns c = simp (c .before .enum-told10 .given .1, eq-eqb _ _ (c .if3 .taken))
@@ -52,21 +13,6 @@ returns-2 : tie.Need-returns-2
 unfolding acceptsPart
 returns-2 c =
     simp (c .before .before .enum-told10 .given .1, ne-eqb _ _ (c .before .if3 .left), eq-eqb _ _ (c .if4 .taken))
-
-enum-told-11 : tie.Need-enum-told-11
-enum-told-11 c = search needs
-
-enum-told-12 : tie.Need-enum-told-12
-enum-told-12 c = search needs
-
-enum-told-13 : tie.Need-enum-told-13
-enum-told-13 c = search needs
-
-add-byte-at : tie.Need-add-byte-at
-add-byte-at c = search needs
-
-byte-at-requires : tie.Need-byte-at-requires
-byte-at-requires c κs = search needs
 
 returns-3 : tie.Need-returns-3
 unfolding acceptsPart
@@ -141,8 +87,8 @@ returns-19 c = simp (c .before .enum-told13 .given .1, ne-eqb _ _ (c .if6 .left)
 
 pub accepts-part-spec : {M : Type 1} → statement M
 accepts-part-spec =
-    tie.close (tie.spec enum-told enum-told-2 enum-told-3 enum-told-4 enum-told-5 argument-of-requires enum-told-6
-    enum-told-7 operand-type-requires enum-told-8 add-result enum-told-9 enum-told-10 returns returns-2 enum-told-11
-    enum-told-12 enum-told-13 add-byte-at byte-at-requires returns-3 returns-4 returns-5 returns-6 returns-7 returns-8
-    returns-9 returns-10 returns-11 returns-12 returns-13 returns-14 returns-15 returns-16 returns-17 returns-18
-    returns-19)
+    tie.close (tie.spec (search needs) (search needs) (search needs) (search needs) (search needs)
+    (λ c κs. search needs) (search needs) (search needs) (λ c κs. search needs) (search needs) (search needs)
+    (search needs) (search needs) returns returns-2 (search needs) (search needs) (search needs) (search needs)
+    (λ c κs. search needs) returns-3 returns-4 returns-5 returns-6 returns-7 returns-8 returns-9 returns-10
+    returns-11 returns-12 returns-13 returns-14 returns-15 returns-16 returns-17 returns-18 returns-19)

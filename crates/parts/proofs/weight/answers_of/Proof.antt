@@ -10,9 +10,6 @@ returns : tie.Need-returns
 unfolding answers
 returns c = simp (eq-eqb _ _ (c .if1 .taken))
 
-values-of-requires : tie.Need-values-of-requires
-values-of-requires c κs = search needs
-
 cast-result : tie.Need-cast-result
 cast-result c = omega (arith, c .values-of .ensures .1)
 
@@ -21,9 +18,6 @@ unfolding answers
 returns-2 c =
     simp
     (ne-eqb _ _ (c .before .before .if1 .left), lt-ltb _ _ (c .before .if2 .taken), ← c .values-of .ensures .0)
-
-values-of-requires-2 : tie.Need-values-of-requires-2
-values-of-requires-2 c κs = search needs
 
 cast-result-2 : tie.Need-cast-result-2
 cast-result-2 c = omega (arith, c .values-of2 .ensures .1)
@@ -39,5 +33,5 @@ returns-3 c =
 
 pub answers-of-spec : {M : Type 1} → statement M
 answers-of-spec =
-    tie.close (tie.spec
-    returns values-of-requires cast-result returns-2 values-of-requires-2 cast-result-2 mul-result returns-3)
+    tie.close (tie.spec returns (λ c κs. search needs) cast-result returns-2 (λ c κs. search needs) cast-result-2
+    mul-result returns-3)

@@ -10,9 +10,6 @@ returns : tie.Need-returns
 unfolding questions
 returns c = simp (lt-ltb _ _ (c .if1 .taken))
 
-values-of-requires : tie.Need-values-of-requires
-values-of-requires c κs = search needs
-
 cast-result : tie.Need-cast-result
 cast-result c = omega (arith, c .values-of .ensures .1)
 
@@ -24,4 +21,4 @@ unfolding questions
 returns-2 c = simp (le-ltb _ _ (c .before .if1 .left), ← c .values-of .ensures .0)
 
 pub questions-of-spec : {M : Type 1} → statement M
-questions-of-spec = tie.close (tie.spec returns values-of-requires cast-result add-result returns-2)
+questions-of-spec = tie.close (tie.spec returns (λ c κs. search needs) cast-result add-result returns-2)

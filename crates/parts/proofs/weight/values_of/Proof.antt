@@ -7,9 +7,6 @@ use Rattle.parts.specs.Rule.{values}
 use Rattle.parts.proofs.weight.values_of.Statement.{statement}
 use Rattle.parts.proofs.weight.values_of.Tie as tie
 
-numbers-requires : tie.Need-numbers-requires
-numbers-requires c κs = search needs
-
 returns : tie.Need-returns
 unfolding values
 returns c = (simp (c .match .keys1), omega arith)
@@ -26,4 +23,4 @@ returns-3 c = (
 )
 
 pub values-of-spec : {M : Type 1} → statement M
-values-of-spec = tie.close (tie.spec numbers-requires returns returns-2 returns-3)
+values-of-spec = tie.close (tie.spec (λ c κs. search needs) returns returns-2 returns-3)

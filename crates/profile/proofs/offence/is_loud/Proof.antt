@@ -10,15 +10,6 @@ returns c = loud-sequence _ _ _ (c .if1 .taken)
 returns-2 : tie.Need-returns-2
 returns-2 c = loud-procedure _ _ _ (c .if2 .taken)
 
-word-at-requires : tie.Need-word-at-requires
-word-at-requires c κs = search needs
-
-add-any-loud : tie.Need-add-any-loud
-add-any-loud c = search needs
-
-any-loud-requires : tie.Need-any-loud-requires
-any-loud-requires c κs = search needs
-
 returns-3 : tie.Need-returns-3
 returns-3 c =
     loud-used _ _ _ _ _ _ (c .before .before .if3 .taken) refl (c .before .word-at .ensures .0) (c .any-loud .ensures)
@@ -29,11 +20,4 @@ returns-4 c = loud-other _ _ _ (c .before .before .if1 .left) (c .before .if2 .l
 pub is-loud-spec : {M : Type 1} → statement M
 is-loud-spec =
     tie.close
-    (tie.spec
-    returns
-    returns-2
-    word-at-requires
-    add-any-loud
-    any-loud-requires
-    returns-3
-    returns-4)
+    (tie.spec returns returns-2 (λ c κs. search needs) (search needs) (λ c κs. search needs) returns-3 returns-4)

@@ -6,11 +6,8 @@ use Rattle.profile.proofs.offence.offends.Tie as tie
 returns : tie.Need-returns
 returns c = offends-outside _ _ _ _ (c .if1 .taken)
 
-is-loud-requires : tie.Need-is-loud-requires
-is-loud-requires c κs = search needs
-
 returns-2 : tie.Need-returns-2
 returns-2 c = offends-inside _ _ _ _ _ (c .before .if1 .left) (c .is-loud .ensures)
 
 pub offends-spec : {M : Type 1} → statement M
-offends-spec = tie.close (tie.spec returns is-loud-requires returns-2)
+offends-spec = tie.close (tie.spec returns (λ c κs. search needs) returns-2)

@@ -11,13 +11,7 @@ returns : tie.Need-returns
 returns c = reach-inside _ _ _ (c .if1 .taken)
 
 -- src/offence.rt:84:8
-word-at-requires : tie.Need-word-at-requires
-word-at-requires c κs = search needs
-
 -- src/offence.rt:85:9
-word-at-requires-2 : tie.Need-word-at-requires-2
-word-at-requires-2 c κs = search needs
-
 -- src/offence.rt:85:9
 returns-2 : tie.Need-returns-2
 returns-2 c =
@@ -29,4 +23,4 @@ returns-3 : tie.Need-returns-3
 returns-3 c = reach-outside _ _ _ _ (c .before .before .if1 .left) (c .before .word-at .ensures .0) (c .if2 .left)
 
 pub reach-spec : {M : Type 1} → statement M
-reach-spec = tie.close (tie.spec returns word-at-requires word-at-requires-2 returns-2 returns-3)
+reach-spec = tie.close (tie.spec returns (λ c κs. search needs) (λ c κs. search needs) returns-2 returns-3)

@@ -9,18 +9,6 @@ use Rattle.profile.proofs.profile.profile.Tie as tie
 judge-sheet-requires : tie.Need-judge-sheet-requires
 judge-sheet-requires c κs = blank-made 58313 refl
 
-enum-known-x : tie.Need-enum-known-x
-enum-known-x c = search needs
-
-enum-told : tie.Need-enum-told
-enum-told c = search needs
-
-refusal-of-requires : tie.Need-refusal-of-requires
-refusal-of-requires c κs = search needs
-
-of-sheet-requires : tie.Need-of-sheet-requires
-of-sheet-requires c κs = search needs
-
 returns : tie.Need-returns
 returns c =
     profiled-refused _ _ (c .before .before .before .before .judge-sheet .ensures) (c .before .before .enum-told
@@ -29,18 +17,6 @@ returns c =
 first-offence-requires : tie.Need-first-offence-requires
 first-offence-requires c κs =
     judged-short _ _ (c .before .before .before .before .judge-sheet .ensures) (c .before .before .x .given .1)
-
-enum-told-2 : tie.Need-enum-told-2
-enum-told-2 c = search needs
-
-enum-known-found : tie.Need-enum-known-found
-enum-known-found c = search needs
-
-refuse-requires : tie.Need-refuse-requires
-refuse-requires c κs = search needs
-
-of-sheet-requires-2 : tie.Need-of-sheet-requires-2
-of-sheet-requires-2 c κs = search needs
 
 returns-2 : tie.Need-returns-2
 returns-2 c =
@@ -58,17 +34,6 @@ returns-3 c =
 pub profile-spec : {M : Type 1} → statement M
 profile-spec =
     tie.close
-    (tie.spec
-    judge-sheet-requires
-    enum-known-x
-    enum-told
-    refusal-of-requires
-    of-sheet-requires
-    returns
-    first-offence-requires
-    enum-told-2
-    enum-known-found
-    refuse-requires
-    of-sheet-requires-2
-    returns-2
-    returns-3)
+    (tie.spec judge-sheet-requires (search needs) (search needs) (λ c κs. search needs) (λ c κs. search needs)
+    returns first-offence-requires (search needs) (search needs) (λ c κs. search needs) (λ c κs. search needs)
+    returns-2 returns-3)

@@ -6,30 +6,6 @@ use mathlib.Core.Path.{sym, refl, _∙_}
 use Rattle.records.proofs.kind.body_of.Statement.{statement}
 use Rattle.records.proofs.kind.body_of.Tie as tie
 
-shape-of-requires : tie.Need-shape-of-requires
-shape-of-requires c κs = search needs
-
-enum-known-shape : tie.Need-enum-known-shape
-enum-known-shape c = search needs
-
-cast-result : tie.Need-cast-result
-cast-result c = search needs
-
-enum-known-shape-2 : tie.Need-enum-known-shape-2
-enum-known-shape-2 c = search needs
-
-cast-result-2 : tie.Need-cast-result-2
-cast-result-2 c = search needs
-
-enum-known-shape-3 : tie.Need-enum-known-shape-3
-enum-known-shape-3 c = search needs
-
-cast-result-3 : tie.Need-cast-result-3
-cast-result-3 c = search needs
-
-enum-told : tie.Need-enum-told
-enum-told c = search needs
-
 returns : tie.Need-returns
 returns c =
     (body-part (c .before .before .before .before .args .kind) _ _ _ _ (sym (c .before .before .before .shape-of
@@ -53,16 +29,5 @@ returns-4 c =
 pub body-of-spec : {M : Type 1} → statement M
 body-of-spec =
     tie.close
-    (tie.spec
-    shape-of-requires
-    enum-known-shape
-    cast-result
-    enum-known-shape-2
-    cast-result-2
-    enum-known-shape-3
-    cast-result-3
-    enum-told
-    returns
-    returns-2
-    returns-3
-    returns-4)
+    (tie.spec (λ c κs. search needs) (search needs) (search needs) (search needs) (search needs) (search needs)
+    (search needs) (search needs) returns returns-2 returns-3 returns-4)

@@ -6,24 +6,6 @@ use mathlib.Core.Path.{sym, refl, _∙_}
 use Rattle.records.proofs.kind.parts_of.Statement.{statement}
 use Rattle.records.proofs.kind.parts_of.Tie as tie
 
-shape-of-requires : tie.Need-shape-of-requires
-shape-of-requires c κs = search needs
-
-enum-known-shape : tie.Need-enum-known-shape
-enum-known-shape c = search needs
-
-cast-result : tie.Need-cast-result
-cast-result c = search needs
-
-enum-told : tie.Need-enum-told
-enum-told c = search needs
-
-enum-told-2 : tie.Need-enum-told-2
-enum-told-2 c = search needs
-
-enum-told-3 : tie.Need-enum-told-3
-enum-told-3 c = search needs
-
 returns : tie.Need-returns
 returns c =
     (parts-part (c .before .before .before .before .args .kind) _ _ _ _ (sym (c .before .before .before .shape-of
@@ -47,14 +29,5 @@ returns-4 c =
 pub parts-of-spec : {M : Type 1} → statement M
 parts-of-spec =
     tie.close
-    (tie.spec
-    shape-of-requires
-    enum-known-shape
-    cast-result
-    enum-told
-    enum-told-2
-    enum-told-3
-    returns
-    returns-2
-    returns-3
-    returns-4)
+    (tie.spec (λ c κs. search needs) (search needs) (search needs) (search needs) (search needs) (search needs)
+    returns returns-2 returns-3 returns-4)

@@ -5,45 +5,6 @@ use Rattle.records.specs.Kind.{shapeOf}
 use Rattle.records.proofs.kind.shape_of.Statement.{statement}
 use Rattle.records.proofs.kind.shape_of.Tie as tie
 
-part-requires : tie.Need-part-requires
-part-requires c κs = search needs
-
-part-requires-2 : tie.Need-part-requires-2
-part-requires-2 c κs = search needs
-
-part-requires-3 : tie.Need-part-requires-3
-part-requires-3 c κs = search needs
-
-part-requires-4 : tie.Need-part-requires-4
-part-requires-4 c κs = search needs
-
-part-requires-5 : tie.Need-part-requires-5
-part-requires-5 c κs = search needs
-
-part-requires-6 : tie.Need-part-requires-6
-part-requires-6 c κs = search needs
-
-part-requires-7 : tie.Need-part-requires-7
-part-requires-7 c κs = search needs
-
-part-requires-8 : tie.Need-part-requires-8
-part-requires-8 c κs = search needs
-
-part-requires-9 : tie.Need-part-requires-9
-part-requires-9 c κs = search needs
-
-part-requires-10 : tie.Need-part-requires-10
-part-requires-10 c κs = search needs
-
-part-requires-11 : tie.Need-part-requires-11
-part-requires-11 c κs = search needs
-
-part-requires-12 : tie.Need-part-requires-12
-part-requires-12 c κs = search needs
-
-part-requires-13 : tie.Need-part-requires-13
-part-requires-13 c κs = search needs
-
 returns : tie.Need-returns
 unfolding shapeOf
 returns c = simp (c .match .keys2)
@@ -127,8 +88,8 @@ returns-18 c =
 
 pub shape-of-spec : {M : Type 1} → statement M
 shape-of-spec =
-    tie.close (tie.spec part-requires part-requires-2 part-requires-3 part-requires-4 part-requires-5
-      part-requires-6 part-requires-7 part-requires-8 part-requires-9 part-requires-10 part-requires-11
-      part-requires-12 part-requires-13 returns returns-2 returns-3 returns-4 returns-5 returns-6 returns-7
-      returns-8 returns-9 returns-10 returns-11 returns-12 returns-13 returns-14 returns-15 returns-16 returns-17
-      returns-18)
+    tie.close (tie.spec (λ c κs. search needs) (λ c κs. search needs) (λ c κs. search needs) (λ c κs. search needs)
+    (λ c κs. search needs) (λ c κs. search needs) (λ c κs. search needs) (λ c κs. search needs)
+    (λ c κs. search needs) (λ c κs. search needs) (λ c κs. search needs) (λ c κs. search needs)
+    (λ c κs. search needs) returns returns-2 returns-3 returns-4 returns-5 returns-6 returns-7 returns-8 returns-9
+    returns-10 returns-11 returns-12 returns-13 returns-14 returns-15 returns-16 returns-17 returns-18)

@@ -6,17 +6,8 @@ use lib.ListN.{List·getD-eq-default}
 use Rattle.records.proofs.read.long_at.Statement.{statement}
 use Rattle.records.proofs.read.long_at.Tie as tie
 
-mul-result : tie.Need-mul-result
-mul-result c = search needs
-
-shared-slice-read-result : tie.Need-shared-slice-read-result
-shared-slice-read-result c = search needs
-
-returns : tie.Need-returns
-returns c = search needs
-
 returns-2 : tie.Need-returns-2
 returns-2 c = sym (List·getD-eq-default (now (c .before .args .t)) 0 (c .if1 .left))
 
 pub long-at-spec : {M : Type 1} → statement M
-long-at-spec = tie.close (tie.spec mul-result shared-slice-read-result returns returns-2)
+long-at-spec = tie.close (tie.spec (search needs) (search needs) (search needs) returns-2)

@@ -3,11 +3,8 @@ use borrow.Author.Needs.{needs}
 use Rattle.records.proofs.read.standing_of.Statement.{statement}
 use Rattle.records.proofs.read.standing_of.Tie as tie
 
-long-at-requires : tie.Need-long-at-requires
-long-at-requires c κs = search needs
-
 returns : tie.Need-returns
 returns c = c .long-at .ensures
 
 pub standing-of-spec : {M : Type 1} → statement M
-standing-of-spec = tie.close (tie.spec long-at-requires returns)
+standing-of-spec = tie.close (tie.spec (λ c κs. search needs) returns)

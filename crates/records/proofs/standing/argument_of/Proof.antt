@@ -5,54 +5,6 @@ use Rattle.records.specs.Standing.{argumentOf}
 use Rattle.records.proofs.standing.argument_of.Statement.{statement}
 use Rattle.records.proofs.standing.argument_of.Tie as tie
 
-meaning-of-requires : tie.Need-meaning-of-requires
-meaning-of-requires c κs = search needs
-
-enum-told : tie.Need-enum-told
-enum-told c = search needs
-
-enum-told-2 : tie.Need-enum-told-2
-enum-told-2 c = search needs
-
-enum-known-standing : tie.Need-enum-known-standing
-enum-known-standing c = search needs
-
-cast-byte-at : tie.Need-cast-byte-at
-cast-byte-at c = search needs
-
-add-byte-at : tie.Need-add-byte-at
-add-byte-at c = search needs
-
-add-byte-at-2 : tie.Need-add-byte-at-2
-add-byte-at-2 c = search needs
-
-byte-at-requires : tie.Need-byte-at-requires
-byte-at-requires c κs = search needs
-
-enum-told-3 : tie.Need-enum-told-3
-enum-told-3 c = search needs
-
-enum-told-4 : tie.Need-enum-told-4
-enum-told-4 c = search needs
-
-enum-known-standing-2 : tie.Need-enum-known-standing-2
-enum-known-standing-2 c = search needs
-
-cast-byte-at-2 : tie.Need-cast-byte-at-2
-cast-byte-at-2 c = search needs
-
-add-byte-at-3 : tie.Need-add-byte-at-3
-add-byte-at-3 c = search needs
-
-mul-byte-at : tie.Need-mul-byte-at
-mul-byte-at c = search needs
-
-add-byte-at-4 : tie.Need-add-byte-at-4
-add-byte-at-4 c = search needs
-
-byte-at-requires-2 : tie.Need-byte-at-requires-2
-byte-at-requires-2 c κs = search needs
-
 returns : tie.Need-returns
 unfolding argumentOf
 returns c = simp (sym (c .before .before .meaning-of .ensures) ∙ c .enum-told .given .1)
@@ -83,6 +35,7 @@ returns-6 c =
 
 pub argument-of-spec : {M : Type 1} → statement M
 argument-of-spec =
-    tie.close (tie.spec meaning-of-requires enum-told enum-told-2 enum-known-standing cast-byte-at add-byte-at
-    add-byte-at-2 byte-at-requires enum-told-3 enum-told-4 enum-known-standing-2 cast-byte-at-2 add-byte-at-3
-    mul-byte-at add-byte-at-4 byte-at-requires-2 returns returns-2 returns-3 returns-4 returns-5 returns-6)
+    tie.close (tie.spec (λ c κs. search needs) (search needs) (search needs) (search needs) (search needs)
+    (search needs) (search needs) (λ c κs. search needs) (search needs) (search needs) (search needs) (search needs)
+    (search needs) (search needs) (search needs) (λ c κs. search needs) returns returns-2 returns-3 returns-4
+    returns-5 returns-6)

@@ -4,21 +4,9 @@ use Rattle.records.specs.Standing.{procedureStanding}
 use Rattle.records.proofs.standing.procedure_standing.Statement.{statement}
 use Rattle.records.proofs.standing.procedure_standing.Tie as tie
 
-cast-result : tie.Need-cast-result
-cast-result c = search needs
-
-mul-result : tie.Need-mul-result
-mul-result c = search needs
-
-add-result : tie.Need-add-result
-add-result c = search needs
-
-add-result-2 : tie.Need-add-result-2
-add-result-2 c = search needs
-
 returns : tie.Need-returns
 unfolding procedureStanding
 returns c = search needs
 
 pub procedure-standing-spec : {M : Type 1} → statement M
-procedure-standing-spec = tie.close (tie.spec cast-result mul-result add-result add-result-2 returns)
+procedure-standing-spec = tie.close (tie.spec (search needs) (search needs) (search needs) (search needs) returns)

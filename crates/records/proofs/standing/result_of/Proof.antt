@@ -7,49 +7,10 @@ use Rattle.records.proofs.StandingLaws.{holds-small}
 use Rattle.records.proofs.standing.result_of.Statement.{statement}
 use Rattle.records.proofs.standing.result_of.Tie as tie
 
-meaning-of-requires : tie.Need-meaning-of-requires
-meaning-of-requires c κs = search needs
-
-enum-told : tie.Need-enum-told
-enum-told c = search needs
-
-enum-told-2 : tie.Need-enum-told-2
-enum-told-2 c = search needs
-
-enum-known-standing : tie.Need-enum-known-standing
-enum-known-standing c = search needs
-
-cast-byte-at : tie.Need-cast-byte-at
-cast-byte-at c = search needs
-
-add-byte-at : tie.Need-add-byte-at
-add-byte-at c = search needs
-
-byte-at-requires : tie.Need-byte-at-requires
-byte-at-requires c κs = search needs
-
-enum-known-standing-2 : tie.Need-enum-known-standing-2
-enum-known-standing-2 c = search needs
-
 add-result : tie.Need-add-result
 add-result c =
     omega (arith, holds-small _ _ _ (sym (c .before .before .before .meaning-of .ensures) ∙ c .before .standing2
       .given .1))
-
-enum-known-standing-3 : tie.Need-enum-known-standing-3
-enum-known-standing-3 c = search needs
-
-enum-known-standing-4 : tie.Need-enum-known-standing-4
-enum-known-standing-4 c = search needs
-
-cast-byte-at-2 : tie.Need-cast-byte-at-2
-cast-byte-at-2 c = search needs
-
-add-byte-at-2 : tie.Need-add-byte-at-2
-add-byte-at-2 c = search needs
-
-byte-at-requires-2 : tie.Need-byte-at-requires-2
-byte-at-requires-2 c κs = search needs
 
 returns : tie.Need-returns
 unfolding resultOf
@@ -81,6 +42,6 @@ returns-6 c =
 
 pub result-of-spec : {M : Type 1} → statement M
 result-of-spec =
-    tie.close (tie.spec meaning-of-requires enum-told enum-told-2 enum-known-standing cast-byte-at add-byte-at
-    byte-at-requires enum-known-standing-2 add-result enum-known-standing-3 enum-known-standing-4 cast-byte-at-2
-    add-byte-at-2 byte-at-requires-2 returns returns-2 returns-3 returns-4 returns-5 returns-6)
+    tie.close (tie.spec (λ c κs. search needs) (search needs) (search needs) (search needs) (search needs)
+    (search needs) (λ c κs. search needs) (search needs) add-result (search needs) (search needs) (search needs)
+    (search needs) (λ c κs. search needs) returns returns-2 returns-3 returns-4 returns-5 returns-6)

@@ -4,14 +4,8 @@ use borrow.Author.Needs.{needs}
 use Rattle.renumbering.proofs.bytes.word.Statement.{statement}
 use Rattle.renumbering.proofs.bytes.word.Tie as tie
 
-short-at-requires : tie.Need-short-at-requires
-short-at-requires c κs = search needs
-
-cast-result : tie.Need-cast-result
-cast-result c = search needs
-
 returns : tie.Need-returns
 returns c = (c .short-at .ensures, omega arith)
 
 pub word-spec : {M : Type 1} → statement M
-word-spec = tie.close (tie.spec short-at-requires cast-result returns)
+word-spec = tie.close (tie.spec (λ c κs. search needs) (search needs) returns)

@@ -9,12 +9,6 @@ use Rattle.renumbering.proofs.renumber.read_earlier.Tie as tie
 judge-sheet-requires : tie.Need-judge-sheet-requires
 judge-sheet-requires c κs = blank-made 58313 refl
 
-enum-known-x : tie.Need-enum-known-x
-enum-known-x c = search needs
-
-enum-known-x-2 : tie.Need-enum-known-x-2
-enum-known-x-2 c = search needs
-
 returns : tie.Need-returns
 returns c = earlier-refused _ _ (c .before .before .before .judge-sheet .ensures) (c .before .x .given .1)
 
@@ -23,4 +17,4 @@ returns-2 c = earlier-accepted _ _ (c .before .before .before .judge-sheet .ensu
 
 pub read-earlier-spec : {M : Type 1} → statement M
 read-earlier-spec =
-    tie.close (tie.spec judge-sheet-requires enum-known-x enum-known-x-2 returns returns-2)
+    tie.close (tie.spec judge-sheet-requires (search needs) (search needs) returns returns-2)

@@ -13,18 +13,6 @@ renumber-copy-requires c κs =
     (accepted-root (c .before .before .before .before .before .pre .0), accepted-short
     (c .before .before .before .before .before .pre .0), length-replicate {A = ℕ} 4096 0)
 
-enum-known-x : tie.Need-enum-known-x
-enum-known-x c = search needs
-
-refuse-requires : tie.Need-refuse-requires
-refuse-requires c κs = search needs
-
-of-sheet-requires : tie.Need-of-sheet-requires
-of-sheet-requires c κs = search needs
-
-enum-known-x-2 : tie.Need-enum-known-x-2
-enum-known-x-2 c = search needs
-
 slice-aggregate-copy : tie.Need-slice-aggregate-copy
 slice-aggregate-copy c =
     sym ((room (c .before .before .before .before .before .before .before .before .before .before .args .s .now) _ _
@@ -85,12 +73,6 @@ returns c =
     .before .before .x .given .1) (c .before .before .before .before .before .before .before .before .before .before
     .before .pre .0) (length-replicate {A = ℕ} 4096 0) (c .before .refuse .ensures) (c .of-sheet .ensures)
 
-same-length : tie.Need-same-length
-same-length c = search needs
-
-same-length-2 : tie.Need-same-length-2
-same-length-2 c = search needs
-
 returns-2 : tie.Need-returns-2
 returns-2 c =
     renumbers-done (c .before .before .before .before .before .before .before .before .before .before .before .before
@@ -105,19 +87,6 @@ returns-2 c =
 pub renumber-accepted-spec : {M : Type 1} → statement M
 renumber-accepted-spec =
     tie.close
-    (tie.spec
-    renumber-copy-requires
-    enum-known-x
-    refuse-requires
-    of-sheet-requires
-    enum-known-x-2
-    slice-aggregate-copy
-    copy-requires
-    slice-aggregate-copy-2
-    mul-copy
-    copy-requires-2
-    cast-t25
-    returns
-    same-length
-    same-length-2
-    returns-2)
+    (tie.spec renumber-copy-requires (search needs) (λ c κs. search needs) (λ c κs. search needs) (search needs)
+    slice-aggregate-copy copy-requires slice-aggregate-copy-2 mul-copy copy-requires-2 cast-t25 returns
+    (search needs) (search needs) returns-2)

@@ -6,18 +6,9 @@ use borrow.Author.Needs.{needs}
 use Rattle.renumbering.proofs.scope.bound_entry.Statement.{statement}
 use Rattle.renumbering.proofs.scope.bound_entry.Tie as tie
 
-mul-result : tie.Need-mul-result
-mul-result c = search needs
-
-add-result : tie.Need-add-result
-add-result c = search needs
-
-add-result-2 : tie.Need-add-result-2
-add-result-2 c = search needs
-
 returns : tie.Need-returns
 unfolding boundEntry
 returns c = (refl, omega arith)
 
 pub bound-entry-spec : {M : Type 1} → statement M
-bound-entry-spec = tie.close (tie.spec mul-result add-result add-result-2 returns)
+bound-entry-spec = tie.close (tie.spec (search needs) (search needs) (search needs) returns)

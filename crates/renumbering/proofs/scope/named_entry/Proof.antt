@@ -6,12 +6,9 @@ use borrow.Author.Needs.{needs}
 use Rattle.renumbering.proofs.scope.named_entry.Statement.{statement}
 use Rattle.renumbering.proofs.scope.named_entry.Tie as tie
 
-mul-result : tie.Need-mul-result
-mul-result c = search needs
-
 returns : tie.Need-returns
 unfolding namedEntry
 returns c = (refl, omega arith)
 
 pub named-entry-spec : {M : Type 1} → statement M
-named-entry-spec = tie.close (tie.spec mul-result returns)
+named-entry-spec = tie.close (tie.spec (search needs) returns)

@@ -8,11 +8,8 @@ use Rattle.renumbering.proofs.taken.name_entry.Tie as tie
 returns : tie.Need-returns
 returns c = (entry-retired _ _ (c .if1 .taken), omega arith)
 
-named-entry-requires : tie.Need-named-entry-requires
-named-entry-requires c κs = search needs
-
 returns-2 : tie.Need-returns-2
 returns-2 c = (entry-declared _ _ _ (c .before .if1 .left) (c .named-entry .ensures .0), c .named-entry .ensures .1)
 
 pub name-entry-spec : {M : Type 1} → statement M
-name-entry-spec = tie.close (tie.spec returns named-entry-requires returns-2)
+name-entry-spec = tie.close (tie.spec returns (λ c κs. search needs) returns-2)

@@ -4,37 +4,10 @@ use borrow.Author.Needs.{needs}
 use Rattle.renumbering.proofs.taken.take_ids.Statement.{statement}
 use Rattle.renumbering.proofs.taken.take_ids.Tie as tie
 
-add-byte : tie.Need-add-byte
-add-byte c = search needs
-
-byte-requires : tie.Need-byte-requires
-byte-requires c κs = search needs
-
-put-requires : tie.Need-put-requires
-put-requires c κs = search needs
-
 returns : tie.Need-returns
 returns c =
     took-new (c .before .before .before .before .before .args .s .now) _ _ (c .before .before .before .before .before
     .args .at) _ _ _ (c .before .before .if1 .taken) (c .before .before .before .byte .ensures .0) (c .put .ensures)
-
-add-byte-2 : tie.Need-add-byte-2
-add-byte-2 c = search needs
-
-byte-requires-2 : tie.Need-byte-requires-2
-byte-requires-2 c κs = search needs
-
-least-requires : tie.Need-least-requires
-least-requires c κs = search needs
-
-put-requires-2 : tie.Need-put-requires-2
-put-requires-2 c κs = search needs
-
-add-take-parameters : tie.Need-add-take-parameters
-add-take-parameters c = search needs
-
-take-parameters-requires : tie.Need-take-parameters-requires
-take-parameters-requires c κs = search needs
 
 returns-2 : tie.Need-returns-2
 returns-2 c =
@@ -53,16 +26,6 @@ returns-3 c =
 pub take-ids-spec : {M : Type 1} → statement M
 take-ids-spec =
     tie.close
-    (tie.spec
-    add-byte
-    byte-requires
-    put-requires
-    returns
-    add-byte-2
-    byte-requires-2
-    least-requires
-    put-requires-2
-    add-take-parameters
-    take-parameters-requires
-    returns-2
-    returns-3)
+    (tie.spec (search needs) (λ c κs. search needs) (λ c κs. search needs) returns (search needs)
+    (λ c κs. search needs) (λ c κs. search needs) (λ c κs. search needs) (search needs) (λ c κs. search needs)
+    returns-2 returns-3)

@@ -5,18 +5,6 @@ use borrow.Author.Needs.{needs}
 use Rattle.renumbering.proofs.work.renumber_copy.Statement.{statement}
 use Rattle.renumbering.proofs.work.renumber_copy.Tie as tie
 
-take-names-requires : tie.Need-take-names-requires
-take-names-requires c κs = search needs
-
-take-bound-requires : tie.Need-take-bound-requires
-take-bound-requires c κs = search needs
-
-copy-requires : tie.Need-copy-requires
-copy-requires c κs = search needs
-
-renumber-part-requires : tie.Need-renumber-part-requires
-renumber-part-requires c κs = search needs
-
 returns : tie.Need-returns
 returns c =
     worked (c .before .before .before .before .before .before .before .before .before .before .before .before .before
@@ -27,4 +15,4 @@ returns c =
 pub renumber-copy-spec : {M : Type 1} → statement M
 renumber-copy-spec =
     tie.close
-    (tie.spec take-names-requires take-bound-requires copy-requires renumber-part-requires returns)
+    (tie.spec (λ c κs. search needs) (λ c κs. search needs) (λ c κs. search needs) (λ c κs. search needs) returns)

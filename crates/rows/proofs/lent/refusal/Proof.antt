@@ -4,15 +4,9 @@ use Rattle.report.proofs.Fits.{counts}
 use Rattle.rows.proofs.lent.refusal.Statement.{statement}
 use Rattle.rows.proofs.lent.refusal.Tie as tie
 
-refused-requires : tie.Need-refused-requires
-refused-requires c κs = search needs
-
-same-length : tie.Need-same-length
-same-length c = search needs
-
 returns : tie.Need-returns
 returns c =
     counts _ _ _ _ (c .before .before .refused .ensures)
 
 pub refusal-spec : {M : Type 1} → statement M
-refusal-spec = tie.close (tie.spec refused-requires same-length returns)
+refusal-spec = tie.close (tie.spec (λ c κs. search needs) (search needs) returns)

@@ -4,15 +4,6 @@ use Rattle.sheet.proofs.Notes.{noted-there, noted-past}
 use Rattle.sheet.proofs.note.is_noted.Statement.{statement}
 use Rattle.sheet.proofs.note.is_noted.Tie as tie
 
-add-at : tie.Need-add-at
-add-at c = search needs
-
-shared-slice-read-result : tie.Need-shared-slice-read-result
-shared-slice-read-result c = search needs
-
-mul-result : tie.Need-mul-result
-mul-result c = search needs
-
 returns : tie.Need-returns
 returns c = noted-there _ _
 
@@ -20,4 +11,4 @@ returns-2 : tie.Need-returns-2
 returns-2 c = noted-past _ _ (c .if1 .left)
 
 pub is-noted-spec : {M : Type 1} → statement M
-is-noted-spec = tie.close (tie.spec add-at mul-result shared-slice-read-result returns returns-2)
+is-noted-spec = tie.close (tie.spec (search needs) (search needs) (search needs) returns returns-2)

@@ -4,21 +4,6 @@ use Rattle.sheet.proofs.Notes.{note-made, note-other, note-kind}
 use Rattle.sheet.proofs.note.note_use.Statement.{statement}
 use Rattle.sheet.proofs.note.note_use.Tie as tie
 
-is-declared-requires : tie.Need-is-declared-requires
-is-declared-requires c κs = search needs
-
-cast-put : tie.Need-cast-put
-cast-put c = search needs
-
-add-put : tie.Need-add-put
-add-put c = search needs
-
-put-requires : tie.Need-put-requires
-put-requires c κs = search needs
-
-same-length : tie.Need-same-length
-same-length c = search needs
-
 returns : tie.Need-returns
 returns c =
     note-made _ _ (c .before .before .before .before .before .before .before .if1 .taken)
@@ -34,4 +19,5 @@ returns-3 c = note-kind _ _ (c .if1 .left)
 
 pub note-use-spec : {M : Type 1} → statement M
 note-use-spec =
-    tie.close (tie.spec is-declared-requires cast-put add-put put-requires same-length returns returns-2 returns-3)
+    tie.close (tie.spec (λ c κs. search needs) (search needs) (search needs) (λ c κs. search needs) (search needs)
+    returns returns-2 returns-3)

@@ -5,27 +5,6 @@ use Rattle.sheet.specs.table.Number.{numberIn}
 use Rattle.sheet.proofs.number.number_in.Statement.{statement}
 use Rattle.sheet.proofs.number.number_in.Tie as tie
 
-meaning-of-requires : tie.Need-meaning-of-requires
-meaning-of-requires c κs = search needs
-
-enum-told : tie.Need-enum-told
-enum-told c = search needs
-
-enum-told-2 : tie.Need-enum-told-2
-enum-told-2 c = search needs
-
-enum-told-3 : tie.Need-enum-told-3
-enum-told-3 c = search needs
-
-enum-told-4 : tie.Need-enum-told-4
-enum-told-4 c = search needs
-
-enum-told-5 : tie.Need-enum-told-5
-enum-told-5 c = search needs
-
-enum-known-standing : tie.Need-enum-known-standing
-enum-known-standing c = search needs
-
 returns : tie.Need-returns
 unfolding numberIn
 returns c = simp (sym (c .before .before .meaning-of .ensures) ∙ c .enum-told .given .1)
@@ -52,5 +31,5 @@ returns-6 c = simp (sym (c .before .before .before .meaning-of .ensures) ∙ c .
 
 pub number-in-spec : {M : Type 1} → statement M
 number-in-spec =
-    tie.close (tie.spec meaning-of-requires enum-told enum-told-2 enum-told-3 enum-told-4 enum-told-5
-    enum-known-standing returns returns-2 returns-3 returns-4 returns-5 returns-6)
+    tie.close (tie.spec (λ c κs. search needs) (search needs) (search needs) (search needs) (search needs)
+    (search needs) (search needs) returns returns-2 returns-3 returns-4 returns-5 returns-6)

@@ -4,12 +4,6 @@ use Rattle.sheet.proofs.Core.{number-used, number-none}
 use Rattle.sheet.proofs.number.used_number.Statement.{statement}
 use Rattle.sheet.proofs.number.used_number.Tie as tie
 
-number-in-requires : tie.Need-number-in-requires
-number-in-requires c κs = search needs
-
-cast-result : tie.Need-cast-result
-cast-result c = search needs
-
 returns : tie.Need-returns
 returns c = (number-used _ (c .before .if1 .taken) (c .number-in .ensures), search needs)
 
@@ -17,4 +11,4 @@ returns-2 : tie.Need-returns-2
 returns-2 c = (number-none _ (c .if1 .left), search needs)
 
 pub used-number-spec : {M : Type 1} → statement M
-used-number-spec = tie.close (tie.spec number-in-requires cast-result returns returns-2)
+used-number-spec = tie.close (tie.spec (λ c κs. search needs) (search needs) returns returns-2)

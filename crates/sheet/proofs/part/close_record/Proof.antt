@@ -7,18 +7,9 @@ use Rattle.sheet.proofs.Bounds.{ends-within}
 use Rattle.sheet.proofs.part.close_record.Statement.{statement}
 use Rattle.sheet.proofs.part.close_record.Tie as tie
 
-enum-known-parts : tie.Need-enum-known-parts
-enum-known-parts c = search needs
-
-enum-told : tie.Need-enum-told
-enum-told c = search needs
-
 returns : tie.Need-returns
 unfolding closedAnswer closedTable
 returns c = (simp (c .enum-told .given .1), simp (c .enum-told .given .1))
-
-type-of-requires : tie.Need-type-of-requires
-type-of-requires c κs = search needs
 
 write-row-requires : tie.Need-write-row-requires
 write-row-requires c κs =
@@ -26,20 +17,11 @@ write-row-requires c κs =
         (c .before .before .before .parts .given .1) in
     (omega (arith, c .before .before .before .before .before .before .before .pre .0), omega (arith, e))
 
-note-use-requires : tie.Need-note-use-requires
-note-use-requires c κs = search needs
-
-used-number-requires : tie.Need-used-number-requires
-used-number-requires c κs = search needs
-
 weigh-record-requires : tie.Need-weigh-record-requires
 weigh-record-requires c κs =
     (omega (arith, c .before .before .before .before .before .before .before .before .before .before .before .before
       .before .before .before .before .pre .0),
     omega (arith, c .before .used-number .ensures .1))
-
-same-length : tie.Need-same-length
-same-length c = search needs
 
 returns-2 : tie.Need-returns-2
 unfolding closedAnswer
@@ -58,5 +40,5 @@ returns-2 c =
 
 pub close-record-spec : {M : Type 1} → statement M
 close-record-spec =
-    tie.close (tie.spec enum-known-parts enum-told returns type-of-requires write-row-requires note-use-requires
-    used-number-requires weigh-record-requires same-length returns-2)
+    tie.close (tie.spec (search needs) (search needs) returns (λ c κs. search needs) write-row-requires
+    (λ c κs. search needs) (λ c κs. search needs) weigh-record-requires (search needs) returns-2)

@@ -4,14 +4,8 @@ use Rattle.sheet.proofs.Steps.{root-reads}
 use Rattle.sheet.proofs.part.read_root.Statement.{statement}
 use Rattle.sheet.proofs.part.read_root.Tie as tie
 
-read-next-requires : tie.Need-read-next-requires
-read-next-requires c κs = search needs
-
-same-length : tie.Need-same-length
-same-length c = search needs
-
 returns : tie.Need-returns
 returns c = root-reads _ _ _ _ (c .before .before .read-next .ensures)
 
 pub read-root-spec : {M : Type 1} → statement M
-read-root-spec = tie.close (tie.spec read-next-requires same-length returns)
+read-root-spec = tie.close (tie.spec (λ c κs. search needs) (search needs) returns)

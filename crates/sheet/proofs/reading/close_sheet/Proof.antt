@@ -5,18 +5,9 @@ use Rattle.sheet.specs.table.Fill.{closedReading}
 use Rattle.sheet.proofs.reading.close_sheet.Statement.{statement}
 use Rattle.sheet.proofs.reading.close_sheet.Tie as tie
 
-enum-known-x : tie.Need-enum-known-x
-enum-known-x c = search needs
-
-enum-told : tie.Need-enum-told
-enum-told c = search needs
-
 returns : tie.Need-returns
 unfolding closedReading
 returns c = simp (c .enum-told .given .1)
-
-refuse-requires : tie.Need-refuse-requires
-refuse-requires c κs = search needs
 
 returns-2 : tie.Need-returns-2
 unfolding closedReading
@@ -27,4 +18,5 @@ unfolding closedReading
 returns-3 c = simp (c .before .before .x .given .1, le-ltb _ _ (c .if1 .left))
 
 pub close-sheet-spec : {M : Type 1} → statement M
-close-sheet-spec = tie.close (tie.spec enum-known-x enum-told returns refuse-requires returns-2 returns-3)
+close-sheet-spec = tie.close (tie.spec (search needs) (search needs) returns (λ c κs. search needs) returns-2
+    returns-3)

@@ -15,32 +15,17 @@ none e = omega arith
 some : {n : ℕ} → (n ≡ 0 → ⊥) → 0 < n
 some h = omega arith
 
-refuse-requires : tie.Need-refuse-requires
-refuse-requires c κs = search needs
-
 returns : tie.Need-returns
 returns c = rw (c .refuse .ensures) (sheet-refused _ _ _ (too-long _ _ (c .before .if1 .taken)))
-
-refuse-requires-2 : tie.Need-refuse-requires-2
-refuse-requires-2 c κs = search needs
 
 returns-2 : tie.Need-returns-2
 returns-2 c =
     rw (c .refuse2 .ensures) (sheet-refused _ _ _ (empty _ _ (c .before .before .if1 .left) (none (c .before .if2 .taken))))
 
-shared-slice-read-z : tie.Need-shared-slice-read-z
-shared-slice-read-z c = search needs
-
-refuse-requires-3 : tie.Need-refuse-requires-3
-refuse-requires-3 c κs = search needs
-
 returns-3 : tie.Need-returns-3
 returns-3 c =
     rw (c .refuse3 .ensures) (sheet-refused _ _ _ (z-zero _ _ (c .before .before .before .before .if1 .left) (some (c .before
       .before .before .if2 .left)) (c .before .if3 .taken)))
-
-refuse-requires-4 : tie.Need-refuse-requires-4
-refuse-requires-4 c κs = search needs
 
 returns-4 : tie.Need-returns-4
 returns-4 c =
@@ -48,20 +33,11 @@ returns-4 c =
       (some (c .before .before .before .before .if2 .left)) (c .before .before .if3 .left) (omega (arith, c .before
       .if4 .taken))))
 
-refuse-requires-5 : tie.Need-refuse-requires-5
-refuse-requires-5 c κs = search needs
-
 returns-5 : tie.Need-returns-5
 returns-5 c =
     rw (c .refuse5 .ensures) (sheet-refused _ _ _ (no-rule _ _ (c .before .before .before .before .before .before .if1
       .left) (some (c .before .before .before .before .before .if2 .left)) (c .before .before .before .if3 .left)
       (omega (arith, c .before .before .if4 .left)) (c .before .if5 .taken)))
-
-shared-slice-read-rule : tie.Need-shared-slice-read-rule
-shared-slice-read-rule c = search needs
-
-refuse-requires-6 : tie.Need-refuse-requires-6
-refuse-requires-6 c κs = search needs
 
 returns-6 : tie.Need-returns-6
 returns-6 c =
@@ -69,15 +45,6 @@ returns-6 c =
       .before .before .if1 .left) (some (c .before .before .before .before .before .before .before .if2 .left)) (c
       .before .before .before .before .before .if3 .left) (omega (arith, c .before .before .before .before .if4
       .left)) (c .before .before .before .if5 .left) (c .before .if6 .taken)))
-
-read-names-requires : tie.Need-read-names-requires
-read-names-requires c κs = search needs
-
-close-sheet-requires : tie.Need-close-sheet-requires
-close-sheet-requires c κs = search needs
-
-same-length : tie.Need-same-length
-same-length c = search needs
 
 returns-7 : tie.Need-returns-7
 returns-7 c =
@@ -91,7 +58,7 @@ returns-7 c =
 
 pub read-sheet-spec : {M : Type 1} → statement M
 read-sheet-spec =
-    tie.close (tie.spec
-    refuse-requires returns refuse-requires-2 returns-2 shared-slice-read-z refuse-requires-3 returns-3
-    refuse-requires-4 returns-4 refuse-requires-5 returns-5 shared-slice-read-rule refuse-requires-6 returns-6
-    read-names-requires close-sheet-requires same-length returns-7)
+    tie.close (tie.spec (λ c κs. search needs) returns (λ c κs. search needs) returns-2 (search needs)
+    (λ c κs. search needs) returns-3 (λ c κs. search needs) returns-4 (λ c κs. search needs) returns-5
+    (search needs) (λ c κs. search needs) returns-6 (λ c κs. search needs) (λ c κs. search needs) (search needs)
+    returns-7)

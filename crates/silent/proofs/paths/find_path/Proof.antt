@@ -6,18 +6,6 @@ use Rattle.silent.proofs.laws.Paths.{found-dead, found-small, found-oth
 use Rattle.silent.proofs.paths.find_path.Statement.{statement}
 use Rattle.silent.proofs.paths.find_path.Tie as tie
 
-replace-requires : tie.Need-replace-requires
-replace-requires c κs = search needs
-
-add-at : tie.Need-add-at
-add-at c = search needs
-
-at-requires : tie.Need-at-requires
-at-requires c κs = search needs
-
-same-length : tie.Need-same-length
-same-length c = search needs
-
 returns : tie.Need-returns
 returns c = found-dead _ _ _ _ _ _ (c .before .before .before .before .before .before .before .before .pre .0)
     (c .before .before .before .before .before .before .before .before .pre .1)
@@ -34,9 +22,6 @@ replace-requires-2 c κs = (steps-same _ _ _
     (c .before .before .before .before .before .before .replace .ensures .0)
     (c .before .before .before .before .before .before .replace .ensures .1) (c .before .before .at .ensures))))
 
-same-length-2 : tie.Need-same-length-2
-same-length-2 c = search needs
-
 returns-2 : tie.Need-returns-2
 returns-2 c = found-other _ _ _ _ _ _
     (c .before .before .before .before .before .before .before .before .before .before .before .before .pre .0)
@@ -49,12 +34,5 @@ returns-2 c = found-other _ _ _ _ _ _
 pub find-path-spec : {M : Type 1} → statement M
 find-path-spec =
     tie.close
-    (tie.spec
-    replace-requires
-    add-at
-    at-requires
-    same-length
-    returns
-    replace-requires-2
-    same-length-2
-    returns-2)
+    (tie.spec (λ c κs. search needs) (search needs) (λ c κs. search needs) (search needs) returns replace-requires-2
+    (search needs) returns-2)

@@ -5,12 +5,6 @@ use Rattle.silent.proofs.laws.Paths.{own-here, own-none}
 use Rattle.silent.proofs.paths.own_path.Statement.{statement}
 use Rattle.silent.proofs.paths.own_path.Tie as tie
 
-at-requires : tie.Need-at-requires
-at-requires c κs = search needs
-
-add-result : tie.Need-add-result
-add-result c = search needs
-
 returns : tie.Need-returns
 returns c = own-here (c .before .before .before .args .words .now) (c .before .before .before .args .p) (sym
     (c .before .at .ensures) ∙ c .if1 .taken)
@@ -20,4 +14,4 @@ returns-2 c = own-none (c .before .before .before .args .words .now) (c .before 
     c .if1 .left (c .before .at .ensures ∙ e))
 
 pub own-path-spec : {M : Type 1} → statement M
-own-path-spec = tie.close (tie.spec at-requires add-result returns returns-2)
+own-path-spec = tie.close (tie.spec (λ c κs. search needs) (search needs) returns returns-2)

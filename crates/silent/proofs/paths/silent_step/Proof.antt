@@ -5,19 +5,13 @@ use Rattle.silent.proofs.laws.Settle.{step-stay, step-go}
 use Rattle.silent.proofs.paths.silent_step.Statement.{statement}
 use Rattle.silent.proofs.paths.silent_step.Tie as tie
 
-at-requires : tie.Need-at-requires
-at-requires c κs = search needs
-
 returns : tie.Need-returns
 returns c = step-stay (c .before .before .before .args .words .now) (c .before .before .before .args .p)
     (sym (c .before .at .ensures) ∙ c .if1 .taken)
-
-sub-result : tie.Need-sub-result
-sub-result c = search needs
 
 returns-2 : tie.Need-returns-2
 returns-2 c = step-go (c .before .before .before .args .words .now) (c .before .before .before .args .p) _
     (c .before .at .ensures) (c .if1 .left)
 
 pub silent-step-spec : {M : Type 1} → statement M
-silent-step-spec = tie.close (tie.spec at-requires returns sub-result returns-2)
+silent-step-spec = tie.close (tie.spec (λ c κs. search needs) returns (search needs) returns-2)

@@ -6,12 +6,6 @@ use borrow.Author.Needs.{needs}
 use Rattle.silent.proofs.redirect.settled_at.Statement.{statement}
 use Rattle.silent.proofs.redirect.settled_at.Tie as tie
 
-add-at : tie.Need-add-at
-add-at c = search needs
-
-at-requires : tie.Need-at-requires
-at-requires c κs = search needs
-
 sub-result : tie.Need-sub-result
 sub-result c = omega (arith, c .at .ensures, c .before .before .pre .0 .some (c .before .before .args .x)
     (c .before .before .pre .1))
@@ -20,4 +14,4 @@ returns : tie.Need-returns
 returns c = ap (λ z. z - 1) (c .at .ensures)
 
 pub settled-at-spec : {M : Type 1} → statement M
-settled-at-spec = tie.close (tie.spec add-at at-requires sub-result returns)
+settled-at-spec = tie.close (tie.spec (search needs) (λ c κs. search needs) sub-result returns)

@@ -6,20 +6,14 @@ use native.Mathlib.Omega.{arith}
 use Rattle.table_bytes.proofs.arc.position_of.Statement.{statement}
 use Rattle.table_bytes.proofs.arc.position_of.Tie as tie
 
-add-at : tie.Need-add-at
-add-at c = search needs
-
 at-requires : tie.Need-at-requires
 at-requires c κs = omega (arith, c .before .pre .1)
 
 returns : tie.Need-returns
 returns c = omega (arith, c .before .at .ensures, c .if1 .taken)
 
-sub-result : tie.Need-sub-result
-sub-result c = search needs
-
 returns-2 : tie.Need-returns-2
 returns-2 c = ap (λ k. k - 1) (c .before .at .ensures)
 
 pub position-of-spec : {M : Type 1} → statement M
-position-of-spec = tie.close (tie.spec add-at at-requires returns sub-result returns-2)
+position-of-spec = tie.close (tie.spec (search needs) at-requires returns (search needs) returns-2)

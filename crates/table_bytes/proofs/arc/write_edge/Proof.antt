@@ -39,9 +39,6 @@ position-of-requires c κs =
 write-move-requires : tie.Need-write-move-requires
 write-move-requires c κs = c .before .before .before .before .before .before .before .before .before .pre .1
 
-same-length : tie.Need-same-length
-same-length c = search needs
-
 returns-2 : tie.Need-returns-2
 returns-2 c =
     edge-some _ _ _ _ _ _
@@ -56,4 +53,4 @@ returns-2 c =
 pub write-edge-spec : {M : Type 1} → statement M
 write-edge-spec =
     tie.close (tie.spec edge-target-requires at-requires sub-at at-requires-2 returns edge-letter-requires
-    position-of-requires write-move-requires same-length returns-2)
+    position-of-requires write-move-requires (search needs) returns-2)

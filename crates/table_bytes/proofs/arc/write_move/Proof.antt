@@ -5,9 +5,6 @@ use Rattle.table_bytes.proofs.laws.Moves.{move-done, record-end}
 use Rattle.table_bytes.proofs.arc.write_move.Statement.{statement}
 use Rattle.table_bytes.proofs.arc.write_move.Tie as tie
 
-add-write-record : tie.Need-add-write-record
-add-write-record c = search needs
-
 write-record-requires : tie.Need-write-record-requires
 write-record-requires c κs = omega (arith, c .before .before .pre)
 
@@ -22,29 +19,17 @@ add-put c =
     let w = record-end _ _ _ (c .before .before .before .write-record .ensures .0) in
     omega (arith, w .1, c .before .before .before .before .before .before .pre)
 
-put-requires : tie.Need-put-requires
-put-requires c κs = search needs
-
-put-requires-2 : tie.Need-put-requires-2
-put-requires-2 c κs = search needs
-
 add-put-2 : tie.Need-add-put-2
 add-put-2 c =
     let before = c .before .before .before .before .before .before .before .before .before .before .before in
     let w = record-end _ _ _ (before .write-record .ensures .0) in
     omega (arith, w .1, before .before .before .before .pre)
 
-put-requires-3 : tie.Need-put-requires-3
-put-requires-3 c κs = search needs
-
 add-result : tie.Need-add-result
 add-result c =
     let before = c .before .before .before .before .before .before .before .before .before .before .before .before in
     let w = record-end _ _ _ (before .before .before .write-record .ensures .0) in
     omega (arith, w .1, before .before .before .before .before .before .pre)
-
-same-length : tie.Need-same-length
-same-length c = search needs
 
 returns : tie.Need-returns
 returns c =
@@ -55,5 +40,5 @@ returns c =
 
 pub write-move-spec : {M : Type 1} → statement M
 write-move-spec =
-    tie.close (tie.spec add-write-record write-record-requires sub-put sub-put-2 add-put put-requires put-requires-2
-    add-put-2 put-requires-3 add-result same-length returns)
+    tie.close (tie.spec (search needs) write-record-requires sub-put sub-put-2 add-put (λ c κs. search needs)
+    (λ c κs. search needs) add-put-2 (λ c κs. search needs) add-result (search needs) returns)

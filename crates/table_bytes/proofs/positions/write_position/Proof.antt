@@ -5,18 +5,9 @@ use Rattle.table_bytes.proofs.laws.Positions.{position-length, position
 use Rattle.table_bytes.proofs.positions.write_position.Statement.{statement}
 use Rattle.table_bytes.proofs.positions.write_position.Tie as tie
 
-put-requires : tie.Need-put-requires
-put-requires c κs = search needs
-
 add-put : tie.Need-add-put
 add-put c = omega (arith, position-length _ _ _ _ _ _
     (c .before .before .before .before .before .before .before .pre .1 .1))
-
-end-byte-requires : tie.Need-end-byte-requires
-end-byte-requires c κs = search needs
-
-put-requires-2 : tie.Need-put-requires-2
-put-requires-2 c κs = search needs
 
 add-write-edges : tie.Need-add-write-edges
 add-write-edges c = omega (arith, position-length _ _ _ _ _ _
@@ -26,9 +17,6 @@ write-edges-requires : tie.Need-write-edges-requires
 write-edges-requires c κs =
     let before = c .before .before .before .before .before .before .before .before .before .before .before .before in
     (before .pre .0, (before .pre .1 .0, position-length _ _ _ _ _ _ (before .pre .1 .1)))
-
-same-length : tie.Need-same-length
-same-length c = search needs
 
 returns : tie.Need-returns
 returns c =
@@ -40,5 +28,5 @@ returns c =
 
 pub write-position-spec : {M : Type 1} → statement M
 write-position-spec =
-    tie.close (tie.spec put-requires add-put end-byte-requires put-requires-2 add-write-edges write-edges-requires
-    same-length returns)
+    tie.close (tie.spec (λ c κs. search needs) add-put (λ c κs. search needs) (λ c κs. search needs) add-write-edges
+    write-edges-requires (search needs) returns)

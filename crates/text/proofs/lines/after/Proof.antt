@@ -5,21 +5,12 @@ use Rattle.text.proofs.Printed.{width-short, width-long, room, no-room}
 use Rattle.text.proofs.lines.after.Statement.{statement}
 use Rattle.text.proofs.lines.after.Tie as tie
 
-sub-left : tie.Need-sub-left
-sub-left c = search needs
-
-byte-at-requires : tie.Need-byte-at-requires
-byte-at-requires c κs = search needs
-
 returns : tie.Need-returns
 returns c =
     no-room (now (c .before .before .before .before .args .s)) (c .before .before .before .before .args .place) 3
         (width-short (now (c .before .before .before .before .args .s)) (c .before .before .before .before .args
         .place) _ (c .before .before .byte-at .ensures) (c .before .if1 .taken)) (c .before .before .before .before
         .pre) (c .if2 .taken)
-
-add-result : tie.Need-add-result
-add-result c = search needs
 
 returns-2 : tie.Need-returns-2
 returns-2 c =
@@ -35,9 +26,6 @@ returns-3 c =
         .place) _ (c .before .before .byte-at .ensures) (c .before .if1 .left)) (c .before .before .before .before
         .pre) (c .if3 .taken)
 
-add-result-2 : tie.Need-add-result-2
-add-result-2 c = search needs
-
 returns-4 : tie.Need-returns-4
 returns-4 c =
     room (now (c .before .before .before .before .args .s)) (c .before .before .before .before .args .place) 4
@@ -47,4 +35,5 @@ returns-4 c =
 
 pub after-spec : {M : Type 1} → statement M
 after-spec = tie.close
-    (tie.spec sub-left byte-at-requires returns add-result returns-2 returns-3 add-result-2 returns-4)
+    (tie.spec (search needs) (λ c κs. search needs) returns (search needs) returns-2 returns-3 (search needs)
+    returns-4)

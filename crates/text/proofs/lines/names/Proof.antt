@@ -5,21 +5,6 @@ use Rattle.text.proofs.Pages.{after}
 use Rattle.text.proofs.lines.names.Statement.{statement}
 use Rattle.text.proofs.lines.names.Tie as tie
 
-decimal-requires : tie.Need-decimal-requires
-decimal-requires c κs = search needs
-
-slice-aggregate-text : tie.Need-slice-aggregate-text
-slice-aggregate-text c = search needs
-
-text-requires : tie.Need-text-requires
-text-requires c κs = search needs
-
-decimal-requires-2 : tie.Need-decimal-requires-2
-decimal-requires-2 c κs = search needs
-
-same-length : tie.Need-same-length
-same-length c = search needs
-
 returns : tie.Need-returns
 unfolding namesText
 returns c =
@@ -29,4 +14,5 @@ returns c =
 
 pub names-spec : {M : Type 1} → statement M
 names-spec = tie.close
-    (tie.spec decimal-requires slice-aggregate-text text-requires decimal-requires-2 same-length returns)
+    (tie.spec (λ c κs. search needs) (search needs) (λ c κs. search needs) (λ c κs. search needs) (search needs)
+    returns)

@@ -8,22 +8,11 @@ returns : tie.Need-returns
 returns c =
     no-value _ _ _ (c .if1 .taken)
 
-slice-aggregate-text : tie.Need-slice-aggregate-text
-slice-aggregate-text c = search needs
-
-text-requires : tie.Need-text-requires
-text-requires c κs = search needs
-
-signed-requires : tie.Need-signed-requires
-signed-requires c κs = search needs
-
-same-length : tie.Need-same-length
-same-length c = search needs
-
 returns-2 : tie.Need-returns-2
 returns-2 c =
     some-value _ _ _ (c .before .before .before .before .before .before .before .before .before .if1 .left) (c .before
         .before .before .before .before .before .text .ensures) (c .before .before .signed .ensures)
 
 pub value-spec : {M : Type 1} → statement M
-value-spec = tie.close (tie.spec returns slice-aggregate-text text-requires signed-requires same-length returns-2)
+value-spec = tie.close (tie.spec returns (search needs) (λ c κs. search needs) (λ c κs. search needs) (search needs)
+    returns-2)

@@ -4,15 +4,6 @@ use Rattle.weigh.proofs.Leaves.{argument-read, argument-past}
 use Rattle.weigh.proofs.mark.argument_of.Statement.{statement}
 use Rattle.weigh.proofs.mark.argument_of.Tie as tie
 
-add-word-of : tie.Need-add-word-of
-add-word-of c = search needs
-
-word-of-requires : tie.Need-word-of-requires
-word-of-requires c κs = search needs
-
-come-at-requires : tie.Need-come-at-requires
-come-at-requires c κs = search needs
-
 returns : tie.Need-returns
 returns c = (argument-read _ _ _ _ _ _ _ (c .before .before .if1 .taken) (c .before .word-of .ensures .0) (c .come-at
     .ensures .0), c .come-at .ensures .1)
@@ -22,4 +13,4 @@ returns-2 c = argument-past _ _ _ _ _ (c .if1 .left)
 
 pub argument-of-spec : {M : Type 1} → statement M
 argument-of-spec =
-    tie.close (tie.spec add-word-of word-of-requires come-at-requires returns returns-2)
+    tie.close (tie.spec (search needs) (λ c κs. search needs) (λ c κs. search needs) returns returns-2)

@@ -7,20 +7,8 @@ use Rattle.weigh.proofs.mark.through_of.Tie as tie
 returns : tie.Need-returns
 returns c = through-none _ _ _ _ _ _ (c .if1 .taken)
 
-sub-if2 : tie.Need-sub-if2
-sub-if2 c = search needs
-
 returns-2 : tie.Need-returns-2
 returns-2 c = (through-outer _ _ _ _ _ _ (c .before .if1 .left) (c .if2 .taken), c .before .before .before .pre .2)
-
-sub-argument-of : tie.Need-sub-argument-of
-sub-argument-of c = search needs
-
-sub-argument-of-2 : tie.Need-sub-argument-of-2
-sub-argument-of-2 c = search needs
-
-argument-of-requires : tie.Need-argument-of-requires
-argument-of-requires c κs = search needs
 
 returns-3 : tie.Need-returns-3
 returns-3 c = (through-own _ _ _ _ _ _ _ (c .before .before .if1 .left) (c .before .if2 .left) (c .argument-of
@@ -28,4 +16,5 @@ returns-3 c = (through-own _ _ _ _ _ _ _ (c .before .before .if1 .left) (c .befo
 
 pub through-of-spec : {M : Type 1} → statement M
 through-of-spec =
-    tie.close (tie.spec returns sub-if2 returns-2 sub-argument-of sub-argument-of-2 argument-of-requires returns-3)
+    tie.close (tie.spec returns (search needs) returns-2 (search needs) (search needs) (λ c κs. search needs)
+    returns-3)

@@ -4,9 +4,6 @@ use Rattle.weigh.proofs.Leaves.{unused-is, used-is}
 use Rattle.weigh.proofs.mark.used.Statement.{statement}
 use Rattle.weigh.proofs.mark.used.Tie as tie
 
-coefficient-requires : tie.Need-coefficient-requires
-coefficient-requires c κs = search needs
-
 returns : tie.Need-returns
 returns c = unused-is _ _ (c .before .coefficient .ensures .0) (c .if1 .taken)
 
@@ -14,4 +11,4 @@ returns-2 : tie.Need-returns-2
 returns-2 c = used-is _ _ (c .before .coefficient .ensures .0) (c .if1 .left)
 
 pub used-spec : {M : Type 1} → statement M
-used-spec = tie.close (tie.spec coefficient-requires returns returns-2)
+used-spec = tie.close (tie.spec (λ c κs. search needs) returns returns-2)

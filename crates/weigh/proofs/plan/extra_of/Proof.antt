@@ -5,9 +5,6 @@ use Rattle.weighing.specs.Plan.{extraOf}
 use Rattle.weigh.proofs.plan.extra_of.Statement.{statement}
 use Rattle.weigh.proofs.plan.extra_of.Tie as tie
 
-answers-at-requires : tie.Need-answers-at-requires
-answers-at-requires c κs = search needs
-
 returns : tie.Need-returns
 unfolding extraOf
 returns c = simp (← c .answers-at .ensures, eq-eqb _ _ (c .before .if1 .taken))
@@ -17,4 +14,4 @@ unfolding extraOf
 returns-2 c = simp (ne-eqb _ _ (c .if1 .left))
 
 pub extra-of-spec : {M : Type 1} → statement M
-extra-of-spec = tie.close (tie.spec answers-at-requires returns returns-2)
+extra-of-spec = tie.close (tie.spec (λ c κs. search needs) returns returns-2)

@@ -10,39 +10,18 @@ returns : tie.Need-returns
 unfolding factorOf
 returns c = simp (eq-eqb _ _ (c .before .if1 .taken), eq-eqb _ _ (c .if2 .taken))
 
-word-of-requires : tie.Need-word-of-requires
-word-of-requires c κs = search needs
-
-values-at-requires : tie.Need-values-at-requires
-values-at-requires c κs = search needs
-
 returns-2 : tie.Need-returns-2
 returns-2 c = factor-right _ _ _ _ _ _ _ _ _ (c .before .before .before .if1 .taken) (c .before .before .if2 .left) (c
     .before .word-of .ensures .0) (c .values-at .ensures .0)
-
-questions-at-requires : tie.Need-questions-at-requires
-questions-at-requires c κs = search needs
 
 returns-3 : tie.Need-returns-3
 unfolding factorOf
 returns-3 c = simp (← c .questions-at .ensures, ne-eqb _ _ (c .before .before .if1 .left), eq-eqb _ _ (c .before .if3
     .taken))
 
-term-form-requires : tie.Need-term-form-requires
-term-form-requires c κs = search needs
-
-add-coefficient : tie.Need-add-coefficient
-add-coefficient c = search needs
-
-coefficient-requires : tie.Need-coefficient-requires
-coefficient-requires c κs = search needs
-
 returns-4 : tie.Need-returns-4
 returns-4 c = factor-use _ _ _ _ _ _ _ _ _ (c .before .before .before .before .if1 .left) (c .before .before .before
     .if3 .left) (c .before .before .if4 .taken) (c .before .term-form .ensures .0) (c .coefficient .ensures .0)
-
-values-at-requires-2 : tie.Need-values-at-requires-2
-values-at-requires-2 c κs = search needs
 
 returns-5 : tie.Need-returns-5
 returns-5 c = factor-target _ _ _ _ _ _ _ _ (c .before .before .before .before .before .if1 .left) (c .before .before
@@ -54,9 +33,6 @@ unfolding factorOf
 returns-6 c = simp (ne-eqb _ _ (c .before .before .before .before .if1 .left), ne-eqb _ _ (c .before .before .before
     .if3 .left), ne-eqb _ _ (c .before .before .if4 .left), eq-eqb _ _ (c .before .if5 .taken), ne-eqb _ _ (c .if6
     .left))
-
-short-requires : tie.Need-short-requires
-short-requires c κs = search needs
 
 returns-7 : tie.Need-returns-7
 unfolding factorOf
@@ -72,6 +48,6 @@ returns-8 c = simp (ne-eqb _ _ (c .before .before .before .before .if1 .left), n
 
 pub factor-of-spec : {M : Type 1} → statement M
 factor-of-spec =
-    tie.close (tie.spec returns word-of-requires values-at-requires returns-2 questions-at-requires returns-3
-    term-form-requires add-coefficient coefficient-requires returns-4 values-at-requires-2 returns-5 returns-6
-    short-requires returns-7 returns-8)
+    tie.close (tie.spec returns (λ c κs. search needs) (λ c κs. search needs) returns-2 (λ c κs. search needs)
+    returns-3 (λ c κs. search needs) (search needs) (λ c κs. search needs) returns-4 (λ c κs. search needs)
+    returns-5 returns-6 (λ c κs. search needs) returns-7 returns-8)

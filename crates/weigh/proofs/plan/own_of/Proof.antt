@@ -9,12 +9,6 @@ returns : tie.Need-returns
 unfolding ownOf
 returns c = simp (lt-ltb _ _ (c .if1 .taken))
 
-cast-result : tie.Need-cast-result
-cast-result c = search needs
-
-add-result : tie.Need-add-result
-add-result c = search needs
-
 returns-2 : tie.Need-returns-2
 unfolding ownOf
 returns-2 c = simp (le-ltb _ _ (c .before .if1 .left), eq-eqb _ _ (c .if2 .taken))
@@ -30,4 +24,4 @@ returns-4 c =
     simp (le-ltb _ _ (c .before .before .if1 .left), ne-eqb _ _ (c .before .if2 .left), ne-eqb _ _ (c .if3 .left))
 
 pub own-of-spec : {M : Type 1} → statement M
-own-of-spec = tie.close (tie.spec returns cast-result add-result returns-2 returns-3 returns-4)
+own-of-spec = tie.close (tie.spec returns (search needs) (search needs) returns-2 returns-3 returns-4)

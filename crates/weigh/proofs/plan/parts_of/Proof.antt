@@ -9,9 +9,6 @@ returns : tie.Need-returns
 unfolding partsOf
 returns c = simp (lt-ltb _ _ (c .if1 .taken))
 
-least-requires : tie.Need-least-requires
-least-requires c κs = search needs
-
 returns-2 : tie.Need-returns-2
 unfolding partsOf
 returns-2 c = simp (le-ltb _ _ (c .before .before .if1 .left), eq-eqb _ _ (c .before .if2 .taken)) (c .least .ensures)
@@ -45,9 +42,6 @@ returns-7 c = rw (le-ltb _ _ (c .before .before .before .before .before .before 
     (c .before .before .before .before .if3 .left), le-ltb _ _ (c .before .before .before .if4 .left), ne-eqb _ _
     (c .before .before .if5 .left), le-ltb _ _ (c .before .if6 .left), eq-eqb _ _ (c .if7 .taken))
 
-least-requires-2 : tie.Need-least-requires-2
-least-requires-2 c κs = search needs
-
 returns-8 : tie.Need-returns-8
 unfolding partsOf
 returns-8 c = rw (le-ltb _ _ (c .before .before .before .before .before .before .before .before .if1 .left), ne-eqb _
@@ -66,5 +60,5 @@ returns-9 c = rw (le-ltb _ _ (c .before .before .before .before .before .before 
     (c .before .before .if6 .left), ne-eqb _ _ (c .before .if7 .left), ne-eqb _ _ (c .if8 .left))
 
 pub parts-of-spec : {M : Type 1} → statement M
-parts-of-spec = tie.close (tie.spec returns least-requires returns-2 returns-3 returns-4 returns-5 returns-6
-    returns-7 least-requires-2 returns-8 returns-9)
+parts-of-spec = tie.close (tie.spec returns (λ c κs. search needs) returns-2 returns-3 returns-4 returns-5 returns-6
+    returns-7 (λ c κs. search needs) returns-8 returns-9)

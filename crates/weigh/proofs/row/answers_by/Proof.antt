@@ -9,9 +9,6 @@ returns : tie.Need-returns
 unfolding answersBy
 returns c = simp (eq-eqb _ _ (c .if1 .taken))
 
-add-result : tie.Need-add-result
-add-result c = search needs
-
 returns-2 : tie.Need-returns-2
 unfolding answersBy
 returns-2 c = simp (ne-eqb _ _ (c .before .if1 .left), eq-eqb _ _ (c .if2 .taken))
@@ -21,4 +18,4 @@ unfolding answersBy
 returns-3 c = simp (ne-eqb _ _ (c .before .if1 .left), ne-eqb _ _ (c .if2 .left))
 
 pub answers-by-spec : {M : Type 1} → statement M
-answers-by-spec = tie.close (tie.spec returns add-result returns-2 returns-3)
+answers-by-spec = tie.close (tie.spec returns (search needs) returns-2 returns-3)

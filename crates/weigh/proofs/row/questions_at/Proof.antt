@@ -5,19 +5,11 @@ use Rattle.weighing.specs.Plan.{questionsBy}
 use Rattle.weigh.proofs.row.questions_at.Statement.{statement}
 use Rattle.weigh.proofs.row.questions_at.Tie as tie
 
-class-at-requires : tie.Need-class-at-requires
-class-at-requires c κs = search needs
-
-values-at-requires : tie.Need-values-at-requires
-values-at-requires c κs = search needs
-
-questions-by-requires : tie.Need-questions-by-requires
-questions-by-requires c κs = search needs
-
 returns : tie.Need-returns
 unfolding questionsBy
 returns c = c .questions-by .ensures ∙ ap₂ questionsBy (c .before .before .class-at .ensures .0)
     (c .before .values-at .ensures .0)
 
 pub questions-at-spec : {M : Type 1} → statement M
-questions-at-spec = tie.close (tie.spec class-at-requires values-at-requires questions-by-requires returns)
+questions-at-spec = tie.close (tie.spec (λ c κs. search needs) (λ c κs. search needs) (λ c κs. search needs)
+    returns)

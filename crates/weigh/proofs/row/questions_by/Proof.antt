@@ -5,9 +5,6 @@ use Rattle.weighing.specs.Plan.{questionsBy}
 use Rattle.weigh.proofs.row.questions_by.Statement.{statement}
 use Rattle.weigh.proofs.row.questions_by.Tie as tie
 
-add-result : tie.Need-add-result
-add-result c = search needs
-
 returns : tie.Need-returns
 unfolding questionsBy
 returns c = simp (eq-eqb _ _ (c .if1 .taken))
@@ -17,4 +14,4 @@ unfolding questionsBy
 returns-2 c = simp (ne-eqb _ _ (c .if1 .left))
 
 pub questions-by-spec : {M : Type 1} → statement M
-questions-by-spec = tie.close (tie.spec add-result returns returns-2)
+questions-by-spec = tie.close (tie.spec (search needs) returns returns-2)

@@ -6,17 +6,8 @@ use Rattle.weigh.proofs.Leaves.{slot-read}
 use Rattle.weigh.proofs.row.slot_of.Statement.{statement}
 use Rattle.weigh.proofs.row.slot_of.Tie as tie
 
-add-short-at : tie.Need-add-short-at
-add-short-at c = search needs
-
-short-at-requires : tie.Need-short-at-requires
-short-at-requires c κs = search needs
-
-cast-result : tie.Need-cast-result
-cast-result c = search needs
-
 returns : tie.Need-returns
 returns c = (c .short-at .ensures ∙ slot-read _ _, omega arith)
 
 pub slot-of-spec : {M : Type 1} → statement M
-slot-of-spec = tie.close (tie.spec add-short-at short-at-requires cast-result returns)
+slot-of-spec = tie.close (tie.spec (search needs) (λ c κs. search needs) (search needs) returns)

@@ -4,14 +4,8 @@ use Rattle.weigh.proofs.Leaves.{form-read}
 use Rattle.weigh.proofs.row.term_form.Statement.{statement}
 use Rattle.weigh.proofs.row.term_form.Tie as tie
 
-term-place-requires : tie.Need-term-place-requires
-term-place-requires c κs = search needs
-
-slot-of-requires : tie.Need-slot-of-requires
-slot-of-requires c κs = search needs
-
 returns : tie.Need-returns
 returns c = (form-read _ _ _ _ (c .before .term-place .ensures .0) (c .slot-of .ensures .0), c .slot-of .ensures .1)
 
 pub term-form-spec : {M : Type 1} → statement M
-term-form-spec = tie.close (tie.spec term-place-requires slot-of-requires returns)
+term-form-spec = tie.close (tie.spec (λ c κs. search needs) (λ c κs. search needs) returns)

@@ -5,11 +5,8 @@ use Rattle.weigh.proofs.Leaves.{term-read}
 use Rattle.weigh.proofs.row.term_place.Statement.{statement}
 use Rattle.weigh.proofs.row.term_place.Tie as tie
 
-word-of-requires : tie.Need-word-of-requires
-word-of-requires c κs = search needs
-
 returns : tie.Need-returns
 returns c = (c .word-of .ensures .0 ∙ term-read _ _, c .word-of .ensures .1)
 
 pub term-place-spec : {M : Type 1} → statement M
-term-place-spec = tie.close (tie.spec word-of-requires returns)
+term-place-spec = tie.close (tie.spec (λ c κs. search needs) returns)
