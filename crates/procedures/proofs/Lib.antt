@@ -11,13 +11,10 @@ pub mod ComeLaw
 pub mod Factors
 pub mod Alike
 pub mod Unused
-pub mod Used
 pub mod Bounds
 pub mod Valuing
 pub mod Renaming
 pub mod Scopes
-pub mod OneBinder
-pub mod Counts
 pub mod Signs
 pub mod Rows
 pub mod Worked
@@ -35,7 +32,6 @@ pub mod Exchanging
 pub mod Leaving
 pub mod Ruling
 pub mod Asking
-pub mod Existing
 pub mod Lowest
 pub mod Known
 pub mod Giving
