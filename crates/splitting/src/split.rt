@@ -9,7 +9,7 @@ ghost use Rattle.splitting.specs.inner.Signs.{ToSign, Signable, SignedTo
 ghost use Rattle.splitting.specs.inner.Splitting.{Carved, ToSplit, Splitting, SplitOne};
 ghost use Rattle.splitting.specs.inner.Refining.{ToSplitAll, Touched, SignedAll, SplitAll};
 ghost use Rattle.class_words.specs.Places.{touchedAt};
-use crate::into::same_into;
+use crate::sign::alike;
 use crate::sign::sign;
 use class_words::places::exchange;
 use class_words::words::copied;
@@ -68,7 +68,7 @@ fn group(words: &mut [u32], n: usize, g: usize, s: usize, low: usize, till: usiz
     while i < till {
         let p = member(words, n, i);
         if copied(words, n, g, p) == v {
-            if same_into(words, n, s, first, p) {
+            if alike(words, n, s, v, first, p) {
                 exchange(words, n, end, i);
                 end += 1;
                 i += 1;

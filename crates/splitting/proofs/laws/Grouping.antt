@@ -13,7 +13,7 @@ use Rattle.dfa.proofs.laws.Look.{δ-lt}
 use Rattle.smallest.specs.Classes.{SameInto}
 use Rattle.class_words.specs.Packed.{Packed}
 use Rattle.class_words.specs.Parted.{Parted}
-use Rattle.class_words.specs.Places.{classAt, copyAt, exchanged, fromAt, memberAt, toAt}
+use Rattle.class_words.specs.Places.{classAt, copyAt, exchanged, fromAt, memberAt, placeAt, toAt}
 use Rattle.splitting.specs.inner.Grouping.{Groupable, GroupedTo, Quick}
 use Rattle.splitting.specs.inner.Into.{Comparing}
 use Rattle.class_words.proofs.laws.Packed.{packed-keep}
@@ -111,13 +111,42 @@ module _ (G : List ℕ) (n g s : ℕ) (own : ℕ → ℕ) (count c low till : �
         go x u v k (no q) = D .other x u (omega arith) k
 
     -- p has another sign
-    pub group-pass : (v w : ℕ) → Quick G n g s low ws₀ → v ≡ copyAt n g ws₀ first → w ≡ copyAt n g ws p
+    pub group-pass : (v w : ℕ) → Quick G n g s low till ws₀ → v ≡ copyAt n g ws₀ first → w ≡ copyAt n g ws p
         → (w ≡ v → ⊥) → GroupedTo G n g s own count c low till ws₀ end (i + 1) ws
     group-pass v w Q ev ew ne = group-leave false ((λ e. no-true e), (λ k. absurd (ne (same k)))) refl
       where
         same : SameInto (δ G n) (classAt ws) s first p → w ≡ v
         same k = let z = A .packed .sized in ew ∙ D .keeps (g + 3 * n + p) (inr (omega arith))
-            ∙ sym (Q p (same-asks .right) (to-first k)) ∙ ap (copyAt n g ws₀) (sym ef) ∙ sym ev
+            ∙ sym (Q .alike p (same-asks .right) (to-first k)) ∙ ap (copyAt n g ws₀) (sym ef) ∙ sym ev
+
+    -- p stood between low and till from the beginning
+    place-there : (low ≤ placeAt n ws₀ p) × (placeAt n ws₀ p < till)
+    place-there = go (decLt (placeAt n ws₀ p) low) (decLt (placeAt n ws₀ p) till)
+      where
+        is-i : (placeAt n ws₀ p < low) ⊎ (till ≤ placeAt n ws₀ p) → i ≡ placeAt n ws₀ p
+        is-i o =
+            let x = placeAt n ws₀ p in
+            let l = A .parted .place-low p (same-asks .right) in
+            let e : memberAt n ws x ≡ p = D .fixed x l o ∙ A .parted .member-place p (same-asks .right) in
+            sym (D .able .parted .place-member i (omega (arith, top))) ∙ ap (placeAt n ws) (sym ep ∙ sym e)
+            ∙ D .able .parted .place-member x l
+
+        go : Dec (placeAt n ws₀ p < low) → Dec (placeAt n ws₀ p < till)
+            → (low ≤ placeAt n ws₀ p) × (placeAt n ws₀ p < till)
+        go (yes a) b = absurd (omega (arith, is-i (inl a), D .start, D .order))
+        go (no a) (no b) = absurd (omega (arith, is-i (inr (omega arith))))
+        go (no a) (yes b) = (omega arith, b)
+
+    -- p has the sign of the first: where it is that of one letter, it goes into s as the first does
+    pub group-sure : (v w : ℕ) → Quick G n g s low till ws₀ → v ≡ copyAt n g ws₀ first → w ≡ copyAt n g ws p → w ≡ v
+        → v < 134217729 → SameInto (δ G n) (classAt ws) s first p
+    group-sure v w Q ev ew e l =
+        let f = ev ∙ ap (copyAt n g ws₀) ef in
+        of-first (Q .exact p (same-asks .right) (place-there .0) (place-there .1) (sym f ∙ sym e ∙ ew ∙ word)
+        (omega (arith, f)))
+      where
+        word : copyAt n g ws p ≡ copyAt n g ws₀ p
+        word = let z = A .packed .sized in D .keeps (g + 3 * n + p) (inr (omega arith))
 
     pub pass-asks : (p < n) × ((n ≤ 8192) × ((g ≤ 600000) × (g + 4 * n ≤ length ws)))
     pass-asks = let z = D .able .packed .sized in (same-asks .right, (z .few, (omega arith, z .room)))

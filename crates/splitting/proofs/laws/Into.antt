@@ -99,7 +99,7 @@ module _ (G : List ℕ) (g n s p q : ℕ) (ws : List ℕ) (C : Comparing G g n s
 
 module _ (G : List ℕ) (n : ℕ) (cls : ℕ → ℕ) (s : ℕ) (some : 0 < s) (dead : cls (n - 1) ≡ 0) where
   -- the dead state is not in the class
-  not-dead : (x : ℕ) → x ≡ n - 1 → cls x ≡ s → ⊥
+  pub not-dead : (x : ℕ) → x ≡ n - 1 → cls x ≡ s → ⊥
   not-dead x e h = omega (arith, ap cls e)
 
   -- the letter of the first edge does not come again

@@ -22,6 +22,7 @@ use Rattle.splitting.specs.inner.Refining.{ToSplitAll}
 use Rattle.splitting.specs.inner.Refining.{SignedAll, Touched}
 use Rattle.splitting.specs.inner.Signs.{HasSign, Signable, Signed, SignedTo, SigningAll, ToSign, signOf}
 use Rattle.splitting.proofs.laws.Signs.{same-sign}
+use Rattle.splitting.proofs.laws.Exact.{same-letters}
 use Rattle.splitting.proofs.laws.Splitting.{into-moves, signed-keep}
 use Rattle.splitting.specs.inner.Renaming.{RenamedAll}
 use Rattle.splitting.specs.inner.Splitting.{Parting, SplitOne, Splitting}
@@ -292,6 +293,8 @@ module _ (G : List ℕ) (n g s : ℕ) (cls : ℕ → ℕ) (count m : ℕ) (ws : 
       signed = record {
         alike = λ p q a b i k. has p a i ∙ same-sign G n cls s (T .some) (T .dead) p q (u .packed .graph .edges p a)
             (u .packed .graph .edges q b) k ∙ sym (has q b (into-moves (δ G n) cls s p q k i));
+        exact = λ p q a b i j e l. same-letters G n cls s (T .some) (T .dead) p q (u .packed .graph .edges p a)
+            (u .packed .graph .edges q b) (sym (has p a i) ∙ e ∙ has q b j) (omega (arith, has p a i));
       };
     }
       where

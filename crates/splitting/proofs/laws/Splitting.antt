@@ -44,7 +44,10 @@ module _ (d : ℕ → ℕ → ℕ) (cls : ℕ → ℕ) (s : ℕ) where
 -- where the words of signs stay, signs do
 pub signed-keep : (G : List ℕ) (n g s : ℕ) (cls : ℕ → ℕ) (ws ws′ : List ℕ) → Signed G n g s cls ws
     → ((p : ℕ) → copyAt n g ws′ p ≡ copyAt n g ws p) → Signed G n g s cls ws′
-signed-keep G n g s cls ws ws′ S k = record { alike = λ p q a b i x. k p ∙ S .alike p q a b i x ∙ sym (k q) }
+signed-keep G n g s cls ws ws′ S k = record {
+  alike = λ p q a b i x. k p ∙ S .alike p q a b i x ∙ sym (k q);
+  exact = λ p q a b i j e l. S .exact p q a b i j (sym (k p) ∙ e ∙ k q) (omega (arith, k p));
+}
 
 pub signed-set : (G : List ℕ) (n g s : ℕ) (cls : ℕ → ℕ) (ws ws′ : List ℕ) (d : ℕ) → Signed G n g s cls ws → d < n
     → ws′ ≡ set ws (g + n + d) 0 → Signed G n g s cls ws′
@@ -214,7 +217,10 @@ module _ (G : List ℕ) (n g s : ℕ) (cls : ℕ → ℕ) (count : ℕ) (ws : Li
     to = omega (arith, C .till-end, C .d-to);
   }
 
-  -- the first state goes into s
+  -- the first state is a state, and goes into s
+  first-low : memberAt n ws low < n
+  first-low = Q .parted .member-low low (omega (arith, more, C .till-end, C .d-to, Q .parted .top d (C .d-low)))
+
   first-goes : Into (δ G n) cls s (memberAt n ws low)
   first-goes =
       let t = Q .parted .top d (C .d-low) in
@@ -226,13 +232,25 @@ module _ (G : List ℕ) (n g s : ℕ) (cls : ℕ → ℕ) (count : ℕ) (ws : Li
       low-is : toAt n ws d ≤ n → low < n
       low-is t = omega (arith, more, C .till-end, C .d-to)
 
-  pub quick : Signed G n g s cls ws → Quick G n g s low ws
-  quick S q h x = let l = Q .parted .member-low low (omega (arith, more, C .till-end, C .d-to, Q .parted .top d
-      (C .d-low))) in
-      S .alike (memberAt n ws low) q l h first-goes
-      (same-into-of (δ G n) (classAt ws) cls s (memberAt n ws low) q
-      (λ m. sym (Q .class (δ G n (memberAt n ws low) m) (δ-lt G n (memberAt n ws low) m (Q .packed .graph) l)))
-      (λ m. sym (Q .class (δ G n q m) (δ-lt G n q m (Q .packed .graph) h))) x)
+  -- so do the states at the places from low to till
+  goes-there : (q : ℕ) → q < n → low ≤ placeAt n ws q → placeAt n ws q < till → Into (δ G n) cls s q
+  goes-there q h a b = C .inside q h
+      (ap cur (sym (Q .parted .member-place q h)) ∙ Q .parted .whole d (C .d-low) (placeAt n ws q)
+      (omega (arith, C .d-from more)) (omega (arith, C .d-to, C .till-end))) b
+
+  -- the words have the classes `cls`
+  class-of : (q m : ℕ) → q < n → classAt ws (δ G n q m) ≡ cls (δ G n q m)
+  class-of q m h = Q .class (δ G n q m) (δ-lt G n q m (Q .packed .graph) h)
+
+  pub quick : Signed G n g s cls ws → Quick G n g s low till ws
+  quick S = record {
+    alike = λ q h x. S .alike (memberAt n ws low) q first-low h first-goes
+        (same-into-of (δ G n) (classAt ws) cls s (memberAt n ws low) q
+        (λ m. sym (class-of (memberAt n ws low) m first-low)) (λ m. sym (class-of q m h)) x);
+    exact = λ q h a b e l. same-into-of (δ G n) cls (classAt ws) s (memberAt n ws low) q
+        (λ m. class-of (memberAt n ws low) m first-low) (λ m. class-of q m h)
+        (S .exact (memberAt n ws low) q first-low h first-goes (goes-there q h a b) e l);
+  }
 
   module _ (mid : ℕ) (v : List ℕ) (D : GroupedTo G n g s cur k d low till ws mid till v) where
     R : Parted n v cur k
@@ -945,7 +963,7 @@ module _ (G : List ℕ) (n g s : ℕ) (cls : ℕ → ℕ) (count k₀ till end :
   pub state-able : Groupable G n g s (S .cur) k d low till ws
   state-able = able G n g s cls count ws (S .cur) k d low till end (S .carving) more
 
-  pub state-quick : Signed G n g s cls ws₁ → Quick G n g s low ws
+  pub state-quick : Signed G n g s cls ws₁ → Quick G n g s low till ws
   state-quick T = quick G n g s cls count ws (S .cur) k d low till end (S .carving) more
       (signed-keep G n g s cls ws₁ ws T (λ p. S .keeps (g + 3 * n + p) (omega arith)))
 

@@ -8,7 +8,7 @@ use Rattle.dfa.specs.Graph.{δ}
 use Rattle.smallest.specs.Classes.{SameInto}
 use Rattle.class_words.specs.Packed.{Packed}
 use Rattle.class_words.specs.Parted.{Parted}
-use Rattle.class_words.specs.Places.{classAt, copyAt, fromAt, memberAt, toAt}
+use Rattle.class_words.specs.Places.{classAt, copyAt, fromAt, memberAt, placeAt, toAt}
 
 -- the places from low to till are places of the class c; the dead state is not in the class s
 pub record Groupable (G : List ℕ) (n g s : ℕ) (own : ℕ → ℕ) (count c low till : ℕ) (ws : List ℕ) : Type 0 where
@@ -21,10 +21,14 @@ pub record Groupable (G : List ℕ) (n g s : ℕ) (own : ℕ → ℕ) (count c l
   pub from : fromAt n ws c ≤ low
   pub to : till ≤ toAt n ws c
 
--- the states that go into s by the letters of the first have its sign
-abbrev pub Quick : List ℕ → ℕ → ℕ → ℕ → ℕ → List ℕ → Type 0
-Quick G n g s low ws = (q : ℕ) → q < n → SameInto (δ G n) (classAt ws) s (memberAt n ws low) q
-    → copyAt n g ws (memberAt n ws low) ≡ copyAt n g ws q
+-- the states that go into s by the letters of the first have its sign; where it is that of one letter, of the states at
+-- the places from low to till only these have it
+pub record Quick (G : List ℕ) (n g s low till : ℕ) (ws : List ℕ) : Type 0 where
+  pub alike : (q : ℕ) → q < n → SameInto (δ G n) (classAt ws) s (memberAt n ws low) q
+      → copyAt n g ws (memberAt n ws low) ≡ copyAt n g ws q
+  pub exact : (q : ℕ) → q < n → low ≤ placeAt n ws q → placeAt n ws q < till
+      → copyAt n g ws (memberAt n ws low) ≡ copyAt n g ws q → copyAt n g ws (memberAt n ws low) < 134217729
+      → SameInto (δ G n) (classAt ws) s (memberAt n ws low) q
 
 pub record ToGroup (n g s low till : ℕ) (ws : List ℕ) : Type 0 where
   pub graph : List ℕ
@@ -32,7 +36,7 @@ pub record ToGroup (n g s low till : ℕ) (ws : List ℕ) : Type 0 where
   pub count : ℕ
   pub c : ℕ
   pub able : Groupable graph n g s own count c low till ws
-  pub quick : Quick graph n g s low ws
+  pub quick : Quick graph n g s low till ws
 
 -- the states at the places from low to end go into s as the first does; those from end to i do not
 pub record GroupedTo (G : List ℕ) (n g s : ℕ) (own : ℕ → ℕ) (count c low till : ℕ) (ws₀ : List ℕ) (end i : ℕ)
@@ -51,5 +55,5 @@ pub record GroupedTo (G : List ℕ) (n g s : ℕ) (own : ℕ → ℕ) (count c l
 
 abbrev pub Grouped : List ℕ → ℕ → ℕ → ℕ → (ℕ → ℕ) → ℕ → ℕ → ℕ → ℕ → List ℕ → ℕ → List ℕ → Type 0
 Grouped G n g s own count c low till ws end ws′ =
-    Groupable G n g s own count c low till ws → Quick G n g s low ws → GroupedTo G n g s own count c low till ws end
-        till ws′
+    Groupable G n g s own count c low till ws → Quick G n g s low till ws
+    → GroupedTo G n g s own count c low till ws end till ws′

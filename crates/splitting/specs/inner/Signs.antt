@@ -11,9 +11,9 @@ use Rattle.smallest.specs.Classes.{Into, SameInto}
 use Rattle.class_words.specs.Packed.{Packed}
 use Rattle.class_words.specs.Places.{classAt, copyAt, fromAt, listAt, memberAt, touchedAt}
 
--- the sign v with the letter l put to it
+-- the sign v with the letter l put to it: that of no letter is 0, those of one are below 134217729
 unfoldable pub mixed : ℕ → ℕ → ℕ
-mixed v l = (v * 10368889 + l % 65536 + 1) % 16777216
+mixed v l = cond (eqb v 0) (l % 134217728 + 1) (134217729 + (v * 10368889 + l % 134217728 + 1) % 16777216)
 
 -- the sign v after the k edges from i on
 unfoldable pub signFrom : List ℕ → ℕ → (ℕ → ℕ) → ℕ → ℕ → ℕ → ℕ → ℕ
@@ -70,7 +70,9 @@ pub record SigningAll (G : List ℕ) (n g s : ℕ) (cls : ℕ → ℕ) (x : ℕ)
       → i < fromAt n ws₀ (listAt n g ws₀ y) + touchedAt n g ws₀ (listAt n g ws₀ y)
       → HasSign G n g s cls ws (memberAt n ws₀ i)
 
--- states that go into s by the same letters have the same sign
+-- states that go into s by the same letters have the same sign, and where it is that of one letter, only these have it
 pub record Signed (G : List ℕ) (n g s : ℕ) (cls : ℕ → ℕ) (ws : List ℕ) : Type 0 where
   pub alike : (p q : ℕ) → p < n → q < n → Into (δ G n) cls s p → SameInto (δ G n) cls s p q
       → copyAt n g ws p ≡ copyAt n g ws q
+  pub exact : (p q : ℕ) → p < n → q < n → Into (δ G n) cls s p → Into (δ G n) cls s q
+      → copyAt n g ws p ≡ copyAt n g ws q → copyAt n g ws p < 134217729 → SameInto (δ G n) cls s p q

@@ -11,7 +11,7 @@ use Rattle.splitting.proofs.sign.sign.Statement.{statement}
 use Rattle.splitting.proofs.sign.sign.Tie as tie
 
 abbrev Inv-loop : tie.InvT-loop
-Inv-loop words n s p end i₀ v₀ i v = (v < 16777216) × ((G : List ℕ) (g : ℕ) (cls : ℕ → ℕ)
+Inv-loop words n s p end i₀ v₀ i v = (v < 150994945) × ((G : List ℕ) (g : ℕ) (cls : ℕ → ℕ)
     → Signing G g n p cls words → SignLoop G n p cls s i₀ end v₀ → SignLoop G n p cls s i end v)
 
 abbrev μ-loop : tie.MeasureT-loop

@@ -5,14 +5,14 @@ use native.Mathlib.Omega.{arith}
 use mathlib.Core.Path.{refl}
 use Rattle.splitting.specs.inner.Grouping.{Groupable, GroupedTo, Quick}
 use Rattle.splitting.proofs.laws.Grouping.{exchange-asks, first-low, group-asks, group-bring, group-first}
-use Rattle.splitting.proofs.laws.Grouping.{group-last, group-leave, group-pass, group-small, pass-asks}
-use Rattle.splitting.proofs.laws.Grouping.{same-asks, sign-asks}
+use Rattle.splitting.proofs.laws.Grouping.{group-last, group-leave, group-pass, group-small, group-sure}
+use Rattle.splitting.proofs.laws.Grouping.{pass-asks, same-asks, sign-asks}
 use Rattle.splitting.proofs.split.group.Statement.{statement}
 use Rattle.splitting.proofs.split.group.Tie as tie
 
 abbrev Inv-loop : tie.InvT-loop
 Inv-loop words₀ n g s low till first v end₀ i₀ words end i = (G : List ℕ) (own : ℕ → ℕ) (count c : ℕ)
-    → Groupable G n g s own count c low till words₀ → Quick G n g s low words₀
+    → Groupable G n g s own count c low till words₀ → Quick G n g s low till words₀
     → GroupedTo G n g s own count c low till words₀ end i words
 
 abbrev μ-loop : tie.MeasureT-loop
@@ -52,8 +52,8 @@ copied-requires-2 c κs = let D = c .before .before .before .before .loop .inv _
         (c .before .before .before .loop-test .taken) _ _ (c .before .member2 .ensures)
         (c .before .before .before .before .before .before .before .member .ensures)
 
-same-into-requires : tie.Need-same-into-requires Inv-loop μ-loop
-same-into-requires c κs = let D = c .before .before .before .before .before .before .before .loop .inv _ _ _ _
+alike-requires : tie.Need-alike-requires Inv-loop μ-loop
+alike-requires c κs = let D = c .before .before .before .before .before .before .before .loop .inv _ _ _ _
     (c .before .before .before .before .before .before .before .before .before .before .before .before .before .pre .able)
     (c .before .before .before .before .before .before .before .before .before .before .before .before .before .pre .quick)
     in (
@@ -111,11 +111,19 @@ loop-again c = λ G own count k A Q. let D =
         _ _ (c .before .before .before .before .before .before .before .before .before .before .member2 .ensures)
         (c .before .before .before .before .before .before .before .before .before .before .before .before .before .before .before .before .member .ensures)
         _ _
-    (c .before .before .before .before .before .same-into .ensures G _ (same-asks _ _ _ _ _ _ _ _ _ _ A _ _ _ D
+    (c .before .before .before .before .before .alike .ensures G _ (same-asks _ _ _ _ _ _ _ _ _ _ A _ _ _ D
         (c .before .before .before .before .before .before .before .before .before .before .before .before .loop-test .taken)
         _ _ (c .before .before .before .before .before .before .before .before .before .before .member2 .ensures)
-        (c .before .before .before .before .before .before .before .before .before .before .before .before .before .before .before .before .member .ensures)))
-            (c .before .before .before .before .if2 .taken) (c .before .before .exchange .ensures)
+        (c .before .before .before .before .before .before .before .before .before .before .before .before .before .before .before .before .member .ensures))
+    (group-sure _ _ _ _ _ _ _ _ _ _ A _ _ _ D
+        (c .before .before .before .before .before .before .before .before .before .before .before .before .loop-test .taken)
+        _ _ (c .before .before .before .before .before .before .before .before .before .before .member2 .ensures)
+        (c .before .before .before .before .before .before .before .before .before .before .before .before .before .before .before .before .member .ensures)
+        _ _ Q
+        (c .before .before .before .before .before .before .before .before .before .before .before .before .before .before .copied .ensures)
+        (c .before .before .before .before .before .before .before .before .copied2 .ensures)
+        (c .before .before .before .before .before .before .before .if1 .taken)))
+    (c .before .before .before .before .if2 .taken) (c .before .before .exchange .ensures)
 
 add-i-3 : tie.Need-add-i-3 Inv-loop μ-loop
 add-i-3 c = omega (arith, group-small _ _ _ _ _ _ _ _ _ _
@@ -135,11 +143,19 @@ loop-again-2 c = λ G own count k A Q. let D =
         (c .before .before .before .before .before .before .member2 .ensures)
         (c .before .before .before .before .before .before .before .before .before .before .before .before .member .ensures)
         _
-    (c .before .same-into .ensures G _ (same-asks _ _ _ _ _ _ _ _ _ _ A _ _ _ D
+    (c .before .alike .ensures G _ (same-asks _ _ _ _ _ _ _ _ _ _ A _ _ _ D
         (c .before .before .before .before .before .before .before .before .loop-test .taken) _ _
         (c .before .before .before .before .before .before .member2 .ensures)
-        (c .before .before .before .before .before .before .before .before .before .before .before .before .member .ensures)))
-            (c .if2 .left)
+        (c .before .before .before .before .before .before .before .before .before .before .before .before .member .ensures))
+    (group-sure _ _ _ _ _ _ _ _ _ _ A _ _ _ D
+        (c .before .before .before .before .before .before .before .before .loop-test .taken)
+        _ _ (c .before .before .before .before .before .before .member2 .ensures)
+        (c .before .before .before .before .before .before .before .before .before .before .before .before .member .ensures)
+        _ _ Q
+        (c .before .before .before .before .before .before .before .before .before .before .copied .ensures)
+        (c .before .before .before .before .copied2 .ensures)
+        (c .before .before .before .if1 .taken)))
+    (c .if2 .left)
 
 add-i-4 : tie.Need-add-i-4 Inv-loop μ-loop
 add-i-4 c = omega (arith, group-small _ _ _ _ _ _ _ _ _ _
@@ -182,7 +198,7 @@ group-spec =
     loop-holds
     member-requires-2
     copied-requires-2
-    same-into-requires
+    alike-requires
     exchange-requires
     add-end-2
     add-i-2
