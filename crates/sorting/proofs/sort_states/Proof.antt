@@ -24,85 +24,110 @@ link-edges-requires c κs = record { graph = _; linking = linkable _ _ _
     (c .before .before .before .before .before .first-edge .ensures)) _ (c .before .before .before .zero .ensures) }
 
 first-classes-requires : tie.Need-first-classes-requires
-first-classes-requires c κs = let Λ = linkable _ _ _
-    (c .before .before .before .before .before .before .before .before .before .before .before .before .before .before .before .before .pre)
+first-classes-requires c κs =
+    let asked = c .before .before .before .before .before .before .before .before .before .before .before .before
+    .before .before .before .before .pre in
+    let first-edge-2 = c .before .before .before .before .before .before .before .before .before .before .before
+    .before .before .first-edge in
+    let zero-2 = c .before .before .before .before .before .before .before .before .before .before .before .zero in
+    let Λ = linkable _ _ _
+    (asked)
     _ (g-is _ _ _
-    (c .before .before .before .before .before .before .before .before .before .before .before .before .before .before .before .before .pre)
+    (asked)
     _
-    (c .before .before .before .before .before .before .before .before .before .before .before .before .before .first-edge .ensures))
-    _ (c .before .before .before .before .before .before .before .before .before .before .before .zero .ensures) in
+    (first-edge-2 .ensures))
+    _ (zero-2 .ensures) in
     start-asks _ _ _
-        (c .before .before .before .before .before .before .before .before .before .before .before .before .before .before .before .before .pre)
+        (asked)
         _ (g-is _ _ _
-        (c .before .before .before .before .before .before .before .before .before .before .before .before .before .before .before .before .pre)
+        (asked)
         _
-        (c .before .before .before .before .before .before .before .before .before .before .before .before .before .first-edge .ensures))
-        _ (c .before .before .before .before .before .before .before .before .before .before .before .zero .ensures) _
+        (first-edge-2 .ensures))
+        _ (zero-2 .ensures) _
         (c .before .before .before .before .before .before .before .link-edges .ensures _ Λ) _
         (c .before .before .before .place-states .ensures)
 
 refine-requires : tie.Need-refine-requires
-refine-requires c κs = let Λ = linkable _ _ _
-    (c .before .before .before .before .before .before .before .before .before .before .before .before .before .before .before .before .before .before .before .before .pre)
+refine-requires c κs =
+    let asked = c .before .before .before .before .before .before .before .before .before .before .before .before
+    .before .before .before .before .before .before .before .before .pre in
+    let first-edge-2 = c .before .before .before .before .before .before .before .before .before .before .before
+    .before .before .before .before .before .before .first-edge in
+    let zero-2 = c .before .before .before .before .before .before .before .before .before .before .before .before
+    .before .before .before .zero in
+    let Λ = linkable _ _ _
+    (asked)
     _ (g-is _ _ _
-    (c .before .before .before .before .before .before .before .before .before .before .before .before .before .before .before .before .before .before .before .before .pre)
+    (asked)
     _
-    (c .before .before .before .before .before .before .before .before .before .before .before .before .before .before .before .before .before .first-edge .ensures))
+    (first-edge-2 .ensures))
     _
-    (c .before .before .before .before .before .before .before .before .before .before .before .before .before .before .before .zero .ensures)
+    (zero-2 .ensures)
     in
     record {
       graph = _;
       f = _;
       refinable = refinable _ _ _
-          (c .before .before .before .before .before .before .before .before .before .before .before .before .before .before .before .before .before .before .before .before .pre)
+          (asked)
           _ (g-is _ _ _
-          (c .before .before .before .before .before .before .before .before .before .before .before .before .before .before .before .before .before .before .before .before .pre)
+          (asked)
           _
-          (c .before .before .before .before .before .before .before .before .before .before .before .before .before .before .before .before .before .first-edge .ensures))
+          (first-edge-2 .ensures))
           _
-          (c .before .before .before .before .before .before .before .before .before .before .before .before .before .before .before .zero .ensures)
+          (zero-2 .ensures)
           _
-          (c .before .before .before .before .before .before .before .before .before .before .before .link-edges .ensures
+          (c .before .before .before .before .before .before .before .before .before .before .before .link-edges
+          .ensures
               _ Λ) _ (c .before .before .before .before .before .before .before .place-states .ensures) _
               (c .before .before .before .first-classes .ensures);
     }
 
 returns : tie.Need-returns
-returns c = let Λ = linkable _ _ _
-    (c .before .before .before .before .before .before .before .before .before .before .before .before .before .before .before .before .before .before .before .before .before .before .before .pre)
+returns c =
+    let asked = c .before .before .before .before .before .before .before .before .before .before .before .before
+    .before .before .before .before .before .before .before .before .before .before .before .pre in
+    let first-edge-2 = c .before .before .before .before .before .before .before .before .before .before .before
+    .before .before .before .before .before .before .before .before .before .first-edge in
+    let zero-2 = c .before .before .before .before .before .before .before .before .before .before .before .before
+    .before .before .before .before .before .before .zero in
+    let link-edges-2 = c .before .before .before .before .before .before .before .before .before .before .before
+    .before .before .before .link-edges in
+    let place-states-2 = c .before .before .before .before .before .before .before .before .before .before
+    .place-states in
+    let Λ = linkable _ _ _
+    (asked)
     _ (g-is _ _ _
-    (c .before .before .before .before .before .before .before .before .before .before .before .before .before .before .before .before .before .before .before .before .before .before .before .pre)
+    (asked)
     _
-    (c .before .before .before .before .before .before .before .before .before .before .before .before .before .before .before .before .before .before .before .before .first-edge .ensures))
+    (first-edge-2 .ensures))
     _
-    (c .before .before .before .before .before .before .before .before .before .before .before .before .before .before .before .before .before .before .zero .ensures)
+    (zero-2 .ensures)
     in
     sorted _ _ _
-        (c .before .before .before .before .before .before .before .before .before .before .before .before .before .before .before .before .before .before .before .before .before .before .before .pre)
+        (asked)
         _ (g-is _ _ _
-        (c .before .before .before .before .before .before .before .before .before .before .before .before .before .before .before .before .before .before .before .before .before .before .before .pre)
+        (asked)
         _
-        (c .before .before .before .before .before .before .before .before .before .before .before .before .before .before .before .before .before .before .before .before .first-edge .ensures))
+        (first-edge-2 .ensures))
         _
-        (c .before .before .before .before .before .before .before .before .before .before .before .before .before .before .before .before .before .before .zero .ensures)
+        (zero-2 .ensures)
         _
-        (c .before .before .before .before .before .before .before .before .before .before .before .before .before .before .link-edges .ensures
+        (link-edges-2 .ensures
         _ Λ) _
-        (c .before .before .before .before .before .before .before .before .before .before .place-states .ensures) _
+        (place-states-2 .ensures) _
     (c .before .before .before .before .before .before .first-classes .ensures) _ _ (c .before .before .refine .ensures
         _ _ (refinable _ _ _
-        (c .before .before .before .before .before .before .before .before .before .before .before .before .before .before .before .before .before .before .before .before .before .before .before .pre)
+        (asked)
         _ (g-is _ _ _
-        (c .before .before .before .before .before .before .before .before .before .before .before .before .before .before .before .before .before .before .before .before .before .before .before .pre)
+        (asked)
         _
-        (c .before .before .before .before .before .before .before .before .before .before .before .before .before .before .before .before .before .before .before .before .first-edge .ensures))
+        (first-edge-2 .ensures))
         _
-        (c .before .before .before .before .before .before .before .before .before .before .before .before .before .before .before .before .before .before .zero .ensures)
+        (zero-2 .ensures)
         _
-    (c .before .before .before .before .before .before .before .before .before .before .before .before .before .before .link-edges .ensures
+    (link-edges-2 .ensures
         _ Λ) _
-        (c .before .before .before .before .before .before .before .before .before .before .place-states .ensures) _
+        (place-states-2 .ensures) _
         (c .before .before .before .before .before .before .first-classes .ensures)))
 
 pub sort-states-spec : {M : Type 1} → statement M

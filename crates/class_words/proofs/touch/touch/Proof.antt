@@ -51,12 +51,15 @@ exchange-requires c κs = let T =
         c .before .before .before .before .from .ensures)) (c .before .before .place .ensures) (c .before .if1 .left)
 
 add-set-touched : tie.Need-add-set-touched
-add-set-touched c = let T =
-    c .before .before .before .before .before .before .before .before .before .before .before .before .before .before .before .pre .touching
+add-set-touched c =
+    let asked = c .before .before .before .before .before .before .before .before .before .before .before .before
+    .before .before .before .pre in
+    let T =
+    asked .touching
     in
     let r = touched-asks _ _ _ _ _ _ _ _ T _ _ _ _ _
-        (c .before .before .before .before .before .before .before .before .before .before .before .before .before .before .before .pre .low)
-        (c .before .before .before .before .before .before .before .before .before .before .before .before .before .before .before .pre .goes)
+        (asked .low)
+        (asked .goes)
         (c .before .before .before .before .before .before .before .before .before .before .before .before .at .ensures)
     (c .before .before .before .before .before .before .before .before .before .before .touched .ensures) (omega (arith,
         c .before .before .before .before .before .before .before .before .from .ensures))
@@ -65,12 +68,15 @@ add-set-touched c = let T =
     omega (arith, r .1 .0, r .1 .1 .0)
 
 set-touched-requires : tie.Need-set-touched-requires
-set-touched-requires c κs = let T =
-    c .before .before .before .before .before .before .before .before .before .before .before .before .before .before .before .pre .touching
+set-touched-requires c κs =
+    let asked = c .before .before .before .before .before .before .before .before .before .before .before .before
+    .before .before .before .pre in
+    let T =
+    asked .touching
     in
     touched-asks _ _ _ _ _ _ _ _ T _ _ _ _ _
-        (c .before .before .before .before .before .before .before .before .before .before .before .before .before .before .before .pre .low)
-        (c .before .before .before .before .before .before .before .before .before .before .before .before .before .before .before .pre .goes)
+        (asked .low)
+        (asked .goes)
         (c .before .before .before .before .before .before .before .before .before .before .before .before .at .ensures)
     (c .before .before .before .before .before .before .before .before .before .before .touched .ensures) (omega (arith,
         c .before .before .before .before .before .before .before .before .from .ensures))
@@ -79,28 +85,38 @@ set-touched-requires c κs = let T =
 
 returns-2 : tie.Need-returns-2
 returns-2 c = λ G s own count T I. touched-more _ _ _ _ _ _ _ _ T _ _ _ _ _
-    (c .before .before .before .before .before .before .before .before .before .before .before .before .before .before .before .before .before .before .before .pre .low)
+    (c .before .before .before .before .before .before .before .before .before .before .before .before .before .before
+    .before .before .before .before .before .pre .low)
     I
-    (c .before .before .before .before .before .before .before .before .before .before .before .before .before .before .before .before .at .ensures)
-    (c .before .before .before .before .before .before .before .before .before .before .before .before .before .before .touched .ensures)
+    (c .before .before .before .before .before .before .before .before .before .before .before .before .before .before
+    .before .before .at .ensures)
+    (c .before .before .before .before .before .before .before .before .before .before .before .before .before .before
+    .touched .ensures)
         (omega (arith,
-        c .before .before .before .before .before .before .before .before .before .before .before .before .from .ensures))
+        c .before .before .before .before .before .before .before .before .before .before .before .before .from
+        .ensures))
         (c .before .before .before .before .before .before .before .before .before .before .place .ensures)
         (c .before .before .before .before .before .before .before .before .before .if1 .left) _ _
         (c .before .before .before .before .before .before .before .exchange .ensures)
     (c .before .before .before .set-touched .ensures) (c .if2 .taken)
 
 set-listed-requires : tie.Need-set-listed-requires
-set-listed-requires c κs = let T =
-    c .before .before .before .before .before .before .before .before .before .before .before .before .before .before .before .before .before .before .before .before .pre .touching
+set-listed-requires c κs =
+    let asked = c .before .before .before .before .before .before .before .before .before .before .before .before
+    .before .before .before .before .before .before .before .before .pre in
+    let T =
+    asked .touching
     in
     listed-asks _ _ _ _ _ _ _ _ T _ _ _ _ _
-        (c .before .before .before .before .before .before .before .before .before .before .before .before .before .before .before .before .before .before .before .before .pre .low)
-        (c .before .before .before .before .before .before .before .before .before .before .before .before .before .before .before .before .before .before .before .before .pre .goes)
-        (c .before .before .before .before .before .before .before .before .before .before .before .before .before .before .before .before .before .at .ensures)
-    (c .before .before .before .before .before .before .before .before .before .before .before .before .before .before .before .touched .ensures)
+        (asked .low)
+        (asked .goes)
+        (c .before .before .before .before .before .before .before .before .before .before .before .before .before
+        .before .before .before .before .at .ensures)
+    (c .before .before .before .before .before .before .before .before .before .before .before .before .before .before
+    .before .touched .ensures)
         (omega (arith,
-        c .before .before .before .before .before .before .before .before .before .before .before .before .before .from .ensures))
+        c .before .before .before .before .before .before .before .before .before .before .before .before .before
+        .from .ensures))
         (c .before .before .before .before .before .before .before .before .before .before .before .place .ensures)
         (c .before .before .before .before .before .before .before .before .before .before .if1 .left)
     (omega (arith, c .before .if2 .left)) _ _
@@ -108,18 +124,26 @@ set-listed-requires c κs = let T =
         (c .before .before .before .before .set-touched .ensures)
 
 add-result : tie.Need-add-result
-add-result c = let T =
-    c .before .before .before .before .before .before .before .before .before .before .before .before .before .before .before .before .before .before .before .before .before .before .before .pre .touching
+add-result c =
+    let asked = c .before .before .before .before .before .before .before .before .before .before .before .before
+    .before .before .before .before .before .before .before .before .before .before .before .pre in
+    let T =
+    asked .touching
     in
     let r = listed-asks _ _ _ _ _ _ _ _ T _ _ _ _ _
-        (c .before .before .before .before .before .before .before .before .before .before .before .before .before .before .before .before .before .before .before .before .before .before .before .pre .low)
-        (c .before .before .before .before .before .before .before .before .before .before .before .before .before .before .before .before .before .before .before .before .before .before .before .pre .goes)
-        (c .before .before .before .before .before .before .before .before .before .before .before .before .before .before .before .before .before .before .before .before .at .ensures)
-    (c .before .before .before .before .before .before .before .before .before .before .before .before .before .before .before .before .before .before .touched .ensures)
+        (asked .low)
+        (asked .goes)
+        (c .before .before .before .before .before .before .before .before .before .before .before .before .before
+        .before .before .before .before .before .before .before .at .ensures)
+    (c .before .before .before .before .before .before .before .before .before .before .before .before .before .before
+    .before .before .before .before .touched .ensures)
         (omega (arith,
-        c .before .before .before .before .before .before .before .before .before .before .before .before .before .before .before .before .from .ensures))
-        (c .before .before .before .before .before .before .before .before .before .before .before .before .before .before .place .ensures)
-        (c .before .before .before .before .before .before .before .before .before .before .before .before .before .if1 .left)
+        c .before .before .before .before .before .before .before .before .before .before .before .before .before
+        .before .before .before .from .ensures))
+        (c .before .before .before .before .before .before .before .before .before .before .before .before .before
+        .before .place .ensures)
+        (c .before .before .before .before .before .before .before .before .before .before .before .before .before
+        .if1 .left)
     (omega (arith, c .before .before .before .before .if2 .left)) _ _
         (c .before .before .before .before .before .before .before .before .before .before .before .exchange .ensures)
         (c .before .before .before .before .before .before .before .set-touched .ensures) in
@@ -127,14 +151,20 @@ add-result c = let T =
 
 returns-3 : tie.Need-returns-3
 returns-3 c = λ G s own count T I. touched-new _ _ _ _ _ _ _ _ T _ _ _ _ _
-    (c .before .before .before .before .before .before .before .before .before .before .before .before .before .before .before .before .before .before .before .before .before .before .before .pre .low)
+    (c .before .before .before .before .before .before .before .before .before .before .before .before .before .before
+    .before .before .before .before .before .before .before .before .before .pre .low)
     I
-    (c .before .before .before .before .before .before .before .before .before .before .before .before .before .before .before .before .before .before .before .before .at .ensures)
-    (c .before .before .before .before .before .before .before .before .before .before .before .before .before .before .before .before .before .before .touched .ensures)
+    (c .before .before .before .before .before .before .before .before .before .before .before .before .before .before
+    .before .before .before .before .before .before .at .ensures)
+    (c .before .before .before .before .before .before .before .before .before .before .before .before .before .before
+    .before .before .before .before .touched .ensures)
         (omega (arith,
-        c .before .before .before .before .before .before .before .before .before .before .before .before .before .before .before .before .from .ensures))
-        (c .before .before .before .before .before .before .before .before .before .before .before .before .before .before .place .ensures)
-        (c .before .before .before .before .before .before .before .before .before .before .before .before .before .if1 .left)
+        c .before .before .before .before .before .before .before .before .before .before .before .before .before
+        .before .before .before .from .ensures))
+        (c .before .before .before .before .before .before .before .before .before .before .before .before .before
+        .before .place .ensures)
+        (c .before .before .before .before .before .before .before .before .before .before .before .before .before
+        .if1 .left)
     (omega (arith, c .before .before .before .before .if2 .left)) _ _ _
         (c .before .before .before .before .before .before .before .before .before .before .before .exchange .ensures)
         (c .before .before .before .before .before .before .before .set-touched .ensures)

@@ -44,48 +44,54 @@ loop-holds c = λ G own count ws T l ea eb D. all-first _ _ _ _ _ _ _ T l _ _ ea
 
 copied-requires : tie.Need-copied-requires Inv-loop μ-loop
 copied-requires c κs =
+    let asked = c .before .before .before .before .before .before .before .before .before .before .before .before .pre
+    in
     let A = c .before .before .loop .inv _ _ _ _
-        (c .before .before .before .before .before .before .before .before .before .before .before .before .pre .touching)
-        (c .before .before .before .before .before .before .before .before .before .before .before .before .pre .low)
+        (asked .touching)
+        (asked .low)
         (c .before .before .before .before .before .before .before .before .before .from .ensures)
         (c .before .before .before .before .before .before .before .to .ensures)
         (c .before .before .before .before .before .copy-members .ensures) in
     copied-room _ _ _ _ _ _ _
-        (c .before .before .before .before .before .before .before .before .before .before .before .before .pre .touching)
-        (c .before .before .before .before .before .before .before .before .before .before .before .before .pre .low) _
+        (asked .touching)
+        (asked .low) _
         _ (c .before .before .before .before .before .before .before .before .before .from .ensures)
         (c .before .before .before .before .before .before .before .to .ensures) _
     (c .before .before .before .before .before .copy-members .ensures) _ _ _ A (c .before .loop-test .taken)
 
 touch-sources-requires : tie.Need-touch-sources-requires Inv-loop μ-loop
 touch-sources-requires c κs =
+    let asked = c .before .before .before .before .before .before .before .before .before .before .before .before
+    .before .before .pre in
+    let from-2 = c .before .before .before .before .before .before .before .before .before .before .before .from in
     let A = c .before .before .before .before .loop .inv _ _ _ _
-        (c .before .before .before .before .before .before .before .before .before .before .before .before .before .before .pre .touching)
-        (c .before .before .before .before .before .before .before .before .before .before .before .before .before .before .pre .low)
-        (c .before .before .before .before .before .before .before .before .before .before .before .from .ensures)
+        (asked .touching)
+        (asked .low)
+        (from-2 .ensures)
         (c .before .before .before .before .before .before .before .before .before .to .ensures)
         (c .before .before .before .before .before .before .before .copy-members .ensures) in
     record {
       graph =
-          c .before .before .before .before .before .before .before .before .before .before .before .before .before .before .pre .graph;
+          asked .graph;
       splitter =
-          c .before .before .before .before .before .before .before .before .before .before .before .before .before .before .args .s;
+          c .before .before .before .before .before .before .before .before .before .before .before .before .before
+          .before .args .s;
       own =
-          c .before .before .before .before .before .before .before .before .before .before .before .before .before .before .pre .own;
+          asked .own;
       count =
-          c .before .before .before .before .before .before .before .before .before .before .before .before .before .before .pre .count;
+          asked .count;
       touching = A .touching;
       low = t-low _ _ _ _ _ _ _
-          (c .before .before .before .before .before .before .before .before .before .before .before .before .before .before .pre .touching)
-          (c .before .before .before .before .before .before .before .before .before .before .before .before .before .before .pre .low)
-          _ _ (c .before .before .before .before .before .before .before .before .before .before .before .from .ensures)
+          (asked .touching)
+          (asked .low)
+          _ _ (from-2 .ensures)
           (c .before .before .before .before .before .before .before .before .before .to .ensures) _
           (c .before .before .before .before .before .before .before .copy-members .ensures) _ _ _ A
               (c .before .before .before .loop-test .taken) _ (c .before .copied .ensures);
       inside = t-inside _ _ _ _ _ _ _
-          (c .before .before .before .before .before .before .before .before .before .before .before .before .before .before .pre .touching)
-          (c .before .before .before .before .before .before .before .before .before .before .before .before .before .before .pre .low)
-          _ _ (c .before .before .before .before .before .before .before .before .before .before .before .from .ensures)
+          (asked .touching)
+          (asked .low)
+          _ _ (from-2 .ensures)
           (c .before .before .before .before .before .before .before .before .before .to .ensures) _
           (c .before .before .before .before .before .before .before .copy-members .ensures) _ _ _ A
               (c .before .before .before .loop-test .taken) _ (c .before .copied .ensures);
@@ -93,39 +99,53 @@ touch-sources-requires c κs =
 
 add-j : tie.Need-add-j Inv-loop μ-loop
 add-j c =
+    let asked = c .before .before .before .before .before .before .before .before .before .before .before .before
+    .before .before .before .before .before .pre in
+    let from-2 = c .before .before .before .before .before .before .before .before .before .before .before .before
+    .before .before .from in
+    let to-2 = c .before .before .before .before .before .before .before .before .before .before .before .before .to in
+    let copy-members-2 = c .before .before .before .before .before .before .before .before .before .before
+    .copy-members in
     let A = c .before .before .before .before .before .before .before .loop .inv _ _ _ _
-        (c .before .before .before .before .before .before .before .before .before .before .before .before .before .before .before .before .before .pre .touching)
-        (c .before .before .before .before .before .before .before .before .before .before .before .before .before .before .before .before .before .pre .low)
-        (c .before .before .before .before .before .before .before .before .before .before .before .before .before .before .from .ensures)
-        (c .before .before .before .before .before .before .before .before .before .before .before .before .to .ensures)
-        (c .before .before .before .before .before .before .before .before .before .before .copy-members .ensures) in
+        (asked .touching)
+        (asked .low)
+        (from-2 .ensures)
+        (to-2 .ensures)
+        (copy-members-2 .ensures) in
     let r = copied-room _ _ _ _ _ _ _
-        (c .before .before .before .before .before .before .before .before .before .before .before .before .before .before .before .before .before .pre .touching)
-        (c .before .before .before .before .before .before .before .before .before .before .before .before .before .before .before .before .before .pre .low)
+        (asked .touching)
+        (asked .low)
         _ _
-        (c .before .before .before .before .before .before .before .before .before .before .before .before .before .before .from .ensures)
-        (c .before .before .before .before .before .before .before .before .before .before .before .before .to .ensures)
+        (from-2 .ensures)
+        (to-2 .ensures)
         _
-    (c .before .before .before .before .before .before .before .before .before .before .copy-members .ensures) _ _ _ A
+    (copy-members-2 .ensures) _ _ _ A
         (c .before .before .before .before .before .before .loop-test .taken) in
     omega (arith, r .0, r .1 .0)
 
 loop-less : tie.Need-loop-less Inv-loop μ-loop
 loop-less c =
+    let asked = c .before .before .before .before .before .before .before .before .before .before .before .before
+    .before .before .before .before .before .pre in
+    let from-2 = c .before .before .before .before .before .before .before .before .before .before .before .before
+    .before .before .from in
+    let to-2 = c .before .before .before .before .before .before .before .before .before .before .before .before .to in
+    let copy-members-2 = c .before .before .before .before .before .before .before .before .before .before
+    .copy-members in
     let A = c .before .before .before .before .before .before .before .loop .inv _ _ _ _
-        (c .before .before .before .before .before .before .before .before .before .before .before .before .before .before .before .before .before .pre .touching)
-        (c .before .before .before .before .before .before .before .before .before .before .before .before .before .before .before .before .before .pre .low)
-        (c .before .before .before .before .before .before .before .before .before .before .before .before .before .before .from .ensures)
-        (c .before .before .before .before .before .before .before .before .before .before .before .before .to .ensures)
-        (c .before .before .before .before .before .before .before .before .before .before .copy-members .ensures) in
+        (asked .touching)
+        (asked .low)
+        (from-2 .ensures)
+        (to-2 .ensures)
+        (copy-members-2 .ensures) in
     let r = copied-room _ _ _ _ _ _ _
-        (c .before .before .before .before .before .before .before .before .before .before .before .before .before .before .before .before .before .pre .touching)
-        (c .before .before .before .before .before .before .before .before .before .before .before .before .before .before .before .before .before .pre .low)
+        (asked .touching)
+        (asked .low)
         _ _
-        (c .before .before .before .before .before .before .before .before .before .before .before .before .before .before .from .ensures)
-        (c .before .before .before .before .before .before .before .before .before .before .before .before .to .ensures)
+        (from-2 .ensures)
+        (to-2 .ensures)
         _
-    (c .before .before .before .before .before .before .before .before .before .before .copy-members .ensures) _ _ _ A
+    (copy-members-2 .ensures) _ _ _ A
         (c .before .before .before .before .before .before .loop-test .taken) in
     omega (arith, r .0, r .1 .0, c .before .before .before .before .before .before .loop-test .taken)
 

@@ -38,105 +38,132 @@ loop-holds c = ((λ G g own d S. S), refl)
 
 mul-at : tie.Need-mul-at Inv-loop μ-loop
 mul-at c = let R = count-room _ _ _ _ _
-    (c .before .before .before .before .before .before .before .before .before .before .before .before .before .before .pre .1 .1 .1)
+    (c .before .before .before .before .before .before .before .before .before .before .before .before .before .before
+    .pre .1 .1 .1)
     in omega (arith, R .1 .0)
 
 add-at : tie.Need-add-at Inv-loop μ-loop
-add-at c = let B =
-    c .before .before .before .before .before .before .before .before .before .before .before .before .before .before .pre .1 .1 .1
+add-at c =
+    let at-2 = c .before .before .before .before .before .before .before .before .before .before .before .at in
+    let B =
+    c .before .before .before .before .before .before .before .before .before .before .before .before .before .before
+    .pre .1 .1 .1
     in let R = count-room _ _ _ _ _ B in let S = c .before .before .loop .inv .0 _ _ _
-    (c .before .before .before .before .before .before .before .before .before .before .before .at .ensures ∙ B .class _
+    (at-2 .ensures ∙ B .class _
     (omega (arith, R .0))) (count-first _ _ _ _ _ B _
     (c .before .before .before .before .before .before .before .before .before .zero .ensures) _ _ _
-    (c .before .before .before .before .before .before .before .before .before .before .before .at .ensures)
+    (at-2 .ensures)
     (c .before .before .before .before .before .note .ensures)) in
     omega (arith, R .1 .0, turn-small _ _ _ _ _ _ _ S (c .before .loop-test .taken))
 
 at-requires-2 : tie.Need-at-requires-2 Inv-loop μ-loop
-at-requires-2 c κs = let B =
-    c .before .before .before .before .before .before .before .before .before .before .before .before .before .before .pre .1 .1 .1
+at-requires-2 c κs =
+    let at-2 = c .before .before .before .before .before .before .before .before .before .before .before .at in
+    let B =
+    c .before .before .before .before .before .before .before .before .before .before .before .before .before .before
+    .pre .1 .1 .1
     in let R = count-room _ _ _ _ _ B in let S = c .before .before .loop .inv .0 _ _ _
-    (c .before .before .before .before .before .before .before .before .before .before .before .at .ensures ∙ B .class _
+    (at-2 .ensures ∙ B .class _
     (omega (arith, R .0))) (count-first _ _ _ _ _ B _
     (c .before .before .before .before .before .before .before .before .before .zero .ensures) _ _ _
-    (c .before .before .before .before .before .before .before .before .before .before .before .at .ensures)
+    (at-2 .ensures)
     (c .before .before .before .before .before .note .ensures)) in
     turn-asks _ _ _ _ _ _ _ S (c .before .loop-test .taken)
 
 meet-requires : tie.Need-meet-requires Inv-loop μ-loop
-meet-requires c κs = let B =
-    c .before .before .before .before .before .before .before .before .before .before .before .before .before .before .before .before .pre .1 .1 .1
+meet-requires c κs =
+    let asked = c .before .before .before .before .before .before .before .before .before .before .before .before
+    .before .before .before .before .pre in
+    let at-2 = c .before .before .before .before .before .before .before .before .before .before .before .before
+    .before .at in
+    let B =
+    asked .1 .1 .1
     in let R = count-room _ _ _ _ _ B in let S = c .before .before .before .before .loop .inv .0 _ _ _
-    (c .before .before .before .before .before .before .before .before .before .before .before .before .before .at .ensures
+    (at-2 .ensures
     ∙ B .class _ (omega (arith, R .0))) (count-first _ _ _ _ _ B _
     (c .before .before .before .before .before .before .before .before .before .before .before .zero .ensures) _ _ _
-    (c .before .before .before .before .before .before .before .before .before .before .before .before .before .at .ensures)
+    (at-2 .ensures)
     (c .before .before .before .before .before .before .before .note .ensures)) in
     record {
       graph =
-          c .before .before .before .before .before .before .before .before .before .before .before .before .before .before .before .before .pre .0;
+          asked .0;
       g =
-          c .before .before .before .before .before .before .before .before .before .before .before .before .before .before .before .before .pre .1 .0;
+          asked .1 .0;
       own =
-          c .before .before .before .before .before .before .before .before .before .before .before .before .before .before .before .before .pre .1 .1 .0;
+          asked .1 .1 .0;
       head = c .before .before .before .before .loop .head;
       counting = turn-counting _ _ _ _ _ _ _ S (c .before .before .before .loop-test .taken);
       more = c .before .before .before .loop-test .taken;
       state = c .before .at2 .ensures;
       dead-is =
-          (c .before .before .before .before .before .before .before .before .before .before .before .before .before .at .ensures
+          (at-2 .ensures
           ∙ B .class _ (omega (arith, R .0)));
     }
 
 add-head : tie.Need-add-head Inv-loop μ-loop
-add-head c = let B =
-    c .before .before .before .before .before .before .before .before .before .before .before .before .before .before .before .before .before .before .before .pre .1 .1 .1
+add-head c =
+    let at-2 = c .before .before .before .before .before .before .before .before .before .before .before .before
+    .before .before .before .before .at in
+    let B =
+    c .before .before .before .before .before .before .before .before .before .before .before .before .before .before
+    .before .before .before .before .before .pre .1 .1 .1
     in let R = count-room _ _ _ _ _ B in let S = c .before .before .before .before .before .before .before .loop .inv .0
     _ _ _
-    (c .before .before .before .before .before .before .before .before .before .before .before .before .before .before .before .before .at .ensures
+    (at-2 .ensures
     ∙ B .class _ (omega (arith, R .0))) (count-first _ _ _ _ _ B _
-    (c .before .before .before .before .before .before .before .before .before .before .before .before .before .before .zero .ensures)
+    (c .before .before .before .before .before .before .before .before .before .before .before .before .before .before
+    .zero .ensures)
     _ _ _
-    (c .before .before .before .before .before .before .before .before .before .before .before .before .before .before .before .before .at .ensures)
+    (at-2 .ensures)
     (c .before .before .before .before .before .before .before .before .before .before .note .ensures)) in
     omega (arith, turn-small _ _ _ _ _ _ _ S (c .before .before .before .before .before .before .loop-test .taken))
 
 loop-less : tie.Need-loop-less Inv-loop μ-loop
-loop-less c = let B =
-    c .before .before .before .before .before .before .before .before .before .before .before .before .before .before .before .before .before .before .before .pre .1 .1 .1
+loop-less c =
+    let at-2 = c .before .before .before .before .before .before .before .before .before .before .before .before
+    .before .before .before .before .at in
+    let B =
+    c .before .before .before .before .before .before .before .before .before .before .before .before .before .before
+    .before .before .before .before .before .pre .1 .1 .1
     in let R = count-room _ _ _ _ _ B in let S = c .before .before .before .before .before .before .before .loop .inv .0
     _ _ _
-    (c .before .before .before .before .before .before .before .before .before .before .before .before .before .before .before .before .at .ensures
+    (at-2 .ensures
     ∙ B .class _ (omega (arith, R .0))) (count-first _ _ _ _ _ B _
-    (c .before .before .before .before .before .before .before .before .before .before .before .before .before .before .zero .ensures)
+    (c .before .before .before .before .before .before .before .before .before .before .before .before .before .before
+    .zero .ensures)
     _ _ _
-    (c .before .before .before .before .before .before .before .before .before .before .before .before .before .before .before .before .at .ensures)
+    (at-2 .ensures)
     (c .before .before .before .before .before .before .before .before .before .before .note .ensures)) in
     omega (arith, turn-small _ _ _ _ _ _ _ S (c .before .before .before .before .before .before .loop-test .taken),
         turn-few _ _ _ _ _ _ _ S (c .before .before .before .before .before .before .loop-test .taken))
 
 loop-again : tie.Need-loop-again Inv-loop μ-loop
-loop-again c = (
+loop-again c =
+    let at-2 = c .before .before .before .before .before .before .before .before .before .before .before .before
+    .before .before .before .before .at in
+    (
   (λ G g own d F. let S = c .before .before .before .before .before .before .before .loop .inv .0 G g own d F in
       turn-again _ _ _ _ _ _ _ (c .before .before .meet .ensures _ _ _ _ (turn-counting _ _ _ _ _ _ _ S
           (c .before .before .before .before .before .before .loop-test .taken))
       (c .before .before .before .before .before .before .loop-test .taken)
           (c .before .before .before .before .at2 .ensures) d .0)),
   (let B =
-      c .before .before .before .before .before .before .before .before .before .before .before .before .before .before .before .before .before .before .before .pre .1 .1 .1
+      c .before .before .before .before .before .before .before .before .before .before .before .before .before
+      .before .before .before .before .before .before .pre .1 .1 .1
       in let R = count-room _ _ _ _ _ B in let S =
       c .before .before .before .before .before .before .before .loop .inv .0 _ _ _
-      (c .before .before .before .before .before .before .before .before .before .before .before .before .before .before .before .before .at .ensures
+      (at-2 .ensures
       ∙ B .class _ (omega (arith, R .0))) (count-first _ _ _ _ _ B _
-      (c .before .before .before .before .before .before .before .before .before .before .before .before .before .before .zero .ensures)
+      (c .before .before .before .before .before .before .before .before .before .before .before .before .before
+      .before .zero .ensures)
       _ _ _
-      (c .before .before .before .before .before .before .before .before .before .before .before .before .before .before .before .before .at .ensures)
+      (at-2 .ensures)
       (c .before .before .before .before .before .before .before .before .before .before .note .ensures)) in
       c .before .before .meet .ensures _ _ _ _ (turn-counting _ _ _ _ _ _ _ S
           (c .before .before .before .before .before .before .loop-test .taken))
           (c .before .before .before .before .before .before .loop-test .taken)
           (c .before .before .before .before .at2 .ensures)
-          (c .before .before .before .before .before .before .before .before .before .before .before .before .before .before .before .before .at .ensures
+          (at-2 .ensures
           ∙ B .class _ (omega (arith, R .0))) .1
       ∙ c .before .before .before .before .before .before .before .loop .inv .1),
 )

@@ -15,16 +15,25 @@ exchange-requires c κs = exchange-asks₂ _ _ _
         (c .before .before .before .before .before .before .before .before .before .before .pre .0)
 
 returns : tie.Need-returns
-returns c = started _ _ _
-    (c .before .before .before .before .before .before .before .before .before .before .before .before .before .before .before .before .before .before .before .before .before .before .before .before .before .before .before .before .before .pre .1 .1 .1 .1)
-    (c .before .before .before .before .before .before .before .before .before .before .before .before .before .before .before .before .before .before .before .before .before .before .before .before .before .before .before .before .before .pre .1 .0)
-    (c .before .before .before .before .before .before .before .before .before .before .before .before .before .before .before .before .before .before .before .before .before .before .before .before .before .before .before .before .before .pre .1 .1 .0)
-    (c .before .before .before .before .before .before .before .before .before .before .before .before .before .before .before .before .before .before .before .before .before .before .before .before .before .before .before .before .before .pre .1 .1 .1 .0)
+returns c =
+    let asked = c .before .before .before .before .before .before .before .before .before .before .before .before
+    .before .before .before .before .before .before .before .before .before .before .before .before .before .before
+    .before .before .before .pre in
+    started _ _ _
+    (asked .1 .1 .1 .1)
+    (asked .1 .0)
+    (asked .1 .1 .0)
+    (asked .1 .1 .1 .0)
     _ _ _ _ _ _ _
-    (c .before .before .before .before .before .before .before .before .before .before .before .before .before .before .before .before .before .before .before .before .before .before .before .before .before .before .set-from .ensures)
-        (c .before .before .before .before .before .before .before .before .before .before .before .before .before .before .before .before .before .before .before .before .before .before .set-to .ensures)
-        (c .before .before .before .before .before .before .before .before .before .before .before .before .before .before .before .before .before .before .exchange .ensures)
-        (c .before .before .before .before .before .before .before .before .before .before .before .before .before .before .put .ensures)
+    (c .before .before .before .before .before .before .before .before .before .before .before .before .before .before
+    .before .before .before .before .before .before .before .before .before .before .before .before .set-from
+    .ensures)
+        (c .before .before .before .before .before .before .before .before .before .before .before .before .before
+        .before .before .before .before .before .before .before .before .before .set-to .ensures)
+        (c .before .before .before .before .before .before .before .before .before .before .before .before .before
+        .before .before .before .before .before .exchange .ensures)
+        (c .before .before .before .before .before .before .before .before .before .before .before .before .before
+        .before .put .ensures)
         (c .before .before .before .before .before .before .before .before .before .before .set-to2 .ensures)
     (c .before .before .before .before .before .before .set-from2 .ensures) (c .before .before .set-to3 .ensures)
 

@@ -53,15 +53,18 @@ copied-requires-2 c κs = let D = c .before .before .before .before .loop .inv _
         (c .before .before .before .before .before .before .before .member .ensures)
 
 alike-requires : tie.Need-alike-requires Inv-loop μ-loop
-alike-requires c κs = let D = c .before .before .before .before .before .before .before .loop .inv _ _ _ _
-    (c .before .before .before .before .before .before .before .before .before .before .before .before .before .pre .able)
-    (c .before .before .before .before .before .before .before .before .before .before .before .before .before .pre .quick)
+alike-requires c κs =
+    let asked = c .before .before .before .before .before .before .before .before .before .before .before .before
+    .before .pre in
+    let D = c .before .before .before .before .before .before .before .loop .inv _ _ _ _
+    (asked .able)
+    (asked .quick)
     in (
   _,
   (
     _,
     same-asks _ _ _ _ _ _ _ _ _ _
-        (c .before .before .before .before .before .before .before .before .before .before .before .before .before .pre .able)
+        (asked .able)
         _ _ _ D (c .before .before .before .before .before .before .loop-test .taken) _ _
         (c .before .before .before .before .member2 .ensures)
         (c .before .before .before .before .before .before .before .before .before .before .member .ensures),
@@ -69,88 +72,110 @@ alike-requires c κs = let D = c .before .before .before .before .before .before
 )
 
 exchange-requires : tie.Need-exchange-requires Inv-loop μ-loop
-exchange-requires c κs = let D =
+exchange-requires c κs =
+    let asked = c .before .before .before .before .before .before .before .before .before .before .before .before
+    .before .before .before .before .pre in
+    let D =
     c .before .before .before .before .before .before .before .before .before .before .loop .inv _ _ _ _
-    (c .before .before .before .before .before .before .before .before .before .before .before .before .before .before .before .before .pre .able)
-    (c .before .before .before .before .before .before .before .before .before .before .before .before .before .before .before .before .pre .quick)
+    (asked .able)
+    (asked .quick)
     in
     exchange-asks _ _ _ _ _ _ _ _ _ _
-        (c .before .before .before .before .before .before .before .before .before .before .before .before .before .before .before .before .pre .able)
+        (asked .able)
         _ _ _ D (c .before .before .before .before .before .before .before .before .before .loop-test .taken) _ _
         (c .before .before .before .before .before .before .before .member2 .ensures)
-        (c .before .before .before .before .before .before .before .before .before .before .before .before .before .member .ensures)
+        (c .before .before .before .before .before .before .before .before .before .before .before .before .before
+        .member .ensures)
 
 add-end-2 : tie.Need-add-end-2 Inv-loop μ-loop
-add-end-2 c = let D =
+add-end-2 c =
+    let asked = c .before .before .before .before .before .before .before .before .before .before .before .before
+    .before .before .before .before .before .before .before .pre in
+    let D =
     c .before .before .before .before .before .before .before .before .before .before .before .before .before .loop .inv
     _ _ _ _
-    (c .before .before .before .before .before .before .before .before .before .before .before .before .before .before .before .before .before .before .before .pre .able)
-    (c .before .before .before .before .before .before .before .before .before .before .before .before .before .before .before .before .before .before .before .pre .quick)
+    (asked .able)
+    (asked .quick)
     in
     omega (arith, group-small _ _ _ _ _ _ _ _ _ _
-        (c .before .before .before .before .before .before .before .before .before .before .before .before .before .before .before .before .before .before .before .pre .able),
+        (asked .able),
         D .order,
-        c .before .before .before .before .before .before .before .before .before .before .before .before .loop-test .taken)
+        c .before .before .before .before .before .before .before .before .before .before .before .before .loop-test
+        .taken)
 
 add-i-2 : tie.Need-add-i-2 Inv-loop μ-loop
 add-i-2 c = omega (arith, group-small _ _ _ _ _ _ _ _ _ _
-    (c .before .before .before .before .before .before .before .before .before .before .before .before .before .before .before .before .before .before .before .pre .able),
+    (c .before .before .before .before .before .before .before .before .before .before .before .before .before .before
+    .before .before .before .before .before .pre .able),
     c .before .before .before .before .before .before .before .before .before .before .before .before .loop-test .taken)
 
 loop-less : tie.Need-loop-less Inv-loop μ-loop
 loop-less c = omega (arith, group-small _ _ _ _ _ _ _ _ _ _
-    (c .before .before .before .before .before .before .before .before .before .before .before .before .before .before .before .before .before .before .before .pre .able),
+    (c .before .before .before .before .before .before .before .before .before .before .before .before .before .before
+    .before .before .before .before .before .pre .able),
     c .before .before .before .before .before .before .before .before .before .before .before .before .loop-test .taken)
 
 loop-again : tie.Need-loop-again Inv-loop μ-loop
-loop-again c = λ G own count k A Q. let D =
+loop-again c =
+    let member-2 = c .before .before .before .before .before .before .before .before .before .before .before .before
+    .before .before .before .before .member in
+    let still = c .before .before .before .before .before .before .before .before .before .before .before .before
+    .loop-test in
+    let member2-2 = c .before .before .before .before .before .before .before .before .before .before .member2 in
+    λ G own count k A Q. let D =
     c .before .before .before .before .before .before .before .before .before .before .before .before .before .loop .inv
     G own count k A Q in
     group-bring _ _ _ _ _ _ _ _ _ _ A _ _ _ D
-        (c .before .before .before .before .before .before .before .before .before .before .before .before .loop-test .taken)
-        _ _ (c .before .before .before .before .before .before .before .before .before .before .member2 .ensures)
-        (c .before .before .before .before .before .before .before .before .before .before .before .before .before .before .before .before .member .ensures)
+        (still .taken)
+        _ _ (member2-2 .ensures)
+        (member-2 .ensures)
         _ _
     (c .before .before .before .before .before .alike .ensures G _ (same-asks _ _ _ _ _ _ _ _ _ _ A _ _ _ D
-        (c .before .before .before .before .before .before .before .before .before .before .before .before .loop-test .taken)
-        _ _ (c .before .before .before .before .before .before .before .before .before .before .member2 .ensures)
-        (c .before .before .before .before .before .before .before .before .before .before .before .before .before .before .before .before .member .ensures))
+        (still .taken)
+        _ _ (member2-2 .ensures)
+        (member-2 .ensures))
     (group-sure _ _ _ _ _ _ _ _ _ _ A _ _ _ D
-        (c .before .before .before .before .before .before .before .before .before .before .before .before .loop-test .taken)
-        _ _ (c .before .before .before .before .before .before .before .before .before .before .member2 .ensures)
-        (c .before .before .before .before .before .before .before .before .before .before .before .before .before .before .before .before .member .ensures)
+        (still .taken)
+        _ _ (member2-2 .ensures)
+        (member-2 .ensures)
         _ _ Q
-        (c .before .before .before .before .before .before .before .before .before .before .before .before .before .before .copied .ensures)
+        (c .before .before .before .before .before .before .before .before .before .before .before .before .before
+        .before .copied .ensures)
         (c .before .before .before .before .before .before .before .before .copied2 .ensures)
         (c .before .before .before .before .before .before .before .if1 .taken)))
     (c .before .before .before .before .if2 .taken) (c .before .before .exchange .ensures)
 
 add-i-3 : tie.Need-add-i-3 Inv-loop μ-loop
 add-i-3 c = omega (arith, group-small _ _ _ _ _ _ _ _ _ _
-    (c .before .before .before .before .before .before .before .before .before .before .before .before .before .before .before .pre .able),
+    (c .before .before .before .before .before .before .before .before .before .before .before .before .before .before
+    .before .pre .able),
     c .before .before .before .before .before .before .before .before .loop-test .taken)
 
 loop-less-2 : tie.Need-loop-less-2 Inv-loop μ-loop
 loop-less-2 c = omega (arith, group-small _ _ _ _ _ _ _ _ _ _
-    (c .before .before .before .before .before .before .before .before .before .before .before .before .before .before .before .pre .able),
+    (c .before .before .before .before .before .before .before .before .before .before .before .before .before .before
+    .before .pre .able),
     c .before .before .before .before .before .before .before .before .loop-test .taken)
 
 loop-again-2 : tie.Need-loop-again-2 Inv-loop μ-loop
-loop-again-2 c = λ G own count k A Q. let D =
+loop-again-2 c =
+    let member-2 = c .before .before .before .before .before .before .before .before .before .before .before .before
+    .member in
+    λ G own count k A Q. let D =
     c .before .before .before .before .before .before .before .before .before .loop .inv G own count k A Q in
     group-leave _ _ _ _ _ _ _ _ _ _ A _ _ _ D
         (c .before .before .before .before .before .before .before .before .loop-test .taken) _ _
         (c .before .before .before .before .before .before .member2 .ensures)
-        (c .before .before .before .before .before .before .before .before .before .before .before .before .member .ensures)
+        (member-2 .ensures)
         _
     (c .before .alike .ensures G _ (same-asks _ _ _ _ _ _ _ _ _ _ A _ _ _ D
         (c .before .before .before .before .before .before .before .before .loop-test .taken) _ _
         (c .before .before .before .before .before .before .member2 .ensures)
-        (c .before .before .before .before .before .before .before .before .before .before .before .before .member .ensures))
+        (member-2 .ensures))
     (group-sure _ _ _ _ _ _ _ _ _ _ A _ _ _ D
         (c .before .before .before .before .before .before .before .before .loop-test .taken)
         _ _ (c .before .before .before .before .before .before .member2 .ensures)
-        (c .before .before .before .before .before .before .before .before .before .before .before .before .member .ensures)
+        (member-2 .ensures)
         _ _ Q
         (c .before .before .before .before .before .before .before .before .before .before .copied .ensures)
         (c .before .before .before .before .copied2 .ensures)

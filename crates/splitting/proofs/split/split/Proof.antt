@@ -49,7 +49,8 @@ loop-holds c = λ G cls count S Z. S
 
 group-requires : tie.Need-group-requires Inv-loop μ-loop
 group-requires c κs = let Q =
-    c .before .before .before .before .before .before .before .before .before .before .before .before .before .before .pre
+    c .before .before .before .before .before .before .before .before .before .before .before .before .before .before
+    .pre
     in
     let Z = signed-set _ _ _ _ _ _ _ _ (Q .signed) (class-asks _ _ _ _ _ _ _ _ _ (Q .splitting) _ (Q .low) (Q .some) .0)
         (c .before .before .before .before .before .set-touched .ensures) in
@@ -68,18 +69,25 @@ group-requires c κs = let Q =
     }
 
 carve-requires : tie.Need-carve-requires Inv-loop μ-loop
-carve-requires c κs = let Q =
-    c .before .before .before .before .before .before .before .before .before .before .before .before .before .before .before .before .before .before .before .pre
+carve-requires c κs =
+    let set-touched-2 = c .before .before .before .before .before .before .before .before .before .before .set-touched
+    in
+    let Q =
+    c .before .before .before .before .before .before .before .before .before .before .before .before .before .before
+    .before .before .before .before .before .pre
     in
     let Z = signed-set _ _ _ _ _ _ _ _ (Q .signed) (class-asks _ _ _ _ _ _ _ _ _ (Q .splitting) _ (Q .low) (Q .some) .0)
-        (c .before .before .before .before .before .before .before .before .before .before .set-touched .ensures) in
+        (set-touched-2 .ensures) in
     let S = c .before .before .before .before .before .before .before .loop .inv _ _ _ (carve-first _ _ _ _ _ _ _ _ _
         (Q .splitting) _ (Q .low) (Q .some) _ _ _ _
-        (c .before .before .before .before .before .before .before .before .before .before .before .before .before .before .before .before .from .ensures)
-        (c .before .before .before .before .before .before .before .before .before .before .before .before .before .before .to .ensures)
+        (c .before .before .before .before .before .before .before .before .before .before .before .before .before
+        .before .before .before .from .ensures)
+        (c .before .before .before .before .before .before .before .before .before .before .before .before .before
+        .before .to .ensures)
         (omega (arith,
-            c .before .before .before .before .before .before .before .before .before .before .before .before .touched .ensures))
-            (c .before .before .before .before .before .before .before .before .before .before .set-touched .ensures)) Z
+            c .before .before .before .before .before .before .before .before .before .before .before .before .touched
+            .ensures))
+            (set-touched-2 .ensures)) Z
             in
     let D = c .before .before .before .before .group .ensures _ _ _ _ (state-able _ _ _ _ _ _ _ _ _ _ _ _ _ _ S
         (c .before .before .before .before .before .before .loop-test .taken))
@@ -89,19 +97,26 @@ carve-requires c κs = let Q =
         (c .before .if1 .taken)
 
 add-m : tie.Need-add-m Inv-loop μ-loop
-add-m c = let Q =
-    c .before .before .before .before .before .before .before .before .before .before .before .before .before .before .before .before .before .before .before .before .before .before .pre
+add-m c =
+    let set-touched-2 = c .before .before .before .before .before .before .before .before .before .before .before
+    .before .before .set-touched in
+    let Q =
+    c .before .before .before .before .before .before .before .before .before .before .before .before .before .before
+    .before .before .before .before .before .before .before .before .pre
     in
     let Z = signed-set _ _ _ _ _ _ _ _ (Q .signed) (class-asks _ _ _ _ _ _ _ _ _ (Q .splitting) _ (Q .low) (Q .some) .0)
-        (c .before .before .before .before .before .before .before .before .before .before .before .before .before .set-touched .ensures)
+        (set-touched-2 .ensures)
             in
     let S = c .before .before .before .before .before .before .before .before .before .before .loop .inv _ _ _
         (carve-first _ _ _ _ _ _ _ _ _ (Q .splitting) _ (Q .low) (Q .some) _ _ _ _
-        (c .before .before .before .before .before .before .before .before .before .before .before .before .before .before .before .before .before .before .before .from .ensures)
-        (c .before .before .before .before .before .before .before .before .before .before .before .before .before .before .before .before .before .to .ensures)
+        (c .before .before .before .before .before .before .before .before .before .before .before .before .before
+        .before .before .before .before .before .before .from .ensures)
+        (c .before .before .before .before .before .before .before .before .before .before .before .before .before
+        .before .before .before .before .to .ensures)
         (omega (arith,
-            c .before .before .before .before .before .before .before .before .before .before .before .before .before .before .before .touched .ensures))
-            (c .before .before .before .before .before .before .before .before .before .before .before .before .before .set-touched .ensures))
+            c .before .before .before .before .before .before .before .before .before .before .before .before .before
+            .before .before .touched .ensures))
+            (set-touched-2 .ensures))
             Z in
     let D = c .before .before .before .before .before .before .before .group .ensures _ _ _ _ (state-able _ _ _ _ _ _ _
         _ _ _ _ _ _ _ S (c .before .before .before .before .before .before .before .before .before .loop-test .taken))
@@ -113,19 +128,26 @@ add-m c = let Q =
     omega (arith, a .1 .0, a .1 .1 .1 .1 .1 .0)
 
 loop-less : tie.Need-loop-less Inv-loop μ-loop
-loop-less c = let Q =
-    c .before .before .before .before .before .before .before .before .before .before .before .before .before .before .before .before .before .before .before .before .before .before .pre
+loop-less c =
+    let set-touched-2 = c .before .before .before .before .before .before .before .before .before .before .before
+    .before .before .set-touched in
+    let Q =
+    c .before .before .before .before .before .before .before .before .before .before .before .before .before .before
+    .before .before .before .before .before .before .before .before .pre
     in
     let Z = signed-set _ _ _ _ _ _ _ _ (Q .signed) (class-asks _ _ _ _ _ _ _ _ _ (Q .splitting) _ (Q .low) (Q .some) .0)
-        (c .before .before .before .before .before .before .before .before .before .before .before .before .before .set-touched .ensures)
+        (set-touched-2 .ensures)
             in
     let S = c .before .before .before .before .before .before .before .before .before .before .loop .inv _ _ _
         (carve-first _ _ _ _ _ _ _ _ _ (Q .splitting) _ (Q .low) (Q .some) _ _ _ _
-        (c .before .before .before .before .before .before .before .before .before .before .before .before .before .before .before .before .before .before .before .from .ensures)
-        (c .before .before .before .before .before .before .before .before .before .before .before .before .before .before .before .before .before .to .ensures)
+        (c .before .before .before .before .before .before .before .before .before .before .before .before .before
+        .before .before .before .before .before .before .from .ensures)
+        (c .before .before .before .before .before .before .before .before .before .before .before .before .before
+        .before .before .before .before .to .ensures)
         (omega (arith,
-            c .before .before .before .before .before .before .before .before .before .before .before .before .before .before .before .touched .ensures))
-            (c .before .before .before .before .before .before .before .before .before .before .before .before .before .set-touched .ensures))
+            c .before .before .before .before .before .before .before .before .before .before .before .before .before
+            .before .before .touched .ensures))
+            (set-touched-2 .ensures))
             Z in
     let D = c .before .before .before .before .before .before .before .group .ensures _ _ _ _ (state-able _ _ _ _ _ _ _
         _ _ _ _ _ _ _ S (c .before .before .before .before .before .before .before .before .before .loop-test .taken))
@@ -146,16 +168,20 @@ loop-again c = λ G cls count F Z. let S =
 
 loop-less-2 : tie.Need-loop-less-2 Inv-loop μ-loop
 loop-less-2 c = let Q =
-    c .before .before .before .before .before .before .before .before .before .before .before .before .before .before .before .before .before .before .pre
+    c .before .before .before .before .before .before .before .before .before .before .before .before .before .before
+    .before .before .before .before .pre
     in
     let Z = signed-set _ _ _ _ _ _ _ _ (Q .signed) (class-asks _ _ _ _ _ _ _ _ _ (Q .splitting) _ (Q .low) (Q .some) .0)
         (c .before .before .before .before .before .before .before .before .before .set-touched .ensures) in
     let S = c .before .before .before .before .before .before .loop .inv _ _ _ (carve-first _ _ _ _ _ _ _ _ _
         (Q .splitting) _ (Q .low) (Q .some) _ _ _ _
-        (c .before .before .before .before .before .before .before .before .before .before .before .before .before .before .before .from .ensures)
-        (c .before .before .before .before .before .before .before .before .before .before .before .before .before .to .ensures)
+        (c .before .before .before .before .before .before .before .before .before .before .before .before .before
+        .before .before .from .ensures)
+        (c .before .before .before .before .before .before .before .before .before .before .before .before .before .to
+        .ensures)
         (omega (arith,
-            c .before .before .before .before .before .before .before .before .before .before .before .touched .ensures))
+            c .before .before .before .before .before .before .before .before .before .before .before .touched
+            .ensures))
             (c .before .before .before .before .before .before .before .before .before .set-touched .ensures)) Z in
     let D = c .before .before .before .group .ensures _ _ _ _ (state-able _ _ _ _ _ _ _ _ _ _ _ _ _ _ S
         (c .before .before .before .before .before .loop-test .taken))
