@@ -6,26 +6,19 @@
  * `card FILE...` times the sheets of the files instead, all together. */
 #include <stdio.h>
 #include <stdlib.h>
-#include <time.h>
 
 #include "negyvosal.h"
 #include "sheets.h"
+#include "timing.h"
 
 #define RUNS 9
 #define LARGEST 4096
 
-enum { B = 10, V = 11, X = 50, FIRST = 100 };
+enum { V = 11, X = 50, FIRST = 100 };
 enum { SKIP = 16, NUMBER = 19, ASSIGN = 23, IF = 25, PROCEDURE = 28, PLUS = 0, UNUSED = 255 };
 
 static uint32_t words[NEGYVOSAL_FOLLOW_WORDS(31, LARGEST)];
 static uint8_t space[NEGYVOSAL_CARD_SPACE(31, LARGEST)];
-
-/* The processor time of this thread in milliseconds. */
-static double now(void) {
-    struct timespec t;
-    clock_gettime(CLOCK_THREAD_CPUTIME_ID, &t);
-    return (double)t.tv_sec * 1e3 + (double)t.tv_nsec / 1e6;
-}
 
 static void use(struct sheet *s, int id) {
     put(s, USE);
@@ -65,19 +58,9 @@ static void sum(struct sheet *s, int terms, int k) {
     put(s, SKIP);
 }
 
-static struct sheet begun(struct range r) {
-    struct sheet s = {{0}, 0};
-    put(&s, r.z);
-    put(&s, r.rule);
-    declare(&s, B, 1);
-    declare(&s, C, 0);
-    declare(&s, E, 2);
-    return s;
-}
-
 /* So many sums, each of so many e, and then a chain. */
 static struct sheet chain(struct range r, int sums, int terms, int count) {
-    struct sheet s = begun(r);
+    struct sheet s = headed(r);
     for (int i = 0; i < sums; i++) {
         put(&s, SEQUENCE);
         sum(&s, terms, 0);
@@ -99,7 +82,7 @@ static void branches(struct sheet *s, int z, int first, int count) {
 }
 
 static struct sheet side_by_side(struct range r, int count) {
-    struct sheet s = begun(r);
+    struct sheet s = headed(r);
     branches(&s, r.z, 0, count);
     return s;
 }
@@ -119,7 +102,7 @@ static void assignments(struct sheet *s, int terms, int count) {
 }
 
 static struct sheet assigned(struct range r, int terms, int count) {
-    struct sheet s = begun(r);
+    struct sheet s = headed(r);
     declare(&s, V, 4);
     assignments(&s, terms, count);
     return s;
@@ -133,7 +116,7 @@ static void procedure(struct sheet *s, int p) {
 
 /* 2^n escapes around c: p(x) is `if b then x else skip`, and each further procedure is the last one twice. */
 static struct sheet escapes(int n) {
-    struct sheet s = begun((struct range){1, 0});
+    struct sheet s = headed((struct range){1, 0});
     for (int p = FIRST; p <= FIRST + n; p++) {
         procedure(&s, p);
         if (p == FIRST) {
@@ -152,14 +135,14 @@ static struct sheet escapes(int n) {
     return s;
 }
 
-static unsigned size_of(const struct sheet *s) {
-    uint32_t out[NEGYVOSAL_WORDS];
-    negyvosal_check(s->bytes, s->length, out, NEGYVOSAL_WORDS);
-    if (out[0] != NEGYVOSAL_ACCEPTED) {
-        fprintf(stderr, "a sheet is refused by %u\n", (unsigned)out[1]);
+/* The size of a sheet that must be accepted. */
+static unsigned accepted_size(const struct sheet *s) {
+    unsigned size = size_of(s);
+    if (size == 0) {
+        fprintf(stderr, "a sheet is refused\n");
         exit(1);
     }
-    return out[2];
+    return size;
 }
 
 /* Makes the card, or follows an empty play, with just what is needed; the time in milliseconds. */
@@ -189,7 +172,7 @@ static void expect(const uint32_t *out, uint32_t kind) {
 
 static struct times timed(const struct sheet *s) {
     struct times least = {1e9, 1e9, 0};
-    unsigned size = size_of(s);
+    unsigned size = accepted_size(s);
     for (int run = 0; run < RUNS; run++) {
         uint32_t out[NEGYVOSAL_WORDS];
         double follow = call(s, size, 0, out);
@@ -209,7 +192,7 @@ static void print(struct times t) {
 }
 
 static void time_sheet(const char *what, struct range r, struct sheet s) {
-    printf("%-16s Z %2d rule %d size %4u", what, r.z, r.rule, size_of(&s));
+    printf("%-16s Z %2d rule %d size %4u", what, r.z, r.rule, accepted_size(&s));
     print(timed(&s));
 }
 

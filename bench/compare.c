@@ -2,46 +2,15 @@
  * refuses a range, the line says so. */
 #include <stdio.h>
 #include <stdlib.h>
-#include <time.h>
 
 #include "negyvosal.h"
 #include "sheets.h"
+#include "timing.h"
 
 #define RUNS 21
 
 static uint32_t words[NEGYVOSAL_COMPARE_WORDS(31, 4096, 4096)];
 static uint8_t space[NEGYVOSAL_COMPARE_SPACE(4096, 4096)];
-
-/* The processor time of this thread in milliseconds. */
-static double now(void) {
-    struct timespec t;
-    clock_gettime(CLOCK_THREAD_CPUTIME_ID, &t);
-    return (double)t.tv_sec * 1e3 + (double)t.tv_nsec / 1e6;
-}
-
-static int by_value(const void *a, const void *b) {
-    double x = *(const double *)a, y = *(const double *)b;
-    return (x > y) - (x < y);
-}
-
-static double median(double *times) {
-    qsort(times, RUNS, sizeof *times, by_value);
-    return times[RUNS / 2];
-}
-
-/* Keeps the processor busy first: on some machines a process is slow in its first tens of milliseconds. */
-static void warm_up(void) {
-    double start = now();
-    while (now() - start < 300) {
-    }
-}
-
-/* The reckoned size of an accepted sheet. */
-static size_t size_of(const struct sheet *s) {
-    uint32_t out[NEGYVOSAL_WORDS];
-    negyvosal_check(s->bytes, s->length, out, NEGYVOSAL_WORDS);
-    return out[0] == NEGYVOSAL_ACCEPTED ? out[2] : 0;
-}
 
 /* Times compare and follow on sheets of at most that size, each lent just what it needs; the time of compare, or 0
  * where the sheets are refused. */
@@ -68,11 +37,11 @@ static double time_size(struct range r, int size, double half) {
         followed[k] = now() - start;
         if (out[0] != NEGYVOSAL_FOLLOWS || NEGYVOSAL_WHOLE(out[2], out[3]) != 7) exit(1);
     }
-    double middle = median(compared);
+    double middle = median(compared, RUNS);
     printf("  compare %7.3f ms", middle);
     if (half > 0) printf(" (%.2f times the half)", middle / half);
     else printf("                      ");
-    printf("  follow %7.3f ms\n", median(followed));
+    printf("  follow %7.3f ms\n", median(followed, RUNS));
     return middle;
 }
 

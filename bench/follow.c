@@ -2,17 +2,17 @@
  * one move halfway that no play has there; and plays that go on just as long where no complete play goes. */
 #include <stdio.h>
 #include <stdlib.h>
-#include <time.h>
 
 #include "negyvosal.h"
 #include "sheets.h"
+#include "timing.h"
 
 #define RUNS 5
 #define MOST_MOVES 1000000
 #define SIZE 4080
 #define WORDS (sizeof words / sizeof *words)
 
-enum { RUN = 0, DONE = 1, ASK = 2, VALUE = 5, WHOLE = 255, NOBODY = 77, B = 10 };
+enum { RUN = 0, DONE = 1, ASK = 2, VALUE = 5, WHOLE = 255, NOBODY = 77 };
 enum { SKIP = 16, DIVERGE = 17, IF = 25 };
 
 struct play {
@@ -22,21 +22,9 @@ struct play {
 
 static uint32_t words[NEGYVOSAL_FOLLOW_WORDS(7, 4096)];
 
-/* The processor time of this thread in milliseconds. */
-static double now(void) {
-    struct timespec t;
-    clock_gettime(CLOCK_THREAD_CPUTIME_ID, &t);
-    return (double)t.tv_sec * 1e3 + (double)t.tv_nsec / 1e6;
-}
-
 /* if b then skip else (the statements; diverge): no complete play goes into the statements. */
 static struct sheet dead_end(struct range r, int size) {
-    struct sheet s = {{0}, 0};
-    put(&s, r.z);
-    put(&s, r.rule);
-    declare(&s, B, 1);
-    declare(&s, C, 0);
-    declare(&s, E, 2);
+    struct sheet s = headed(r);
     put(&s, IF);
     put(&s, USE);
     put(&s, B);

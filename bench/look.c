@@ -2,10 +2,10 @@
  * sheets are the same, so that a look goes through all plays of so many moves; the five calls are made in turn. */
 #include <stdio.h>
 #include <stdlib.h>
-#include <time.h>
 
 #include "negyvosal.h"
 #include "sheets.h"
+#include "timing.h"
 
 #define RUNS 101
 #define LOOKS 4
@@ -13,34 +13,6 @@
 static uint32_t words[262208];
 static uint8_t space[32768];
 static uint32_t out[NEGYVOSAL_WORDS];
-
-static double now(void) {
-    struct timespec t;
-    clock_gettime(CLOCK_MONOTONIC, &t);
-    return (double)t.tv_sec * 1e3 + (double)t.tv_nsec / 1e6;
-}
-
-static int by_value(const void *a, const void *b) {
-    double x = *(const double *)a, y = *(const double *)b;
-    return (x > y) - (x < y);
-}
-
-static double median(double *times) {
-    qsort(times, RUNS, sizeof *times, by_value);
-    return times[RUNS / 2];
-}
-
-/* Keeps the processor busy first: on some machines a process is slow in its first tens of milliseconds. */
-static void warm_up(void) {
-    double start = now();
-    while (now() - start < 300) {
-    }
-}
-
-static uint32_t size_of(const struct sheet *sheet) {
-    negyvosal_check(sheet->bytes, sheet->length, out, NEGYVOSAL_WORDS);
-    return out[2];
-}
 
 static double compare(const struct sheet *old, const struct sheet *new) {
     double start = now();
@@ -69,8 +41,8 @@ static int time_pair(const struct sheet *old, const struct sheet *new) {
             if (NEGYVOSAL_WHOLE(out[2], out[3]) != limits[l]) return 0;
         }
     }
-    printf("compare %7.3f ms  look", median(compares));
-    for (int l = 0; l < LOOKS; l++) printf("  %llu: %7.3f", (unsigned long long)limits[l], median(looks[l]));
+    printf("compare %7.3f ms  look", median(compares, RUNS));
+    for (int l = 0; l < LOOKS; l++) printf("  %llu: %7.3f", (unsigned long long)limits[l], median(looks[l], RUNS));
     printf(" ms\n");
     return 1;
 }

@@ -6,7 +6,7 @@
 #include <stddef.h>
 #include <stdint.h>
 
-enum { DECLARE = 1, USE = 20, OPERATE = 22, SEQUENCE = 24, WHILE = 26, EQUAL = 4, C = 8, E = 9 };
+enum { DECLARE = 1, USE = 20, OPERATE = 22, SEQUENCE = 24, WHILE = 26, EQUAL = 4, C = 8, E = 9, B = 10 };
 
 enum { INFINITIES = 2 };
 
@@ -25,6 +25,17 @@ static void put(struct sheet *s, int byte) { s->bytes[s->length++] = (uint8_t)by
 static void declare(struct sheet *s, int id, int type) {
     int record[] = {DECLARE, id, type, 0, 255, 255, 255, 255};
     for (int i = 0; i < 8; i++) put(s, record[i]);
+}
+
+/* The heading of a sheet with the names b, c and e. */
+static inline struct sheet headed(struct range r) {
+    struct sheet s = {{0}, 0};
+    put(&s, r.z);
+    put(&s, r.rule);
+    declare(&s, B, 1);
+    declare(&s, C, 0);
+    declare(&s, E, 2);
+    return s;
 }
 
 /* `count` statements, halved as long as there are more than `group`, then one after the other. */

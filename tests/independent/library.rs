@@ -152,12 +152,38 @@ impl Compared {
     }
 }
 
+/// What is lent to compare and to look.
+struct Pair {
+    old: Lent<u8>,
+    new: Lent<u8>,
+    words: Lent<u32>,
+    space: Lent<u8>,
+    out: Lent<u32>,
+}
+
+impl Pair {
+    fn lend(old: &[u8], new: &[u8], words: usize, space: usize, room: usize) -> Pair {
+        Pair {
+            old: lent_bytes("old", old),
+            new: lent_bytes("new", new),
+            words: lent_words("words", words),
+            space: lent_space("space", space),
+            out: lent_words("out", room),
+        }
+    }
+
+    fn told(self, told: u32) -> Result<Compared, String> {
+        self.old.expect(&[])?;
+        self.new.expect(&[])?;
+        let got = answer(told, &self.out)?;
+        expect_words(&self.words, got[0] != REFUSED)?;
+        Ok(Compared { words: got, space: self.space })
+    }
+}
+
 pub fn compare(old: &[u8], new: &[u8], words: usize, space: usize, room: usize) -> Result<Compared, String> {
-    let old = lent_bytes("old", old);
-    let new = lent_bytes("new", new);
-    let mut words = lent_words("words", words);
-    let mut space = lent_space("space", space);
-    let mut out = lent_words("out", room);
+    let mut lent = Pair::lend(old, new, words, space, room);
+    let Pair { old, new, words, space, out } = &mut lent;
     // SAFETY: every pointer is to as many elements as its length says, and none overlap.
     let told = unsafe {
         negyvosal_compare(
@@ -173,20 +199,13 @@ pub fn compare(old: &[u8], new: &[u8], words: usize, space: usize, room: usize) 
             out.length(),
         )
     };
-    old.expect(&[])?;
-    new.expect(&[])?;
-    let got = answer(told, &out)?;
-    expect_words(&words, got[0] != REFUSED)?;
-    Ok(Compared { words: got, space })
+    lent.told(told)
 }
 
 pub fn look(old: &[u8], new: &[u8], limit: u64, words: usize, space: usize, room: usize) -> Result<Compared, String> {
-    let old = lent_bytes("old", old);
-    let new = lent_bytes("new", new);
-    let mut words = lent_words("words", words);
-    let mut space = lent_space("space", space);
-    let mut out = lent_words("out", room);
-    // SAFETY: every pointer is to as many elements as its length says, and none overlap.
+    let mut lent = Pair::lend(old, new, words, space, room);
+    let Pair { old, new, words, space, out } = &mut lent;
+    // SAFETY: as in compare.
     let told = unsafe {
         negyvosal_look(
             old.start(),
@@ -202,11 +221,7 @@ pub fn look(old: &[u8], new: &[u8], limit: u64, words: usize, space: usize, room
             out.length(),
         )
     };
-    old.expect(&[])?;
-    new.expect(&[])?;
-    let got = answer(told, &out)?;
-    expect_words(&words, got[0] != REFUSED)?;
-    Ok(Compared { words: got, space })
+    lent.told(told)
 }
 
 pub fn card(sheet: &[u8], words: usize, space: usize, room: usize) -> Result<Compared, String> {
