@@ -1,6 +1,6 @@
--- How much follow, compare and look ask to be lent. Document 01, "Three services"; document 02, [9] for look, [11]:
--- "Where Z is above 7, working words are 128 for each position counted where 01 says 32; up to 7 the old figure
--- stands". SHEETS 8.3, 8.4 and 8.7.
+-- How much follow, compare and look ask to be lent, and how many words card does. Document 01, "Three services";
+-- document 02, [9] for look, [12] for card, [11]: "Where Z is above 7, working words are 128 for each position counted
+-- where 01 says 32; up to 7 the old figure stands". SHEETS 8.3, 8.4, 8.7 and 8.9.
 use Prim.Native.Nat.{ℕ, _+_, _*_, _-_}
 use lib.Dec.{ltb}
 use Rattle.language.specs.declared.Numbers.{Numbers}

@@ -1,4 +1,4 @@
-// How many working words follow, compare and look ask to be lent.
+// How many working words follow, compare, look and card ask to be lent.
 use language::Numbers;
 ghost use mathlib.Core.Path.{_≡_};
 ghost use Prim.Native.Nat.{_≤_};

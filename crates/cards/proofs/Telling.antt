@@ -4,41 +4,26 @@ use mathlib.Core.Path.{_∙_, _≡_, refl, subst, sym}
 use Prim.Native.Nat.{ℕ}
 use native.Mathlib.Omega.{arith}
 use lib.ListN.{take}
-use Rattle.language.specs.declared.Numbers.{Numbers}
-use Rattle.language.specs.Move.{Move, at, move, private, valueOf}
-use Rattle.explicit.specs.Letter.{Small, Values}
 use Rattle.records.specs.declared.edition.Edition.the-variants.{Present}
 use Rattle.sheet.specs.Encoding.{headingLength}
 use Rattle.sheet.specs.Fine.{Accepted}
 use Rattle.sheet.proofs.Right.{gives}
 use Rattle.cards.specs.Card.{cardBytes, tableBytes}
 use Rattle.cards.specs.Positions.{Position, Table}
-use Rattle.cards.specs.Rules.{CardTells, NoPositions, Recorded, ValueIn}
+use Rattle.cards.specs.Rules.{CardTells, NoPositions}
 use Rattle.cards.specs.Smallest.{HasPlays}
 use Rattle.cards.proofs.Bytes.{bytes-card}
 use Rattle.cards.proofs.Plays.{is-table}
 use Rattle.cards.proofs.Tables.{few, table-small}
 
--- a move that has a record has a letter
-value-in : (N : Numbers) (vs : List ℕ) → ValueIn N vs → Values N vs
-unfolding ValueIn Values
-value-in N [] h = tt
-value-in N (v ∷ vs) h = h
-
-recorded-small : (N : Numbers) (m : Move) → Recorded N m → Small N m
-unfolding Recorded Small
-recorded-small N (move (at id j) e) (a, b, h) = (a, b, value-in N (valueOf e) h)
-recorded-small N (move (private i) e) h = absurd h
-
 -- THEOREM: a table with the bytes of the card has exactly the complete plays
 pub card-tells : CardTells
-card-tells s c C U recorded e =
+card-tells s c C U small e =
     let A : Accepted (C .sheet) = gives Present s (C .sheet) (C .type) (C .size) (C .reads) .1 in
     let h = headingLength (C .sheet) in
     let t : C .table ≡ U =
           bytes-card (C .sheet .numbers) (few (C .sheet) A) s s h h (C .type) (C .table) U refl
-            (table-small (C .sheet) A (C .table) (C .positions))
-            (λ k h m j a. recorded-small (C .sheet .numbers) m (recorded k h m j a)) (sym (C .bytes) ∙ e) in
+            (table-small (C .sheet) A (C .table) (C .positions)) small (sym (C .bytes) ∙ e) in
     subst (HasPlays (C .sheet)) t (is-table (C .sheet) A (C .table) (C .positions))
 
 -- THEOREM: the card of a sheet without plays is its heading and its type

@@ -5,15 +5,14 @@ use mathlib.Core.Option.{none, some}
 use mathlib.Core.Path.{_≡_}
 use Prim.Native.Nat.{_+_, _<_, ℕ}
 use lib.ListN.{drop, getD, length, take}
-use Rattle.language.specs.declared.Numbers.{Numbers}
-use Rattle.language.specs.Number.{numbers}
-use Rattle.language.specs.Move.{Move, Word, at, move, private, valueOf}
+use Rattle.language.specs.Move.{Move, Word}
 use Rattle.records.specs.Refusal.{both-sheets, cause, old-sheet}
 use Rattle.records.specs.declared.refusal.Cause.{Cause}
 use Rattle.procedures.specs.Written.{Sheet}
 use Rattle.judge.specs.declared.mark.Uses.{Uses}
 use Rattle.sheet.specs.Encoding.{headingLength}
 use Rattle.sheet.specs.Reader.{accepted, readSheet, rejected}
+use Rattle.explicit.specs.Letter.{Small}
 use Rattle.comparer.specs.Demands.{CheckNumber}
 use Rattle.comparer.specs.Plays.{Alike, CompletePlay}
 use Rattle.comparer.specs.Promise.{ComparePromise}
@@ -52,21 +51,12 @@ CardUnique = (s ws space : List ℕ) (r r₂ : Carding) (ws₁ ws₂ space₁ sp
     → CardPromise s ws space r ws₁ space₁ → CardPromise s ws space r₂ ws₂ space₂
     → (r ≡ r₂) × ((ws₁ ≡ ws₂) × (space₁ ≡ space₂))
 
--- a move that has a record: id and argument are bytes, and a value is one of the sheet's
-unfoldable pub ValueIn : Numbers → List ℕ → Type 0
-ValueIn N [] = Unit {0}
-ValueIn N (v ∷ vs) = v < numbers N
-
-unfoldable pub Recorded : Numbers → Move → Type 0
-Recorded N (move (at id j) e) = (id < 256) × (j < 256) × ValueIn N (valueOf e)
-Recorded N (move (private i) e) = ⊥
-
--- a card tells the plays: whatever table of such moves has these bytes after the heading and the type has exactly the
--- complete plays of the sheet
+-- a card tells the plays: whatever table has these bytes after the heading and the type, of moves whose parts are in
+-- range, has exactly the complete plays of the sheet
 abbrev pub CardTells : Type 0
 CardTells = (s c : List ℕ) (C : CardOf s c) (U : List Position)
     → ((k : ℕ) → k < length U → (m : Move) (j : ℕ) → Among (getD U k no-position .arcs) m j
-      → Recorded (C .sheet .numbers) m)
+      → Small (C .sheet .numbers) m)
     → c ≡ cardBytes s (headingLength (C .sheet)) (C .type) (C .sheet .numbers) U → HasPlays (C .sheet) U
 
 -- what is read from a card after the heading and the type is its table, which has exactly the complete plays

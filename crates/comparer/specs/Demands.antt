@@ -93,7 +93,7 @@ RecordsOfMoves = (S : Sheet) (u : Word) → Accepted S → CompletePlay S u →
   parse 0 (records (S .numbers) u) ≡ moves (map (record-of (S .numbers)) u)
 
 -- Demand 3 speaks of more sheets than check accepts: of all that are in order but for the limits on bytes, records, depth
--- and size, by either rule. Each has a reckoned size
+-- and size, by either edition, whatever the byte of the overflow rule. Each has a reckoned size
 pub record InOrder (S : Sheet) : Type 0 where
   pub z-above : 0 < S .numbers .z
   pub z-below : S .numbers .z ≤ greatest-z

@@ -21,7 +21,7 @@ pub(crate) const HEADINGS_DIFFER: u8 = 12;
 // There are too few working words.
 pub const TOO_FEW_WORDS: u8 = 13;
 
-// Play space is too short.
+// Play space, or card space, is too short.
 pub const SPACE_TOO_SHORT: u8 = 14;
 
 // A play has a record of an unknown kind or one that is cut short.
