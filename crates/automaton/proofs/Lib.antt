@@ -1,6 +1,5 @@
 -- That the step on numbers is the machine's step: laws of numbers, rows and types, then of the ways down and up.
 pub mod Steps
-pub mod Facts
 pub mod Sums
 pub mod TypeNumbers
 pub mod Parts

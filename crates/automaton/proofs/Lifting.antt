@@ -23,15 +23,15 @@ use Rattle.machine.specs.Edge.{edge-hear}
 use Rattle.machine.specs.Position.{Context, Position, State, Exit as ExitOf}
 use Rattle.machine.specs.Numbering.{numbered}
 use Rattle.machine.specs.Step.{onDone, onOk, onValue, onTruth, onSome}
-use Rattle.automaton.specs.declared.Move.{Move as Record}
-use Rattle.automaton.specs.declared.Frame.{Frame}
-use Rattle.automaton.specs.declared.Out.{Out as Did}
-use Rattle.automaton.specs.declared.Out.the-variants.{Go, Say, Stuck}
-use Rattle.automaton.specs.walk.Row.{sumOf, mulAddOf}
-use Rattle.automaton.specs.walk.Name.{framedOf}
-use Rattle.automaton.specs.walk.Up.{exitDone, exitTruth, exitValue, exitResult, exitOperate, exitAssign}
-use Rattle.automaton.specs.walk.Up.{exitsOf}
-use Rattle.automaton.specs.walk.Up.{goesOf, riseOf}
+use Rattle.positions.specs.declared.Move.{Move as Record}
+use Rattle.positions.specs.declared.Frame.{Frame}
+use Rattle.positions.specs.declared.Out.{Out as Did}
+use Rattle.positions.specs.declared.Out.the-variants.{Go, Say, Stuck}
+use Rattle.positions.specs.Row.{sumOf, mulAddOf}
+use Rattle.name_use.specs.Name.{framedOf}
+use Rattle.rise.specs.Up.{exitDone, exitTruth, exitValue, exitResult, exitOperate, exitAssign}
+use Rattle.rise.specs.Up.{exitsOf}
+use Rattle.rise.specs.Up.{goesOf, riseOf}
 use Rattle.automaton.specs.walk.Shows.{kindA, valueA, moveOf, stored, updated, ShowsNext, ShowsSaid, waits}
 use Rattle.automaton.specs.walk.Shows.{leads, Shows, Variables}
 use Rattle.automaton.proofs.Sums.{map-edge, sum-small}

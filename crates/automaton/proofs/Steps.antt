@@ -1,43 +1,14 @@
--- One step of each recursion, as the code takes it.
-use Prim.Native.Nat.{ℕ, zero, suc, _+_, _-_}
+-- One step of the recursion, as the code takes it.
+use Prim.Native.Nat.{ℕ, zero, suc, _-_}
 use mathlib.Core.Path.{_≡_, refl}
 use mathlib.Core.List.{List}
-use lib.Dec.{leb}
 use native.Mathlib.Numerals.{sub-one}
-use Rattle.language.specs.Choice.{pick}
 use Rattle.language.specs.declared.Numbers.{Numbers}
-use Rattle.part_rows.specs.Row.{word}
-use Rattle.automaton.specs.declared.Move.{Move}
-use Rattle.automaton.specs.walk.Row.{partWeight, partClass, partValues, sumOf}
-use Rattle.automaton.specs.walk.Types.{answersOf}
+use Rattle.positions.specs.declared.Move.{Move}
 use Rattle.automaton.specs.walk.Store.{storeIn}
-use Rattle.automaton.specs.walk.Name.{copiesOf, argSpots, replyHere, replyOf, argHere, inArgs}
 use Rattle.automaton.specs.walk.Down.{downOf}
-use Rattle.automaton.specs.walk.Up.{riseOf}
+use Rattle.rise.specs.Up.{riseOf}
 use Rattle.automaton.specs.walk.Step.{onSpot, stepAt}
-
-pub spots-step : (t : List ℕ) (at j n : ℕ) → (n ≡ 0 → ⊥) →
-  argSpots t at j n ≡ sumOf (copiesOf t at j) (argSpots t at (sumOf j 1) (n - 1))
-unfolding argSpots
-spots-step t at j zero h = absurd (h refl)
-spots-step t at j (suc n) h = simp sub-one
-
-pub reply-step : (t : List ℕ) (id at j n k next : ℕ) → (n ≡ 0 → ⊥) → replyOf t id at j n k next ≡
-  pick (leb (answersOf (partClass t at j) (partValues t at j)) k)
-  (replyOf t id at (sumOf j 1) (n - 1) (k - answersOf (partClass t at j) (partValues t at j)) next)
-  (replyHere id (partClass t at j) (partValues t at j) (sumOf j 1) k next)
-unfolding replyOf
-reply-step t id at j zero k next h = absurd (h refl)
-reply-step t id at j (suc n) k next h = simp sub-one
-
-pub args-step : (t : List ℕ) (at j n k base after : ℕ) → (n ≡ 0 → ⊥) → inArgs t at j n k base after ≡
-  pick (leb (copiesOf t at j) k)
-  (inArgs t at (sumOf j 1) (n - 1) (k - copiesOf t at j) (sumOf base (copiesOf t at j))
-    (sumOf after (answersOf (partClass t at j) (partValues t at j))))
-  (argHere (word t at (5 + j)) (partClass t at j) (partValues t at j) (partWeight t at j) k base after)
-unfolding inArgs
-args-step t at j zero k base after h = absurd (h refl)
-args-step t at j (suc n) k base after h = simp sub-one
 
 pub at-step : (t : List ℕ) (N : Numbers) (left at q x k : ℕ) (s : ℕ → ℕ) (m : Move) → (left ≡ 0 → ⊥) →
   stepAt t N left at q x k s m ≡

@@ -24,15 +24,15 @@ use Rattle.machine.specs.Numbering.{numbered}
 use Rattle.machine.specs.Step.{askVariable, access}
 use Rattle.part_rows.specs.Row.{word}
 use Rattle.nodes.specs.Rep.{Fresh}
-use Rattle.automaton.specs.declared.Move.{Move as Record}
-use Rattle.automaton.specs.declared.Frame.{Frame}
-use Rattle.automaton.specs.declared.Out.{Out as Did}
-use Rattle.automaton.specs.declared.Out.the-variants.{Go, Exit, Say}
-use Rattle.automaton.specs.walk.Row.{sumOf, mulAddOf}
+use Rattle.positions.specs.declared.Move.{Move as Record}
+use Rattle.positions.specs.declared.Frame.{Frame}
+use Rattle.positions.specs.declared.Out.{Out as Did}
+use Rattle.positions.specs.declared.Out.the-variants.{Go, Exit, Say}
+use Rattle.positions.specs.Row.{sumOf, mulAddOf}
 use Rattle.automaton.specs.walk.Store.{withValue}
-use Rattle.automaton.specs.walk.Name.{framedOf}
+use Rattle.name_use.specs.Name.{framedOf}
 use Rattle.automaton.specs.walk.Down.{inPrivate}
-use Rattle.automaton.specs.walk.Up.{exitNew, exitsOf, goesOf, riseOf}
+use Rattle.rise.specs.Up.{exitNew, exitsOf, goesOf, riseOf}
 use Rattle.automaton.specs.walk.Shows.{kindQ, valueQ, kindA, valueA, moveOf, stored, held, valued, updated}
 use Rattle.automaton.specs.walk.Shows.{Variables, HeldStore, ShowsNext}
 use Rattle.automaton.specs.walk.Shows.{ShowsSaid, waits, leads, Shows}

@@ -21,17 +21,17 @@ use Rattle.machine.specs.Numbering.{numberedArgs}
 use Rattle.machine.specs.Step.{listen, again, closes, step, stepArgs}
 use Rattle.part_rows.specs.Row.{word}
 use Rattle.nodes.specs.Rep.{count, RepArgs}
-use Rattle.automaton.specs.declared.Move.{Move as Record}
-use Rattle.automaton.specs.declared.Frame.{Frame}
-use Rattle.automaton.specs.declared.Out.{Out as Did}
-use Rattle.automaton.specs.declared.Out.the-variants.{Go, Say}
-use Rattle.automaton.specs.declared.Spot.the-variants.{Here, Inside}
-use Rattle.automaton.specs.walk.Row.{nameId, nameCount, nameSpent, sumOf, mulAddOf}
+use Rattle.positions.specs.declared.Move.{Move as Record}
+use Rattle.positions.specs.declared.Frame.{Frame}
+use Rattle.positions.specs.declared.Out.{Out as Did}
+use Rattle.positions.specs.declared.Out.the-variants.{Go, Say}
+use Rattle.positions.specs.declared.Spot.the-variants.{Here, Inside}
+use Rattle.positions.specs.Row.{nameId, nameCount, nameSpent, sumOf, mulAddOf}
 use Rattle.automaton.specs.walk.Store.{withValue, storeIn}
-use Rattle.automaton.specs.walk.Name.{framedOf, innerOf, againOf, saidOf, argSpots, replyOf, inArgs, atWait}
-use Rattle.automaton.specs.walk.Name.{atSpent, inName}
+use Rattle.name_use.specs.Name.{framedOf, innerOf, againOf, saidOf, argSpots, replyOf, inArgs, atWait}
+use Rattle.name_use.specs.Name.{atSpent, inName}
 use Rattle.automaton.specs.walk.Down.{operateIn, assignIn, inPrivate, downAs, downOf}
-use Rattle.automaton.specs.walk.Up.{riseOf}
+use Rattle.rise.specs.Up.{riseOf}
 use Rattle.automaton.specs.walk.Step.{onSpot, stepAt}
 use Rattle.automaton.specs.walk.Shows.{kindQ, valueQ, kindA, valueA, moveOf, held, ShowsSaid, ShowsHeard}
 use Rattle.automaton.specs.walk.Shows.{Shows}

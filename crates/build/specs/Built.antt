@@ -14,7 +14,7 @@ use Rattle.dfa.specs.Graph.{rest, Graph}
 use Rattle.silent.specs.Silent.{Silent, Settling}
 use Rattle.explicit.specs.Explicit.{Explicit}
 use Rattle.explicit.specs.inner.Ready.{Ready}
-use Rattle.build.specs.Lent.{words-asked}
+use Rattle.conditions.specs.Lent.{words-asked}
 
 -- the table t, of words of 16 bits, represents a term of size `all` at the root, and there are words enough
 pub record OneReady (N : Numbers) (t : List ℕ) (root all : ℕ) (ws : List ℕ) : Type 0 where

@@ -1,3 +1,2 @@
-// The automata of one or two sheets in the working words, and how many words are asked for them.
+// The automata of one or two sheets in the working words.
 pub mod build;
-pub mod lent;

@@ -25,9 +25,11 @@ use Rattle.load.specs.Loaded as load
 use Rattle.load.specs.declared.load.Loaded.{Loaded}
 use Rattle.load.specs.declared.load.Loaded.the-variants as loaded
 use Rattle.build.specs.Built.{OneBuilt, OneReady}
-use Rattle.build.specs.Lent.{words-asked}
-use Rattle.comparer.specs.Refusals.{onRead, refusing}
-use Rattle.comparer.specs.inner.Causes.{causeOf, numberOf}
+use Rattle.conditions.specs.Lent.{words-asked}
+use Rattle.comparer.specs.Refusals.{onRead}
+use Rattle.conditions.specs.Pair.{refusing}
+use Rattle.comparer.specs.inner.Causes.{causeOf}
+use Rattle.conditions.specs.Pair.{numberOf}
 use Rattle.comparer.proofs.ReadSheets.{Fit, fit-ready, fit-type}
 use Rattle.play.proofs.WritingPlays.{sets-append}
 use Rattle.cards.specs.Promise.{CardOf, CardPromise, CardedBy, cardRefusal, lentRefusal, space-for}

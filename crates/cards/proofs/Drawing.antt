@@ -18,7 +18,8 @@ use Rattle.sheet.specs.Encoding.{headingLength}
 use Rattle.sheet.specs.Fine.{Accepted}
 use Rattle.sheet.proofs.Right.{gives}
 use Rattle.explicit.proofs.Filled.{most-edges}
-use Rattle.build.proofs.Figures.{asked-low, asked-suffices}
+use Rattle.conditions.proofs.Figures.{asked-low}
+use Rattle.build.proofs.Room.{asked-suffices}
 use Rattle.comparer.proofs.FollowPlays.{built-single}
 use Rattle.class_words.specs.Places.{numberAt, stateAt}
 use Rattle.smallest.specs.Table.{Place, nowhere}

@@ -14,8 +14,9 @@ use Rattle.records.specs.declared.edition.Edition.the-variants.{Present}
 use Rattle.records.specs.declared.refusal.Cause.{Cause}
 use Rattle.sheet.specs.Encoding.{headingLength}
 use Rattle.sheet.proofs.Right.{gives}
-use Rattle.build.specs.Lent.{bytes-asked, words-asked}
-use Rattle.comparer.specs.Refusals.{compareRefusal, headings-differ, matching, onRead, refusing, sameFirst}
+use Rattle.conditions.specs.Lent.{bytes-asked, words-asked}
+use Rattle.comparer.specs.Refusals.{compareRefusal, onRead}
+use Rattle.conditions.specs.Pair.{headings-differ, matching, refusing, sameFirst}
 use Rattle.comparer.proofs.ReadSheets.{two-first}
 use Rattle.cards.specs.Rules.{EqualCards}
 use Rattle.cards.proofs.Headings.{other-heading}

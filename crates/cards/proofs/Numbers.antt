@@ -10,8 +10,9 @@ use Rattle.language.specs.Choice.{pick}
 use Rattle.records.specs.Refusal.{both-sheets, cause, old-sheet}
 use Rattle.records.specs.declared.refusal.Cause.{Cause}
 use Rattle.sheet.specs.Reader.{Checks, accepted, readSheet, rejected}
-use Rattle.build.specs.Lent.{words-asked}
-use Rattle.comparer.specs.Refusals.{onRead, refusing}
+use Rattle.conditions.specs.Lent.{words-asked}
+use Rattle.comparer.specs.Refusals.{onRead}
+use Rattle.conditions.specs.Pair.{refusing}
 use Rattle.comparer.proofs.Numbers.{numbers-only}
 use Rattle.cards.specs.Promise.{cardRefusal, lentRefusal, space-for}
 use Rattle.cards.specs.Rules.{CardNumbers, LentRefused, SheetRefused}

@@ -19,7 +19,8 @@ use Rattle.sheet.specs.Encoding.{encode, encodeNames, encodeSheet, headingLengt
 use Rattle.sheet.specs.Reader.{accepted, numbersAt}
 use Rattle.sheet.proofs.Right.{gives}
 use Rattle.comparer.specs.Plays.{Alike}
-use Rattle.comparer.specs.Refusals.{compareRefusal, matching, onRead, pairRefusal, sameFirst}
+use Rattle.comparer.specs.Refusals.{compareRefusal, onRead}
+use Rattle.conditions.specs.Pair.{matching, pairRefusal, sameFirst}
 use Rattle.comparer.specs.Promise.{Holds}
 use Rattle.comparer.specs.Demands.{Exact, Shown}
 use Rattle.comparer.specs.declared.Comparison.{Comparison}

@@ -13,9 +13,10 @@ use Rattle.records.specs.declared.refusal.Cause.{Cause}
 use Rattle.procedures.specs.Written.{Sheet}
 use Rattle.sheet.specs.Encoding.{headingLength}
 use Rattle.sheet.specs.Reader.{accepted, readSheet}
-use Rattle.build.specs.Lent.{words-asked}
+use Rattle.conditions.specs.Lent.{words-asked}
 use Rattle.comparer.specs.Promise.{Cleared}
-use Rattle.comparer.specs.Refusals.{onRead, refusing, space-too-short, too-few-words}
+use Rattle.comparer.specs.Refusals.{onRead}
+use Rattle.conditions.specs.Pair.{refusing, space-too-short, too-few-words}
 use Rattle.cards.specs.Positions.{Position, Table}
 use Rattle.cards.specs.Card.{cardBytes}
 use Rattle.cards.specs.declared.Carding.{Carding}

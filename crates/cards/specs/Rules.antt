@@ -16,7 +16,8 @@ use Rattle.explicit.specs.Letter.{Small}
 use Rattle.comparer.specs.Demands.{CheckNumber}
 use Rattle.comparer.specs.Plays.{Alike, CompletePlay}
 use Rattle.comparer.specs.Promise.{ComparePromise}
-use Rattle.comparer.specs.Refusals.{compareRefusal, headings-differ, space-too-short, too-few-words}
+use Rattle.comparer.specs.Refusals.{compareRefusal}
+use Rattle.conditions.specs.Pair.{headings-differ, space-too-short, too-few-words}
 use Rattle.comparer.specs.declared.Comparison.{Comparison}
 use Rattle.comparer.specs.declared.Comparison.the-variants.{Same}
 use Rattle.cards.specs.Card.{cardBytes}

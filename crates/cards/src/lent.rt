@@ -1,13 +1,13 @@
 // How many bytes card asks to be lent, and by which number it refuses what is lent.
-use build::lent::FEW_NUMBERS;
-use build::lent::words_asked;
-use comparer::SPACE_TOO_SHORT;
-use comparer::TOO_FEW_WORDS;
+use conditions::lent::FEW_NUMBERS;
+use conditions::lent::words_asked;
+use conditions::pair::SPACE_TOO_SHORT;
+use conditions::pair::TOO_FEW_WORDS;
 use language::Numbers;
 use records::refusal::NOT_REFUSED;
 ghost use mathlib.Core.Path.{_≡_};
 ghost use Prim.Native.Nat.{_≤_};
-ghost use Rattle.comparer.specs.inner.Causes.{numberOf};
+ghost use Rattle.conditions.specs.Pair.{numberOf};
 ghost use Rattle.cards.specs.Promise.{lentRefusal, space-for};
 
 // The bytes of card space for each unit of size: up to that Z, and above it.

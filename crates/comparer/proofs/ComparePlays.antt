@@ -26,18 +26,20 @@ use Rattle.load.specs.Loaded as load
 use Rattle.load.specs.declared.load.Loaded.{Loaded}
 use Rattle.load.specs.declared.load.Loaded.the-variants as loaded
 use Rattle.comparer.specs.Plays.{Alike, Only}
-use Rattle.comparer.specs.Refusals.{refusing, sameFirst, matching, onRead, pairRefusal}
+use Rattle.conditions.specs.Pair.{refusing, sameFirst, matching, pairRefusal}
+use Rattle.comparer.specs.Refusals.{onRead}
 use Rattle.comparer.specs.Refusals.{compareRefusal}
 use Rattle.comparer.specs.Plays.{reckoned}
 use Rattle.comparer.specs.Look.{Found, nothing, first, FoundIn, decisionOf, spaceAfter, wholeDepth}
-use Rattle.build.specs.Lent.{words-asked}
+use Rattle.conditions.specs.Lent.{words-asked}
 use Rattle.build.specs.Built.{TwoReady, TwoBuilt}
 use Rattle.comparer.specs.inner.Deciding.{Deciding, OnlyTerm, Verdicts, alike, differ}
 use Rattle.comparer.specs.inner.Deciding.{ExaminedBy, ExaminePromise}
-use Rattle.comparer.specs.inner.Causes.{causeOf, numberOf}
+use Rattle.comparer.specs.inner.Causes.{causeOf}
+use Rattle.conditions.specs.Pair.{numberOf}
 use Rattle.judge.specs.Mark.{usesOf}
 use Rattle.judge.specs.declared.mark.Uses.{Uses}
-use Rattle.comparer.specs.declared.Decision.{Decision}
+use Rattle.play_words.specs.declared.Decision.{Decision}
 use Rattle.comparer.specs.declared.Examined.the-variants.{Known, Refused}
 use Rattle.comparer.proofs.ReadSheets.{heading-after, Fit, fit-as, fit-held, fit-type, fit-ready, fit-used}
 

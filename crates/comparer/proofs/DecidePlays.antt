@@ -28,10 +28,11 @@ use Rattle.silent.proofs.laws.Settled.{settled-graph}
 use Rattle.explicit.specs.Explicit.{Explicit}
 use Rattle.explicit.specs.Letter.{AllSmall}
 use Rattle.build.specs.Built.{TwoBuilt}
-use Rattle.build.proofs.Figures.{asked-low}
-use Rattle.comparer.specs.inner.Deciding.{Deciding, OnlyTerm, Verdicts, alike, differ, Shown}
-use Rattle.comparer.specs.declared.Decision.{Decision}
-use Rattle.comparer.specs.declared.Decision.the-variants.{Same}
+use Rattle.conditions.proofs.Figures.{asked-low}
+use Rattle.comparer.specs.inner.Deciding.{Deciding, OnlyTerm, Verdicts, alike, differ}
+use Rattle.play_words.specs.Shown.{Shown}
+use Rattle.play_words.specs.declared.Decision.{Decision}
+use Rattle.play_words.specs.declared.Decision.the-variants.{Same}
 use Rattle.comparer.proofs.OnePlay.{plays-small}
 use Rattle.comparer.proofs.TwoPlays.{FoundPlay, ends, same-plays, first-play}
 use Rattle.play.proofs.WritingPlays.{records-written}

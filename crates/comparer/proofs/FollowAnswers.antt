@@ -26,20 +26,21 @@ use Rattle.sheet.specs.Reader.{readSheet, rejected}
 use Rattle.load.specs.declared.load.Loaded.{Loaded}
 use Rattle.load.specs.declared.load.Loaded.the-variants as loaded
 use Rattle.play.specs.Records.{Given, moves, bad, parse}
-use Rattle.comparer.specs.Refusals.{refusing, onRead, onGiven, followRefusal}
+use Rattle.conditions.specs.Pair.{refusing}
+use Rattle.comparer.specs.Refusals.{onRead, onGiven, followRefusal}
 use Rattle.comparer.specs.Promise.{FollowedBy, FollowPromise}
 use Rattle.comparer.specs.declared.Following.{Following}
 use Rattle.comparer.specs.declared.Following.the-variants.{Follows, Refused}
-use Rattle.comparer.specs.declared.follow.Reach.{Reach}
+use Rattle.play_words.specs.declared.walk.Reach.{Reach}
 use Rattle.play.specs.declared.play.Parsed.{Parsed}
 use Rattle.play.specs.declared.play.Parsed.the-variants.{Moves, Bad}
-use Rattle.build.specs.Lent.{words-asked}
+use Rattle.conditions.specs.Lent.{words-asked}
 use Rattle.build.specs.Built.{OneReady, OneBuilt}
-use Rattle.build.proofs.Figures.{asked-suffices}
+use Rattle.build.proofs.Room.{asked-suffices}
 use Rattle.explicit.proofs.Filled.{most-edges}
 use Rattle.play.specs.Bytes.{counted}
 use Rattle.comparer.specs.inner.Causes.{causeOf, playCause}
-use Rattle.comparer.specs.inner.Walk.{AtLeast, Marked, Reached}
+use Rattle.play_words.specs.Walk.{AtLeast, Marked, Reached}
 use Rattle.comparer.proofs.ReadSheets.{Fit, fit-held, fit-fine, fit-type, fit-ready}
 use Rattle.comparer.proofs.FollowPlays.{built-single, counts}
 use Rattle.play.proofs.WritingPlays.{good-moves}

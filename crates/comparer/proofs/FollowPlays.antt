@@ -32,7 +32,7 @@ use Rattle.comparer.specs.Promise.{Begins, Greatest, NoPlay, Counted}
 use Rattle.build.specs.Built.{OneBuilt}
 use Rattle.play.specs.Bytes.{firstLetter}
 use Rattle.play.specs.Spell.{letters}
-use Rattle.comparer.specs.inner.Walk.{stateAfter, Longest}
+use Rattle.play_words.specs.Walk.{stateAfter, Longest}
 use Rattle.comparer.proofs.OnePlay.{plays-small, play-walks, walk-plays}
 use Rattle.comparer.proofs.Lengths.{play-or-none}
 use Rattle.comparer.proofs.LivePlay.{live-begins, single-end}

@@ -6,9 +6,7 @@ pub mod Letters
 pub mod OnePlay
 pub mod TwoPlays
 pub mod LivePlay
-pub mod Headings
 pub mod ReadSheets
-pub mod ShowPlay
 pub mod DecidePlays
 pub mod ComparePlays
 pub mod PlayOrder
@@ -18,8 +16,6 @@ pub mod Search
 pub mod AskOnce
 pub mod Worked
 pub mod Table
-pub mod WalkingPlays
-pub mod SearchingPlays
 pub mod FollowPlays
 pub mod FollowAnswers
 pub mod Numbers

@@ -20,7 +20,7 @@ use Rattle.comparer.specs.Look.{Found, nothing, first, FoundIn, spaceAft
 use Rattle.comparer.specs.Look.{LookedBy, LookPromise}
 use Rattle.comparer.specs.Demands.{Comparable}
 use Rattle.comparer.specs.inner.Deciding.{answerOf, ExaminedBy, ExaminePromise}
-use Rattle.comparer.specs.declared.Decision.{Decision}
+use Rattle.play_words.specs.declared.Decision.{Decision}
 use Rattle.comparer.specs.declared.Comparison.{Comparison}
 use Rattle.comparer.specs.declared.Comparison.the-variants as compared
 use Rattle.comparer.specs.declared.Looking.{Looking}

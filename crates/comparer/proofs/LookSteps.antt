@@ -4,8 +4,8 @@ use Prim.Native.Nat.{ℕ, _≤_, _<_}
 use borrow.Author.Tests.{le-ltb, lt-ltb}
 use Rattle.judge.specs.declared.mark.Uses.{Uses}
 use Rattle.comparer.specs.Look.{rulingOf, depthOf, saying, lookAnswer}
-use Rattle.comparer.specs.declared.Decision.{Decision}
-use Rattle.comparer.specs.declared.Decision.the-variants as decided
+use Rattle.play_words.specs.declared.Decision.{Decision}
+use Rattle.play_words.specs.declared.Decision.the-variants as decided
 use Rattle.comparer.specs.declared.Looking.the-variants.{Same, SoFar}
 
 module _ (d : Decision) (limit whole : ℕ) (v w : Uses) (e : d ≡ decided.Same) where

@@ -10,7 +10,7 @@ use native.Mathlib.Omega.{arith}
 use lib.Dec.{ltb}
 use lib.ListN.{length}
 use Rattle.language.specs.declared.Numbers.{Numbers}
-use Rattle.build.specs.Lent.{words-asked}
+use Rattle.conditions.specs.Lent.{words-asked}
 use Rattle.language.specs.Choice.{pick}
 use Rattle.records.specs.declared.edition.Edition.the-variants.{Present}
 use Rattle.records.specs.declared.refusal.Cause.{Cause}
@@ -19,7 +19,8 @@ use Rattle.sheet.specs.Reader.{Checks, accepted, rejected, readSheet}
 use Rattle.judge.proofs.Places.{check-refused}
 use Rattle.judge.specs.declared.mark.Uses.{Uses}
 use Rattle.play.specs.Records.{Given, moves, bad, parse}
-use Rattle.comparer.specs.Refusals.{refusing, matching, onRead, onGiven, followRefusal}
+use Rattle.conditions.specs.Pair.{refusing, matching}
+use Rattle.comparer.specs.Refusals.{onRead, onGiven, followRefusal}
 use Rattle.comparer.specs.Refusals.{compareRefusal}
 use Rattle.comparer.specs.Look.{Ruling, apart, same, so-far, saying, LookedBy, LookPromise}
 use Rattle.comparer.specs.declared.Looking.the-variants.{Refused}

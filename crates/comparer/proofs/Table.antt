@@ -13,8 +13,8 @@ use Rattle.language.specs.Weight.{weight, size}
 use Rattle.records.specs.Kind.{shapeOf}
 use Rattle.records.specs.Standing.{standingOf, isNamed, isHeld, variableStanding, declaredStanding, resultOf, countOf}
 use Rattle.records.specs.Standing.{argumentOf}
-use Rattle.heads.specs.Judge.{andThen, unused, hides}
-use Rattle.heads.specs.Judge as judge
+use Rattle.judgements.specs.Judge.{andThen, unused, hides}
+use Rattle.judgements.specs.Judge as judge
 use Rattle.heads.specs.Head as head
 use Rattle.heads.specs.Head.{byteOf, onByte, withBody, limited, constant, used, useOf, dataByte, newOf, bodyOf}
 use Rattle.heads.specs.Head.{blank, headOf}

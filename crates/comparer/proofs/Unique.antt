@@ -25,7 +25,8 @@ use Rattle.sheet.proofs.Right.{gives}
 use Rattle.records.specs.declared.refusal.Cause.{Cause}
 use Rattle.comparer.specs.Plays.{Alike, Only, FirstPlay}
 use Rattle.play.specs.Records.{moves}
-use Rattle.comparer.specs.Refusals.{matching, onRead, followRefusal, pairRefusal, compareRefusal}
+use Rattle.conditions.specs.Pair.{matching, pairRefusal}
+use Rattle.comparer.specs.Refusals.{onRead, followRefusal, compareRefusal}
 use Rattle.comparer.specs.Promise.{Holds, Begins, Greatest, NoPlay, Counted, FollowedBy}
 use Rattle.comparer.specs.Promise.{Decided, same, apart, ComparedBy}
 use Rattle.comparer.specs.Demands.{Comparable, FollowUnique, CompareUnique}

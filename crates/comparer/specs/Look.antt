@@ -15,8 +15,8 @@ use Rattle.judge.specs.declared.mark.Uses.{Uses}
 use Rattle.comparer.specs.Plays.{reckoned, Alike, FirstPlay}
 use Rattle.comparer.specs.Refusals.{compareRefusal}
 use Rattle.comparer.specs.Promise.{Holds, Cleared}
-use Rattle.comparer.specs.declared.Decision.{Decision}
-use Rattle.comparer.specs.declared.Decision.the-variants as decided
+use Rattle.play_words.specs.declared.Decision.{Decision}
+use Rattle.play_words.specs.declared.Decision.the-variants as decided
 use Rattle.comparer.specs.declared.Looking.{Looking}
 use Rattle.comparer.specs.declared.Looking.the-variants.{Same, Apart, SoFar, Refused}
 

@@ -1,4 +1,3 @@
 -- What the code computes and keeps, cited by inner contracts only.
-pub mod Walk
 pub mod Causes
 pub mod Deciding

@@ -1,10 +1,10 @@
 // The service compare.
 use crate::Comparison;
-use crate::Decision;
 use crate::Examined;
 use crate::LONGEST;
 use crate::examine::examine;
 use judge::mark::Uses;
+use play_words::Decision;
 ghost use mathlib.Core.Path.{_≡_};
 ghost use Rattle.comparer.specs.Promise.{ComparePromise};
 ghost use Rattle.comparer.specs.inner.Deciding.{answerOf};

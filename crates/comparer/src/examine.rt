@@ -1,25 +1,19 @@
 // What compare and look share: two sheets are loaded, their automata built, and their plays compared up to a number of moves.
-use crate::BYTES_A_MOVE;
-use crate::Decision;
 use crate::Examined;
-use crate::HEADINGS_DIFFER;
-use crate::SPACE_TOO_SHORT;
-use crate::TOO_FEW_WORDS;
 use crate::causes::both_cause;
 use crate::causes::cause_of;
-use crate::heading::alike;
 use build::build::two_from_rows;
-use build::lent::words_asked;
+use conditions::heading::alike;
+use conditions::pair::pair_number;
 use dfa::words::clear;
 use difference::Task;
 use difference::Verdict;
 use difference::search::first_difference;
-use difference::word::spell;
-use language::Numbers;
 use load::load::Loaded;
 use load::load::ROWS;
 use load::load::load;
-use play::play::write_play;
+use play_words::Decision;
+use play_words::show::show;
 use records::refusal::NEW;
 use records::refusal::NOT_REFUSED;
 use records::refusal::OLD;
@@ -27,24 +21,7 @@ use sheet::reading::numbers_of;
 ghost use mathlib.Core.Path.{_≡_};
 ghost use Prim.Native.Nat.{_+_, _*_, _<_, _≤_};
 ghost use lib.ListN.{length, getD, take, drop};
-ghost use Rattle.difference.specs.Spelled.{Trail, Spelling};
-ghost use Rattle.comparer.specs.Refusals.{pairRefusal};
-ghost use Rattle.comparer.specs.inner.Causes.{numberOf};
-ghost use Rattle.comparer.specs.inner.Deciding.{Deciding, Verdicts, Shown, ExaminePromise};
-
-// Writes the play of entry k: its number of moves, and which sheet has it. The old sheet has it where it ends at f.
-fn show(words: &mut [u32], space: &mut [u8], n: usize, k: usize, f: usize) -> Decision
-    requires { ⌜ Trail n (take (5 * n) (now words)) k × (32 * n ≤ length (now words)) ⌝ }
-    ensures { λ r. ⌜ Shown n k f (now (words .entry)) (now (space .entry)) r (now (space .exit)) ⌝ }
-{
-    let last = words[n + 4 * k] as usize;
-    let moves = spell(words, n, k);
-    write_play(words, 5 * n, moves, space);
-    if last == f {
-        return Decision::Apart { sheet: OLD, moves };
-    }
-    Decision::Apart { sheet: NEW, moves }
-}
+ghost use Rattle.comparer.specs.inner.Deciding.{Deciding, Verdicts, ExaminePromise};
 
 // Compares the sheets of sizes `all` and `more` whose automata stand in the words, by their plays of at most `most` moves.
 fn decide(words: &mut [u32], space: &mut [u8], all: usize, more: usize, most: usize) -> Decision
@@ -67,24 +44,6 @@ fn decide(words: &mut [u32], space: &mut [u8], all: usize, more: usize, most: us
         Verdict::Same => Decision::Same,
         Verdict::Apart(k) => show(words, space, n, k, all - 1),
     }
-}
-
-// The number by which two accepted sheets are refused, whose sizes add up to `size`: 12, then 13, then 14; 0 where they
-// are not refused.
-fn pair_number(matching: bool, n: Numbers, words: usize, space: usize, size: usize) -> u8
-    requires { ⌜ (0 < size) × (size ≤ 8194) ⌝ }
-    ensures { λ r. ⌜ r ≡ numberOf (pairRefusal matching n words space size) ⌝ }
-{
-    if !matching {
-        return HEADINGS_DIFFER;
-    }
-    if words < words_asked(n, size) {
-        return TOO_FEW_WORDS;
-    }
-    if space < BYTES_A_MOVE * (size - 1) {
-        return SPACE_TOO_SHORT;
-    }
-    NOT_REFUSED
 }
 
 // Examines two sheets by their plays of at most `most` moves: the first play that only one of them has, and which; or that

@@ -1,9 +1,8 @@
 // The services: check (crate judge), follow, compare and look.
 use judge::mark::Uses;
+use play_words::Decision;
 use records::refusal::Cause;
 
-// Whether two headings are the same.
-pub mod heading;
 // Refusals, handed on.
 pub mod causes;
 // The service follow.
@@ -15,20 +14,8 @@ pub mod compare;
 // The service look.
 pub mod look;
 
-// The headings or the result types differ.
-pub(crate) const HEADINGS_DIFFER: u8 = 12;
-
-// There are too few working words.
-pub const TOO_FEW_WORDS: u8 = 13;
-
-// Play space, or card space, is too short.
-pub const SPACE_TOO_SHORT: u8 = 14;
-
 // A play has a record of an unknown kind or one that is cut short.
 pub(crate) const BAD_PLAY: u8 = 15;
-
-// Bytes of play space for each move.
-pub(crate) const BYTES_A_MOVE: usize = 4;
 
 // The most moves that the first play of exactly one of two sheets can have: S + T - 1 for two sheets of the greatest size.
 pub(crate) const LONGEST: usize = 8191;
@@ -38,13 +25,6 @@ pub(crate) const LONGEST: usize = 8191;
 pub enum Following {
     Follows { count: usize, complete: bool },
     Refused(Cause),
-}
-
-// What is decided of two sheets by their plays of at most so many moves: none tells them apart; or the sheet that has the
-// first play that only one of them has, and its number of moves.
-pub(crate) enum Decision {
-    Same,
-    Apart { sheet: u8, moves: usize },
 }
 
 // What examining two sheets gives: what is decided, S + T - 1, and the names that the old and the new sheet use; or the

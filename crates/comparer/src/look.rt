@@ -1,9 +1,9 @@
 // The service look.
-use crate::Decision;
 use crate::Examined;
 use crate::Looking;
 use crate::examine::examine;
 use judge::mark::Uses;
+use play_words::Decision;
 ghost use mathlib.Core.Path.{_≡_};
 ghost use Rattle.comparer.specs.Look.{lookAnswer, LookPromise};
 

@@ -24,7 +24,7 @@ use Rattle.procedures.proofs.Expanding.{expands-sheet}
 use Rattle.procedures.proofs.Making.{expands-same, few-rows}
 use Rattle.procedures.proofs.Valuing.{accepted-light, accepted-deep}
 use Rattle.nodes.specs.Rep as n
-use Rattle.expand.specs.Rows.{decode}
+use Rattle.closing.specs.Rows.{decode}
 use Rattle.expand.specs.Local.{Local}
 use Rattle.expand.specs.Words.{Worded, AllWorded, no-block}
 use Rattle.expand.proofs.Bridge.{bridge}

@@ -17,9 +17,9 @@ use Rattle.procedures.specs.PartKind.{NEW, KIND, DETAIL, PARTS}
 use Rattle.part_rows.specs.Row.{word}
 use Rattle.procedures.specs.Table.{PartRow, Shown, shown-none, shown-more, Known, Few, FewIn}
 use Rattle.procedures.specs.Marks.{Marked, MarkedArgs, MarkedIn}
-use Rattle.expand.specs.Rows.{WEIGHT, ROWS, WORDS, rowWeight}
+use Rattle.closing.specs.Rows.{WEIGHT, ROWS, WORDS, rowWeight}
 use Rattle.expand.specs.Local.{Local}
-use Rattle.expand.specs.Close.{moreOf, firstBits, partsOf, detailOf}
+use Rattle.closing.specs.Close.{moreOf, firstBits, partsOf, detailOf}
 use Rattle.expand.specs.Contract.{FineIn, Weighs, turns, Expanded, Closed}
 use Rattle.expand.proofs.Slotting.{shows-new}
 use Rattle.expand.proofs.Running.{Site, Passed, rowsOf, many, Good}

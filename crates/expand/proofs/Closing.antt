@@ -13,9 +13,9 @@ use Rattle.procedures.specs.PartKind.{KIND, CLASS, VALUES, DETAIL}
 use Rattle.part_rows.specs.Row.{word}
 use Rattle.procedures.specs.Table.{PartRow, ShownArgs}
 use Rattle.procedures.specs.Marks.{MarkedArgs}
-use Rattle.expand.specs.Rows.{WEIGHT, ROWS, WORDS, decode, rowWeight}
+use Rattle.closing.specs.Rows.{WEIGHT, ROWS, WORDS, decode, rowWeight}
 use Rattle.expand.specs.Local.{Right, Local}
-use Rattle.expand.specs.Close.{bitOf, moreOf, firstBits, partsOf, weightOf, detailOf}
+use Rattle.closing.specs.Close.{bitOf, moreOf, firstBits, partsOf, weightOf, detailOf}
 use Rattle.expand.specs.Contract.{Below, Between, Weighs, Given, Expanded, Pieces, Closed}
 use Rattle.expand.proofs.Frames.{Words, below-again, between-again, within-less, weight-between, closed-length}
 use Rattle.expand.proofs.Frames.{closed-below, closed-above, closed-words, words-between}

@@ -49,7 +49,7 @@ use Rattle.procedures.proofs.WellTyped.{typed-below}
 use Rattle.procedures.proofs.Types.{Class, class, a-command, an-expression, a-variable, ty-expression, ty-variable}
 use Rattle.procedures.proofs.Types.{ty-command, ty-truth, ty-number, values-up, operands-type, operands-values, results-type}
 use Rattle.nodes.specs.Rep.{TyRow}
-use Rattle.expand.specs.Rows.{WEIGHT, decode, rowOf, partsFrom, rowWeight, partsWeight}
+use Rattle.closing.specs.Rows.{WEIGHT, decode, rowOf, partsFrom, rowWeight, partsWeight}
 use Rattle.expand.specs.Local.{Right, Local, LocalArgs, LocalPasses}
 use Rattle.expand.specs.Types.{typeAt}
 use Rattle.expand.specs.Words as w

@@ -18,7 +18,7 @@ use Rattle.procedures.specs.Meaning.{Meaning, private, argument, routine, named
 use Rattle.procedures.specs.Shared as s
 use Rattle.procedures.specs.Shared.{Parts, Row}
 use Rattle.procedures.specs.Expand.{operation}
-use Rattle.expand.specs.Rows.{partsFrom, namedRow, rowOf}
+use Rattle.closing.specs.Rows.{partsFrom, namedRow, rowOf}
 
 module _ (N : Numbers) (ns : List Name) (kind d : ℕ) (f : ℕ → ℕ) where
   pub data Decoded : Row → Type 0 where

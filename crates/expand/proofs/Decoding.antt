@@ -24,9 +24,9 @@ use Rattle.part_rows.specs.Row.{word}
 use Rattle.procedures.proofs.Tests.{by-test}
 use Rattle.procedures.proofs.Types.{Class, a-command, an-expression, a-variable, class, ty-expression, ty-variable}
 use Rattle.procedures.proofs.Types.{ty-command}
-use Rattle.expand.specs.Rows.{WEIGHT, partsFrom, namedRow, rowOf, decode}
-use Rattle.expand.specs.Close.{bitOf, firstBits, questionsBy, answersBy, nameWeight, plainWeight, firstValues}
-use Rattle.expand.specs.Close.{weightOf}
+use Rattle.closing.specs.Rows.{WEIGHT, partsFrom, namedRow, rowOf, decode}
+use Rattle.closing.specs.Close.{bitOf, firstBits, questionsBy, answersBy, nameWeight, plainWeight, firstValues}
+use Rattle.closing.specs.Close.{weightOf}
 use Rattle.expand.proofs.Frames.{lower-part}
 
 not-named : (k : ℕ) (c : Binder) (often : Often) (ty : ℕ) (tys : List ℕ) → meant k c ≡ named often ty tys → ⊥

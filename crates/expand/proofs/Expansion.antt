@@ -27,9 +27,9 @@ use Rattle.procedures.proofs.Numbering.{beyond-at}
 use Rattle.procedures.proofs.Renaming.{length-inside}
 use Rattle.procedures.proofs.Alike.{parameter-below}
 use Rattle.procedures.proofs.ComeUsed.{come-used}
-use Rattle.expand.specs.Rows.{ROWS}
+use Rattle.closing.specs.Rows.{ROWS}
 use Rattle.expand.specs.Local.{Local}
-use Rattle.expand.specs.Close.{comeOf, moreOf}
+use Rattle.closing.specs.Close.{comeOf, moreOf}
 use Rattle.expand.specs.Contract.{FineIn, Shows, Weighs, turns, Placed, Expanded, Expanding, Closed, ByKind}
 use Rattle.expand.specs.Contract.{Top}
 use Rattle.expand.proofs.Places.{same-procedure, same-beyond, shown-before, shown-within, shown-same}

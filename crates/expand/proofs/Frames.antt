@@ -13,8 +13,8 @@ use Rattle.part_rows.specs.Row.{cell}
 use Rattle.procedures.specs.PartKind.{KIND, CLASS, VALUES}
 use Rattle.part_rows.specs.Row.{word}
 use Rattle.procedures.proofs.Tests.{by-test}
-use Rattle.expand.specs.Rows.{WEIGHT, ROWS, WORDS}
-use Rattle.expand.specs.Close.{bitOf, weightOf, detailOf, headPut, partsPut, closedRow}
+use Rattle.closing.specs.Rows.{WEIGHT, ROWS, WORDS}
+use Rattle.closing.specs.Close.{bitOf, weightOf, detailOf, headPut, partsPut, closedRow}
 use Rattle.expand.specs.Contract.{Within, Below, Between}
 
 -- a number in two parts

@@ -7,8 +7,8 @@ use mathlib.Core.List.{List}
 use lib.ListN.{set, getD}
 use Rattle.procedures.specs.PartKind.{PROCEDURE, USE, NEW, KIND, DETAIL, PARTS}
 use Rattle.part_rows.specs.Row.{word}
-use Rattle.expand.specs.Rows.{ROWS}
-use Rattle.expand.specs.Close.{usedOf, staysOf, bitOf, moreOf, partsOf, closedRow, passedSlots}
+use Rattle.closing.specs.Rows.{ROWS}
+use Rattle.closing.specs.Close.{usedOf, staysOf, bitOf, moreOf, partsOf, closedRow, passedSlots}
 use Rattle.expand.specs.Contract.{Expanding, Piece, Pieces, Closed, Used, Entered, Recorded, ByKind}
 
 -- one of five by its number

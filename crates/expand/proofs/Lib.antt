@@ -1,5 +1,3 @@
-pub mod Stores
-pub mod Leaves
 pub mod Joins
 pub mod Places
 pub mod Frames

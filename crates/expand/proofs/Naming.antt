@@ -23,9 +23,9 @@ use Rattle.procedures.specs.PartKind.{NAME, KIND, CLASS, VALUES, DETAIL, PARTS,
 use Rattle.part_rows.specs.Row.{word}
 use Rattle.procedures.specs.Table.{nameDetail, PartRow, ShownArgs, shown-none, shown-more, Few}
 use Rattle.procedures.specs.Marks.{Marked}
-use Rattle.expand.specs.Rows.{WEIGHT, ROWS, WORDS, partsFrom, decode, partsWeight, rowWeight}
+use Rattle.closing.specs.Rows.{WEIGHT, ROWS, WORDS, partsFrom, decode, partsWeight, rowWeight}
 use Rattle.expand.specs.Local.{Local, LocalArgs}
-use Rattle.expand.specs.Close.{firstBits, partsOf, argumentWeight, nameWeight, detailOf}
+use Rattle.closing.specs.Close.{firstBits, partsOf, argumentWeight, nameWeight, detailOf}
 use Rattle.expand.specs.Contract.{turns, Expanded, Pieces, Closed}
 use Rattle.expand.proofs.Places.{shown-row}
 use Rattle.expand.proofs.Frames.{upper-part}

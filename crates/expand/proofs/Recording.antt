@@ -23,9 +23,9 @@ use Rattle.part_rows.specs.Row.{word}
 use Rattle.procedures.specs.Table.{PartRow, Shown, shown-none, shown-more, Few}
 use Rattle.procedures.specs.Marks.{Marked, MarkedArgs}
 use Rattle.procedures.proofs.Types.{operands-values}
-use Rattle.expand.specs.Rows.{WEIGHT, ROWS, WORDS, rowWeight}
+use Rattle.closing.specs.Rows.{WEIGHT, ROWS, WORDS, rowWeight}
 use Rattle.expand.specs.Local.{Local}
-use Rattle.expand.specs.Close.{firstBits, partsOf, firstValues, detailOf}
+use Rattle.closing.specs.Close.{firstBits, partsOf, firstValues, detailOf}
 use Rattle.expand.specs.Contract.{turns, Expanded, Closed}
 use Rattle.expand.proofs.Places.{shown-row}
 use Rattle.expand.proofs.Slotting.{shows-block}

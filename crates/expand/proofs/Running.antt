@@ -21,8 +21,8 @@ use lib.Dec.{ltb}
 use borrow.Author.Tests.{ltb-true, ltb-false}
 use Rattle.procedures.proofs.Tests.{by-test}
 use Rattle.procedures.proofs.Making.{expands-made}
-use Rattle.expand.specs.Rows.{ROWS, WORDS, decode}
-use Rattle.expand.specs.Close.{bitOf}
+use Rattle.closing.specs.Rows.{ROWS, WORDS, decode}
+use Rattle.closing.specs.Close.{bitOf}
 use Rattle.expand.specs.Contract.{FineIn, Shows, Within, Below, Between, Weighs, turns, Given, Expanded, Pieces}
 use Rattle.expand.proofs.Places.{shown-before, known-later}
 use Rattle.expand.proofs.Frames.{bit-cases, below-refl, below-again, between-refl, between-below}

@@ -13,7 +13,7 @@ use Rattle.procedures.specs.Occurs.{IsParameter}
 use Rattle.procedures.specs.Context.{Context, binders, Sees, sees-it, from-block, from-procedure, from-scope}
 use Rattle.procedures.specs.Expand.{Slots, with-block, with-rows}
 use Rattle.procedures.proofs.Numbering.{all-declared, beyond-below, beyond-above, beyond-at, one-more-binder}
-use Rattle.expand.specs.Close.{passedSlots}
+use Rattle.closing.specs.Close.{passedSlots}
 use Rattle.expand.specs.Contract.{Shows}
 
 -- the row of the new that a use means

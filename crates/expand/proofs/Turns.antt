@@ -6,8 +6,8 @@ use mathlib.Core.List.{List}
 use lib.ListN.{getD}
 use Rattle.procedures.specs.PartKind.{PROCEDURE, USE, KIND, PARTS}
 use Rattle.part_rows.specs.Row.{word}
-use Rattle.expand.specs.Rows.{ROWS}
-use Rattle.expand.specs.Close.{comeOf, moreOf}
+use Rattle.closing.specs.Rows.{ROWS}
+use Rattle.closing.specs.Close.{comeOf, moreOf}
 use Rattle.expand.specs.Contract.{Expanding, Entered, Recorded}
 use Rattle.expand.proofs.Joins.{kind-scope, kind-use, kind-record}
 use Rattle.expand.proofs.Expansion.{by-come, by-end, by-kind}

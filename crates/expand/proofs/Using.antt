@@ -28,9 +28,9 @@ use Rattle.procedures.proofs.Renaming.{length-inside}
 use Rattle.procedures.proofs.Forming.{total-same, total-first, total-none}
 use Rattle.procedures.proofs.Alike.{inside-parameter, parameter-below}
 use Rattle.procedures.proofs.Contexts.{sees-form, sees-count, sees-made, sees-parameter, Found, Found-right, found}
-use Rattle.expand.specs.Rows.{WEIGHT, ROWS, WORDS, decode}
+use Rattle.closing.specs.Rows.{WEIGHT, ROWS, WORDS, decode}
 use Rattle.expand.specs.Local.{Local, LocalPasses}
-use Rattle.expand.specs.Close.{usedOf, bitOf, moreOf, passedSlots}
+use Rattle.closing.specs.Close.{usedOf, bitOf, moreOf, passedSlots}
 use Rattle.expand.specs.Contract.{FineIn, Within, Below, Between, Weighs, turns, Placed, Given, Expanded}
 use Rattle.expand.specs.Contract.{Expanding, Pieces, Used}
 use Rattle.expand.proofs.Places.{shown-before, known-later, Seen, sees-known, SeenMarks, sees-marked}

@@ -16,9 +16,9 @@ use Rattle.records.specs.Limits.{most-bytes, greatest-depth}
 use Rattle.part_rows.specs.Row.{word}
 use Rattle.procedures.specs.Table.{Shown, Known, BINDERS, Few, FewIn}
 use Rattle.procedures.specs.Marks.{Marked, MarkedIn}
-use Rattle.expand.specs.Rows.{WEIGHT, ROWS, WORDS, decode}
+use Rattle.closing.specs.Rows.{WEIGHT, ROWS, WORDS, decode}
 use Rattle.expand.specs.Local.{Local}
-use Rattle.expand.specs.Close.{usedOf, bitOf, moreOf, partsOf, closedRow, passedSlots}
+use Rattle.closing.specs.Close.{usedOf, bitOf, moreOf, partsOf, closedRow, passedSlots}
 
 -- the terms of the procedures of a context are in order
 unfoldable pub FineIn : Numbers → List Name → Context → Type 0

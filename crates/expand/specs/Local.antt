@@ -23,7 +23,7 @@ use Rattle.procedures.specs.Expand.{no-more, one-used, one-unused}
 use Rattle.procedures.specs.PartKind.{CLASS, VALUES, DETAIL}
 use Rattle.part_rows.specs.Row.{word}
 use Rattle.procedures.specs.Table.{nameDetail}
-use Rattle.expand.specs.Rows.{WEIGHT, decode, rowWeight}
+use Rattle.closing.specs.Rows.{WEIGHT, decode, rowWeight}
 
 module _ (N : Numbers) (ns : List Name) (t : List ℕ) where
   -- the row n, which is x, is made for the part W in Γ

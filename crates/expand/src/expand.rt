@@ -1,32 +1,32 @@
 // The expansion: a cycle of functions, a bound of the turns to come falling. Slots hold, by the numbers of the
 // enclosing binders, the row of a new and the row of a parameter's argument; who changes them works on a copy, one for
 // all scopes and uses of procedures on the way to a row.
-use crate::close::NEW;
-use crate::close::NO_ROW;
-use crate::close::PROCEDURE;
-use crate::close::USE;
-use crate::close::close_leaf;
-use crate::close::close_row;
-use crate::close::parts_of;
-use crate::close::stays;
-use crate::words::DETAIL;
-use crate::words::KIND;
-use crate::words::PARTS;
-use crate::words::come_at;
-use crate::words::more;
-use crate::words::pass;
-use crate::words::passed_of;
-use crate::words::procedure_of;
-use crate::words::put_slot;
-use crate::words::slot_at;
-use crate::words::used_at;
-use crate::words::word_at;
+use closing::close::NEW;
+use closing::close::NO_ROW;
+use closing::close::PROCEDURE;
+use closing::close::USE;
+use closing::close::close_leaf;
+use closing::close::close_row;
+use closing::close::parts_of;
+use closing::close::stays;
+use closing::words::DETAIL;
+use closing::words::KIND;
+use closing::words::PARTS;
+use closing::words::come_at;
+use closing::words::more;
+use closing::words::pass;
+use closing::words::passed_of;
+use closing::words::procedure_of;
+use closing::words::put_slot;
+use closing::words::slot_at;
+use closing::words::used_at;
+use closing::words::word_at;
 use part_rows::row::TABLE;
 ghost use mathlib.Core.Path.{_≡_};
 ghost use Prim.Native.Nat.{_+_, _≤_, _<_};
 ghost use lib.ListN.{length, getD, set};
 ghost use Rattle.part_rows.specs.Row.{word};
-ghost use Rattle.expand.specs.Close.{comeOf, moreOf};
+ghost use Rattle.closing.specs.Close.{comeOf, moreOf};
 ghost use Rattle.expand.specs.Contract.{Expanding, Piece, Pieces, Closed, Entered, Recorded, Top};
 
 // How many places a sheet has, and the words of all rows. They and the table of parts are arrays and not slices because

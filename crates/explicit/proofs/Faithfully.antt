@@ -28,15 +28,15 @@ use Rattle.machine.specs.Sheet.{numbered-spots, index, numbered-step, steps}
 use Rattle.machine.proofs.Unique.{Fits-prop, Answers-prop}
 use Rattle.part_rows.specs.Row.{word}
 use Rattle.nodes.specs.Rep.{Rep}
-use Rattle.automaton.specs.declared.Move.{Move as Record}
-use Rattle.automaton.specs.declared.Frame.{Frame}
-use Rattle.automaton.specs.declared.Out.{Out as Did}
-use Rattle.automaton.specs.declared.Out.the-variants.{Go, Say, Hear, Stuck}
-use Rattle.automaton.specs.declared.Spot.the-variants.{Inside}
-use Rattle.automaton.specs.walk.Row.{sumOf, mulAddOf}
-use Rattle.automaton.specs.walk.Types.{questionNumber, answerNumber}
-use Rattle.automaton.specs.walk.Name.{framedOf, argHere}
-use Rattle.automaton.specs.walk.Up.{exitArgument, exitsOf, goesOf, riseOf}
+use Rattle.positions.specs.declared.Move.{Move as Record}
+use Rattle.positions.specs.declared.Frame.{Frame}
+use Rattle.positions.specs.declared.Out.{Out as Did}
+use Rattle.positions.specs.declared.Out.the-variants.{Go, Say, Hear, Stuck}
+use Rattle.positions.specs.declared.Spot.the-variants.{Inside}
+use Rattle.positions.specs.Row.{sumOf, mulAddOf}
+use Rattle.positions.specs.Types.{questionNumber, answerNumber}
+use Rattle.name_use.specs.Name.{framedOf, argHere}
+use Rattle.rise.specs.Up.{exitArgument, exitsOf, goesOf, riseOf}
 use Rattle.automaton.specs.walk.Step.{onSpot}
 use Rattle.automaton.specs.walk.Shows.{kindQ, valueQ, kindA, valueA, moveOf, GivenMove, Words, HeldStore, held}
 use Rattle.automaton.specs.walk.Shows.{ShowsNext}

@@ -10,11 +10,11 @@ use borrow.Author.Tests.{lt-ltb, le-ltb, eq-eqb, ne-eqb}
 use Rattle.language.specs.Choice.{pick}
 use Rattle.language.specs.declared.Numbers.{Numbers}
 use Rattle.part_rows.specs.Row.{word}
-use Rattle.automaton.specs.declared.Out.{Out}
-use Rattle.automaton.specs.declared.Out.the-variants.{Exit}
-use Rattle.automaton.specs.walk.Row.{sumOf, nameId}
-use Rattle.automaton.specs.walk.Types.{valueAnswer, answerNumber}
-use Rattle.automaton.specs.walk.Name.{hearAnswer, listenOf, atWait}
+use Rattle.positions.specs.declared.Out.{Out}
+use Rattle.positions.specs.declared.Out.the-variants.{Exit}
+use Rattle.positions.specs.Row.{sumOf, nameId}
+use Rattle.positions.specs.Types.{valueAnswer, answerNumber}
+use Rattle.name_use.specs.Name.{hearAnswer, listenOf, atWait}
 use Rattle.automaton.specs.walk.Shows.{Words}
 use Rattle.automaton.proofs.Sums.{sum-small}
 use Rattle.explicit.specs.declared.Wait.{Wait}

@@ -1,6 +1,6 @@
 // Rows of the automaton in words: the silent word and the first edge of a state, and its edges.
-use automaton::row::mul_add;
-use automaton::row::sum;
+use positions::row::mul_add;
+use positions::row::sum;
 ghost use mathlib.Core.Path.{_≡_};
 ghost use Rattle.explicit.specs.inner.Rows.{held, withEdge, withHead};
 

@@ -10,7 +10,7 @@ use borrow.Author.Tests.{eqb-false}
 use Rattle.language.specs.Number.{inRange}
 use Rattle.language.specs.declared.Numbers.{Numbers}
 use Rattle.records.specs.Standing.{standingOf, isNamed}
-use Rattle.heads.specs.Judge.{hides, procedureOf}
+use Rattle.judgements.specs.Judge.{hides, procedureOf}
 use Rattle.records.specs.declared.edition.Edition.{Edition}
 use Rattle.heads.specs.Head.{withBody, limited, constant, used, useOf, dataByte, newOf, onJudged}
 use Rattle.heads.specs.Head.{procedureHead, bodyOf}
@@ -19,11 +19,12 @@ use Rattle.records.specs.declared.kind.Rule.the-variants.{Skip, Diverge, Truth,
 use Rattle.records.specs.declared.kind.Rule.the-variants.{Operate, Assign, Sequence, If, While, New, Procedure}
 use Rattle.heads.specs.declared.head.Record.{Record}
 use Rattle.heads.specs.declared.head.Head.the-variants.{Good}
-use Rattle.heads.specs.declared.judgement.Judged.{Judged}
-use Rattle.heads.specs.declared.judgement.Judged.the-variants.{Good as Fine, Refused as Bad}
+use Rattle.judgements.specs.declared.judgement.Judged.{Judged}
+use Rattle.judgements.specs.declared.judgement.Judged.the-variants.{Good as Fine, Refused as Bad}
 use Rattle.records.proofs.KindLaws.{bytesOf}
-use Rattle.heads.proofs.JudgeLaws.{procedure-inside}
-use Rattle.heads.proofs.ByteLaws.{pick-false, pick-true, bad-good, good-same, byte-good}
+use Rattle.judgements.proofs.JudgeLaws.{procedure-inside}
+use Rattle.judgements.proofs.Tests.{pick-false, pick-true}
+use Rattle.heads.proofs.ByteLaws.{bad-good, good-same, byte-good}
 
 module _ (s : List ℕ) (b r : Record) where
   -- one byte below a limit

@@ -15,15 +15,7 @@ use Rattle.heads.specs.declared.head.Record.{Record}
 use Rattle.heads.specs.declared.head.Head.{Head}
 use Rattle.heads.specs.declared.head.Head.the-variants.{Good, Refused}
 use Rattle.heads.specs.declared.head.Byte.the-variants.{Is, Refused as Unread}
-
--- a test whose one answer is no result
-pub pick-false : {A : Type 0} (t : Bool) {x y z : A} → (x ≡ z → ⊥) → pick t x y ≡ z → (t ≡ false) × (y ≡ z)
-pick-false true n h = absurd (n h)
-pick-false false n h = (refl, h)
-
-pub pick-true : {A : Type 0} (t : Bool) {x y z : A} → (y ≡ z → ⊥) → pick t x y ≡ z → (t ≡ true) × (x ≡ z)
-pick-true true n h = (refl, h)
-pick-true false n h = absurd (n h)
+use Rattle.judgements.proofs.Tests.{pick-false}
 
 pub bad-good : {x : Refusal} {r : Record} → Refused x ≡ Good r → ⊥
 bad-good h = let z : _≡_ {A = ℕ} 0 1 = cc in omega arith

@@ -17,7 +17,8 @@ use Rattle.heads.specs.declared.head.Record.{Record}
 use Rattle.heads.specs.declared.head.Head.{Head}
 use Rattle.heads.specs.declared.head.Head.the-variants.{Good}
 use Rattle.records.proofs.KindLaws.{kindOf, bytesOf, partsOf, Fits, shape-known, shape-of-kind}
-use Rattle.heads.proofs.ByteLaws.{pick-false, bad-good}
+use Rattle.judgements.proofs.Tests.{pick-false}
+use Rattle.heads.proofs.ByteLaws.{bad-good}
 use Rattle.heads.proofs.BodyLaws.{Kept, body-kept}
 
 -- a record of which only the kind byte has been read, by its rule

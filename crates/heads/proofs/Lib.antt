@@ -1,4 +1,3 @@
 pub mod ByteLaws
-pub mod JudgeLaws
 pub mod BodyLaws
 pub mod HeadLaws

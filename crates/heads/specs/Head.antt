@@ -12,7 +12,7 @@ use Rattle.language.specs.declared.Numbers.{Numbers}
 use Rattle.records.specs.Limits.{bytes, ids, types, truths, operators, data-types}
 use Rattle.records.specs.Kind.{shapeOf}
 use Rattle.records.specs.Standing.{free, retired, standingOf, isNamed, countOf}
-use Rattle.heads.specs.Judge.{hides, procedureOf}
+use Rattle.judgements.specs.Judge.{hides, procedureOf}
 use Rattle.records.specs.Refusal.{refusal, cut-short, out-of-range, id-taken, id-unknown, id-retired, too-deep}
 use Rattle.records.specs.Refusal.{id-enclosed}
 use Rattle.records.specs.declared.edition.Edition.{Edition}
@@ -24,8 +24,8 @@ use Rattle.records.specs.declared.kind.Shape.the-variants.{Part, Declare, Retir
 use Rattle.heads.specs.declared.head.Record.{Record}
 use Rattle.heads.specs.declared.head.Head.{Head}
 use Rattle.heads.specs.declared.head.Head.the-variants.{Good, Refused}
-use Rattle.heads.specs.declared.judgement.Judged.{Judged}
-use Rattle.heads.specs.declared.judgement.Judged.the-variants.{Good as Fine, Refused as Bad}
+use Rattle.judgements.specs.declared.judgement.Judged.{Judged}
+use Rattle.judgements.specs.declared.judgement.Judged.the-variants.{Good as Fine, Refused as Bad}
 use Rattle.heads.specs.declared.head.Byte.{Byte}
 use Rattle.heads.specs.declared.head.Byte.the-variants.{Is, Refused as Unread}
 

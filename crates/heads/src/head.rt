@@ -1,7 +1,7 @@
 // The kind byte and the body of a part of a term: every judgement of its bytes.
-use crate::judgement::Judged;
-use crate::judgement::is_hiding;
-use crate::judgement::judge_procedure;
+use judgements::judgement::Judged;
+use judgements::judgement::is_hiding;
+use judgements::judgement::judge_procedure;
 use language::Numbers;
 use records::edition::Edition;
 use records::kind::COUNT;
@@ -128,7 +128,7 @@ pub(crate) fn constant_body(s: &[u8], n: Numbers, r: Record) -> Head
     match found {
         Byte::Refused(refusal) => Head::Refused(refusal),
         Byte::Is { byte } => {
-            if language::number::in_range(n, byte) {
+            if codes::number::in_range(n, byte) {
                 return Head::Good {
                     record: with_body(r, byte, 0),
                 };

@@ -16,8 +16,8 @@ use Rattle.records.specs.Limits.{greatest-z, greatest-rule}
 use Rattle.records.specs.Refusal.{refusal, too-deep, too-large}
 use Rattle.records.specs.Kind.{shapeOf}
 use Rattle.records.specs.Standing.{standingOf, isNamed, declaredStanding}
-use Rattle.heads.specs.Judge.{andThen, below, unused, bound, hides, apart, earlier, unlike, parameterId, pair}
-use Rattle.heads.specs.Judge.{procedureOf}
+use Rattle.judgements.specs.Judge.{andThen, below, unused, bound, hides, apart, earlier, unlike, parameterId, pair}
+use Rattle.judgements.specs.Judge.{procedureOf}
 use Rattle.records.specs.declared.edition.Edition.{Edition}
 use Rattle.records.specs.declared.edition.Edition.the-variants.{Earlier, Present}
 use Rattle.records.specs.declared.standing.Standing.{Standing}
@@ -36,8 +36,8 @@ use Rattle.heads.specs.declared.head.Record.{Record}
 use Rattle.heads.specs.declared.head.Head.{Head}
 use Rattle.heads.specs.declared.head.Head.the-variants.{Good, Refused as Bad}
 use Rattle.heads.specs.declared.head.Byte.{Byte}
-use Rattle.heads.specs.declared.judgement.Judged.{Judged}
-use Rattle.heads.specs.declared.judgement.Judged.the-variants.{Good as Fine, Refused as Wrong}
+use Rattle.judgements.specs.declared.judgement.Judged.{Judged}
+use Rattle.judgements.specs.declared.judgement.Judged.the-variants.{Good as Fine, Refused as Wrong}
 use Rattle.procedures.specs.Written.{Name}
 use Rattle.sheet.specs.Heading.{fresh, argument, declareOf, retireOf, declareAt, retireAt}
 use Rattle.sheet.specs.Reader.{Tree, Answer, got, refused, bind, onHead, onJudged, partsOf, scopeParts}

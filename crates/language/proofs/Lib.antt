@@ -1,9 +1,6 @@
-pub mod Bits
 pub mod NumberLaws
-pub mod NumberSteps
 pub mod OperatorLaws
 pub mod RemainderLaws
 pub mod InfinityLaws
 pub mod OrderLaws
-pub mod OperatorSteps
 pub mod AskOnceLaws

@@ -1,8 +1,6 @@
-// Values, operators, terms, plays and weights of the language, and its arithmetic.
+// Values, operators, terms, plays and weights of the language.
 
-// Numbers from -Z to Z, their codes and their bytes.
-pub mod number;
-// The nine operators on codes.
+// The nine operators by number.
 pub mod operator;
 
 // The range and the overflow rule: bytes 0 and 1 of a sheet.

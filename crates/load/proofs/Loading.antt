@@ -5,6 +5,7 @@ use mathlib.Core.Path.{_≡_, refl, sym, ap, ap₂, _∙_, subst, subst₂}
 use mathlib.Core.List.{List, []}
 use lib.ListN.{length}
 use Rattle.language.specs.declared.Numbers.{Numbers}
+use Rattle.records.specs.declared.edition.Edition.{Edition}
 use Rattle.records.specs.declared.edition.Edition.the-variants.{Present}
 use Rattle.records.specs.declared.refusal.Refusal.{Refusal}
 use Rattle.procedures.specs.Written as written
@@ -32,11 +33,18 @@ use Rattle.weighing.proofs.Same.{marked-agree}
 use Rattle.load.specs.Loaded.{MarksOf, Expanded, Ready, LoadedBy}
 use Rattle.load.specs.declared.load.Loaded.the-variants.{Sheet, Refused}
 
--- a sheet that is judged
-pub judged-of : (s u : List ℕ) {x : Judgement} {root ty size : ℕ} {uses : Uses} →
-    JudgedBy Present s x u → x ≡ judged.Sheet root ty size uses → Judged Present s root ty size uses u
+-- a sheet that is judged, by either rule
+pub judged-of : (ed : Edition) (s u : List ℕ) {x : Judgement} {root ty size : ℕ} {uses : Uses} →
+    JudgedBy ed s x u → x ≡ judged.Sheet root ty size uses → Judged ed s root ty size uses u
 unfolding JudgedBy
-judged-of s u J e = rw e at J
+judged-of ed s u J e = rw e at J
+
+-- its term stands within 4,096 places
+pub root-small : {ed : Edition} {s u : List ℕ} {root ty size : ℕ} {uses : Uses} → Judged ed s root ty size uses u →
+    root < 4096
+root-small {s = s} {u = u} J =
+    let r = shown-row (numbersAt s) (J .sheet .names) u (J .shown) .1 in
+    omega (arith, r .before, r .within)
 
 -- one that is refused
 pub load-refused : (s u after : List ℕ) {x : Judgement} {y : Refusal} → JudgedBy Present s x u →
@@ -54,12 +62,6 @@ module _ {s u : List ℕ} {root ty size : ℕ} {uses : Uses} (J : Judged Present
 
   types : ty ≡ typeOf S
   types = gives Present s S ty size (J .accepts) .2
-
-  -- its term stands within 4,096 places
-  pub root-small : root < 4096
-  root-small =
-      let r = shown-row (numbersAt s) (S .names) u (J .shown) .1 in
-      omega (arith, r .before, r .within)
 
   ready : (M : List ℕ) → MarksOf u M 4096 → expand.Ready (S .numbers) (S .names) u M places (S .term) root (J .end)
   unfolding madeSheet forms makes

@@ -19,8 +19,8 @@ use Rattle.records.specs.declared.edition.Edition.{Edition}
 use Rattle.records.specs.declared.edition.Edition.the-variants.{Present}
 use Rattle.records.specs.declared.kind.Shape.{Shape}
 use Rattle.records.specs.declared.kind.Shape.the-variants.{Part, Declare, Retire, Unknown}
-use Rattle.heads.specs.declared.judgement.Judged.{Judged}
-use Rattle.heads.specs.declared.judgement.Judged.the-variants.{Good, Refused}
+use Rattle.judgements.specs.declared.judgement.Judged.{Judged}
+use Rattle.judgements.specs.declared.judgement.Judged.the-variants.{Good, Refused}
 use Rattle.procedures.specs.Written.{Name, Sheet}
 use Rattle.procedures.specs.Meaning.{typed}
 use Rattle.procedures.proofs.Tests.{by-test}

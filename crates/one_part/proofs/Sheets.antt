@@ -205,7 +205,7 @@ of-sheet S C m A e =
 pub part-any-order : AnyOrder
 unfolding partSheet
 part-any-order S P C m A e B numbers term h = record {
-    numbers = numbers;
+    numbers = rw numbers;
     names = any-order (S .names) (P .names) (enclosing C []) (A .ordered .fine-names) (B .ordered .fine-names)
       (ordered-news (S .names) (enclosing C []) (of-sheet S C m A e .ordered)) h;
     term = term }

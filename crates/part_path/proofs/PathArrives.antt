@@ -7,18 +7,18 @@ use native.Mathlib.Decide.{decLt, ℕ-discrete}
 use lib.ListN.{length}
 use borrow.Author.Tests.{lt-ltb, le-ltb, eq-eqb, ne-eqb}
 use Rattle.language.specs.declared.Numbers.{Numbers}
-use Rattle.automaton.specs.declared.Move.{Move}
-use Rattle.automaton.specs.declared.Frame.{Frame}
-use Rattle.automaton.specs.declared.Out.{Out}
-use Rattle.automaton.specs.declared.Out.the-variants.{Hear, Stuck}
-use Rattle.automaton.specs.declared.Spot.{Spot}
-use Rattle.automaton.specs.declared.Spot.the-variants.{Here}
-use Rattle.automaton.specs.walk.Name.{atWait}
+use Rattle.positions.specs.declared.Move.{Move}
+use Rattle.positions.specs.declared.Frame.{Frame}
+use Rattle.positions.specs.declared.Out.{Out}
+use Rattle.positions.specs.declared.Out.the-variants.{Hear, Stuck}
+use Rattle.positions.specs.declared.Spot.{Spot}
+use Rattle.positions.specs.declared.Spot.the-variants.{Here}
+use Rattle.name_use.specs.Name.{atWait}
 use Rattle.automaton.specs.walk.Step.{onSpot, stepAt}
 use Rattle.part_path.specs.States.{afterOf, sheetAt}
 use Rattle.part_path.specs.Path.{riseAll, storeOf}
 use Rattle.part_path.specs.Levels.{framesOf, levelAt}
-use Rattle.automaton.specs.walk.Name.{noMove}
+use Rattle.name_use.specs.Name.{noMove}
 use Rattle.part_path.specs.Kept.{sheetSpot, spotIn}
 use Rattle.part_path.specs.Kept.{Stands, KeptPath, Covers, waitAt, Arrived}
 use Rattle.part_path.proofs.PathWords.{frames-next, frames-length}

@@ -7,13 +7,13 @@ use native.Mathlib.Omega.{arith}
 use native.Mathlib.Numerals.{add-one}
 use native.Mathlib.Decide.{decLt}
 use lib.ListN.{length}
-use Rattle.automaton.specs.declared.Frame.{Frame}
-use Rattle.automaton.specs.declared.Spot.the-variants.{Inside}
+use Rattle.positions.specs.declared.Frame.{Frame}
+use Rattle.positions.specs.declared.Spot.the-variants.{Inside}
 use Rattle.automaton.specs.walk.Shows.{Words}
 use Rattle.part_path.specs.declared.Level.{Level}
 use Rattle.part_path.specs.Path.{Owned}
 use Rattle.part_path.specs.Levels.{framesOf, levelAt, withLevel, Plain}
-use Rattle.automaton.specs.walk.Name.{noMove}
+use Rattle.name_use.specs.Name.{noMove}
 use Rattle.part_path.specs.Kept.{spotIn, stopOf, childOf}
 use Rattle.part_path.specs.Kept.{Stands, KeptPath, Covers}
 use Rattle.part_path.proofs.PathWords.{entered-length, entered-new, entered-old, entered-frames}

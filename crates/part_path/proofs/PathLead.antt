@@ -9,12 +9,12 @@ use native.Mathlib.Decide.{decLt, ℕ-discrete}
 use lib.ListN.{length}
 use borrow.Author.Tests.{eq-eqb, ne-eqb}
 use Rattle.language.specs.declared.Numbers.{Numbers}
-use Rattle.automaton.specs.declared.Move.{Move}
-use Rattle.automaton.specs.declared.Frame.{Frame}
-use Rattle.automaton.specs.declared.Out.{Out}
-use Rattle.automaton.specs.declared.Out.the-variants.{Go, Exit, Say, Hear, Stuck}
-use Rattle.automaton.specs.walk.Row.{sumOf, mulAddOf}
-use Rattle.automaton.specs.walk.Up.{goesOf, riseOf}
+use Rattle.positions.specs.declared.Move.{Move}
+use Rattle.positions.specs.declared.Frame.{Frame}
+use Rattle.positions.specs.declared.Out.{Out}
+use Rattle.positions.specs.declared.Out.the-variants.{Go, Exit, Say, Hear, Stuck}
+use Rattle.positions.specs.Row.{sumOf, mulAddOf}
+use Rattle.rise.specs.Up.{goesOf, riseOf}
 use Rattle.automaton.proofs.Sums.{sum-small}
 use Rattle.part_path.specs.Path.{riseAll, baseOf, Owned, blockIn}
 use Rattle.part_path.specs.Levels.{frameOf, framesOf}

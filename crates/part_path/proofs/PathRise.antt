@@ -10,15 +10,15 @@ use mathlib.Core.Option.{Option, none, some}
 use borrow.Author.Tests.{ne-eqb}
 use Rattle.language.specs.Choice.{pick}
 use Rattle.language.specs.declared.Numbers.{Numbers}
-use Rattle.automaton.specs.declared.Move.{Move}
-use Rattle.automaton.specs.declared.Frame.{Frame}
-use Rattle.automaton.specs.declared.Out.{Out}
-use Rattle.automaton.specs.declared.Out.the-variants.{Go, Exit, Say, Hear, Stuck}
+use Rattle.positions.specs.declared.Move.{Move}
+use Rattle.positions.specs.declared.Frame.{Frame}
+use Rattle.positions.specs.declared.Out.{Out}
+use Rattle.positions.specs.declared.Out.the-variants.{Go, Exit, Say, Hear, Stuck}
 use Rattle.language.specs.Operator.{operate}
-use Rattle.automaton.specs.walk.Row.{sumOf, mulAddOf}
-use Rattle.automaton.specs.walk.Types.{questionKind, questionValue, answerNumber}
-use Rattle.automaton.specs.walk.Up.{exitDone, exitTruth, exitValue, exitResult, exitOperate, exitAssign, exitArgument}
-use Rattle.automaton.specs.walk.Up.{exitNew, goesOf, exitsOf, riseOf}
+use Rattle.positions.specs.Row.{sumOf, mulAddOf}
+use Rattle.positions.specs.Types.{questionKind, questionValue, answerNumber}
+use Rattle.rise.specs.Up.{exitDone, exitTruth, exitValue, exitResult, exitOperate, exitAssign, exitArgument}
+use Rattle.rise.specs.Up.{exitNew, goesOf, exitsOf, riseOf}
 use Rattle.part_path.specs.Path.{riseAll}
 
 -- a step is silent, an exit or none

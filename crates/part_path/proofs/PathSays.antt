@@ -8,15 +8,15 @@ use lib.ListN.{length}
 use borrow.Author.Tests.{lt-ltb, le-ltb, eq-eqb, ne-eqb}
 use Rattle.language.specs.declared.Numbers.{Numbers}
 use Rattle.part_rows.specs.Row.{word}
-use Rattle.automaton.specs.declared.Move.{Move}
-use Rattle.automaton.specs.declared.Frame.{Frame}
-use Rattle.automaton.specs.declared.Out.{Out}
-use Rattle.automaton.specs.declared.Spot.{Spot}
-use Rattle.automaton.specs.declared.Spot.the-variants.{Here, Inside}
+use Rattle.positions.specs.declared.Move.{Move}
+use Rattle.positions.specs.declared.Frame.{Frame}
+use Rattle.positions.specs.declared.Out.{Out}
+use Rattle.positions.specs.declared.Spot.{Spot}
+use Rattle.positions.specs.declared.Spot.the-variants.{Here, Inside}
 use Rattle.automaton.specs.walk.Store.{storeIn}
-use Rattle.automaton.specs.walk.Name.{argHere}
+use Rattle.name_use.specs.Name.{argHere}
 use Rattle.automaton.specs.walk.Down.{downOf}
-use Rattle.automaton.specs.walk.Up.{riseOf}
+use Rattle.rise.specs.Up.{riseOf}
 use Rattle.automaton.specs.walk.Step.{onSpot, stepAt}
 use Rattle.part_path.specs.States.{afterOf, sheetAt, withinOf}
 use Rattle.part_path.specs.Path.{riseAll, storeOf, baseOf, Owned}

@@ -8,14 +8,14 @@ use Rattle.language.specs.Choice.{pick}
 use Rattle.language.specs.declared.Numbers.{Numbers}
 use Rattle.part_rows.specs.Row.{word}
 use Rattle.nodes.specs.Rep.{DEPTH}
-use Rattle.automaton.specs.declared.Move.{Move}
-use Rattle.automaton.specs.declared.Frame.{Frame}
-use Rattle.automaton.specs.declared.Out.{Out}
-use Rattle.automaton.specs.declared.Out.the-variants.{Say, Hear}
-use Rattle.automaton.specs.walk.Column.{WEIGHT, CLASS, VALUES}
-use Rattle.automaton.specs.declared.Spot.{Spot}
-use Rattle.automaton.specs.declared.Spot.the-variants.{Here, Inside}
-use Rattle.automaton.specs.walk.Name.{noMove, argHere, atWait}
+use Rattle.positions.specs.declared.Move.{Move}
+use Rattle.positions.specs.declared.Frame.{Frame}
+use Rattle.positions.specs.declared.Out.{Out}
+use Rattle.positions.specs.declared.Out.the-variants.{Say, Hear}
+use Rattle.positions.specs.Column.{WEIGHT, CLASS, VALUES}
+use Rattle.positions.specs.declared.Spot.{Spot}
+use Rattle.positions.specs.declared.Spot.the-variants.{Here, Inside}
+use Rattle.name_use.specs.Name.{noMove, argHere, atWait}
 use Rattle.automaton.specs.walk.Down.{downOf}
 use Rattle.automaton.specs.walk.Step.{stepAt}
 use Rattle.part_path.specs.declared.Level.{Level}

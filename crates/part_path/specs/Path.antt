@@ -9,17 +9,17 @@ use lib.Dec.{eqb, ltb}
 use Rattle.language.specs.Choice.{pick}
 use Rattle.language.specs.declared.Numbers.{Numbers}
 use Rattle.part_rows.specs.Row.{word}
-use Rattle.automaton.specs.walk.Row.{SHORTS}
-use Rattle.automaton.specs.declared.Move.{Move}
-use Rattle.automaton.specs.declared.Frame.{Frame}
-use Rattle.automaton.specs.declared.Out.{Out}
-use Rattle.automaton.specs.declared.Out.the-variants.{Go, Exit, Say, Hear, Stuck}
-use Rattle.automaton.specs.declared.Spot.{Spot}
-use Rattle.automaton.specs.declared.Spot.the-variants.{Here, Inside}
-use Rattle.automaton.specs.walk.Role.{SAME, BLOCK}
-use Rattle.automaton.specs.walk.Column.{WEIGHT}
+use Rattle.positions.specs.Row.{SHORTS}
+use Rattle.positions.specs.declared.Move.{Move}
+use Rattle.positions.specs.declared.Frame.{Frame}
+use Rattle.positions.specs.declared.Out.{Out}
+use Rattle.positions.specs.declared.Out.the-variants.{Go, Exit, Say, Hear, Stuck}
+use Rattle.positions.specs.declared.Spot.{Spot}
+use Rattle.positions.specs.declared.Spot.the-variants.{Here, Inside}
+use Rattle.positions.specs.Role.{SAME, BLOCK}
+use Rattle.positions.specs.Column.{WEIGHT}
 use Rattle.automaton.specs.walk.Store.{storeIn}
-use Rattle.automaton.specs.walk.Up.{riseOf}
+use Rattle.rise.specs.Up.{riseOf}
 
 -- descending by F from position k comes to a part, and to the same part from each of its positions
 pub record Same (t : List ℕ) (F : ℕ → Move → Spot) (k part kind value inner : ℕ) (f : Frame) : Type 0 where

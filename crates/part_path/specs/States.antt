@@ -6,16 +6,16 @@ use Rattle.language.specs.Choice.{pick}
 use Rattle.language.specs.declared.Numbers.{Numbers}
 use Rattle.part_rows.specs.Row.{word}
 use Rattle.nodes.specs.Rep.{DEPTH}
-use Rattle.automaton.specs.declared.Move.{Move}
-use Rattle.automaton.specs.declared.Out.{Out}
-use Rattle.automaton.specs.declared.Out.the-variants.{Go, Exit, Say, Hear, Stuck}
-use Rattle.automaton.specs.walk.MoveKind.{DONE, OK, VALUE, OPENING, NO-MOVE}
-use Rattle.automaton.specs.walk.Class.{COMMAND}
-use Rattle.automaton.specs.walk.Column.{WEIGHT, CLASS, VALUES}
-use Rattle.automaton.specs.walk.Row.{sumOf, mulAddOf}
-use Rattle.automaton.specs.walk.Types.{questionsOf, answersOf, questionNumber}
-use Rattle.automaton.specs.walk.Name.{argHere}
-use Rattle.automaton.specs.walk.Up.{riseOf}
+use Rattle.positions.specs.declared.Move.{Move}
+use Rattle.positions.specs.declared.Out.{Out}
+use Rattle.positions.specs.declared.Out.the-variants.{Go, Exit, Say, Hear, Stuck}
+use Rattle.positions.specs.MoveKind.{DONE, OK, VALUE, OPENING, NO-MOVE}
+use Rattle.positions.specs.Class.{COMMAND}
+use Rattle.positions.specs.Column.{WEIGHT, CLASS, VALUES}
+use Rattle.positions.specs.Row.{sumOf, mulAddOf}
+use Rattle.positions.specs.Types.{questionsOf, answersOf, questionNumber}
+use Rattle.name_use.specs.Name.{argHere}
+use Rattle.rise.specs.Up.{riseOf}
 use Rattle.automaton.specs.walk.Step.{onSpot, stepAt}
 use Rattle.part_path.specs.declared.Site.{Site}
 

@@ -1,8 +1,8 @@
 // The words of a path: thirteen for each level.
 use crate::Level;
-use automaton::Frame;
-use automaton::roles::BLOCK;
-use automaton::roles::SAME;
+use positions::Frame;
+use positions::roles::BLOCK;
+use positions::roles::SAME;
 ghost use mathlib.Core.Path.{_≡_};
 ghost use mathlib.Core.List.{[], _∷_};
 ghost use Prim.Native.Nat.{suc, _+_, _<_, _≤_};

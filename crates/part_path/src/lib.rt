@@ -10,8 +10,8 @@ pub mod path;
 // Where a step leads in the whole sheet.
 pub mod exits;
 
-use automaton::Frame;
-use automaton::Out;
+use positions::Frame;
+use positions::Out;
 
 // Where the automaton of a sheet stands: the root in its table of parts, how many states the words have, and its
 // first state there.

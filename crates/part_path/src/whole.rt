@@ -1,27 +1,27 @@
 // What a state of a whole sheet does: the start waits for the question, the positions of the term stand in a copy for
 // each question, an answer is said and leads to the end.
-use automaton::Move;
-use automaton::Out;
-use automaton::Spot;
-use automaton::moves::DONE;
-use automaton::moves::NO_MOVE;
-use automaton::moves::OK;
-use automaton::moves::OPENING;
-use automaton::moves::VALUE;
-use automaton::name::arg_in;
-use automaton::row::cell;
-use automaton::row::mul_add;
-use automaton::row::sum;
-use automaton::types::COMMAND;
-use automaton::types::answers;
-use automaton::types::question_number;
-use automaton::types::questions;
+use name_use::name::arg_in;
 use part_rows::row::CLASS;
 use part_rows::row::VALUES;
 use part_rows::row::WEIGHT;
+use positions::Move;
+use positions::Out;
+use positions::Spot;
+use positions::moves::DONE;
+use positions::moves::NO_MOVE;
+use positions::moves::OK;
+use positions::moves::OPENING;
+use positions::moves::VALUE;
+use positions::row::cell;
+use positions::row::mul_add;
+use positions::row::sum;
+use positions::types::COMMAND;
+use positions::types::answers;
+use positions::types::question_number;
+use positions::types::questions;
 ghost use mathlib.Core.Path.{_≡_};
 ghost use Rattle.part_path.specs.States.{openedOf, atStart, repliedOf, afterOf, spotsOf};
-ghost use Rattle.automaton.specs.walk.Name.{noMove};
+ghost use Rattle.name_use.specs.Name.{noMove};
 ghost use Rattle.part_path.specs.Kept.{sheetSpot};
 
 // The id that stands for the whole term.

@@ -191,7 +191,7 @@ pub(crate) fn detail_of(rule: Rule, n: Numbers, r: Record, number: u8) -> u16
         Rule::Skip => 0,
         Rule::Diverge => 0,
         Rule::Truth => r.a as u16,
-        Rule::Number => language::number::code_of_byte(n, r.a),
+        Rule::Number => codes::number::code_of_byte(n, r.a),
         Rule::Use => use_detail(r),
         Rule::Fetch => 0,
         Rule::Operate => r.a as u16,

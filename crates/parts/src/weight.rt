@@ -53,7 +53,7 @@ pub fn values_of(n: Numbers, ty: u32) -> u16
     match ty {
         1 => 2,
         3 => 2,
-        _ => language::number::numbers(n),
+        _ => codes::number::numbers(n),
     }
 }
 

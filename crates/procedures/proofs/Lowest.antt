@@ -76,7 +76,7 @@ lowest-from-free taken (suc n) id h =
 
 pub lowest-free : (taken : ℕ → Bool) → lowest taken < 255 → taken (lowest taken) ≡ false
 unfolding lowest
-lowest-free taken h = lowest-from-free taken 255 0 h
+lowest-free taken h = lowest-from-free taken 255 _ (omega (arith, h))
 
 lowest-from-least : (taken : ℕ → Bool) (n id j : ℕ) → id ≤ j → j < lowestFrom taken id n → taken j ≡ true
 unfolding lowestFrom

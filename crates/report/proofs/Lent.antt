@@ -10,8 +10,8 @@ use mathlib.Core.Option.{Option, none, some}
 use lib.Dec.{ltb}
 use borrow.Author.Tests.{ltb-true, ltb-false}
 use Rattle.language.specs.declared.Numbers.{Numbers}
-use Rattle.build.specs.Lent.{words-asked}
-use Rattle.build.proofs.Figures.{asked-low}
+use Rattle.conditions.specs.Lent.{words-asked}
+use Rattle.conditions.proofs.Figures.{asked-low}
 use Rattle.language.specs.Choice.{pick}
 use Rattle.sheet.specs.Encoding.{headingLength}
 use Rattle.records.specs.declared.edition.Edition.the-variants.{Present}
@@ -19,7 +19,8 @@ use Rattle.records.specs.declared.refusal.Cause.{Cause}
 use Rattle.sheet.specs.Reader.{Checks, accepted, rejected, readSheet}
 use Rattle.judge.specs.Check.{NumberOf}
 use Rattle.judge.proofs.Places.{check-refused}
-use Rattle.comparer.specs.Refusals.{refusing, matching, onRead, pairRefusal, compareRefusal}
+use Rattle.conditions.specs.Pair.{refusing, matching, pairRefusal}
+use Rattle.comparer.specs.Refusals.{onRead, compareRefusal}
 use Rattle.report.specs.Program.{Never14}
 use Rattle.text.specs.Text.{sizeIn}
 

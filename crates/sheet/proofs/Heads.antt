@@ -12,7 +12,7 @@ use Rattle.language.specs.Number.{inRange}
 use Rattle.language.specs.declared.Numbers.{Numbers}
 use Rattle.records.specs.Kind.{shapeOf}
 use Rattle.records.specs.Standing.{standingOf, isNamed, countOf}
-use Rattle.heads.specs.Judge.{hides, procedureOf}
+use Rattle.judgements.specs.Judge.{hides, procedureOf}
 use Rattle.records.specs.declared.edition.Edition.{Edition}
 use Rattle.heads.specs.Head.{byteOf, onByte, withBody, limited, constant, used, useOf, dataByte, newOf, onJudged}
 use Rattle.heads.specs.Head.{procedureHead, bodyOf, blank, headOfShape, headOf}
@@ -25,7 +25,7 @@ use Rattle.heads.specs.declared.head.Record.{Record}
 use Rattle.heads.specs.declared.head.Head.{Head}
 use Rattle.heads.specs.declared.head.Head.the-variants.{Good}
 use Rattle.heads.specs.declared.head.Byte.the-variants.{Is}
-use Rattle.heads.specs.declared.judgement.Judged.{Judged}
+use Rattle.judgements.specs.declared.judgement.Judged.{Judged}
 use Rattle.sheet.proofs.Parsed.{Byte}
 use Rattle.sheet.proofs.Answers.{HeadAll, pick-all}
 use Rattle.sheet.proofs.Judgement.{JudgedAll, good, bad}

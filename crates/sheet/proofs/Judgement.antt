@@ -7,9 +7,9 @@ use lib.ListN.{length, getD}
 use lib.Dec.{eqb, leb, ltb}
 use borrow.Author.Tests.{eqb-true, leb-false, ltb-true, ltb-false, lt-leb, eq-eqb}
 use Rattle.records.specs.declared.refusal.Refusal.{Refusal}
-use Rattle.heads.specs.Judge.{andThen, below, unused}
-use Rattle.heads.specs.declared.judgement.Judged.{Judged}
-use Rattle.heads.specs.declared.judgement.Judged.the-variants.{Good, Refused}
+use Rattle.judgements.specs.Judge.{andThen, below, unused}
+use Rattle.judgements.specs.declared.judgement.Judged.{Judged}
+use Rattle.judgements.specs.declared.judgement.Judged.the-variants.{Good, Refused}
 use Rattle.sheet.specs.Heading.{fresh, argument, declareOf, retireOf}
 use Rattle.sheet.proofs.Answers.{pick-all}
 

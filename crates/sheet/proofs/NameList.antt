@@ -13,7 +13,7 @@ use Rattle.records.specs.Standing.{declaredStanding}
 use Rattle.records.specs.declared.edition.Edition.{Edition}
 use Rattle.records.specs.declared.kind.Shape.{Shape}
 use Rattle.records.specs.declared.kind.Shape.the-variants.{Part, Declare, Retire, Unknown}
-use Rattle.heads.specs.declared.judgement.Judged.{Judged}
+use Rattle.judgements.specs.declared.judgement.Judged.{Judged}
 use Rattle.procedures.specs.Written.{Name, declare, retire}
 use Rattle.procedures.specs.Meaning.{Meaning, private, argument, routine, named, retired, free, declared, meaning}
 use Rattle.procedures.specs.Fine.{FineNames}

@@ -15,7 +15,7 @@ use Rattle.language.proofs.AskOnceLaws.{onces-below}
 use Rattle.records.specs.Standing.{declaredStanding, variableStanding, parameterStanding, procedureStanding, standingOf}
 use Rattle.records.specs.Standing.{isNamed, isHeld as isTaken}
 use Rattle.parts.specs.Scope.{entered, passed, usable}
-use Rattle.heads.specs.Judge.{hides}
+use Rattle.judgements.specs.Judge.{hides}
 use Rattle.records.specs.declared.edition.Edition.{Edition}
 use Rattle.records.specs.declared.edition.Edition.the-variants.{Earlier, Present}
 use Rattle.heads.specs.declared.head.Record.{Record}

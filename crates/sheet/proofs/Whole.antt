@@ -24,8 +24,8 @@ use Rattle.sheet.specs.Reader.{Tree, Answer, got, refused, bind, onJudge
 use Rattle.sheet.specs.Reader.{nameOf, namesStep, namesOf, closed, numbersAt, nothing, wholeBy, wholeOf}
 use Rattle.sheet.specs.table.Fill.{fill, erase, Leaves, Reads, termAt, eraseSheet, LeavesSheet, ReadsSheet}
 use Rattle.sheet.specs.table.Fill.{closedReading}
-use Rattle.heads.specs.declared.judgement.Judged.{Judged}
-use Rattle.heads.specs.declared.judgement.Judged.the-variants.{Good, Refused as Bad}
+use Rattle.judgements.specs.declared.judgement.Judged.{Judged}
+use Rattle.judgements.specs.declared.judgement.Judged.the-variants.{Good, Refused as Bad}
 use Rattle.sheet.specs.declared.part.Part.{Part}
 use Rattle.sheet.specs.declared.part.Part.the-variants.{Read, Refused}
 use Rattle.sheet.specs.declared.names.Reading.{Reading}

@@ -8,11 +8,11 @@ use Rattle.language.specs.Choice.{pick}
 use Rattle.language.specs.Term.{Often, freely, once}
 use Rattle.records.specs.Limits.{ids, types, counts}
 use Rattle.records.specs.Refusal.{refusal, id-taken}
-use Rattle.heads.specs.Judge.{andThen, below, unused}
+use Rattle.judgements.specs.Judge.{andThen, below, unused}
 use Rattle.records.specs.Standing.{free}
 use Rattle.procedures.specs.Written.{Name, declare, retire}
-use Rattle.heads.specs.declared.judgement.Judged.{Judged}
-use Rattle.heads.specs.declared.judgement.Judged.the-variants.{Good, Refused}
+use Rattle.judgements.specs.declared.judgement.Judged.{Judged}
+use Rattle.judgements.specs.declared.judgement.Judged.the-variants.{Good, Refused}
 
 -- an id that is neither declared nor retired
 unfoldable pub fresh : List ℕ → List ℕ → ℕ → Judged

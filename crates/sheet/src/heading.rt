@@ -1,8 +1,8 @@
 // The judgement of name records.
-use heads::judgement::Judged;
-use heads::judgement::judge_below;
-use heads::judgement::judge_both;
-use heads::judgement::judge_unused;
+use judgements::judgement::Judged;
+use judgements::judgement::judge_below;
+use judgements::judgement::judge_both;
+use judgements::judgement::judge_unused;
 use parts::scope::with_standing;
 use records::read::byte_at;
 use records::read::standing_of;

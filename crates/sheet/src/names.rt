@@ -4,7 +4,7 @@ use crate::heading::judge_fresh;
 use crate::heading::registered;
 use crate::part::Part;
 use crate::part::read_root;
-use heads::judgement::Judged;
+use judgements::judgement::Judged;
 use language::Numbers;
 use records::edition::Edition;
 use records::kind::Shape;

@@ -5,30 +5,12 @@ use mathlib.Core.List.{List}
 use mathlib.Core.Path.{_≡_, ap, ap₂, sym, _∙_}
 use lib.ListN.{set}
 use borrow.Author.Tests.{eq-eqb, ne-eqb}
-use Rattle.procedures.specs.PartKind.{KIND, DETAIL, PARTS, PROCEDURE, PARAMETER, USE}
+use Rattle.procedures.specs.PartKind.{KIND, DETAIL, PARTS, PROCEDURE}
 use Rattle.part_rows.specs.Row.{word}
 use Rattle.weighing.specs.Stack.{marks-from, slots-from, height-at, most-forms, marksIn, heightOf}
-use Rattle.weighing.specs.Stack.{constantForm, unitForm, lowerForm, addedForm}
-use Rattle.weighing.specs.Plan.{partsOf, ownOf, termForm, factorOf, extraOf, comeAt, comeOf, usedOf}
+use Rattle.weighing.specs.Stack.{lowerForm, addedForm}
+use Rattle.weighing.specs.Plan.{partsOf, factorOf, extraOf, comeAt, comeOf, usedOf}
 use Rattle.weighing.specs.Step.{started, partAdded, partsAdded, closed, weighedPlain, weighedProcedure, weighed}
-
--- the first form of a record
-pub start-use : (kind detail k row from : ℕ) (t u : List ℕ) → kind ≡ USE → from ≡ termForm t detail →
-    u ≡ lowerForm row from k t → u ≡ started kind detail k row t
-unfolding started
-start-use kind detail k row from t u h p e = rw (eq-eqb kind USE h) (e ∙ ap (λ x. lowerForm row x k t) p)
-
-pub start-parameter : (kind detail k row s : ℕ) (t u : List ℕ) → (kind ≡ USE → ⊥) → kind ≡ PARAMETER →
-    s ≡ min detail 127 → u ≡ unitForm row s t → u ≡ started kind detail k row t
-unfolding started
-start-parameter kind detail k row s t u n h p e =
-    rw (ne-eqb kind USE n, eq-eqb kind PARAMETER h) (e ∙ ap (λ x. unitForm row x t) p)
-
-pub start-plain : (kind detail k row own : ℕ) (t u : List ℕ) → (kind ≡ USE → ⊥) → (kind ≡ PARAMETER → ⊥) →
-    own ≡ ownOf kind detail → u ≡ constantForm row own t → u ≡ started kind detail k row t
-unfolding started
-start-plain kind detail k row own t u n m p e =
-    rw (ne-eqb kind USE n, ne-eqb kind PARAMETER m) (e ∙ ap (λ x. constantForm row x t) p)
 
 -- a part
 pub part-added : (kind detail k at first row j place factor extra : ℕ) (t u : List ℕ) →

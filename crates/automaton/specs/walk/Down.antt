@@ -5,18 +5,18 @@ use mathlib.Core.List.{List}
 use lib.Dec.{eqb, ltb}
 use Rattle.language.specs.Choice.{pick}
 use Rattle.part_rows.specs.Row.{word}
-use Rattle.automaton.specs.declared.Move.{Move}
-use Rattle.automaton.specs.declared.Out.{Out}
-use Rattle.automaton.specs.declared.Out.the-variants.{Go, Exit, Stuck}
-use Rattle.automaton.specs.declared.Spot.{Spot}
-use Rattle.automaton.specs.declared.Spot.the-variants.{Here, Inside}
-use Rattle.automaton.specs.walk.MoveKind.{RUN, DONE, ASK, READ, OK, VALUE, WRITE}
+use Rattle.positions.specs.declared.Move.{Move}
+use Rattle.positions.specs.declared.Out.{Out}
+use Rattle.positions.specs.declared.Out.the-variants.{Go, Exit, Stuck}
+use Rattle.positions.specs.declared.Spot.{Spot}
+use Rattle.positions.specs.declared.Spot.the-variants.{Here, Inside}
+use Rattle.positions.specs.MoveKind.{RUN, DONE, ASK, READ, OK, VALUE, WRITE}
 use Rattle.automaton.specs.walk.RowKind.{SKIP, CONSTANT, NAME, FETCH, OPERATE, ASSIGN, SEQUENCE, IF, WHILE, NEW}
 use Rattle.automaton.specs.walk.RowKind.{PRIVATE}
-use Rattle.automaton.specs.walk.Role.{SAME, THEN, TEST, SELECT, RIGHT, ASSIGNED, BLOCK}
-use Rattle.automaton.specs.walk.Column.{KIND, VALUES, DETAIL}
-use Rattle.automaton.specs.walk.Row.{SHORTS, partOf, partWeight, partValues, sumOf, mulAddOf}
-use Rattle.automaton.specs.walk.Name.{framedOf, inName}
+use Rattle.positions.specs.Role.{SAME, THEN, TEST, SELECT, RIGHT, ASSIGNED, BLOCK}
+use Rattle.positions.specs.Column.{KIND, VALUES, DETAIL}
+use Rattle.positions.specs.Row.{SHORTS, partOf, partWeight, partValues, sumOf, mulAddOf}
+use Rattle.name_use.specs.Name.{framedOf, inName}
 
 -- the exit with an answer
 abbrev pub leavesOf : ℕ → ℕ → Spot

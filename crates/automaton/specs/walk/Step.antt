@@ -2,15 +2,15 @@
 use Prim.Native.Nat.{ℕ, zero, suc}
 use mathlib.Core.List.{List}
 use Rattle.language.specs.declared.Numbers.{Numbers}
-use Rattle.automaton.specs.declared.Move.{Move}
-use Rattle.automaton.specs.declared.Frame.{Frame}
-use Rattle.automaton.specs.declared.Out.{Out}
-use Rattle.automaton.specs.declared.Out.the-variants.{Stuck}
-use Rattle.automaton.specs.declared.Spot.{Spot}
-use Rattle.automaton.specs.declared.Spot.the-variants.{Here, Inside}
+use Rattle.positions.specs.declared.Move.{Move}
+use Rattle.positions.specs.declared.Frame.{Frame}
+use Rattle.positions.specs.declared.Out.{Out}
+use Rattle.positions.specs.declared.Out.the-variants.{Stuck}
+use Rattle.positions.specs.declared.Spot.{Spot}
+use Rattle.positions.specs.declared.Spot.the-variants.{Here, Inside}
 use Rattle.automaton.specs.walk.Store.{storeIn}
 use Rattle.automaton.specs.walk.Down.{downOf}
-use Rattle.automaton.specs.walk.Up.{riseOf}
+use Rattle.rise.specs.Up.{riseOf}
 
 -- what is done here, or g of the part that the position is in
 unfoldable pub onSpot : Spot → (ℕ → ℕ → ℕ → ℕ → Frame → Out) → Out

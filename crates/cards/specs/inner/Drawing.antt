@@ -9,7 +9,7 @@ use Rattle.procedures.specs.Written.{Sheet}
 use Rattle.sheet.specs.Encoding.{headingLength}
 use Rattle.sheet.specs.Reader.{accepted, readSheet}
 use Rattle.build.specs.Built.{OneBuilt}
-use Rattle.build.specs.Lent.{words-asked}
+use Rattle.conditions.specs.Lent.{words-asked}
 use Rattle.cards.specs.Promise.{CardOf}
 
 -- the words hold the automaton of the sheet that the bytes s hold, and the place is that after its heading and its type

@@ -1,6 +1,5 @@
--- The refusals of a sheet, a play and a pair of sheets, taken out of the answers that hold them; the number is 0 where
--- nothing is refused.
-use mathlib.Core.Option.{Option, none, some}
+-- The refusals of a sheet and of a play, taken out of the answers that hold them; the number is 0 where nothing is
+-- refused.
 use Prim.Native.Nat.{ℕ}
 use Rattle.records.specs.Refusal.{cause, old-sheet, not-refused}
 use Rattle.records.specs.declared.refusal.Cause.{Cause}
@@ -19,8 +18,3 @@ causeOf (Refused x) sheet = cause (x .number) sheet (x .place)
 unfoldable pub playCause : Parsed → Cause
 playCause (Moves count) = cause not-refused old-sheet 0
 playCause (Bad place) = cause bad-play old-sheet place
-
--- of two sheets: the number alone
-unfoldable pub numberOf : Option Cause → ℕ
-numberOf none = not-refused
-numberOf (some x) = x .number

@@ -3,13 +3,8 @@ use mathlib.Core.Path.{_≡_}
 use mathlib.Core.Logic.{_↔_}
 use mathlib.Core.List.{List, [], _++_}
 use mathlib.Core.Option.{Option, none, some}
-use Prim.Native.Nat.{ℕ, zero, suc, _+_, _*_, _-_, _≤_}
-use lib.ListN.{length, getD, take, drop}
-use lib.Dec.{eqb}
-use Rattle.language.specs.Choice.{pick}
-use Rattle.difference.specs.Spelled.{Spelled}
-use Rattle.dfa.specs.Reading.{reversed}
-use Rattle.play.specs.Bytes.{withRecords}
+use Prim.Native.Nat.{ℕ, zero, suc, _+_, _≤_}
+use lib.ListN.{length, drop}
 use Rattle.language.specs.declared.Numbers.{Numbers}
 use Rattle.language.specs.Ty.{Ty}
 use Rattle.language.specs.Term.{Term}
@@ -19,7 +14,7 @@ use Rattle.language.specs.Play.{Complete}
 use Rattle.language.specs.Weight.{size}
 use Rattle.machine.specs.Range.{TyIn, InRange}
 use Rattle.records.specs.Limits.{greatest-z, greatest-size}
-use Rattle.build.specs.Lent.{words-asked, bytes-asked}
+use Rattle.conditions.specs.Lent.{words-asked, bytes-asked}
 use Rattle.build.specs.Built.{TwoBuilt}
 use Rattle.judge.specs.declared.mark.Uses.{Uses}
 use Rattle.judge.specs.Mark.{usesOf}
@@ -28,8 +23,8 @@ use Rattle.comparer.specs.Refusals.{compareRefusal}
 use Rattle.comparer.specs.Look.{decisionOf, wholeDepth, Looked}
 use Rattle.comparer.specs.declared.Examined.{Examined}
 use Rattle.comparer.specs.declared.Examined.the-variants.{Known, Refused as NotExamined}
-use Rattle.comparer.specs.declared.Decision.{Decision}
-use Rattle.comparer.specs.declared.Decision.the-variants.{Same, Apart}
+use Rattle.play_words.specs.declared.Decision.{Decision}
+use Rattle.play_words.specs.declared.Decision.the-variants.{Same, Apart}
 use Rattle.comparer.specs.declared.Comparison.{Comparison}
 use Rattle.comparer.specs.declared.Comparison.the-variants as compared
 
@@ -67,13 +62,6 @@ pub data Verdicts (N : Numbers) (T : Ty) (M M′ : Term) (most : ℕ) (space : L
   differ : (which : ℕ) (play : Word) → r ≡ Apart which (length play) → OnlyTerm which T M M′ play →
     ((v : Word) → Before N v play → Complete T M v ↔ Complete T M′ v) → length play ≤ most →
     space′ ≡ records N play ++ drop (length (records N play)) space → Verdicts N T M M′ most space r space′
-
--- the play of entry k is written: its letters' records, its number of moves, and the sheet by where it ends
-pub record Shown (n k f : ℕ) (ws space : List ℕ) (r : Decision) (space′ : List ℕ) : Type 0 where
-  pub letters : List ℕ
-  pub spelled : Spelled n (take (5 * n) ws) k (reversed letters)
-  pub answer : r ≡ Apart (pick (eqb (getD ws (n + 4 * k) 0) f) 0 1) (length letters)
-  pub written : space′ ≡ withRecords space 0 letters
 
 -- the answer of compare, from what is decided and the names that the old and the new sheet use
 unfoldable pub answerOf : Decision → Uses → Uses → Comparison

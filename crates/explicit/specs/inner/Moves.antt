@@ -9,15 +9,15 @@ use Rattle.language.specs.Number.{numbers}
 use Rattle.language.specs.Order.{codeAt, rank}
 use Rattle.explicit.specs.Letter.{KIND-UNIT, ID-UNIT, ARGUMENT-UNIT}
 use Rattle.part_rows.specs.Row.{word}
-use Rattle.automaton.specs.declared.Move.{Move}
-use Rattle.automaton.specs.declared.Out.{Out}
-use Rattle.automaton.specs.declared.Out.the-variants.{Go, Exit, Say, Hear, Stuck}
-use Rattle.automaton.specs.walk.MoveKind.{RUN, DONE, ASK, READ, OK, VALUE, WRITE, OPENING}
-use Rattle.automaton.specs.walk.Class.{COMMAND, EXPRESSION}
-use Rattle.automaton.specs.walk.Column.{CLASS, VALUES}
-use Rattle.automaton.specs.walk.Row.{SHORTS, sumOf, nameId, partClass, partValues}
-use Rattle.automaton.specs.walk.Types.{questionLimit}
-use Rattle.automaton.specs.walk.Name.{noMove}
+use Rattle.positions.specs.declared.Move.{Move}
+use Rattle.positions.specs.declared.Out.{Out}
+use Rattle.positions.specs.declared.Out.the-variants.{Go, Exit, Say, Hear, Stuck}
+use Rattle.positions.specs.MoveKind.{RUN, DONE, ASK, READ, OK, VALUE, WRITE, OPENING}
+use Rattle.positions.specs.Class.{COMMAND, EXPRESSION}
+use Rattle.positions.specs.Column.{CLASS, VALUES}
+use Rattle.positions.specs.Row.{SHORTS, sumOf, nameId, partClass, partValues}
+use Rattle.positions.specs.Types.{questionLimit}
+use Rattle.name_use.specs.Name.{noMove}
 use Rattle.explicit.specs.declared.Wait.{Wait}
 use Rattle.part_path.specs.declared.Site.{Site}
 use Rattle.part_path.specs.States.{WHOLE, spotsOf, sheetAt, targetOf}

@@ -2,7 +2,7 @@
 use borrow.Author.Needs.{needs}
 use native.Mathlib.Omega.{arith}
 use mathlib.Core.Path.{refl}
-use Rattle.build.proofs.Figures.{asked-low}
+use Rattle.conditions.proofs.Figures.{asked-low}
 use Rattle.build.proofs.Building.{one-fits, one-settles, one-built}
 use Rattle.build.proofs.build.build_one.Statement.{statement}
 use Rattle.build.proofs.build.build_one.Tie as tie

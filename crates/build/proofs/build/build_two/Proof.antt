@@ -2,7 +2,7 @@
 use borrow.Author.Needs.{needs}
 use native.Mathlib.Omega.{arith}
 use mathlib.Core.Path.{refl}
-use Rattle.build.proofs.Figures.{asked-low}
+use Rattle.conditions.proofs.Figures.{asked-low}
 use Rattle.build.proofs.Building.{old-fits, new-fits, two-settles, two-built}
 use Rattle.build.proofs.build.build_two.Statement.{statement}
 use Rattle.build.proofs.build.build_two.Tie as tie

@@ -2,7 +2,7 @@
 use borrow.Author.Needs.{needs}
 use borrow.Author.Tests.{le-ltb, lt-ltb}
 use native.Mathlib.Omega.{arith}
-use Rattle.comparer.specs.inner.Causes.{numberOf}
+use Rattle.conditions.specs.Pair.{numberOf}
 use Rattle.cards.proofs.lent.lent_number.Statement.{statement}
 use Rattle.cards.proofs.lent.lent_number.Tie as tie
 

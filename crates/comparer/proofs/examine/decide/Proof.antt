@@ -2,7 +2,7 @@
 use native.Mathlib.Omega.{arith}
 use borrow.Author.Needs.{needs}
 use Rattle.difference.proofs.laws.Outcome.{told-of}
-use Rattle.build.proofs.Figures.{asked-low}
+use Rattle.conditions.proofs.Figures.{asked-low}
 use Rattle.comparer.proofs.DecidePlays.{task, all-is, setting, decided-same, decided-apart}
 use Rattle.comparer.proofs.examine.decide.Statement.{statement}
 use Rattle.comparer.proofs.examine.decide.Tie as tie

@@ -31,19 +31,19 @@ use Rattle.expand.proofs.expand.+enter+expand+expand_own+expand_part+ex
 use Rattle.expand.proofs.expand.expand_row.Reads as expand-row
 use Rattle.expand.proofs.expand.expand_row.Kinds as expand-row-kinds
 use Rattle.expand.proofs.expand.+enter+expand+expand_own+expand_part+expand_parts+expand_record+expand_row.Lts-expand_row as expand-row-lts
-use Rattle.expand.proofs.close.close_leaf.Reads as close-leaf-reads
-use Rattle.expand.proofs.close.close_row.Reads as close-row-reads
-use Rattle.expand.proofs.close.parts_of.Reads as parts-of-reads
-use Rattle.expand.proofs.close.stays.Reads as stays-reads
-use Rattle.expand.proofs.words.come_at.Reads as come-at-reads
-use Rattle.expand.proofs.words.more.Reads as more-reads
-use Rattle.expand.proofs.words.pass.Reads as pass-reads
-use Rattle.expand.proofs.words.passed_of.Reads as passed-of-reads
-use Rattle.expand.proofs.words.procedure_of.Reads as procedure-of-reads
-use Rattle.expand.proofs.words.put_slot.Reads as put-slot-reads
-use Rattle.expand.proofs.words.slot_at.Reads as slot-at-reads
-use Rattle.expand.proofs.words.used_at.Reads as used-at-reads
-use Rattle.expand.proofs.words.word_at.Reads as word-at-reads
+use Rattle.closing.proofs.close.close_leaf.Reads as close-leaf-reads
+use Rattle.closing.proofs.close.close_row.Reads as close-row-reads
+use Rattle.closing.proofs.close.parts_of.Reads as parts-of-reads
+use Rattle.closing.proofs.close.stays.Reads as stays-reads
+use Rattle.closing.proofs.words.come_at.Reads as come-at-reads
+use Rattle.closing.proofs.words.more.Reads as more-reads
+use Rattle.closing.proofs.words.pass.Reads as pass-reads
+use Rattle.closing.proofs.words.passed_of.Reads as passed-of-reads
+use Rattle.closing.proofs.words.procedure_of.Reads as procedure-of-reads
+use Rattle.closing.proofs.words.put_slot.Reads as put-slot-reads
+use Rattle.closing.proofs.words.slot_at.Reads as slot-at-reads
+use Rattle.closing.proofs.words.used_at.Reads as used-at-reads
+use Rattle.closing.proofs.words.word_at.Reads as word-at-reads
 use Rattle.expand.proofs.expand.+enter+expand+expand_own+expand_part+expand_parts+expand_record+expand_row.{statement}
 use Rattle.expand.proofs.expand.+enter+expand+expand_own+expand_part+expand_parts+expand_record+expand_row.Tie.{close}
 

@@ -12,7 +12,7 @@ judge-sheet-requires c κs = blank-made 58313 refl
 
 expand-root-requires : tie.Need-expand-root-requires
 expand-root-requires c κs =
-    let J = judged-of _ _ (c .before .before .before .before .before .judge-sheet .ensures)
+    let J = judged-of _ _ _ (c .before .before .before .before .before .judge-sheet .ensures)
         (c .before .before .before .x2 .given .1) in
     omega (arith, root-small J)
 
@@ -21,7 +21,7 @@ returns c = load-refused _ _ _ (c .before .before .before .judge-sheet .ensures)
 
 returns-2 : tie.Need-returns-2
 returns-2 c =
-    let J = judged-of _ _ (c .before .before .before .before .before .before .judge-sheet .ensures)
+    let J = judged-of _ _ _ (c .before .before .before .before .before .before .judge-sheet .ensures)
         (c .before .before .before .before .x2 .given .1) in
     load-sheet J (c .expand-root .ensures)
       (c .before .before .before .before .before .before .before .before .before .pre)

@@ -1,7 +1,7 @@
 -- The id's range, then its standing.
 use borrow.Author.Needs.{needs}
 use borrow.Author.Tests.{eq-eqb, ne-eqb}
-use Rattle.heads.specs.Judge.{andThen}
+use Rattle.judgements.specs.Judge.{andThen}
 use Rattle.sheet.specs.Heading.{fresh}
 use mathlib.Core.Path.{sym, _∙_}
 use Rattle.sheet.proofs.heading.judge_fresh.Statement.{statement}

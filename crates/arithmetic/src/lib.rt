@@ -1,0 +1,4 @@
+// The arithmetic of the language.
+
+// The nine operators on codes.
+pub mod operator;

@@ -1,0 +1,12 @@
+-- The lower part of the mark.
+use Rattle.closing.specs.Close.{comeOf}
+use borrow.Author.Needs.{needs}
+use Rattle.closing.proofs.words.come_at.Statement.{statement}
+use Rattle.closing.proofs.words.come_at.Tie as tie
+
+returns : tie.Need-returns
+unfolding comeOf
+returns c = simp (← c .mark-at .ensures)
+
+pub come-at-spec : {M : Type 1} → statement M
+come-at-spec = tie.close (tie.spec (λ c κs. search needs) returns)

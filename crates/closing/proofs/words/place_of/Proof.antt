@@ -1,0 +1,13 @@
+-- Nine words a row.
+use Rattle.part_rows.specs.Row.{cell}
+use native.Mathlib.Omega.{arith}
+use borrow.Author.Needs.{needs}
+use Rattle.closing.proofs.words.place_of.Statement.{statement}
+use Rattle.closing.proofs.words.place_of.Tie as tie
+
+returns : tie.Need-returns
+unfolding cell
+returns c = omega arith
+
+pub place-of-spec : {M : Type 1} → statement M
+place-of-spec = tie.close (tie.spec (search needs) (search needs) returns)

@@ -1,0 +1,12 @@
+-- The upper part of the mark.
+use Rattle.closing.specs.Close.{usedOf}
+use borrow.Author.Needs.{needs}
+use Rattle.closing.proofs.words.used_at.Statement.{statement}
+use Rattle.closing.proofs.words.used_at.Tie as tie
+
+returns : tie.Need-returns
+unfolding usedOf
+returns c = simp (← c .mark-at .ensures)
+
+pub used-at-spec : {M : Type 1} → statement M
+used-at-spec = tie.close (tie.spec (λ c κs. search needs) returns)

@@ -1,0 +1,3 @@
+pub mod Bits
+pub mod NumberSteps
+pub mod ExactSteps

@@ -1,0 +1,2 @@
+// Judgements of bytes, above all of ids: which are free, which hide others.
+pub mod judgement;

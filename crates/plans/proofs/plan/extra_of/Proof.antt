@@ -1,0 +1,17 @@
+-- A name has the answers of its arguments.
+use borrow.Author.Needs.{needs}
+use borrow.Author.Tests.{eq-eqb, ne-eqb}
+use Rattle.weighing.specs.Plan.{extraOf}
+use Rattle.plans.proofs.plan.extra_of.Statement.{statement}
+use Rattle.plans.proofs.plan.extra_of.Tie as tie
+
+returns : tie.Need-returns
+unfolding extraOf
+returns c = simp (← c .answers-at .ensures, eq-eqb _ _ (c .before .if1 .taken))
+
+returns-2 : tie.Need-returns-2
+unfolding extraOf
+returns-2 c = simp (ne-eqb _ _ (c .if1 .left))
+
+pub extra-of-spec : {M : Type 1} → statement M
+extra-of-spec = tie.close (tie.spec (λ c κs. search needs) returns returns-2)

@@ -1,0 +1,13 @@
+-- The word at the place of the row, as a number.
+use borrow.Author.Needs.{needs}
+use native.Mathlib.Omega.{arith}
+use mathlib.Core.Path.{_∙_}
+use Rattle.plans.proofs.Leaves.{word-read}
+use Rattle.plans.proofs.row.word_of.Statement.{statement}
+use Rattle.plans.proofs.row.word_of.Tie as tie
+
+returns : tie.Need-returns
+returns c = (c .short-at .ensures ∙ word-read _ _ _, omega arith)
+
+pub word-of-spec : {M : Type 1} → statement M
+word-of-spec = tie.close (tie.spec (search needs) (search needs) (λ c κs. search needs) (search needs) returns)

@@ -1,0 +1,95 @@
+// Marks of parts: what they come down to, and which arguments a procedure uses.
+use crate::kind::PARAMETER;
+use crate::kind::USE;
+use crate::row::term_place;
+use crate::row::word_of;
+use forms::read::coefficient;
+use forms::set::least;
+use part_rows::row::MARKS;
+use part_rows::row::PARTS;
+use records::read::short_at;
+ghost use mathlib.Core.Path.{_≡_};
+ghost use Prim.Native.Nat.{_≤_, _<_};
+ghost use Rattle.procedures.specs.Made.{sign};
+ghost use Rattle.weighing.specs.Stack.{marksIn, coefficientOf};
+ghost use Rattle.weighing.specs.Plan.{comeAt, argumentOf, throughOf, comeOf, usedOf};
+
+// The greatest number that a procedure has: it may have four parameters.
+const GREATEST: usize = 124;
+
+// Where what a part comes down to ends in its mark.
+pub const COMES: usize = 128;
+
+// What the part at a place comes down to.
+pub fn come_at(t: &[u16], place: usize) -> usize
+    requires { ⌜ place < 65536 ⌝ }
+    ensures { λ r. ⌜ (r ≡ comeAt (marksIn (now (t .entry))) place) × (r < 128) ⌝ }
+{
+    short_at(t, MARKS + place) as usize % COMES
+}
+
+// What argument j of the use at a place comes down to.
+fn argument_of(t: &[u16], at: usize, count: usize, j: usize) -> usize
+    requires { ⌜ (at < 65536) × (count ≤ 4) ⌝ }
+    ensures { λ r. ⌜ (r ≡ argumentOf (now (t .entry)) (marksIn (now (t .entry))) at count j) × (r < 128) ⌝ }
+{
+    if j < count {
+        return come_at(t, word_of(t, at, PARTS + j));
+    }
+    0
+}
+
+// What a use of the procedure k comes down to, where the procedure's term comes down to c.
+fn through_of(t: &[u16], at: usize, count: usize, k: usize, c: usize) -> usize
+    requires { ⌜ (at < 65536) × (count ≤ 4) × (c < 128) ⌝ }
+    ensures { λ r. ⌜ (r ≡ throughOf (now (t .entry)) (marksIn (now (t .entry))) at count k c) × (r < 128) ⌝ }
+{
+    if c == 0 {
+        return 0;
+    }
+    if c - 1 < k {
+        return c;
+    }
+    argument_of(t, at, count, c - 1 - k)
+}
+
+// What the record at a place comes down to.
+pub fn come_of(
+    t: &[u16],
+    kind: usize,
+    detail: usize,
+    k: usize,
+    at: usize,
+    count: usize,
+) -> usize
+    requires { ⌜ (at < 65536) × (count ≤ 4) ⌝ }
+    ensures { λ r. ⌜ (r ≡ comeOf (now (t .entry)) (marksIn (now (t .entry))) kind detail k at count) × (r < 128) ⌝ }
+{
+    if kind == PARAMETER {
+        return 1 + least(detail, GREATEST);
+    }
+    if kind == USE {
+        let c = come_at(t, term_place(t, detail));
+        return through_of(t, at, count, k, c);
+    }
+    0
+}
+
+// Whether a form has the parameter s: its coefficient is above 0.
+fn used(t: &[u16], row: usize, s: usize) -> usize
+    requires { ⌜ row < 65536 ⌝ }
+    ensures { λ r. ⌜ (r ≡ sign (coefficientOf (now (t .entry)) row s)) × (r ≤ 1) ⌝ }
+{
+    if coefficient(t, row, s) == 0 {
+        return 0;
+    }
+    1
+}
+
+// Which arguments the procedure k uses, by the form of its term: a bit each.
+pub fn used_of(t: &[u16], row: usize, k: usize) -> usize
+    requires { ⌜ (row < 65536) × (k < 65536) ⌝ }
+    ensures { λ r. ⌜ (r ≡ usedOf (now (t .entry)) row k) × (r < 16) ⌝ }
+{
+    used(t, row, k) + 2 * used(t, row, k + 1) + 4 * used(t, row, k + 2) + 8 * used(t, row, k + 3)
+}

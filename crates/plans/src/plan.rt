@@ -1,0 +1,158 @@
+// What a record's form is made of: a first form, and its parts with their factors.
+use crate::kind::ASSIGN;
+use crate::kind::FETCH;
+use crate::kind::IF;
+use crate::kind::NAME;
+use crate::kind::NEW;
+use crate::kind::OPERATE;
+use crate::kind::PARAMETER;
+use crate::kind::PRIVATE;
+use crate::kind::USE;
+use crate::row::PLACES;
+use crate::row::answers_at;
+use crate::row::questions_at;
+use crate::row::short;
+use crate::row::term_form;
+use crate::row::values_at;
+use crate::row::word_of;
+use forms::read::coefficient;
+use forms::set::least;
+use forms::set::set_constant;
+use forms::set::set_lower;
+use forms::set::set_unit;
+use part_rows::row::PARTS;
+ghost use mathlib.Core.Path.{_≡_};
+ghost use Prim.Native.Nat.{_<_};
+ghost use Rattle.weighing.specs.Plan.{partsOf, ownOf, factorOf, extraOf};
+ghost use Rattle.weighing.specs.Step.{started};
+
+// The detail of a name is its id and this many times the number of its arguments, which is below COUNTS; where the name
+// asks once, it has ONCE besides.
+const IDS: usize = 256;
+
+const COUNTS: usize = 8;
+
+const ONCE: usize = 2048;
+
+// The greatest number of arguments.
+const ARGUMENTS: usize = 4;
+
+// The greatest number of a parameter.
+const LAST_PARAMETER: usize = 127;
+
+// How many parts a record has.
+pub fn parts_of(kind: usize, detail: usize) -> usize
+    ensures { λ r. ⌜ r ≡ partsOf kind detail ⌝ }
+{
+    if kind < NAME {
+        return 0;
+    }
+    if kind == NAME {
+        return least(detail / IDS % COUNTS, ARGUMENTS);
+    }
+    if kind == FETCH {
+        return 1;
+    }
+    if kind < IF {
+        return 2;
+    }
+    if kind == IF {
+        return 3;
+    }
+    if kind < NEW {
+        return 2;
+    }
+    if kind == NEW {
+        return 1;
+    }
+    if kind == USE {
+        return least(detail / PLACES, ARGUMENTS);
+    }
+    0
+}
+
+// The weight of a record without its parts; a name that asks once weighs one more.
+fn own_of(kind: usize, detail: usize) -> u32
+    ensures { λ r. ⌜ r ≡ ownOf kind detail ⌝ }
+{
+    if kind < NAME {
+        return 1;
+    }
+    if kind == NAME {
+        return 2 + (detail / ONCE % 2) as u32;
+    }
+    if kind == PRIVATE {
+        return 2;
+    }
+    0
+}
+
+// A form becomes that of a record without its parts; k is the number of the procedure that a use means.
+pub fn start(t: &mut [u16], row: usize, kind: usize, detail: usize, k: usize)
+    requires { ⌜ (row < 65536) × (k < 65536) ⌝ }
+    ensures { λ r. ⌜ now (t .exit) ≡ started kind detail k row (now (t .entry)) ⌝ }
+{
+    if kind == USE {
+        let from = term_form(t, detail);
+        set_lower(t, row, from, k);
+        return;
+    }
+    if kind == PARAMETER {
+        let s = least(detail, LAST_PARAMETER);
+        set_unit(t, row, s);
+        return;
+    }
+    set_constant(t, row, own_of(kind, detail));
+}
+
+// By what the form of part j, which is at a place, is multiplied.
+pub fn factor_of(
+    t: &[u16],
+    kind: usize,
+    detail: usize,
+    k: usize,
+    at: usize,
+    place: usize,
+    j: usize,
+) -> u32
+    requires { ⌜ (detail < 65536) × (k < 65536) × (at < 65536) × (place < 65536) × (j < 4) ⌝ }
+    ensures { λ r. ⌜ r ≡ factorOf (now (t .entry)) kind detail k at place j ⌝ }
+{
+    // operators (definition 14)
+    if kind == OPERATE {
+        if j == 0 {
+            return 1;
+        }
+        return values_at(t, word_of(t, at, PARTS));
+    }
+    // application (definition 22), and uses of procedures
+    if kind == NAME {
+        return questions_at(t, place);
+    }
+    if kind == USE {
+        let term = term_form(t, detail);
+        return coefficient(t, term, k + j);
+    }
+    // variables (definitions 24 to 26): assign and new
+    if kind == ASSIGN {
+        if j == 0 {
+            return values_at(t, place);
+        }
+        return 1;
+    }
+    if kind == NEW {
+        return short(detail);
+    }
+    1
+}
+
+// What the part at a place adds besides.
+pub fn extra_of(t: &[u16], kind: usize, place: usize) -> u32
+    requires { ⌜ place < 65536 ⌝ }
+    ensures { λ r. ⌜ r ≡ extraOf (now (t .entry)) kind place ⌝ }
+{
+    if kind == NAME {
+        return answers_at(t, place);
+    }
+    0
+}

@@ -1,0 +1,3 @@
+pub mod ShowPlay
+pub mod WalkingPlays
+pub mod SearchingPlays

@@ -1,0 +1,24 @@
+// The play of an entry of the search, written as records, and which sheet has it.
+use crate::Decision;
+use difference::word::spell;
+use play::play::write_play;
+use records::refusal::NEW;
+use records::refusal::OLD;
+ghost use Prim.Native.Nat.{_*_, _≤_};
+ghost use lib.ListN.{length, take};
+ghost use Rattle.difference.specs.Spelled.{Trail};
+ghost use Rattle.play_words.specs.Shown.{Shown};
+
+// Writes the play of entry k: its number of moves, and which sheet has it. The old sheet has it where it ends at f.
+pub fn show(words: &mut [u32], space: &mut [u8], n: usize, k: usize, f: usize) -> Decision
+    requires { ⌜ Trail n (take (5 * n) (now words)) k × (32 * n ≤ length (now words)) ⌝ }
+    ensures { λ r. ⌜ Shown n k f (now (words .entry)) (now (space .entry)) r (now (space .exit)) ⌝ }
+{
+    let last = words[n + 4 * k] as usize;
+    let moves = spell(words, n, k);
+    write_play(words, 5 * n, moves, space);
+    if last == f {
+        return Decision::Apart { sheet: OLD, moves };
+    }
+    Decision::Apart { sheet: NEW, moves }
+}
