@@ -5,8 +5,8 @@ use answers::compare::answer_compare;
 use answers::follow::answer_follow;
 use answers::look::answer_look;
 use answers::renumber::answer_renumber;
+use answers::write::ANSWER_WORDS;
 use answers::write::NO_ROOM;
-use answers::write::WORDS;
 use cards::card::card;
 use comparer::compare::compare;
 use comparer::follow::follow;
@@ -57,7 +57,7 @@ pub extern "C" fn negyvosal_follow(
     ensures { λ r. ⌜ FollowReturned (now (sheet .entry)) (now (play .entry)) (now (words .entry)) (now (out .entry)) r
         (now (words .exit)) (now (out .exit)) ⌝ }
 {
-    if out.len() < WORDS {
+    if out.len() < ANSWER_WORDS {
         return NO_ROOM;
     }
     let r = follow(sheet, play, words);
@@ -76,7 +76,7 @@ pub extern "C" fn negyvosal_compare(
     ensures { λ r. ⌜ CompareReturned (now (old .entry)) (now (new .entry)) (now (words .entry)) (now (space .entry))
         (now (out .entry)) r (now (words .exit)) (now (space .exit)) (now (out .exit)) ⌝ }
 {
-    if out.len() < WORDS {
+    if out.len() < ANSWER_WORDS {
         return NO_ROOM;
     }
     let r = compare(old, new, words, space);
@@ -96,7 +96,7 @@ pub extern "C" fn negyvosal_look(
     ensures { λ r. ⌜ LookReturned (now (old .entry)) (now (new .entry)) limit (now (words .entry)) (now (space .entry))
         (now (out .entry)) r (now (words .exit)) (now (space .exit)) (now (out .exit)) ⌝ }
 {
-    if out.len() < WORDS {
+    if out.len() < ANSWER_WORDS {
         return NO_ROOM;
     }
     let most = limit as usize;
@@ -115,7 +115,7 @@ pub extern "C" fn negyvosal_renumber(
     ensures { λ r. ⌜ RenumberReturned (now (sheet .entry)) (now (output .entry)) (now (list .entry)) (now (out .entry))
         r (now (output .exit)) (now (list .exit)) (now (out .exit)) ⌝ }
 {
-    if out.len() < WORDS {
+    if out.len() < ANSWER_WORDS {
         return NO_ROOM;
     }
     let r = renumber(sheet, output, list);
@@ -133,7 +133,7 @@ pub extern "C" fn negyvosal_card(
     ensures { λ r. ⌜ CardReturned (now (sheet .entry)) (now (words .entry)) (now (space .entry)) (now (out .entry)) r
         (now (words .exit)) (now (space .exit)) (now (out .exit)) ⌝ }
 {
-    if out.len() < WORDS {
+    if out.len() < ANSWER_WORDS {
         return NO_ROOM;
     }
     let r = card(sheet, words, space);

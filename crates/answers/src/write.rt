@@ -7,7 +7,7 @@ ghost use mathlib.Core.Path.{_≡_};
 ghost use Rattle.answers.specs.Words.{refusalWords, answered, status};
 
 // How many words an answer has.
-pub const WORDS: usize = 11;
+pub const ANSWER_WORDS: usize = 11;
 
 // What a service returns: whether there is room for an answer, which is then written.
 pub const NO_ROOM: u32 = 0;
@@ -15,15 +15,15 @@ pub const NO_ROOM: u32 = 0;
 const WRITTEN: u32 = 1;
 
 // Writes an answer, if there is room for it.
-pub(crate) fn answer(out: &mut [u32], words: [u32; WORDS]) -> u32
+pub(crate) fn answer(out: &mut [u32], words: [u32; ANSWER_WORDS]) -> u32
     ensures returned { λ r. ⌜ r ≡ status (now (out .entry)) ⌝ }
     ensures written { λ r. ⌜ now (out .exit) ≡ answered words (now (out .entry)) ⌝ }
 {
-    if out.len() < WORDS {
+    if out.len() < ANSWER_WORDS {
         return NO_ROOM;
     }
     let mut i = 0;
-    while i < WORDS {
+    while i < ANSWER_WORDS {
         out[i] = words[i];
         i += 1;
     }

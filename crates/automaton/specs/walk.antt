@@ -1,6 +1,5 @@
 -- What the code computes on the table of parts, case by case, and what it shows of the machine: cited by inner
 -- contracts only.
-pub mod RowKind
 pub mod Store
 pub mod Down
 pub mod Step

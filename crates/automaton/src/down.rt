@@ -1,15 +1,15 @@
 // From a position of a term to one of its parts: sums count the first part first, and a part that is copied for
 // each value has its positions at the value times its weight.
-use crate::kinds::ASSIGN;
-use crate::kinds::CONSTANT;
-use crate::kinds::FETCH;
-use crate::kinds::IF;
-use crate::kinds::NAME;
-use crate::kinds::NEW;
-use crate::kinds::OPERATE;
-use crate::kinds::SEQUENCE;
-use crate::kinds::SKIP;
-use crate::kinds::WHILE;
+use part_rows::kind::ASSIGN;
+use part_rows::kind::CONSTANT;
+use part_rows::kind::FETCH;
+use part_rows::kind::IF;
+use part_rows::kind::NAME;
+use part_rows::kind::NEW;
+use part_rows::kind::OPERATE;
+use part_rows::kind::SEQUENCE;
+use part_rows::kind::SKIP;
+use part_rows::kind::WHILE;
 use name_use::name::framed;
 use name_use::name::in_name;
 use part_rows::row::DETAIL;
@@ -25,7 +25,6 @@ use positions::moves::WRITE;
 use positions::roles::ASSIGNED;
 use positions::roles::BLOCK;
 use positions::roles::RIGHT;
-use positions::roles::SAME;
 use positions::roles::SELECT;
 use positions::roles::TEST;
 use positions::roles::THEN;
@@ -42,9 +41,8 @@ ghost use Rattle.name_use.specs.Name.{noMove};
 ghost use Rattle.part_rows.specs.Row.{word};
 ghost use mathlib.Core.List.{List};
 ghost use Prim.Native.Nat.{ℕ};
-
-// How many rows a table may have: the places of parts are words of 16 bits.
-const ROWS: usize = 65536;
+use positions::roles::AS_IS;
+use records::read::SHORTS;
 
 // The exit with an answer.
 pub(crate) fn leaves(kind: usize, value: usize) -> Spot
@@ -64,7 +62,7 @@ pub(crate) fn in_fetch(t: &[u16], at: usize, k: usize) -> Spot
     ensures { λ r. ⌜ r ≡ inFetch (now (t .entry)) at k ⌝ }
 {
     let part = part_at(t, at, 0);
-    let f = framed(SAME, 0, 0, 0, 0, 0);
+    let f = framed(AS_IS, 0, 0, 0, 0, 0);
     Spot::Inside {
         part,
         kind: READ,
@@ -91,7 +89,7 @@ pub(crate) fn in_seq(t: &[u16], at: usize, q: usize, x: usize, k: usize) -> Spot
         };
     }
     let part = part_at(t, at, 1);
-    let f = framed(SAME, w, 0, 0, 0, 0);
+    let f = framed(AS_IS, w, 0, 0, 0, 0);
     Spot::Inside {
         part,
         kind: q,
@@ -152,7 +150,7 @@ pub(crate) fn cond_in(
         };
     }
     if k - w < v {
-        let f = framed(SAME, w, 0, 0, 0, 0);
+        let f = framed(AS_IS, w, 0, 0, 0, 0);
         return Spot::Inside {
             part: m,
             kind: q,
@@ -161,7 +159,7 @@ pub(crate) fn cond_in(
             f,
         };
     }
-    let f = framed(SAME, sum(w, v), 0, 0, 0, 0);
+    let f = framed(AS_IS, sum(w, v), 0, 0, 0, 0);
     Spot::Inside {
         part: n,
         kind: q,
@@ -291,7 +289,7 @@ pub(crate) fn in_new(t: &[u16], at: usize, q: usize, x: usize, k: usize) -> Spot
     }
     let v = k / w;
     let part = part_at(t, at, 0);
-    let f = framed(BLOCK, mul_add(v, w, 0), sum(at % ROWS, 1), w, v, 0);
+    let f = framed(BLOCK, mul_add(v, w, 0), sum(at % SHORTS, 1), w, v, 0);
     Spot::Inside {
         part,
         kind: q,

@@ -1,6 +1,4 @@
 // What the automaton of a term does at a position, by the table of parts.
 
-// The kinds of rows.
-pub mod kinds;
 // From a position of a term to one of its parts.
 pub mod down;

@@ -1,10 +1,10 @@
 // The automata of sheets in the working words, ready to be walked and compared.
+use expand::expand::TERM_WORDS;
 use explicit::fill::close;
 use explicit::fill::fill;
 use language::Numbers;
-use load::load::ROWS;
 use part_path::Site;
-use part_path::levels::WORDS;
+use part_path::levels::PATH_WORDS;
 use silent::settle;
 ghost use Prim.Native.Nat.{_+_};
 ghost use Rattle.build.specs.Built.{OneReady, OneBuilt, TwoReady, TwoBuilt};
@@ -21,7 +21,7 @@ fn build_one(t: &[u16], n: Numbers, root: usize, all: usize, words: &mut [u32])
         n: states,
         o: 0,
     };
-    let mut path = [0usize; WORDS];
+    let mut path = [0usize; PATH_WORDS];
     let e = fill(t, n, s, words, &mut path, 0);
     close(words, states, e);
     settle(words, states);
@@ -48,7 +48,7 @@ fn build_two(
         n: states,
         o: 0,
     };
-    let mut path = [0usize; WORDS];
+    let mut path = [0usize; PATH_WORDS];
     let e = fill(t, n, s, words, &mut path, 0);
     let s2 = Site {
         root: other,
@@ -61,7 +61,7 @@ fn build_two(
 }
 
 // The automaton of a sheet, of the rows of its term.
-pub fn one_from_rows(t: &[u16; ROWS], n: Numbers, row: usize, all: usize, words: &mut [u32])
+pub fn one_from_rows(t: &[u16; TERM_WORDS], n: Numbers, row: usize, all: usize, words: &mut [u32])
     requires { ⌜ OneReady n (now t) row all (now words) ⌝ }
     ensures { λ r. ⌜ ((R : OneReady n (now (t .entry)) row all (now (words .entry)))
         → OneBuilt n (R .type) (R .term) (all + 1) (now (words .exit))) ⌝ }
@@ -71,8 +71,8 @@ pub fn one_from_rows(t: &[u16; ROWS], n: Numbers, row: usize, all: usize, words:
 
 // The automata of two sheets, of the rows of their terms.
 pub fn two_from_rows(
-    t: &[u16; ROWS],
-    u: &[u16; ROWS],
+    t: &[u16; TERM_WORDS],
+    u: &[u16; TERM_WORDS],
     n: Numbers,
     row: usize,
     other: usize,

@@ -9,14 +9,14 @@ use lib.Dec.{ltb}
 use lib.ListN.{getD, length, length-take, take}
 use borrow.Author.Tests.{eq-eqb}
 use Rattle.language.specs.Choice.{pick}
-use Rattle.records.specs.Refusal.{both-sheets}
+use Rattle.records.specs.Refusal.{both-sheets, headings-differ}
 use Rattle.records.specs.declared.edition.Edition.the-variants.{Present}
 use Rattle.records.specs.declared.refusal.Cause.{Cause}
 use Rattle.sheet.specs.Encoding.{headingLength}
 use Rattle.sheet.proofs.Right.{gives}
 use Rattle.conditions.specs.Lent.{bytes-asked, words-asked}
 use Rattle.comparer.specs.Refusals.{compareRefusal, onRead}
-use Rattle.conditions.specs.Pair.{headings-differ, matching, refusing, sameFirst}
+use Rattle.conditions.specs.Pair.{matching, refusing, sameFirst}
 use Rattle.comparer.proofs.ReadSheets.{two-first}
 use Rattle.cards.specs.Rules.{EqualCards}
 use Rattle.cards.proofs.Headings.{other-heading}

@@ -8,7 +8,7 @@ use lib.ListN.{drop, length}
 use Rattle.language.specs.Choice.{pick}
 use Rattle.language.specs.declared.Numbers.{Numbers}
 use Rattle.records.specs.Limits.{earlier-z}
-use Rattle.records.specs.Refusal.{both-sheets, old-sheet}
+use Rattle.records.specs.Refusal.{both-sheets, old-sheet, space-too-short, too-few-words}
 use Rattle.records.specs.declared.refusal.Cause.{Cause}
 use Rattle.procedures.specs.Written.{Sheet}
 use Rattle.sheet.specs.Encoding.{headingLength}
@@ -16,7 +16,7 @@ use Rattle.sheet.specs.Reader.{accepted, readSheet}
 use Rattle.conditions.specs.Lent.{words-asked}
 use Rattle.comparer.specs.Promise.{Cleared}
 use Rattle.comparer.specs.Refusals.{onRead}
-use Rattle.conditions.specs.Pair.{refusing, space-too-short, too-few-words}
+use Rattle.conditions.specs.Pair.{refusing}
 use Rattle.cards.specs.Positions.{Position, Table}
 use Rattle.cards.specs.Card.{cardBytes}
 use Rattle.cards.specs.declared.Carding.{Carding}

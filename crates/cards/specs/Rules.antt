@@ -6,7 +6,7 @@ use mathlib.Core.Path.{_≡_}
 use Prim.Native.Nat.{_+_, _<_, ℕ}
 use lib.ListN.{drop, getD, length, take}
 use Rattle.language.specs.Move.{Move, Word}
-use Rattle.records.specs.Refusal.{both-sheets, cause, old-sheet}
+use Rattle.records.specs.Refusal.{both-sheets, cause, old-sheet, headings-differ, space-too-short, too-few-words}
 use Rattle.records.specs.declared.refusal.Cause.{Cause}
 use Rattle.procedures.specs.Written.{Sheet}
 use Rattle.judge.specs.declared.mark.Uses.{Uses}
@@ -17,7 +17,6 @@ use Rattle.comparer.specs.Demands.{CheckNumber}
 use Rattle.comparer.specs.Plays.{Alike, CompletePlay}
 use Rattle.comparer.specs.Promise.{ComparePromise}
 use Rattle.comparer.specs.Refusals.{compareRefusal}
-use Rattle.conditions.specs.Pair.{headings-differ, space-too-short, too-few-words}
 use Rattle.comparer.specs.declared.Comparison.{Comparison}
 use Rattle.comparer.specs.declared.Comparison.the-variants.{Same}
 use Rattle.cards.specs.Card.{cardBytes}

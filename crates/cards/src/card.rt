@@ -5,13 +5,13 @@ use build::build::one_from_rows;
 use comparer::causes::both_cause;
 use comparer::causes::cause_of;
 use dfa::words::clear;
+use expand::expand::TERM_WORDS;
 use load::load::Loaded;
-use load::load::ROWS;
 use load::load::load;
 use numbering::number::number_states;
 use records::read::byte_at;
 use records::refusal::NOT_REFUSED;
-use records::refusal::OLD;
+use records::refusal::OLD_SHEET;
 use records::store::put_byte;
 use sheet::reading::numbers_of;
 use sorting::sort_states;
@@ -56,7 +56,7 @@ pub fn card(sheet: &[u8], words: &mut [u32], space: &mut [u8]) -> Carding
     ensures { λ r. ⌜ CardPromise (now (sheet .entry)) (now (words .entry)) (now (space .entry)) r (now (words .exit))
         (now (space .exit)) ⌝ }
 {
-    let mut t = [0u16; ROWS];
+    let mut t = [0u16; TERM_WORDS];
     let x = load(sheet, &mut t);
     let Loaded::Sheet {
         root,
@@ -66,7 +66,7 @@ pub fn card(sheet: &[u8], words: &mut [u32], space: &mut [u8]) -> Carding
         uses: _,
     } = x
     else {
-        return Carding::Refused(cause_of(x, OLD));
+        return Carding::Refused(cause_of(x, OLD_SHEET));
     };
     let all = size as usize;
     let n = numbers_of(sheet);

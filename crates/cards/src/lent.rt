@@ -1,16 +1,16 @@
 // How many bytes card asks to be lent, and by which number it refuses what is lent.
-use conditions::lent::FEW_NUMBERS;
 use conditions::lent::words_asked;
-use conditions::pair::SPACE_TOO_SHORT;
-use conditions::pair::TOO_FEW_WORDS;
+use records::refusal::SPACE_TOO_SHORT;
+use records::refusal::TOO_FEW_WORDS;
 use language::Numbers;
 use records::refusal::NOT_REFUSED;
 ghost use mathlib.Core.Path.{_≡_};
 ghost use Prim.Native.Nat.{_≤_};
 ghost use Rattle.conditions.specs.Pair.{numberOf};
 ghost use Rattle.cards.specs.Promise.{lentRefusal, space-for};
+use records::limits::EARLIER_Z;
 
-// The bytes of card space for each unit of size: up to that Z, and above it.
+// The bytes of card space for each unit of size: up to document 01's greatest Z, and above it.
 const FEW_BYTES: usize = 128;
 
 const MORE_BYTES: usize = 512;
@@ -20,7 +20,7 @@ fn space_asked(n: Numbers, size: usize) -> usize
     requires { ⌜ size ≤ 4096 ⌝ }
     ensures { λ r. ⌜ r ≡ space-for n size ⌝ }
 {
-    if FEW_NUMBERS < n.z {
+    if EARLIER_Z < n.z {
         return MORE_BYTES * size;
     }
     FEW_BYTES * size

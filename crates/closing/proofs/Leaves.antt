@@ -8,8 +8,8 @@ use mathlib.Core.Bool.{Bool, true, false}
 use lib.Dec.{ltb}
 use Rattle.language.specs.Choice.{pick}
 use borrow.Author.Tests.{ne-eqb}
-use Rattle.procedures.specs.PartKind.{NAME, FETCH, OPERATE, ASSIGN, SEQUENCE, IF, WHILE, NEW, PRIVATE, KIND, DETAIL}
-use Rattle.procedures.specs.PartKind.{ONCE}
+use Rattle.part_rows.specs.PartKind.{NAME, FETCH, OPERATE, ASSIGN, SEQUENCE, IF, WHILE, NEW, PRIVATE, KIND, DETAIL}
+use Rattle.part_rows.specs.PartKind.{ONCE}
 use Rattle.part_rows.specs.Row.{word}
 use Rattle.closing.specs.Close.{firstBits, partsOf, argumentWeight, nameWeight, plainWeight, weightOf, leafWeight}
 

@@ -5,7 +5,7 @@ use mathlib.Core.Path.{_≡_, _∙_}
 use mathlib.Core.List.{List}
 use lib.ListN.{set}
 use Rattle.part_rows.specs.Row.{cell}
-use Rattle.procedures.specs.PartKind.{KIND, CLASS, VALUES, ONCE}
+use Rattle.part_rows.specs.PartKind.{KIND, CLASS, VALUES, ONCE}
 use Rattle.part_rows.specs.Row.{word}
 use Rattle.closing.specs.Close.{weightOf, detailOf, headPut, partsPut, closedRow, passedSlots, fiveAt, fourAt}
 

@@ -7,13 +7,11 @@ use lib.ListN.{getD, set}
 use lib.Dec.{eqb, ltb}
 use Rattle.language.specs.Choice.{pick}
 use Rattle.records.specs.Limits.{held-at}
-use Rattle.part_rows.specs.Row.{cell}
-use Rattle.procedures.specs.PartKind.{NAME, FETCH, OPERATE, ASSIGN, SEQUENCE, IF, WHILE, NEW, PRIVATE, KIND, CLASS}
-use Rattle.procedures.specs.PartKind.{VALUES, DETAIL, PARTS, IDS, COUNTS, ONCE, PLACES, PROCEDURE}
-use Rattle.procedures.specs.PartKind.{USE}
-use Rattle.part_rows.specs.Row.{word}
+use Rattle.part_rows.specs.Row.{cell, word}
+use Rattle.part_rows.specs.PartKind.{NAME, FETCH, OPERATE, ASSIGN, SEQUENCE, IF, WHILE, NEW, PRIVATE, KIND, CLASS}
+use Rattle.part_rows.specs.PartKind.{VALUES, DETAIL, PARTS, ONCE, PROCEDURE, WEIGHT, ID-SPAN, COUNT-SPAN, ROUTINE}
 use Rattle.procedures.specs.Marks.{COMES}
-use Rattle.closing.specs.Rows.{WEIGHT}
+use Rattle.part_rows.specs.Class.{questionsBy, answersBy}
 
 -- what a part comes down to, of its mark
 unfoldable pub comeOf : ℕ → ℕ
@@ -43,7 +41,7 @@ firstBits c = pick (eqb c 0) 0 (pick (eqb c 1) 1 (pick (eqb c 2) 3 (pick (eqb c 
 -- which parts a record of a kind has, where its detail is given: a bit each
 unfoldable pub partsOf : ℕ → ℕ → ℕ
 partsOf kind d =
-    pick (eqb kind NAME) (firstBits (d / IDS % COUNTS))
+    pick (eqb kind NAME) (firstBits (d / ID-SPAN % COUNT-SPAN))
     (pick (eqb kind FETCH) 1
     (pick (eqb kind NEW) 1
     (pick (eqb kind OPERATE) 3
@@ -56,20 +54,13 @@ partsOf kind d =
 unfoldable pub staysOf : ℕ → Bool
 staysOf kind =
     pick (eqb kind PROCEDURE) false
-    (pick (eqb kind USE) false
+    (pick (eqb kind ROUTINE) false
     (pick (eqb kind NEW) false true))
-
--- questions and answers of a type, by its class and the number of values of its data
-unfoldable pub questionsBy : ℕ → ℕ → ℕ
-questionsBy class v = pick (eqb class 2) (1 + v) 1
-
-unfoldable pub answersBy : ℕ → ℕ → ℕ
-answersBy class v = pick (eqb class 0) 1 (pick (eqb class 1) v (2 * v))
 
 -- what argument j of the name at a place adds to its weight, where the argument's row weighs w
 unfoldable pub argumentWeight : List ℕ → ℕ → ℕ → ℕ → ℕ
 argumentWeight t at j w =
-    pick (ltb j (word t at DETAIL / IDS % COUNTS))
+    pick (ltb j (word t at DETAIL / ID-SPAN % COUNT-SPAN))
     (questionsBy (word t (word t at (PARTS + j)) CLASS) (word t (word t at (PARTS + j)) VALUES) * w
       + answersBy (word t (word t at (PARTS + j)) CLASS) (word t (word t at (PARTS + j)) VALUES))
     0

@@ -19,22 +19,18 @@ use Rattle.procedures.specs.Meaning.{Meaning, private, argument, routine, named
 use Rattle.procedures.specs.Shared as s
 use Rattle.procedures.specs.Shared.{Parts, no-part, part, Row}
 use Rattle.procedures.specs.Expand.{operation}
-use Rattle.procedures.specs.PartKind.{SKIP, DIVERGE, CONSTANT, NAME, FETCH, OPERATE, ASSIGN, SEQUENCE, IF, WHILE, NEW}
-use Rattle.procedures.specs.PartKind.{PRIVATE, KIND, DETAIL, PARTS}
+use Rattle.part_rows.specs.PartKind.{SKIP, DIVERGE, CONSTANT, NAME, FETCH, OPERATE, ASSIGN, SEQUENCE, IF, WHILE, NEW}
+use Rattle.part_rows.specs.PartKind.{PRIVATE, KIND, DETAIL, PARTS}
 use Rattle.nodes.specs.Rep as nodes
 use Rattle.part_rows.specs.Row.{word}
-
--- the word of a row that has its weight
-abbrev pub WEIGHT : ℕ
-WEIGHT = 1
 
 -- how many rows there may be; it is also what stands where there is no row
 abbrev pub ROWS : ℕ
 ROWS = nodes.ROWS
 
 -- the words of all of them
-abbrev pub WORDS : ℕ
-WORDS = 110592
+abbrev pub TERM-WORDS : ℕ
+TERM-WORDS = 110592
 
 -- parts of the given types, from number j on
 unfoldable pub partsFrom : Numbers → List ℕ → (ℕ → ℕ) → ℕ → Parts

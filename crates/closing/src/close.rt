@@ -19,44 +19,27 @@ ghost use Prim.Native.Nat.{_+_, _*_, _<_, min};
 ghost use lib.ListN.{length, getD, set};
 ghost use Rattle.records.specs.Limits.{held-at};
 ghost use Rattle.part_rows.specs.Row.{word};
-ghost use Rattle.closing.specs.Close.{partsOf, staysOf, questionsBy, answersBy, argumentWeight, nameWeight};
-ghost use Rattle.closing.specs.Close.{plainWeight, firstValues, weightOf, detailOf, headPut, partsPut, closedRow};
-ghost use Rattle.closing.specs.Close.{fiveAt, fourAt, leafWeight};
-ghost use Rattle.procedures.specs.PartKind.{KIND, DETAIL};
+ghost use Rattle.closing.specs.Close.{partsOf, staysOf, argumentWeight, nameWeight, plainWeight, firstValues};
+ghost use Rattle.closing.specs.Close.{weightOf, detailOf, headPut, partsPut, closedRow, fiveAt, fourAt};
+ghost use Rattle.closing.specs.Close.{leafWeight};
+ghost use Rattle.part_rows.specs.PartKind.{KIND, DETAIL};
 ghost use Rattle.closing.specs.Rows.{ROWS};
-
-// The kinds of rows.
-const NAME: u16 = 20;
-
-const FETCH: u16 = 21;
-
-const OPERATE: u16 = 22;
-
-const ASSIGN: u16 = 23;
-
-const SEQUENCE: u16 = 24;
-
-const IF: u16 = 25;
-
-const WHILE: u16 = 26;
-
-pub const NEW: u16 = 27;
-
-pub const PROCEDURE: u16 = 28;
-
-const PRIVATE: u16 = 128;
-
-pub const USE: u16 = 130;
+use part_rows::class::answers_by;
+use part_rows::class::questions_by;
+use part_rows::short_kind::ASSIGN;
+use part_rows::short_kind::FETCH;
+use part_rows::short_kind::IF;
+use part_rows::short_kind::NAME;
+use part_rows::short_kind::NEW;
+use part_rows::short_kind::OPERATE;
+use part_rows::short_kind::PRIVATE;
+use part_rows::short_kind::PROCEDURE;
+use part_rows::short_kind::ROUTINE;
+use part_rows::short_kind::SEQUENCE;
+use part_rows::short_kind::WHILE;
 
 // What stands in a slot, or for a part, where there is no row.
 pub const NO_ROW: u16 = 12288;
-
-// The classes of types.
-const COMMANDS: u16 = 0;
-
-const EXPRESSIONS: u16 = 1;
-
-const VARIABLES: u16 = 2;
 
 // Which parts a record has: a bit for each.
 const ONE: u16 = 1;
@@ -100,36 +83,13 @@ pub fn stays(kind: u16) -> bool
     if kind == PROCEDURE {
         return false;
     }
-    if kind == USE {
+    if kind == ROUTINE {
         return false;
     }
     if kind == NEW {
         return false;
     }
     true
-}
-
-// How many questions a type has.
-fn questions_by(class: u16, values: u16) -> u32
-    ensures { λ r. ⌜ r ≡ questionsBy class values ⌝ }
-{
-    if class == VARIABLES {
-        return 1 + values as u32;
-    }
-    1
-}
-
-// How many answers these have in all.
-fn answers_by(class: u16, values: u16) -> u32
-    ensures { λ r. ⌜ r ≡ answersBy class values ⌝ }
-{
-    if class == COMMANDS {
-        return 1;
-    }
-    if class == EXPRESSIONS {
-        return values as u32;
-    }
-    2 * (values as u32)
 }
 
 // What argument j of the name at a place adds to its weight, where the argument's row weighs w.
@@ -141,8 +101,8 @@ fn argument_weight(t: &[u16], at: u16, j: u16, w: u16) -> u32
         let p = word_at(t, at, PARTS + j);
         let class = word_at(t, p, CLASS);
         let values = word_at(t, p, VALUES);
-        let product = sat_mul(questions_by(class, values), w as u32);
-        return sat_add(product, answers_by(class, values));
+        let product = sat_mul(questions_by(class as u32, values as u32), w as u32);
+        return sat_add(product, answers_by(class as u32, values as u32));
     }
     0
 }

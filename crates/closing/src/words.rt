@@ -1,41 +1,38 @@
 // Words of tables, of slots and of marks.
-use part_rows::row::WORDS;
 use part_rows::row::put;
 use records::read::short_at;
 ghost use mathlib.Core.Path.{_≡_};
 ghost use Prim.Native.Nat.{_+_, _%_, _/_, _<_};
 ghost use lib.ListN.{getD, set};
 ghost use Rattle.part_rows.specs.Row.{cell, word};
-ghost use Rattle.procedures.specs.PartKind.{ONCE};
+ghost use Rattle.part_rows.specs.PartKind.{ONCE};
 ghost use Rattle.closing.specs.Close.{comeOf, usedOf, moreOf, firstBits, passedSlots};
+use part_rows::row::ROW_WORDS;
 
-// The words of a row: the kind of a part, its weight (of a row of the expansion), the class of its type, the number of
-// values of its data, a detail by its kind, and its parts.
-pub const KIND: u16 = 0;
+// The words of a row by number: the kind of a part, its weight (of a row of the expansion), the class of its type, the
+// number of values of its data, a detail by its kind, and its parts.
+pub const KIND: u16 = part_rows::row::KIND as u16;
 
-pub(crate) const WEIGHT: u16 = 1;
+pub const WEIGHT: u16 = part_rows::row::WEIGHT as u16;
 
-pub(crate) const CLASS: u16 = 2;
+pub const CLASS: u16 = part_rows::row::CLASS as u16;
 
-pub(crate) const VALUES: u16 = 3;
+pub const VALUES: u16 = part_rows::row::VALUES as u16;
 
-pub const DETAIL: u16 = 4;
+pub const DETAIL: u16 = part_rows::row::DETAIL as u16;
 
-pub const PARTS: u16 = 5;
+pub const PARTS: u16 = part_rows::row::PARTS as u16;
 
-// A mark has what its part comes down to below this, and above it which arguments a procedure uses.
-const COMES: u16 = 128;
+// What numbers are packed by.
+const COME_SPAN: u16 = part_rows::pack::COME_SPAN as u16;
 
-// The detail of a use has the place of the procedure's record below this, and above it the number of arguments.
-const PLACES: u16 = 4096;
+const PLACE_SPAN: u16 = part_rows::pack::PLACE_SPAN as u16;
 
-// The detail of a name has its id below this, and above it the number of arguments, which is below COUNTS; where the
-// name asks once, it has ONCE besides.
-const IDS: u16 = 256;
+const ID_SPAN: u16 = part_rows::pack::ID_SPAN as u16;
 
-const COUNTS: u16 = 8;
+const COUNT_SPAN: u16 = part_rows::pack::COUNT_SPAN as u16;
 
-const ONCE: u16 = 2048;
+const ONCE: u16 = part_rows::pack::ONCE as u16;
 
 const LAST_WORD: u16 = 65535;
 
@@ -43,7 +40,7 @@ const LAST_WORD: u16 = 65535;
 pub(crate) fn place_of(r: u16, i: u16) -> usize
     ensures { λ x. ⌜ x ≡ cell r i ⌝ }
 {
-    WORDS * (r as usize) + (i as usize)
+    ROW_WORDS * (r as usize) + (i as usize)
 }
 
 // Word i of row r, or 0 beyond the table.
@@ -72,14 +69,14 @@ pub(crate) fn mark_at(marks: &[u16], at: u16) -> u16
 pub fn come_at(marks: &[u16], at: u16) -> u16
     ensures { λ x. ⌜ x ≡ comeOf (getD (now (marks .entry)) at 0) ⌝ }
 {
-    mark_at(marks, at) % COMES
+    mark_at(marks, at) % COME_SPAN
 }
 
 // Which arguments the procedure at a place uses: a bit for each.
 pub fn used_at(marks: &[u16], at: u16) -> u16
     ensures { λ x. ⌜ x ≡ usedOf (getD (now (marks .entry)) at 0) ⌝ }
 {
-    mark_at(marks, at) / COMES
+    mark_at(marks, at) / COME_SPAN
 }
 
 // The row in slot s.
@@ -118,21 +115,21 @@ pub fn more(x: u16, y: u16) -> u16
 pub fn procedure_of(detail: u16) -> u16
     ensures { λ r. ⌜ r ≡ detail % 4096 ⌝ }
 {
-    detail % PLACES
+    detail % PLACE_SPAN
 }
 
 // How many arguments a use with this detail has.
 pub fn passed_of(detail: u16) -> u16
     ensures { λ r. ⌜ r ≡ detail / 4096 ⌝ }
 {
-    detail / PLACES
+    detail / PLACE_SPAN
 }
 
 // How many arguments a name with this detail has.
 pub(crate) fn arguments_of(detail: u16) -> u16
     ensures { λ r. ⌜ r ≡ detail / 256 % 8 ⌝ }
 {
-    detail / IDS % COUNTS
+    detail / ID_SPAN % COUNT_SPAN
 }
 
 // What a name with this detail weighs beside its arguments.

@@ -19,8 +19,7 @@ use Rattle.play.specs.Records.{moves, parse}
 use Rattle.judge.specs.Check.{NumberOf}
 use Rattle.judge.specs.Mark.{usesOf}
 use Rattle.comparer.specs.Plays.{CompletePlay, reckoned, Alike, Only, FirstPlay}
-use Rattle.conditions.specs.Pair.{headings-differ, too-few-words, space-too-short}
-use Rattle.comparer.specs.Refusals.{bad-play}
+use Rattle.records.specs.Refusal.{headings-differ, too-few-words, space-too-short, bad-play}
 use Rattle.comparer.specs.Refusals.{followRefusal, compareRefusal}
 use Rattle.comparer.specs.Promise.{Holds, FollowPromise, ComparePromise}
 use Rattle.comparer.specs.Look.{LookPromise}

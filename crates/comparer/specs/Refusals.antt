@@ -7,17 +7,14 @@ use mathlib.Core.Option.{Option, none}
 use lib.Dec.{ltb}
 use Rattle.language.specs.Choice.{pick}
 use Rattle.language.specs.declared.Numbers.{Numbers}
-use Rattle.records.specs.Refusal.{old-sheet, new-sheet, both-sheets}
+use Rattle.records.specs.Refusal.{old-sheet, new-sheet, both-sheets, too-few-words, headings-differ, space-too-short}
 use Rattle.records.specs.declared.refusal.Cause.{Cause}
 use Rattle.sheet.specs.Encoding.{headingLength}
 use Rattle.sheet.specs.Reader.{Checks, accepted, rejected, readSheet}
 use Rattle.play.specs.Records.{Given, moves, bad, parse}
 use Rattle.conditions.specs.Lent.{words-asked}
-use Rattle.conditions.specs.Pair.{refusing, too-few-words, matching, pairRefusal}
-
--- the number of a play that is refused
-abbrev pub bad-play : ℕ
-bad-play = 15
+use Rattle.conditions.specs.Pair.{refusing, matching, pairRefusal}
+use Rattle.records.specs.Refusal.{bad-play}
 
 -- what an accepted sheet goes on to, by its range and rule, the length of its heading, its type and its size; or its
 -- refusal

@@ -1,11 +1,11 @@
 // The refusals of a sheet and of a play, taken out of the answers that hold them.
-use crate::BAD_PLAY;
 use load::load::Loaded;
 use play::play::Parsed;
-use records::refusal::BOTH;
+use records::refusal::BAD_PLAY;
+use records::refusal::BOTH_SHEETS;
 use records::refusal::Cause;
 use records::refusal::NOT_REFUSED;
-use records::refusal::OLD;
+use records::refusal::OLD_SHEET;
 use records::refusal::of_sheet;
 use records::refusal::refuse;
 ghost use mathlib.Core.Path.{_≡_};
@@ -26,7 +26,7 @@ pub fn cause_of(x: Loaded, sheet: u8) -> Cause
 pub fn both_cause(number: u8) -> Cause
     ensures { λ r. ⌜ r ≡ cause number both-sheets 0 ⌝ }
 {
-    of_sheet(refuse(number, 0), BOTH)
+    of_sheet(refuse(number, 0), BOTH_SHEETS)
 }
 
 // The refusal of a play, its number 0 where the play is not refused.
@@ -34,7 +34,7 @@ pub(crate) fn play_cause(x: Parsed) -> Cause
     ensures { λ r. ⌜ r ≡ playCause x ⌝ }
 {
     let Parsed::Bad(place) = x else {
-        return of_sheet(refuse(NOT_REFUSED, 0), OLD);
+        return of_sheet(refuse(NOT_REFUSED, 0), OLD_SHEET);
     };
-    of_sheet(refuse(BAD_PLAY, place), OLD)
+    of_sheet(refuse(BAD_PLAY, place), OLD_SHEET)
 }

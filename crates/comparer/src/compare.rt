@@ -1,7 +1,7 @@
 // The service compare.
 use crate::Comparison;
 use crate::Examined;
-use crate::LONGEST;
+use crate::MOST_MOVES;
 use crate::examine::examine;
 use judge::mark::Uses;
 use play_words::Decision;
@@ -30,7 +30,7 @@ pub fn compare(old: &[u8], new: &[u8], words: &mut [u32], space: &mut [u8]) -> C
     ensures { λ r. ⌜ ComparePromise (now (old .entry)) (now (new .entry)) (now (words .entry)) (now (space .entry)) r
         (now (words .exit)) (now (space .exit)) ⌝ }
 {
-    let x = examine(old, new, LONGEST, words, space);
+    let x = examine(old, new, MOST_MOVES, words, space);
     match x {
         Examined::Known {
             found,

@@ -10,18 +10,18 @@ use difference::Task;
 use difference::Verdict;
 use difference::search::first_difference;
 use load::load::Loaded;
-use load::load::ROWS;
 use load::load::load;
 use play_words::Decision;
 use play_words::show::show;
-use records::refusal::NEW;
 use records::refusal::NOT_REFUSED;
-use records::refusal::OLD;
 use sheet::reading::numbers_of;
 ghost use mathlib.Core.Path.{_≡_};
 ghost use Prim.Native.Nat.{_+_, _*_, _<_, _≤_};
 ghost use lib.ListN.{length, getD, take, drop};
 ghost use Rattle.comparer.specs.inner.Deciding.{Deciding, Verdicts, ExaminePromise};
+use expand::expand::TERM_WORDS;
+use records::refusal::NEW_SHEET;
+use records::refusal::OLD_SHEET;
 
 // Compares the sheets of sizes `all` and `more` whose automata stand in the words, by their plays of at most `most` moves.
 fn decide(words: &mut [u32], space: &mut [u8], all: usize, more: usize, most: usize) -> Decision
@@ -58,7 +58,7 @@ pub(crate) fn examine(
     ensures { λ r. ⌜ ExaminePromise (now (old .entry)) (now (new .entry)) most (now (words .entry)) (now (space .entry))
         r (now (words .exit)) (now (space .exit)) ⌝ }
 {
-    let mut t = [0u16; ROWS];
+    let mut t = [0u16; TERM_WORDS];
     let x = load(old, &mut t);
     let Loaded::Sheet {
         root,
@@ -68,9 +68,9 @@ pub(crate) fn examine(
         uses,
     } = x
     else {
-        return Examined::Refused(cause_of(x, OLD));
+        return Examined::Refused(cause_of(x, OLD_SHEET));
     };
-    let mut u = [0u16; ROWS];
+    let mut u = [0u16; TERM_WORDS];
     let y = load(new, &mut u);
     let Loaded::Sheet {
         root: other,
@@ -80,7 +80,7 @@ pub(crate) fn examine(
         uses: other_uses,
     } = y
     else {
-        return Examined::Refused(cause_of(y, NEW));
+        return Examined::Refused(cause_of(y, NEW_SHEET));
     };
     let all = size as usize;
     let more = other_size as usize;

@@ -5,18 +5,18 @@ use crate::causes::cause_of;
 use crate::causes::play_cause;
 use build::build::one_from_rows;
 use conditions::lent::words_asked;
-use conditions::pair::TOO_FEW_WORDS;
+use records::refusal::TOO_FEW_WORDS;
 use dfa::words::clear;
 use live::mark_live;
 use load::load::Loaded;
-use load::load::ROWS;
 use load::load::load;
 use play::play::Parsed;
 use play::play::count_moves;
 use play_words::walk::longest;
-use records::refusal::OLD;
 use sheet::reading::numbers_of;
 ghost use Rattle.comparer.specs.Promise.{FollowPromise};
+use expand::expand::TERM_WORDS;
+use records::refusal::OLD_SHEET;
 
 // How many moves at the start of the play begin some complete play of the sheet, and whether the whole play is
 // complete.
@@ -24,7 +24,7 @@ pub fn follow(sheet: &[u8], play: &[u8], words: &mut [u32]) -> Following
     ensures { λ r. ⌜ FollowPromise (now (sheet .entry)) (now (play .entry)) (now (words .entry)) r
         (now (words .exit)) ⌝ }
 {
-    let mut t = [0u16; ROWS];
+    let mut t = [0u16; TERM_WORDS];
     let x = load(sheet, &mut t);
     let Loaded::Sheet {
         root: _,
@@ -34,7 +34,7 @@ pub fn follow(sheet: &[u8], play: &[u8], words: &mut [u32]) -> Following
         uses: _,
     } = x
     else {
-        return Following::Refused(cause_of(x, OLD));
+        return Following::Refused(cause_of(x, OLD_SHEET));
     };
     let all = size as usize;
     let n = numbers_of(sheet);

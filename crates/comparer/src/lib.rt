@@ -14,11 +14,8 @@ pub mod compare;
 // The service look.
 pub mod look;
 
-// A play has a record of an unknown kind or one that is cut short.
-pub(crate) const BAD_PLAY: u8 = 15;
-
 // The most moves that the first play of exactly one of two sheets can have: S + T - 1 for two sheets of the greatest size.
-pub(crate) const LONGEST: usize = 8191;
+pub(crate) const MOST_MOVES: usize = 8191;
 
 // The answer of follow: how many moves at the start of the play begin some complete play, and whether the whole play is
 // complete; or the refusal.

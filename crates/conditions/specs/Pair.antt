@@ -8,23 +8,13 @@ use lib.ListN.{getD}
 use lib.Dec.{eqb, ltb}
 use Rattle.language.specs.Choice.{pick}
 use Rattle.language.specs.declared.Numbers.{Numbers}
-use Rattle.records.specs.Refusal.{cause, both-sheets, not-refused}
+use Rattle.records.specs.Refusal.{cause, both-sheets, not-refused, headings-differ, too-few-words, space-too-short}
 use Rattle.records.specs.declared.refusal.Cause.{Cause}
 use Rattle.conditions.specs.Lent.{words-asked, bytes-asked}
 
 -- the refusal with a number, a sheet and a place
 abbrev pub refusing : ℕ → ℕ → ℕ → Option Cause
 refusing number sheet place = some (cause number sheet place)
-
--- the numbers beside those of a sheet and of a play
-abbrev pub headings-differ : ℕ
-headings-differ = 12
-
-abbrev pub too-few-words : ℕ
-too-few-words = 13
-
-abbrev pub space-too-short : ℕ
-space-too-short = 14
 
 -- whether the first n bytes are the same
 unfoldable pub sameFirst : ℕ → List ℕ → List ℕ → Bool

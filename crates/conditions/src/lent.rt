@@ -1,13 +1,11 @@
 // How many working words follow, compare, look and card ask to be lent.
 use language::Numbers;
+use records::limits::EARLIER_Z;
 ghost use mathlib.Core.Path.{_≡_};
 ghost use Prim.Native.Nat.{_≤_};
 ghost use Rattle.conditions.specs.Lent.{words-asked};
 
-// The greatest Z for which the fewer words are asked for each state.
-pub const FEW_NUMBERS: u8 = 7;
-
-// The words for each state: up to that Z, and above it.
+// The words for each state: up to document 01's greatest Z, and above it.
 const FEW_WORDS: usize = 32;
 
 const MORE_WORDS: usize = 128;
@@ -17,7 +15,7 @@ pub fn words_asked(n: Numbers, size: usize) -> usize
     requires { ⌜ size ≤ 8194 ⌝ }
     ensures { λ r. ⌜ r ≡ words-asked n size ⌝ }
 {
-    if FEW_NUMBERS < n.z {
+    if EARLIER_Z < n.z {
         return MORE_WORDS * (size + 1);
     }
     FEW_WORDS * (size + 1)

@@ -1,19 +1,13 @@
 // Two accepted sheets together: 12, then 13, then 14.
 use crate::lent::words_asked;
 use language::Numbers;
+use records::refusal::HEADINGS_DIFFER;
 use records::refusal::NOT_REFUSED;
+use records::refusal::SPACE_TOO_SHORT;
+use records::refusal::TOO_FEW_WORDS;
 ghost use mathlib.Core.Path.{_≡_};
 ghost use Prim.Native.Nat.{_<_, _≤_};
 ghost use Rattle.conditions.specs.Pair.{pairRefusal, numberOf};
-
-// The headings or the result types differ.
-const HEADINGS_DIFFER: u8 = 12;
-
-// There are too few working words.
-pub const TOO_FEW_WORDS: u8 = 13;
-
-// Play space, or card space, is too short.
-pub const SPACE_TOO_SHORT: u8 = 14;
 
 // Bytes of play space for each move.
 const BYTES_A_MOVE: usize = 4;

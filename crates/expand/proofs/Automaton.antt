@@ -14,7 +14,7 @@ use Rattle.language.specs.declared.Numbers.{Numbers}
 use Rattle.language.specs.Term.{Often}
 use Rattle.procedures.specs.Written.{Name, declare, retire, Sheet}
 use Rattle.procedures.specs.Meaning.{Meaning, named, declared, useType, meaning, tyOf, termOf, typeOf}
-use Rattle.procedures.specs.Fine.{FineNames, Accepted}
+use Rattle.procedures.specs.Fine.{FineNames, WellFormed}
 use Rattle.procedures.specs.Occurs.{IsParameter}
 use Rattle.procedures.specs.Context.{whole, binders}
 use Rattle.procedures.specs.Shared.{Row, Rep, Fresh}
@@ -72,7 +72,7 @@ five-types earlier (retire k ∷ ns) f i = by-test (eqb k i)
     (λ q. rw q (omega arith)) (λ q. rw q (five-types (retire k ∷ earlier) ns (f .2) i))
 
 -- THEOREM: the rows of an accepted sheet represent its term
-module _ (S : Sheet) (A : Accepted S) (u : List ℕ) (r m : ℕ)
+module _ (S : Sheet) (A : WellFormed S) (u : List ℕ) (r m : ℕ)
     (x : Expands (S .numbers) (S .names) (decode (S .numbers) (S .names) u) whole no-slots (S .term) 0 r m)
     (lo : Local (S .numbers) (S .names) u x) where
   abbrev N : Numbers

@@ -13,11 +13,11 @@ use Rattle.procedures.specs.Occurs.{IsParameter}
 use Rattle.procedures.specs.Context.{Context, in-block, binders, forms, makes}
 use Rattle.procedures.specs.Shared as s
 use Rattle.procedures.specs.Expand.{Slots, with-block, of-new}
-use Rattle.procedures.specs.PartKind.{NEW, KIND, DETAIL, PARTS}
+use Rattle.part_rows.specs.PartKind.{NEW, KIND, DETAIL, PARTS, WEIGHT}
 use Rattle.part_rows.specs.Row.{word}
 use Rattle.procedures.specs.Table.{PartRow, Shown, shown-none, shown-more, Known, Few, FewIn}
 use Rattle.procedures.specs.Marks.{Marked, MarkedArgs, MarkedIn}
-use Rattle.closing.specs.Rows.{WEIGHT, ROWS, WORDS, rowWeight}
+use Rattle.closing.specs.Rows.{ROWS, rowWeight, TERM-WORDS}
 use Rattle.expand.specs.Local.{Local}
 use Rattle.closing.specs.Close.{moreOf, firstBits, partsOf, detailOf}
 use Rattle.expand.specs.Contract.{FineIn, Weighs, turns, Expanded, Closed}
@@ -47,7 +47,7 @@ module _ (N : Numbers) (ns : List Name) (t marks slots : List ℕ) (Γ : Context
   module _ (left end : ℕ) {rows after : List ℕ} {n m : ℕ}
       (C : Closed t marks (set slots level n) (moreOf level 1) left at rows after n m)
       (R : (x y : ℕ) → at < x → x < y → y ≤ end → turns x y ≤ left)
-      (Q : Passed Γ ε n) (Z : length rows ≡ WORDS) where
+      (Q : Passed Γ ε n) (Z : length rows ≡ TERM-WORDS) where
     pub new-row : (id d : ℕ) (x : Written) (a : ℕ) → PartRow N ns t Γ NEW (new id d x) at end →
         word t at DETAIL ≡ values N d → word t at PARTS ≡ a → at < a → Shown N ns t (in-block id d Γ) π a end x →
         Marked N ns t marks Γ at (new id d x) → Fine N ns (binders Γ) (new id d x) → Few Γ (new id d x) →

@@ -9,11 +9,11 @@ use Rattle.procedures.specs.Written.{Written, Writtens, none, more, Name}
 use Rattle.procedures.specs.Context.{Context}
 use Rattle.procedures.specs.Expand.{Slots, Expands}
 use Rattle.procedures.specs.Shared.{Row}
-use Rattle.procedures.specs.PartKind.{KIND, CLASS, VALUES, DETAIL}
+use Rattle.part_rows.specs.PartKind.{KIND, CLASS, VALUES, DETAIL, WEIGHT}
 use Rattle.part_rows.specs.Row.{word}
 use Rattle.procedures.specs.Table.{PartRow, ShownArgs}
 use Rattle.procedures.specs.Marks.{MarkedArgs}
-use Rattle.closing.specs.Rows.{WEIGHT, ROWS, WORDS, decode, rowWeight}
+use Rattle.closing.specs.Rows.{ROWS, decode, rowWeight, TERM-WORDS}
 use Rattle.expand.specs.Local.{Right, Local}
 use Rattle.closing.specs.Close.{bitOf, moreOf, firstBits, partsOf, weightOf, detailOf}
 use Rattle.expand.specs.Contract.{Below, Between, Weighs, Given, Expanded, Pieces, Closed}
@@ -90,7 +90,7 @@ module _ (N : Numbers) (ns : List Name) (t marks slots : List ℕ) (Γ : Context
       Good N ns t marks slots Γ ε π level left at wanted (C .pieces) S ws → suc n + sumMade N ns Γ ws ≤ ROWS → at <
           from →
       Reach N ns t marks slots Γ ε π level left at wanted (C .pieces) S end → Passed Γ ε n →
-      ((T : List ℕ) → Weighs Δ δ rows T → Weighs Γ ε rows T) → length rows ≡ WORDS →
+      ((T : List ℕ) → Weighs Δ δ rows T → Weighs Γ ε rows T) → length rows ≡ TERM-WORDS →
       ((T : List ℕ) → Wrote T → Parts T ws → Built N ns T Δ δ W n m) → Expanded N ns Δ δ W rows after n n m
   close Δ δ W ws tys from end l e x k g r h u p q s f =
       let P = C .pieces in

@@ -12,32 +12,31 @@ use borrow.Author.Tests.{lt-ltb, le-ltb, ne-eqb}
 use Rattle.language.specs.Number.{code, fromByte, numbers}
 use Rattle.language.proofs.NumberLaws.{code-below}
 use Rattle.language.specs.Ty.{Ty, command, expression, variable, questions, answers}
-use Rattle.language.specs.Term.{Operation}
+use Rattle.language.specs.Term.{Operation, Often, onces}
 use Rattle.language.specs.Typing.{operands, results}
 use Rattle.language.specs.declared.Numbers.{Numbers}
-use Rattle.language.specs.Term.{Often, onces}
 use Rattle.language.specs.Weight.{useWeight}
 use Rattle.parts.specs.Rule.{values, operandType, resultType}
-use Rattle.part_rows.specs.Row.{classOf}
+use Rattle.part_rows.specs.Row.{classOf, word}
 use Rattle.procedures.specs.Environment.{beyond}
 use Rattle.procedures.specs.Written.{Written, skip, diverge, truth, number, call, fetch, operate, assign, sequence}
 use Rattle.procedures.specs.Written.{while, choose, new, procedure, Parameter, Writtens, more, Name}
-use Rattle.procedures.specs.Meaning.{Binder, a-block, a-parameter, a-procedure, Meaning, private, argument, routine, named, retired}
-use Rattle.procedures.specs.Meaning.{free, declared, meant, meaning, inside, typesOf, after, typed, tyOf, useType, some-value, byMeaning}
+use Rattle.procedures.specs.Meaning.{Binder, a-block, a-parameter, a-procedure, Meaning, private, argument, routine}
+use Rattle.procedures.specs.Meaning.{named, retired, free, declared, meant, meaning, inside, typesOf, after, typed}
+use Rattle.procedures.specs.Meaning.{tyOf, useType, some-value, byMeaning}
 use Rattle.procedures.specs.Fine.{Fine, FineArgs, FineUse, FineParameters}
 use Rattle.procedures.specs.Held.{held}
 use Rattle.procedures.specs.Form.{Form, only, plus, times, instance, lower, formOf, formArgs, formed}
 use Rattle.procedures.specs.Occurs.{IsParameter, Each}
-use Rattle.procedures.specs.Context.{Context, whole, in-block, in-procedure, in-scope, binders, forms, downs, uses, Sees}
-use Rattle.procedures.specs.Context.{sees-it, from-block, from-procedure, from-scope}
+use Rattle.procedures.specs.Context.{Context, whole, in-block, in-procedure, in-scope, binders, forms, downs, uses}
+use Rattle.procedures.specs.Context.{Sees, sees-it, from-block, from-procedure, from-scope}
 use Rattle.procedures.specs.Shared as s
 use Rattle.procedures.specs.Shared.{Parts, no-part, part, Row}
-use Rattle.procedures.specs.Expand.{Slots, with-block, with-rows, operation, Expands, of-slot, of-scope, of-use, of-skip}
-use Rattle.procedures.specs.Expand.{of-diverge, of-truth, of-number, of-private, of-name, of-fetch, of-operate}
+use Rattle.procedures.specs.Expand.{Slots, with-block, with-rows, operation, Expands, of-slot, of-scope, of-use}
+use Rattle.procedures.specs.Expand.{of-skip, of-diverge, of-truth, of-number, of-private, of-name, of-fetch, of-operate}
 use Rattle.procedures.specs.Expand.{of-assign, of-sequence, of-choose, of-while, of-new, ExpandsArgs, no-args, one-arg}
 use Rattle.procedures.specs.Expand.{Passes, no-more, one-used, one-unused}
-use Rattle.procedures.specs.PartKind.{CLASS, VALUES, DETAIL, PARTS}
-use Rattle.part_rows.specs.Row.{word}
+use Rattle.part_rows.specs.PartKind.{CLASS, VALUES, DETAIL, PARTS, WEIGHT}
 use Rattle.procedures.specs.Table.{nameDetail}
 use Rattle.procedures.proofs.Numbering.{Below, beyond-below, beyond-above, beyond-at, all-declared, one-more-binder}
 use Rattle.procedures.proofs.Contexts.{all-inside, sees-below, sees-form, sees-count, sees-parameter}
@@ -47,9 +46,10 @@ use Rattle.procedures.proofs.Making.{grows, grows-args, grows-passes}
 use Rattle.procedures.proofs.ComeUsed.{Uses, come-used}
 use Rattle.procedures.proofs.WellTyped.{typed-below}
 use Rattle.procedures.proofs.Types.{Class, class, a-command, an-expression, a-variable, ty-expression, ty-variable}
-use Rattle.procedures.proofs.Types.{ty-command, ty-truth, ty-number, values-up, operands-type, operands-values, results-type}
+use Rattle.procedures.proofs.Types.{ty-command, ty-truth, ty-number, values-up, operands-type, operands-values}
+use Rattle.procedures.proofs.Types.{results-type}
 use Rattle.nodes.specs.Rep.{TyRow}
-use Rattle.closing.specs.Rows.{WEIGHT, decode, rowOf, partsFrom, rowWeight, partsWeight}
+use Rattle.closing.specs.Rows.{decode, rowOf, partsFrom, rowWeight, partsWeight}
 use Rattle.expand.specs.Local.{Right, Local, LocalArgs, LocalPasses}
 use Rattle.expand.specs.Types.{typeAt}
 use Rattle.expand.specs.Words as w

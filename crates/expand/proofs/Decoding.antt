@@ -6,27 +6,20 @@ use mathlib.Core.Option.{some}
 use mathlib.Core.List.{List, [], _∷_}
 use lib.ListN.{length}
 use lib.Dec.{eqb}
-use borrow.Author.Tests.{lt-ltb, le-ltb, ne-eqb}
-use Rattle.language.specs.Ty.{questions, answers}
 use Rattle.language.specs.Typing.{operands}
 use Rattle.language.specs.declared.Numbers.{Numbers}
 use Rattle.language.specs.Term.{Often}
-use Rattle.parts.specs.Rule.{values}
-use Rattle.part_rows.specs.Row.{classOf}
 use Rattle.procedures.specs.Written.{Name}
 use Rattle.procedures.specs.Meaning.{Binder, private, named, declared, meant, a-block, a-parameter, a-procedure}
 use Rattle.procedures.specs.Meaning.{meaning, tyOf, idOf}
 use Rattle.procedures.specs.Shared as s
 use Rattle.procedures.specs.Expand.{operation}
-use Rattle.procedures.specs.PartKind.{SKIP, DIVERGE, CONSTANT, NAME, FETCH, OPERATE, ASSIGN, SEQUENCE, IF, WHILE, NEW}
-use Rattle.procedures.specs.PartKind.{PRIVATE, KIND, DETAIL, PARTS}
+use Rattle.part_rows.specs.PartKind.{SKIP, DIVERGE, CONSTANT, NAME, FETCH, OPERATE, ASSIGN, SEQUENCE, IF, WHILE, NEW}
+use Rattle.part_rows.specs.PartKind.{PRIVATE, KIND, DETAIL, PARTS, WEIGHT}
 use Rattle.part_rows.specs.Row.{word}
 use Rattle.procedures.proofs.Tests.{by-test}
-use Rattle.procedures.proofs.Types.{Class, a-command, an-expression, a-variable, class, ty-expression, ty-variable}
-use Rattle.procedures.proofs.Types.{ty-command}
-use Rattle.closing.specs.Rows.{WEIGHT, partsFrom, namedRow, rowOf, decode}
-use Rattle.closing.specs.Close.{bitOf, firstBits, questionsBy, answersBy, nameWeight, plainWeight, firstValues}
-use Rattle.closing.specs.Close.{weightOf}
+use Rattle.closing.specs.Rows.{partsFrom, namedRow, rowOf, decode}
+use Rattle.closing.specs.Close.{bitOf, firstBits, nameWeight, plainWeight, firstValues, weightOf}
 use Rattle.expand.proofs.Frames.{lower-part}
 
 not-named : (k : ℕ) (c : Binder) (often : Often) (ty : ℕ) (tys : List ℕ) → meant k c ≡ named often ty tys → ⊥
@@ -210,22 +203,3 @@ module _ (t B : List ℕ) (at a b c d : ℕ) where
       weightOf t B at a b c d ≡ nameWeight t at (word B a WEIGHT) (word B b WEIGHT) (word B c WEIGHT) (word B d WEIGHT)
   unfolding weightOf
   weight-name k = rw k
-
--- the questions and answers of a type
-pub questions-by : (N : Numbers) (ty : ℕ) → questionsBy (classOf ty) (values N ty) ≡ questions (tyOf N ty)
-unfolding questionsBy classOf questions
-questions-by N ty = go (class ty)
-  where
-    go : Class ty → questionsBy (classOf ty) (values N ty) ≡ questions (tyOf N ty)
-    go (a-command e) = rw (e, ty-command N)
-    go (an-expression h g) = rw (ty-expression N ty h g, ne-eqb ty 0 (λ e. omega arith), lt-ltb ty 3 g)
-    go (a-variable h) = rw (ty-variable N ty h, ne-eqb ty 0 (λ e. omega arith), le-ltb ty 3 h)
-
-pub answers-by : (N : Numbers) (ty : ℕ) → answersBy (classOf ty) (values N ty) ≡ answers (tyOf N ty)
-unfolding answersBy classOf answers
-answers-by N ty = go (class ty)
-  where
-    go : Class ty → answersBy (classOf ty) (values N ty) ≡ answers (tyOf N ty)
-    go (a-command e) = rw (e, ty-command N)
-    go (an-expression h g) = rw (ty-expression N ty h g, ne-eqb ty 0 (λ e. omega arith), lt-ltb ty 3 g)
-    go (a-variable h) = rw (ty-variable N ty h, ne-eqb ty 0 (λ e. omega arith), le-ltb ty 3 h) (omega arith)

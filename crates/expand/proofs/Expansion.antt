@@ -16,7 +16,7 @@ use Rattle.procedures.specs.Made.{made}
 use Rattle.procedures.specs.Occurs.{IsParameter}
 use Rattle.procedures.specs.Context.{Context, whole, in-procedure, in-scope, binders, forms, makes, downs}
 use Rattle.procedures.specs.Expand.{Slots, no-slots, of-slot, of-scope}
-use Rattle.procedures.specs.PartKind.{PROCEDURE, USE, NEW, KIND, DETAIL, PARTS}
+use Rattle.part_rows.specs.PartKind.{PROCEDURE, ROUTINE, NEW, KIND, DETAIL, PARTS}
 use Rattle.part_rows.specs.Row.{word}
 use Rattle.procedures.specs.Table.{PartRow, Shown, shown-skip, shown-diverge, shown-truth, shown-number}
 use Rattle.procedures.specs.Table.{shown-private, shown-parameter, shown-use, shown-name, shown-fetch, shown-operate}
@@ -154,7 +154,7 @@ module _ (N : Numbers) (ns : List Name) (t marks slots rows : List ℕ) (Γ : Co
           record { expands = of-scope (g .expands); local = g .local; weighs = g .weighs } }
 
   module _ (after : List ℕ) (r m : ℕ) (X : ByKind t marks slots level (left - 1) at rows after n r m) where
-    plain : (kind : ℕ) → word t at KIND ≡ kind → (kind ≡ PROCEDURE → ⊥) → (kind ≡ USE → ⊥) → (kind ≡ NEW → ⊥) →
+    plain : (kind : ℕ) → word t at KIND ≡ kind → (kind ≡ PROCEDURE → ⊥) → (kind ≡ ROUTINE → ⊥) → (kind ≡ NEW → ⊥) →
         (r ≡ n) × Closed t marks slots level (left - 1) at rows after n m
     plain kind e f g h = X .recorded (λ i. f (sym e ∙ i)) (λ i. g (sym e ∙ i)) .plain (λ i. h (sym e ∙ i))
 

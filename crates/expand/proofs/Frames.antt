@@ -9,11 +9,10 @@ use lib.ListN.{length, getD, set, length-set, List·getD-eq-default}
 use lib.Seq.{getD-set-same, getD-set-other}
 use lib.Dec.{ltb}
 use borrow.Author.Tests.{ltb-true, ltb-false}
-use Rattle.part_rows.specs.Row.{cell}
-use Rattle.procedures.specs.PartKind.{KIND, CLASS, VALUES}
-use Rattle.part_rows.specs.Row.{word}
+use Rattle.part_rows.specs.Row.{cell, word}
+use Rattle.part_rows.specs.PartKind.{KIND, CLASS, VALUES, WEIGHT}
 use Rattle.procedures.proofs.Tests.{by-test}
-use Rattle.closing.specs.Rows.{WEIGHT, ROWS, WORDS}
+use Rattle.closing.specs.Rows.{ROWS, TERM-WORDS}
 use Rattle.closing.specs.Close.{bitOf, weightOf, detailOf, headPut, partsPut, closedRow}
 use Rattle.expand.specs.Contract.{Within, Below, Between}
 
@@ -73,7 +72,7 @@ unfolding Within
 within-none m h = absurd (omega arith)
 
 -- what a made row, or none, weighs stays
-pub weight-stays : (n a : ℕ) (A B : List ℕ) → Within n a → Below n A B → length A ≡ WORDS → length B ≡ WORDS →
+pub weight-stays : (n a : ℕ) (A B : List ℕ) → Within n a → Below n A B → length A ≡ TERM-WORDS → length B ≡ TERM-WORDS →
     word B a WEIGHT ≡ word A a WEIGHT
 unfolding Within Below word cell
 weight-stays n a A B f g p q =
@@ -109,7 +108,7 @@ put-other T n j (v ∷ vs) x h =
     ∙ getD-set-other T (cell n j) x v 0 (h j (omega arith) (omega arith))
 
 put-word : (T : List ℕ) (n j : ℕ) (vs : List ℕ) (i : ℕ) → i < length vs → n < ROWS → j + length vs ≤ 9 → length T ≡
-    WORDS →
+    TERM-WORDS →
     word (putFrom T n j vs) n (j + i) ≡ getD vs i 0
 unfolding putFrom word cell
 put-word T n j [] i h r l s = absurd (omega arith)
@@ -148,7 +147,7 @@ module _ (t slots rows : List ℕ) (at n a b c d : ℕ) where
   unfolding closedRow headPut partsPut putFrom values-put
   closed-put = refl
 
-  pub closed-length : length rows ≡ WORDS → length (closedRow t slots rows at n a b c d) ≡ WORDS
+  pub closed-length : length rows ≡ TERM-WORDS → length (closedRow t slots rows at n a b c d) ≡ TERM-WORDS
   closed-length e = rw closed-put (put-length rows n 0 values-put ∙ e)
 
   pub closed-below : Below n rows (closedRow t slots rows at n a b c d)
@@ -159,7 +158,7 @@ module _ (t slots rows : List ℕ) (at n a b c d : ℕ) where
   unfolding Between values-put cell
   closed-above m i h l = rw closed-put (put-other rows n 0 values-put i (λ j p q e. omega arith))
 
-  pub closed-words : n < ROWS → length rows ≡ WORDS →
+  pub closed-words : n < ROWS → length rows ≡ TERM-WORDS →
       Words (closedRow t slots rows at n a b c d) n (word t at KIND) (min (weightOf t rows at a b c d) 4097)
         (word t at CLASS) (word t at VALUES) (detailOf t slots at) a b c d
   unfolding values-put

@@ -5,7 +5,7 @@ use mathlib.Core.Path.{_≡_, refl, sym, _∙_}
 use mathlib.Core.Bool.{Bool, true, false, false≢true}
 use mathlib.Core.List.{List}
 use lib.ListN.{set, getD}
-use Rattle.procedures.specs.PartKind.{PROCEDURE, USE, NEW, KIND, DETAIL, PARTS}
+use Rattle.part_rows.specs.PartKind.{PROCEDURE, ROUTINE, NEW, KIND, DETAIL, PARTS}
 use Rattle.part_rows.specs.Row.{word}
 use Rattle.closing.specs.Rows.{ROWS}
 use Rattle.closing.specs.Close.{usedOf, staysOf, bitOf, moreOf, partsOf, closedRow, passedSlots}
@@ -121,7 +121,7 @@ entered t marks slots level left at rows between n a b c d i detail p k l body u
 
 -- of which kinds the slots stay
 stays-not : (kind : ℕ) → staysOf kind ≡ true →
-    (kind ≡ PROCEDURE → ⊥) × (kind ≡ USE → ⊥) × (kind ≡ NEW → ⊥)
+    (kind ≡ PROCEDURE → ⊥) × (kind ≡ ROUTINE → ⊥) × (kind ≡ NEW → ⊥)
 unfolding staysOf
 stays-not kind h = (
     (λ e. let g : false ≡ true = rw e at h in false≢true g), (λ e. let g : false ≡ true = rw e at h in false≢true g),
@@ -149,13 +149,13 @@ module _ (t marks slots : List ℕ) (level left at : ℕ) (rows after : List ℕ
       record {
         scope = λ h. x′; routine = λ h. absurd (omega (arith, k, e, h)); recorded = λ h i. absurd (h (sym k ∙ e)) }
 
-  pub kind-use : (kind ≡ USE) → Used t marks slots level left at rows after n r m →
+  pub kind-use : (kind ≡ ROUTINE) → Used t marks slots level left at rows after n r m →
       ByKind t marks slots level left at rows after n r m
   kind-use e x = record {
       scope = λ h. absurd (omega (arith, k, e, h)); routine = λ h. x; recorded = λ h i. absurd (i (sym k ∙ e)) }
 
-  pub kind-record : (kind ≡ PROCEDURE → ⊥) → (kind ≡ USE → ⊥) → Recorded t marks slots level left at rows after n r m →
-      ByKind t marks slots level left at rows after n r m
+  pub kind-record : (kind ≡ PROCEDURE → ⊥) → (kind ≡ ROUTINE → ⊥) →
+      Recorded t marks slots level left at rows after n r m → ByKind t marks slots level left at rows after n r m
   kind-record e f x = record {
       scope = λ h. absurd (e (k ∙ h)); routine = λ h. absurd (f (k ∙ h)); recorded = λ h i. x }
 

@@ -11,7 +11,7 @@ use Rattle.language.specs.Term.{Often, onces}
 use Rattle.language.specs.Weight.{useWeight}
 use Rattle.language.proofs.AskOnceLaws.{onces-below}
 use Rattle.parts.specs.Rule.{values}
-use Rattle.part_rows.specs.Row.{classOf}
+use Rattle.part_rows.specs.Row.{classOf, word}
 use Rattle.procedures.specs.Written.{call, Writtens, none, more, Name}
 use Rattle.procedures.specs.Meaning.{named, meaning, tyOf, byMeaning}
 use Rattle.procedures.specs.Fine.{Fine, FineUse, FineArgs, depth, depths}
@@ -19,19 +19,19 @@ use Rattle.procedures.specs.Made.{made, madeArgs}
 use Rattle.procedures.specs.Context.{Context, binders, forms, makes}
 use Rattle.procedures.specs.Shared as s
 use Rattle.procedures.specs.Expand.{Slots, ExpandsArgs, no-args, one-arg, of-name}
-use Rattle.procedures.specs.PartKind.{NAME, KIND, CLASS, VALUES, DETAIL, PARTS, ONCE}
-use Rattle.part_rows.specs.Row.{word}
+use Rattle.part_rows.specs.PartKind.{NAME, KIND, CLASS, VALUES, DETAIL, PARTS, ONCE, WEIGHT}
 use Rattle.procedures.specs.Table.{nameDetail, PartRow, ShownArgs, shown-none, shown-more, Few}
 use Rattle.procedures.specs.Marks.{Marked}
-use Rattle.closing.specs.Rows.{WEIGHT, ROWS, WORDS, partsFrom, decode, partsWeight, rowWeight}
+use Rattle.closing.specs.Rows.{ROWS, partsFrom, decode, partsWeight, rowWeight, TERM-WORDS}
 use Rattle.expand.specs.Local.{Local, LocalArgs}
 use Rattle.closing.specs.Close.{firstBits, partsOf, argumentWeight, nameWeight, detailOf}
 use Rattle.expand.specs.Contract.{turns, Expanded, Pieces, Closed}
 use Rattle.expand.proofs.Places.{shown-row}
 use Rattle.expand.proofs.Frames.{upper-part}
 use Rattle.expand.proofs.Running.{Site, Passed, rowsOf, many, Good}
-use Rattle.expand.proofs.Decoding.{name-declared, row-name, weight-name, questions-by, answers-by}
+use Rattle.expand.proofs.Decoding.{name-declared, row-name, weight-name}
 use Rattle.expand.proofs.Closing.{sumMade, Got, Wrote, close, starts, right}
+use Rattle.procedures.proofs.Types.{class-questions, class-answers}
 
 -- as many arguments as types
 pub args-many : {N : Numbers} {ns : List Name} {t : List ℕ} {Γ : Context} {π : ℕ → ℕ} {at j from end : ℕ} {ws :
@@ -57,7 +57,7 @@ argument-adds : (N : Numbers) (t : List ℕ) (at j w p ty : ℕ) → j < word t 
     argumentWeight t at j w ≡ questions (tyOf N ty) * w + answers (tyOf N ty)
 unfolding argumentWeight
 argument-adds N t at j w p ty h e c v =
-    rw (lt-ltb j (word t at DETAIL / 256 % 8) h, e, c, v, questions-by N ty, answers-by N ty) refl
+    rw (lt-ltb j (word t at DETAIL / 256 % 8) h, e, c, v, class-questions N ty, class-answers N ty) refl
 
 argument-past : (t : List ℕ) (at j w : ℕ) → word t at DETAIL / 256 % 8 ≤ j → argumentWeight t at j w ≡ 0
 unfolding argumentWeight
@@ -131,7 +131,7 @@ module _ (N : Numbers) (ns : List Name) (t marks slots : List ℕ) (Γ : Context
     (level left at end : ℕ) {rows after : List ℕ} {n m : ℕ} (C : Closed t marks slots level left at rows after n m)
     (S : Site N ns t marks slots Γ ε π at level)
     (R : (x y : ℕ) → at < x → x < y → y ≤ end → turns x y ≤ left)
-    (Q : Passed Γ ε n) (Z : length rows ≡ WORDS) where
+    (Q : Passed Γ ε n) (Z : length rows ≡ TERM-WORDS) where
   -- the rows of the arguments are in its row
   part-words : (T : List ℕ) → Wrote N ns t marks slots Γ ε π level left at C S T → (i : ℕ) → i < 4 →
       word T n (PARTS + i) ≡ C .pieces .row i

@@ -11,7 +11,7 @@ use Rattle.procedures.specs.Meaning.{routine, inside}
 use Rattle.procedures.specs.Fine.{Fine}
 use Rattle.procedures.specs.Context.{Context, whole, in-block, in-procedure, in-scope, binders, Sees, sees-it}
 use Rattle.procedures.specs.Context.{from-block, from-procedure, from-scope}
-use Rattle.procedures.specs.PartKind.{DETAIL, PARTS}
+use Rattle.part_rows.specs.PartKind.{DETAIL, PARTS}
 use Rattle.part_rows.specs.Row.{word}
 use Rattle.procedures.specs.Table.{PartRow, Shown, shown-skip, shown-diverge, shown-truth, shown-number}
 use Rattle.procedures.specs.Table.{shown-private, shown-parameter, shown-use, shown-name, shown-fetch, shown-operate}

@@ -17,13 +17,13 @@ use Rattle.procedures.specs.Context.{Context, binders}
 use Rattle.procedures.specs.Shared as s
 use Rattle.procedures.specs.Expand.{Slots, operation, of-skip, of-diverge, of-truth, of-number, of-private, of-fetch}
 use Rattle.procedures.specs.Expand.{of-operate, of-assign, of-sequence, of-choose, of-while}
-use Rattle.procedures.specs.PartKind.{SKIP, DIVERGE, CONSTANT, FETCH, OPERATE, ASSIGN, SEQUENCE, IF, WHILE, NEW}
-use Rattle.procedures.specs.PartKind.{PRIVATE, KIND, DETAIL, PARTS}
+use Rattle.part_rows.specs.PartKind.{SKIP, DIVERGE, CONSTANT, FETCH, OPERATE, ASSIGN, SEQUENCE, IF, WHILE, NEW, PRIVATE}
+use Rattle.part_rows.specs.PartKind.{KIND, DETAIL, PARTS, WEIGHT}
 use Rattle.part_rows.specs.Row.{word}
 use Rattle.procedures.specs.Table.{PartRow, Shown, shown-none, shown-more, Few}
 use Rattle.procedures.specs.Marks.{Marked, MarkedArgs}
 use Rattle.procedures.proofs.Types.{operands-values}
-use Rattle.closing.specs.Rows.{WEIGHT, ROWS, WORDS, rowWeight}
+use Rattle.closing.specs.Rows.{ROWS, rowWeight, TERM-WORDS}
 use Rattle.expand.specs.Local.{Local}
 use Rattle.closing.specs.Close.{firstBits, partsOf, firstValues, detailOf}
 use Rattle.expand.specs.Contract.{turns, Expanded, Closed}
@@ -32,8 +32,8 @@ use Rattle.expand.proofs.Slotting.{shows-block}
 use Rattle.expand.proofs.Running.{Site, Passed, rowsOf, many, Good}
 use Rattle.expand.proofs.Decoding.{row-skip, row-diverge, row-const, row-private, row-fetch, row-operate}
 use Rattle.expand.proofs.Decoding.{row-assign, row-seq, row-while, row-cond, weight-one, weight-diverge}
-use Rattle.expand.proofs.Decoding.{weight-constant, weight-private, weight-fetch, weight-operate}
-use Rattle.expand.proofs.Decoding.{weight-assign, weight-sequence, weight-while, weight-if}
+use Rattle.expand.proofs.Decoding.{weight-constant, weight-private, weight-fetch, weight-operate, weight-assign}
+use Rattle.expand.proofs.Decoding.{weight-sequence, weight-while, weight-if}
 use Rattle.expand.proofs.Closing.{sumMade, Built, Wrote, close, leaf-count, one-part, two-parts, three-parts}
 use Rattle.expand.proofs.Closing.{right}
 
@@ -47,7 +47,7 @@ module _ (N : Numbers) (ns : List Name) (t marks slots : List ℕ) (Γ : Context
     (level left at end : ℕ) {rows after : List ℕ} {n m : ℕ} (C : Closed t marks slots level left at rows after n m)
     (S : Site N ns t marks slots Γ ε π at level)
     (R : (x y : ℕ) → at < x → x < y → y ≤ end → turns x y ≤ left)
-    (Q : Passed Γ ε n) (Z : length rows ≡ WORDS) where
+    (Q : Passed Γ ε n) (Z : length rows ≡ TERM-WORDS) where
   -- a record with no part
   leaf : (W : Written) (kind : ℕ) → PartRow N ns t Γ kind W at end → partsOf kind (word t at DETAIL) ≡ 0 → n < ROWS →
       ((T : List ℕ) → Wrote N ns t marks slots Γ ε π level left at C S T → Built N ns T Γ ε W n (suc n)) →

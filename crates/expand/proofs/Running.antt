@@ -13,7 +13,7 @@ use Rattle.procedures.specs.Made.{made}
 use Rattle.procedures.specs.Occurs.{IsParameter}
 use Rattle.procedures.specs.Context.{Context, binders, forms, makes}
 use Rattle.procedures.specs.Expand.{Slots}
-use Rattle.procedures.specs.PartKind.{PARTS}
+use Rattle.part_rows.specs.PartKind.{PARTS}
 use Rattle.part_rows.specs.Row.{word}
 use Rattle.procedures.specs.Table.{Shown, ShownArgs, shown-none, shown-more, Known, Few, FewIn}
 use Rattle.procedures.specs.Marks.{Marked, MarkedArgs, MarkedIn}
@@ -21,12 +21,12 @@ use lib.Dec.{ltb}
 use borrow.Author.Tests.{ltb-true, ltb-false}
 use Rattle.procedures.proofs.Tests.{by-test}
 use Rattle.procedures.proofs.Making.{expands-made}
-use Rattle.closing.specs.Rows.{ROWS, WORDS, decode}
+use Rattle.closing.specs.Rows.{ROWS, decode, TERM-WORDS}
 use Rattle.closing.specs.Close.{bitOf}
 use Rattle.expand.specs.Contract.{FineIn, Shows, Within, Below, Between, Weighs, turns, Given, Expanded, Pieces}
 use Rattle.expand.proofs.Places.{shown-before, known-later}
-use Rattle.expand.proofs.Frames.{bit-cases, below-refl, below-again, between-refl, between-below}
-use Rattle.expand.proofs.Frames.{between-again, within-more, within-none, weight-stays}
+use Rattle.expand.proofs.Frames.{bit-cases, below-refl, below-again, between-refl, between-below, between-again}
+use Rattle.expand.proofs.Frames.{within-more, within-none, weight-stays}
 
 -- what is around a part
 pub record Site (N : Numbers) (ns : List Name) (t marks slots : List ℕ) (Γ : Context) (ε : Slots) (π : ℕ → ℕ)
@@ -47,13 +47,13 @@ pub passed-more : (Γ : Context) (ε : Slots) (n m : ℕ) → n ≤ m → Passed
 passed-more Γ ε n m l f s p = within-more n m (ε .passed s) l (f s p)
 
 -- and weigh the same where their rows stay
-pub weighs-stay : (Γ : Context) (ε : Slots) (n : ℕ) (A B : List ℕ) → Passed Γ ε n → Below n A B → length A ≡ WORDS →
-    length B ≡ WORDS → Weighs Γ ε A B
+pub weighs-stay : (Γ : Context) (ε : Slots) (n : ℕ) (A B : List ℕ) → Passed Γ ε n → Below n A B → length A ≡ TERM-WORDS →
+    length B ≡ TERM-WORDS → Weighs Γ ε A B
 unfolding Weighs
 weighs-stay Γ ε n A B f g p q = (q, λ s i. weight-stays n (ε .passed s) A B (f s i) g p q)
 
-pub weighs-again : (Γ : Context) (ε : Slots) (n : ℕ) (A B T : List ℕ) → Passed Γ ε n → Below n A B → length A ≡ WORDS →
-    length B ≡ WORDS → Weighs Γ ε A T → Weighs Γ ε B T
+pub weighs-again : (Γ : Context) (ε : Slots) (n : ℕ) (A B T : List ℕ) → Passed Γ ε n → Below n A B → length A ≡ TERM-WORDS →
+    length B ≡ TERM-WORDS → Weighs Γ ε A T → Weighs Γ ε B T
 unfolding Weighs
 weighs-again Γ ε n A B T f g p q h = (h .0, λ s i. h .1 s i ∙ sym (weight-stays n (ε .passed s) A B (f s i) g p q))
 
@@ -63,7 +63,7 @@ module _ (N : Numbers) (ns : List Name) where
 
   -- how many rows are made then
   pub expanded-count : (Γ : Context) (ε : Slots) (W : Written) (rows after : List ℕ) (n r m : ℕ) → Passed Γ ε n →
-      length rows ≡ WORDS → Expanded N ns Γ ε W rows after n r m → m ≡ n + rowsOf Γ W
+      length rows ≡ TERM-WORDS → Expanded N ns Γ ε W rows after n r m → m ≡ n + rowsOf Γ W
   expanded-count Γ ε W rows after n r m f s x =
       expands-made N ns (decode N ns after)
         (x .given after (between-refl n m after) (weighs-stay Γ ε n rows after f (x .kept) s (x .sized)) .expands)
@@ -119,7 +119,7 @@ module _ (N : Numbers) (ns : List Name) (t marks slots : List ℕ) (Γ : Context
   pub record Run (j : ℕ) (ws : Writtens) : Type 0 where
     pub counted : m ≡ P .counts j + wantedMade j ws
     pub kept : Below (P .counts j) (P .tables j) after
-    pub sized : length after ≡ WORDS
+    pub sized : length after ≡ TERM-WORDS
     pub grown : P .counts j ≤ m
     pub within : (i : ℕ) → j ≤ i → i < j + many ws → Within m (P .row i)
     pub given : (T : List ℕ) → Between (P .counts j) m after T → Weighs Γ ε (P .tables j) T → Ran T j ws
@@ -148,7 +148,7 @@ module _ (N : Numbers) (ns : List Name) (t marks slots : List ℕ) (Γ : Context
   one : (j : ℕ) (w : Written) (end : ℕ) → j < 4 → bitOf wants j ≡ 1 →
       Shown N ns t Γ π (word t at (PARTS + j)) end w → Marked N ns t marks Γ (word t at (PARTS + j)) w →
       Fine N ns (binders Γ) w → Few Γ w → at ≤ word t at (PARTS + j) → turns (word t at (PARTS + j)) end ≤ left →
-      P .counts j + rowsOf N ns Γ w ≤ ROWS → Passed Γ ε (P .counts j) → length (P .tables j) ≡ WORDS →
+      P .counts j + rowsOf N ns Γ w ≤ ROWS → Passed Γ ε (P .counts j) → length (P .tables j) ≡ TERM-WORDS →
       Known N ns t Γ π (word t at (PARTS + j)) →
       Expanded N ns Γ ε w (P .tables j) (P .tables (suc j)) (P .counts j) (P .row j) (P .counts (suc j))
   one j w end h e x k f g l u r p s o =
@@ -164,9 +164,9 @@ module _ (N : Numbers) (ns : List Name) (t marks slots : List ℕ) (Γ : Context
   -- a part, and those after it
   run-more : (w : Written) (ws : Writtens) (j end : ℕ) → j < 4 → Marked N ns t marks Γ (word t at (PARTS + j)) w →
       Fine N ns (binders Γ) w → Few Γ w → Room j (more w ws) (P .counts j) → Passed Γ ε (P .counts j) →
-      length (P .tables j) ≡ WORDS → Shown N ns t Γ π (word t at (PARTS + j)) end w → at < word t at (PARTS + j) →
+      length (P .tables j) ≡ TERM-WORDS → Shown N ns t Γ π (word t at (PARTS + j)) end w → at < word t at (PARTS + j) →
       turns (word t at (PARTS + j)) end ≤ left →
-      (Room (suc j) ws (P .counts (suc j)) → Passed Γ ε (P .counts (suc j)) → length (P .tables (suc j)) ≡ WORDS →
+      (Room (suc j) ws (P .counts (suc j)) → Passed Γ ε (P .counts (suc j)) → length (P .tables (suc j)) ≡ TERM-WORDS →
         Run (suc j) ws) →
       Run j (more w ws)
   unfolding many Room Ran wantedMade
@@ -177,7 +177,7 @@ module _ (N : Numbers) (ns : List Name) (t marks slots : List ℕ) (Γ : Context
           let v = P .piece j l .unwanted o in
           let r′ : Room (suc j) ws (P .counts (suc j)) = rw (v .1) (r .1 o) in
           let p′ : Passed Γ ε (P .counts (suc j)) = rw (v .1) p in
-          let s′ : length (P .tables (suc j)) ≡ WORDS = rw (v .2) s in
+          let s′ : length (P .tables (suc j)) ≡ TERM-WORDS = rw (v .2) s in
           let z = rest r′ p′ s′ in
           record {
             counted = rw o (omega (arith, zero-mul (rowsOf N ns Γ w), v .1, z .counted));
@@ -224,7 +224,7 @@ module _ (N : Numbers) (ns : List Name) (t marks slots : List ℕ) (Γ : Context
   pub run : (ws : Writtens) (tys : List ℕ) (j from end : ℕ) → j + many ws ≤ 4 →
       ((i : ℕ) → j + many ws ≤ i → i < 4 → bitOf wants i ≡ 0) → ShownArgs N ns t Γ π at j from end ws tys →
       MarkedArgs N ns t marks Γ at j ws → Good ws → Room j ws (P .counts j) → at < from → Reach end →
-      Passed Γ ε (P .counts j) → length (P .tables j) ≡ WORDS → Run j ws
+      Passed Γ ε (P .counts j) → length (P .tables j) ≡ TERM-WORDS → Run j ws
   unfolding many MarkedArgs Good Room Ran wantedMade
   run none tys j from end l f shown-none k g r h u p s =
       let z : j + 0 ≡ j = omega arith in
@@ -236,7 +236,7 @@ module _ (N : Numbers) (ns : List Name) (t marks slots : List ℕ) (Γ : Context
             omega arith;
         within = λ i v w. absurd (omega arith); given = λ T v w. sym q }
     where
-      e-length : after ≡ P .tables j → length after ≡ WORDS
+      e-length : after ≡ P .tables j → length after ≡ TERM-WORDS
       e-length e = rw e s
   run (more w ws) tys j from end l f (shown-more {b = y} {tys = others} e x xs) k g r h u p s =
       let later : at < word t at (PARTS + j) = rw e h in

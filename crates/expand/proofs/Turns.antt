@@ -4,7 +4,7 @@ use native.Mathlib.Omega.{arith}
 use mathlib.Core.Path.{_≡_}
 use mathlib.Core.List.{List}
 use lib.ListN.{getD}
-use Rattle.procedures.specs.PartKind.{PROCEDURE, USE, KIND, PARTS}
+use Rattle.part_rows.specs.PartKind.{PROCEDURE, ROUTINE, KIND, PARTS}
 use Rattle.part_rows.specs.Row.{word}
 use Rattle.closing.specs.Rows.{ROWS}
 use Rattle.closing.specs.Close.{comeOf, moreOf}
@@ -46,7 +46,7 @@ module _ (t marks slots₀ : List ℕ) (level₀ left at₀ : ℕ) (rows₀ : Li
             fewer = omega (arith, l .fewer) }
 
         -- the term of a procedure that is used
-        pub led-use : (inner between : List ℕ) (body more i : ℕ) → kind ≡ USE →
+        pub led-use : (inner between : List ℕ) (body more i : ℕ) → kind ≡ ROUTINE →
             Entered t marks slots inner level (turns - 1) at rows between n body more i →
             Led t marks slots₀ level₀ left at₀ rows₀ n₀ inner between more (turns - 1) body i
         led-use inner between body more i f u = record {
@@ -56,7 +56,7 @@ module _ (t marks slots₀ : List ℕ) (level₀ left at₀ : ℕ) (rows₀ : Li
             fewer = omega (arith, l .fewer) }
 
         -- any other part
-        pub led-record : (after : List ℕ) (r m : ℕ) → (kind ≡ PROCEDURE → ⊥) → (kind ≡ USE → ⊥) →
+        pub led-record : (after : List ℕ) (r m : ℕ) → (kind ≡ PROCEDURE → ⊥) → (kind ≡ ROUTINE → ⊥) →
             Recorded t marks slots level (turns - 1) at rows after n r m →
             Expanding t marks slots₀ level₀ left at₀ rows₀ after n₀ r m
         led-record after r m f g x = l .leads after r m (by-kind t marks slots level turns at rows after n e z

@@ -18,7 +18,7 @@ use Rattle.procedures.specs.Made.{sign, made, mades}
 use Rattle.procedures.specs.Occurs.{IsParameter}
 use Rattle.procedures.specs.Context.{Context, in-procedure, binders, forms, makes, uses, Sees}
 use Rattle.procedures.specs.Expand.{Slots, with-rows, of-use, Passes, no-more, one-used, one-unused}
-use Rattle.procedures.specs.PartKind.{DETAIL, PARTS}
+use Rattle.part_rows.specs.PartKind.{DETAIL, PARTS, WEIGHT}
 use Rattle.part_rows.specs.Row.{word}
 use Rattle.procedures.specs.Table.{useDetail, ShownArgs, Known, Few, FewIn}
 use Rattle.procedures.specs.Marks.{bits, usedBits, Marked, MarkedArgs, MarkedIn}
@@ -28,13 +28,13 @@ use Rattle.procedures.proofs.Renaming.{length-inside}
 use Rattle.procedures.proofs.Forming.{total-same, total-first, total-none}
 use Rattle.procedures.proofs.Alike.{inside-parameter, parameter-below}
 use Rattle.procedures.proofs.Contexts.{sees-form, sees-count, sees-made, sees-parameter, Found, Found-right, found}
-use Rattle.closing.specs.Rows.{WEIGHT, ROWS, WORDS, decode}
+use Rattle.closing.specs.Rows.{ROWS, decode, TERM-WORDS}
 use Rattle.expand.specs.Local.{Local, LocalPasses}
 use Rattle.closing.specs.Close.{usedOf, bitOf, moreOf, passedSlots}
 use Rattle.expand.specs.Contract.{FineIn, Within, Below, Between, Weighs, turns, Placed, Given, Expanded}
 use Rattle.expand.specs.Contract.{Expanding, Pieces, Used}
-use Rattle.expand.proofs.Places.{shown-before, known-later, Seen, sees-known, SeenMarks, sees-marked}
-use Rattle.expand.proofs.Places.{sees-fine, sees-few}
+use Rattle.expand.proofs.Places.{shown-before, known-later, Seen, sees-known, SeenMarks, sees-marked, sees-fine}
+use Rattle.expand.proofs.Places.{sees-few}
 use Rattle.expand.proofs.Frames.{lower-part, upper-part, bit-cases, below-again, between-refl, between-below}
 use Rattle.expand.proofs.Frames.{between-again, within-more, within-none, weight-stays}
 use Rattle.expand.proofs.Slotting.{by-four, sees-shows, passed-length, shows-passed}
@@ -92,7 +92,7 @@ sign-some : (n : ℕ) → sign (suc n) ≡ 1
 unfolding sign
 sign-some n = refl
 
-weighs-length : (Γ : Context) (ε : Slots) (rows T : List ℕ) → Weighs Γ ε rows T → length T ≡ WORDS
+weighs-length : (Γ : Context) (ε : Slots) (rows T : List ℕ) → Weighs Γ ε rows T → length T ≡ TERM-WORDS
 unfolding Weighs
 weighs-length Γ ε rows T w = w .0
 
@@ -150,7 +150,7 @@ module _ (N : Numbers) (ns : List Name) (t marks slots : List ℕ) (Γ : Context
       omega (arith, total-first c (λ x. sign (g (j + x)) * μ (more w ws) x), h, y, r)
 
   -- the row of an argument weighs what it weighed, and so do all
-  one-weighs : (T : List ℕ) (w : Written) (j : ℕ) → j < 4 → length T ≡ WORDS → length after ≡ WORDS →
+  one-weighs : (T : List ℕ) (w : Written) (j : ℕ) → j < 4 → length T ≡ TERM-WORDS → length after ≡ TERM-WORDS →
       (bitOf wants j ≡ 1 → Given N ns Γ ε w after T (P .counts j) (P .row j) (P .counts (suc j))) →
       word T (P .row j) WEIGHT ≡ word after (P .row j) WEIGHT
   unfolding Below
@@ -162,7 +162,7 @@ module _ (N : Numbers) (ns : List Name) (t marks slots : List ℕ) (Γ : Context
           rw v (weight-stays 0 ROWS after T (within-none 0) (λ x y. absurd (omega arith)) q p)
       go (inr e) = r e .weighs
 
-  ran-weighs : (T : List ℕ) (ws : Writtens) (j i : ℕ) → j + many ws ≤ 4 → length T ≡ WORDS → length after ≡ WORDS →
+  ran-weighs : (T : List ℕ) (ws : Writtens) (j i : ℕ) → j + many ws ≤ 4 → length T ≡ TERM-WORDS → length after ≡ TERM-WORDS →
       Ran N ns t marks slots Γ ε π level left at wants P S T j ws → j ≤ i → i < j + many ws →
       word T (P .row i) WEIGHT ≡ word after (P .row i) WEIGHT
   unfolding many Ran
@@ -214,7 +214,7 @@ module _ (N : Numbers) (ns : List Name) (t marks slots : List ℕ) (Γ : Context
     (S : Site N ns t marks slots Γ ε π at level)
     (R : (x y : ℕ) → at < x → x < y → y ≤ end → turns x y ≤ left)
     (R′ : (x y : ℕ) → x < y → y ≤ at → turns x y ≤ left)
-    (Q : Passed Γ ε n) (Z : length rows ≡ WORDS) where
+    (Q : Passed Γ ε n) (Z : length rows ≡ TERM-WORDS) where
   abbrev asked : ℕ
   asked = usedOf (getD marks (word t at DETAIL % 4096) 0)
 
@@ -275,7 +275,7 @@ module _ (N : Numbers) (ns : List Name) (t marks slots : List ℕ) (Γ : Context
         go s (inr (j, b, e)) = rw (e, beyond-above k (ε .passed) (U .pieces .row) j) (w j b)
 
     placed-inner : n ≤ U .i → ((j : ℕ) → j < length ps → Within (U .i) (U .pieces .row j)) →
-        U .i + rowsOf N ns (in-procedure ps Δ) body ≤ ROWS → length (U .between) ≡ WORDS →
+        U .i + rowsOf N ns (in-procedure ps Δ) body ≤ ROWS → length (U .between) ≡ TERM-WORDS →
         Placed N ns t marks (passedSlots slots k (U .a) (U .b) (U .c) (U .d)) (U .between) (in-procedure ps Δ) δ π body
           (word t (π k) PARTS) (seen .end) (moreOf k (length ps)) left (U .i)
     unfolding Known MarkedIn FineIn FewIn binders moreOf

@@ -11,12 +11,12 @@ use Rattle.procedures.specs.Made.{made}
 use Rattle.procedures.specs.Occurs.{IsParameter}
 use Rattle.procedures.specs.Context.{Context, whole, in-block, in-procedure, in-scope, binders, forms, makes}
 use Rattle.procedures.specs.Expand.{Slots, no-slots, Expands}
-use Rattle.procedures.specs.PartKind.{PROCEDURE, USE, NEW, KIND, DETAIL, PARTS, PLACES}
+use Rattle.part_rows.specs.PartKind.{PROCEDURE, NEW, KIND, DETAIL, PARTS, WEIGHT, ROUTINE, PLACE-SPAN}
 use Rattle.records.specs.Limits.{most-bytes, greatest-depth}
 use Rattle.part_rows.specs.Row.{word}
 use Rattle.procedures.specs.Table.{Shown, Known, BINDERS, Few, FewIn}
 use Rattle.procedures.specs.Marks.{Marked, MarkedIn}
-use Rattle.closing.specs.Rows.{WEIGHT, ROWS, WORDS, decode}
+use Rattle.closing.specs.Rows.{ROWS, decode, TERM-WORDS}
 use Rattle.expand.specs.Local.{Local}
 use Rattle.closing.specs.Close.{usedOf, bitOf, moreOf, partsOf, closedRow, passedSlots}
 
@@ -49,7 +49,7 @@ Between n m rows T = (i : ℕ) → 9 * n ≤ i → i < 9 * m → getD T i 0 ≡ 
 -- T has the words of all rows, and the rows of arguments weigh in it what they weigh in rows
 unfoldable pub Weighs : Context → Slots → List ℕ → List ℕ → Type 0
 Weighs Γ ε rows T =
-    (length T ≡ WORDS)
+    (length T ≡ TERM-WORDS)
     × ((s : ℕ) → IsParameter (binders Γ) s → word T (ε .passed s) WEIGHT ≡ word rows (ε .passed s) WEIGHT)
 
 -- one more than a sheet may have places
@@ -77,7 +77,7 @@ module _ (N : Numbers) (ns : List Name) (t marks slots rows : List ℕ) where
     pub numbered : level ≡ length (binders Γ)
     pub enough : turns at end ≤ left
     pub room : n + made N ns (binders Γ) (forms N ns Γ) (makes N ns Γ) W ≤ ROWS
-    pub sized : length rows ≡ WORDS
+    pub sized : length rows ≡ TERM-WORDS
 
 -- what an expansion gives, where the rows are T in the end
 pub record Given (N : Numbers) (ns : List Name) (Γ : Context) (ε : Slots) (W : Written) (rows T : List ℕ) (n r m : ℕ) :
@@ -90,7 +90,7 @@ pub record Given (N : Numbers) (ns : List Name) (Γ : Context) (ε : Slots) (W :
 pub record Expanded (N : Numbers) (ns : List Name) (Γ : Context) (ε : Slots) (W : Written) (rows after : List ℕ)
     (n r m : ℕ) : Type 0 where
   pub kept : Below n rows after
-  pub sized : length after ≡ WORDS
+  pub sized : length after ≡ TERM-WORDS
   pub within : Within m r
   pub given : (T : List ℕ) → Between n m after T → Weighs Γ ε rows T → Given N ns Γ ε W after T n r m
 
@@ -134,11 +134,11 @@ pub record Used (t marks slots : List ℕ) (level left at : ℕ) (rows after : L
   pub c : ℕ
   pub d : ℕ
   pub i : ℕ
-  pub pieces : Pieces t marks slots level left at (usedOf (getD marks (word t at DETAIL % PLACES) 0)) rows between n a
-      b c d i
-  pub body : Expanding t marks (passedSlots slots (word t (word t at DETAIL % PLACES) DETAIL) a b c d)
-    (moreOf (word t (word t at DETAIL % PLACES) DETAIL) (word t at DETAIL / PLACES)) left
-    (word t (word t at DETAIL % PLACES) PARTS) between after i r m
+  pub pieces : Pieces t marks slots level left at (usedOf (getD marks (word t at DETAIL % PLACE-SPAN) 0)) rows between n
+      a b c d i
+  pub body : Expanding t marks (passedSlots slots (word t (word t at DETAIL % PLACE-SPAN) DETAIL) a b c d)
+    (moreOf (word t (word t at DETAIL % PLACE-SPAN) DETAIL) (word t at DETAIL / PLACE-SPAN)) left
+    (word t (word t at DETAIL % PLACE-SPAN) PARTS) between after i r m
 
 -- the procedure that is used at a place is entered: what its term becomes in its slots, the use becomes
 pub record Entered (t marks slots inner : List ℕ) (level left at : ℕ) (rows between : List ℕ) (n body more i : ℕ) :
@@ -156,8 +156,8 @@ pub record Recorded (t marks slots : List ℕ) (level left at : ℕ) (rows after
 pub record ByKind (t marks slots : List ℕ) (level left at : ℕ) (rows after : List ℕ) (n r m : ℕ) : Type 0 where
   pub scope : word t at KIND ≡ PROCEDURE →
     Expanding t marks slots (moreOf level 1) left (word t at (PARTS + 1)) rows after n r m
-  pub routine : word t at KIND ≡ USE → Used t marks slots level left at rows after n r m
-  pub recorded : (word t at KIND ≡ PROCEDURE → ⊥) → (word t at KIND ≡ USE → ⊥) →
+  pub routine : word t at KIND ≡ ROUTINE → Used t marks slots level left at rows after n r m
+  pub recorded : (word t at KIND ≡ PROCEDURE → ⊥) → (word t at KIND ≡ ROUTINE → ⊥) →
     Recorded t marks slots level left at rows after n r m
 
 -- a whole sheet's term, which the table has with its marks from a place up to another
@@ -175,4 +175,4 @@ pub record Whole (N : Numbers) (ns : List Name) (W : Written) (rows : List ℕ) 
 
 pub record Top (t marks : List ℕ) (at : ℕ) (rows after : List ℕ) (r n : ℕ) : Type 0 where
   pub of : (N : Numbers) (ns : List Name) (π : ℕ → ℕ) (W : Written) (end : ℕ) → Ready N ns t marks π W at end →
-    length rows ≡ WORDS → Whole N ns W after r n
+    length rows ≡ TERM-WORDS → Whole N ns W after r n

@@ -9,21 +9,20 @@ use Rattle.language.specs.Typing.{operands}
 use Rattle.language.specs.declared.Numbers.{Numbers}
 use Rattle.records.specs.Limits.{held-at}
 use Rattle.parts.specs.Rule.{values}
-use Rattle.part_rows.specs.Row.{classOf}
+use Rattle.part_rows.specs.Row.{classOf, word}
 use Rattle.procedures.specs.Written.{Written, skip, diverge, truth, number, call, fetch, operate, assign, sequence}
 use Rattle.procedures.specs.Written.{while, choose, new, Parameter, Writtens, Name}
 use Rattle.procedures.specs.Meaning.{typed, tyOf}
 use Rattle.procedures.specs.Context.{Context, binders}
 use Rattle.procedures.specs.Shared as s
 use Rattle.procedures.specs.Shared.{Parts, Row}
-use Rattle.procedures.specs.Expand.{Slots, operation, Expands, of-slot, of-scope, of-use, of-skip, of-diverge}
-use Rattle.procedures.specs.Expand.{of-truth, of-number, of-private, of-name, of-fetch, of-operate, of-assign}
-use Rattle.procedures.specs.Expand.{of-sequence, of-choose, of-while, of-new, ExpandsArgs, no-args, one-arg, Passes}
-use Rattle.procedures.specs.Expand.{no-more, one-used, one-unused}
-use Rattle.procedures.specs.PartKind.{CLASS, VALUES, DETAIL}
-use Rattle.part_rows.specs.Row.{word}
+use Rattle.procedures.specs.Expand.{Slots, operation, Expands, of-slot, of-scope, of-use, of-skip, of-diverge, of-truth}
+use Rattle.procedures.specs.Expand.{of-number, of-private, of-name, of-fetch, of-operate, of-assign, of-sequence}
+use Rattle.procedures.specs.Expand.{of-choose, of-while, of-new, ExpandsArgs, no-args, one-arg, Passes, no-more}
+use Rattle.procedures.specs.Expand.{one-used, one-unused}
+use Rattle.part_rows.specs.PartKind.{CLASS, VALUES, DETAIL, WEIGHT}
 use Rattle.procedures.specs.Table.{nameDetail}
-use Rattle.closing.specs.Rows.{WEIGHT, decode, rowWeight}
+use Rattle.closing.specs.Rows.{decode, rowWeight}
 
 module _ (N : Numbers) (ns : List Name) (t : List ℕ) where
   -- the row n, which is x, is made for the part W in Γ

@@ -1,10 +1,9 @@
 // The expansion: a cycle of functions, a bound of the turns to come falling. Slots hold, by the numbers of the
 // enclosing binders, the row of a new and the row of a parameter's argument; who changes them works on a copy, one for
 // all scopes and uses of procedures on the way to a row.
-use closing::close::NEW;
+use part_rows::short_kind::NEW;
 use closing::close::NO_ROW;
-use closing::close::PROCEDURE;
-use closing::close::USE;
+use part_rows::short_kind::PROCEDURE;
 use closing::close::close_leaf;
 use closing::close::close_row;
 use closing::close::parts_of;
@@ -28,12 +27,12 @@ ghost use lib.ListN.{length, getD, set};
 ghost use Rattle.part_rows.specs.Row.{word};
 ghost use Rattle.closing.specs.Close.{comeOf, moreOf};
 ghost use Rattle.expand.specs.Contract.{Expanding, Piece, Pieces, Closed, Entered, Recorded, Top};
+use part_rows::short_kind::ROUTINE;
+use records::limits::MOST_BYTES;
 
-// How many places a sheet has, and the words of all rows. They and the table of parts are arrays and not slices because
-// a slice, which is two words, goes through memory at every call of the cycle.
-const SHEET: usize = 4096;
-
-const ROWS: usize = 110592;
+// The words of all rows. They, the marks and the table of parts are arrays and not slices because a slice, which is two
+// words, goes through memory at every call of the cycle.
+pub const TERM_WORDS: usize = 110592;
 
 // A bound of all turns: 4,097 for each place that a part may end at.
 const TURNS: u32 = 16785409;
@@ -63,9 +62,9 @@ struct Turn {
 // Expands the part at a place, which comes down to no parameter.
 fn expand(
     t: &[u16; TABLE],
-    marks: &[u16; SHEET],
+    marks: &[u16; MOST_BYTES],
     slots: &[u16; 128],
-    rows: &mut [u16; ROWS],
+    rows: &mut [u16; TERM_WORDS],
     level: u16,
     left: u32,
     n: u16,
@@ -97,9 +96,9 @@ fn expand(
 // the turns of a loop.
 fn expand_own(
     t: &[u16; TABLE],
-    marks: &[u16; SHEET],
+    marks: &[u16; MOST_BYTES],
     slots: &[u16; 128],
-    rows: &mut [u16; ROWS],
+    rows: &mut [u16; TERM_WORDS],
     level: u16,
     left: u32,
     n: u16,
@@ -128,7 +127,7 @@ fn expand_own(
             around = more(around, 1);
             continue;
         }
-        if kind != USE {
+        if kind != ROUTINE {
             return expand_record(t, marks, &mut own, rows, around, turns, made, here);
         }
         let next = enter(t, marks, &mut own, rows, around, turns, made, here);
@@ -146,9 +145,9 @@ fn expand_own(
 // then its slots become their rows. What is left is its term.
 fn enter(
     t: &[u16; TABLE],
-    marks: &[u16; SHEET],
+    marks: &[u16; MOST_BYTES],
     own: &mut [u16; 128],
-    rows: &mut [u16; ROWS],
+    rows: &mut [u16; TERM_WORDS],
     level: u16,
     left: u32,
     n: u16,
@@ -173,9 +172,9 @@ fn enter(
 // Makes row n for a part that is neither the scope nor the use of a procedure.
 fn expand_record(
     t: &[u16; TABLE],
-    marks: &[u16; SHEET],
+    marks: &[u16; MOST_BYTES],
     own: &mut [u16; 128],
-    rows: &mut [u16; ROWS],
+    rows: &mut [u16; TERM_WORDS],
     level: u16,
     left: u32,
     n: u16,
@@ -198,9 +197,9 @@ fn expand_record(
 // parts, as every second one is, has a shorter way.
 fn expand_row(
     t: &[u16; TABLE],
-    marks: &[u16; SHEET],
+    marks: &[u16; MOST_BYTES],
     slots: &[u16; 128],
-    rows: &mut [u16; ROWS],
+    rows: &mut [u16; TERM_WORDS],
     level: u16,
     left: u32,
     n: u16,
@@ -222,9 +221,9 @@ fn expand_row(
 // Expands those parts of the part at a place whose bits are wanted, in their order.
 fn expand_parts(
     t: &[u16; TABLE],
-    marks: &[u16; SHEET],
+    marks: &[u16; MOST_BYTES],
     slots: &[u16; 128],
-    rows: &mut [u16; ROWS],
+    rows: &mut [u16; TERM_WORDS],
     level: u16,
     left: u32,
     n: u16,
@@ -265,9 +264,9 @@ fn expand_parts(
 // row.
 fn expand_part(
     t: &[u16; TABLE],
-    marks: &[u16; SHEET],
+    marks: &[u16; MOST_BYTES],
     slots: &[u16; 128],
-    rows: &mut [u16; ROWS],
+    rows: &mut [u16; TERM_WORDS],
     level: u16,
     left: u32,
     n: u16,
@@ -297,7 +296,12 @@ fn expand_part(
 }
 
 // Expands the whole term, which the table has at a place: its row, and how many rows are made.
-pub fn expand_term(t: &[u16; TABLE], marks: &[u16; SHEET], rows: &mut [u16; ROWS], at: u16) -> Made
+pub fn expand_term(
+    t: &[u16; TABLE],
+    marks: &[u16; MOST_BYTES],
+    rows: &mut [u16; TERM_WORDS],
+    at: u16,
+) -> Made
     ensures { λ r. ⌜ Top (now (t .entry)) (now (marks .entry)) at (now (rows .entry)) (now (rows .exit))
         (r .row) (r .count) ⌝ }
 {

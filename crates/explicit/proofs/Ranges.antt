@@ -22,7 +22,7 @@ use Rattle.procedures.specs.Meaning.{Binder, a-block, a-parameter, a-procedure,
 use Rattle.procedures.specs.Meaning.{named, retired, free, declared, idOf, meant, meaning, inside, after, tyOf}
 use Rattle.procedures.specs.Meaning.{byMeaning, Terms, no-terms, with-level, with-body, with-passed, resolve}
 use Rattle.procedures.specs.Meaning.{resolveArgs, resolved, some-value, typed, termOf, typeOf}
-use Rattle.procedures.specs.Fine.{FineUse, Fine, FineArgs, FineNames, Accepted}
+use Rattle.procedures.specs.Fine.{FineUse, Fine, FineArgs, FineNames, WellFormed}
 use Rattle.procedures.proofs.Numbering.{beyond-all}
 use Rattle.procedures.proofs.WellTyped.{accepted-typed}
 use Rattle.machine.specs.Range.{TyIn, InRange, InRangeArgs}
@@ -189,11 +189,11 @@ order-range S z ns h =
       (nothing-in (S .numbers)) h
 
 -- so is that of an accepted sheet
-pub sheet-range : (S : Sheet) → Accepted S → InRange (S .numbers) (termOf S)
+pub sheet-range : (S : Sheet) → WellFormed S → InRange (S .numbers) (termOf S)
 sheet-range S A = order-range S (A .z-above) (A .fine-names) (A .fine-term)
 
 -- THEOREM: every move of a complete play of an accepted sheet has a letter
-pub sheet-small : (S : Sheet) → Accepted S → (u : Word) → Complete (tyOf (S .numbers) (typeOf S)) (termOf S) u →
+pub sheet-small : (S : Sheet) → WellFormed S → (u : Word) → Complete (tyOf (S .numbers) (typeOf S)) (termOf S) u →
     AllSmall (S .numbers) u
 sheet-small S A u c =
     complete-small (S .numbers) (tyOf (S .numbers) (typeOf S)) (termOf S)

@@ -12,7 +12,7 @@ use part_path::Stop;
 use part_path::exits::dead;
 use part_path::exits::lead;
 use part_path::exits::reach;
-use part_path::levels::WORDS;
+use part_path::levels::PATH_WORDS;
 use part_path::path::go_to;
 use part_path::whole::spots_of;
 use positions::Out;
@@ -30,7 +30,7 @@ ghost use Rattle.explicit.specs.inner.Moves.{silentOf, rowOf, edgesAfter
 
 // The silent word of a state that does `o` inside c levels: 0 where it makes or takes a move, else 1 more than the
 // state to which it goes.
-fn silent_at(n: Numbers, s: Site, p: &[usize; WORDS], c: usize, o: Out) -> usize
+fn silent_at(n: Numbers, s: Site, p: &[usize; PATH_WORDS], c: usize, o: Out) -> usize
     requires { ⌜ Sound (now p) c ⌝ }
     ensures { λ r. ⌜ r ≡ silentOf s (riseAll n (framesOf (now (p .entry)) c) o) ⌝ }
 {
@@ -63,7 +63,7 @@ fn write_row(
     n: Numbers,
     s: Site,
     words: &mut [u32],
-    p: &[usize; WORDS],
+    p: &[usize; PATH_WORDS],
     at: Stop,
     k: usize,
     e: usize,
@@ -118,7 +118,7 @@ pub fn fill(
     n: Numbers,
     s: Site,
     words: &mut [u32],
-    p: &mut [usize; WORDS],
+    p: &mut [usize; PATH_WORDS],
     e: usize,
 ) -> usize
     requires { ⌜ (spotsOf (now t) (s .root) ≤ 65536) × (length (now p) ≡ 79885) ⌝ }

@@ -11,7 +11,6 @@ use name_use::name::waiting;
 use part_path::Site;
 use part_path::exits::exit;
 use part_path::exits::reach;
-use part_path::levels::WORDS;
 use part_path::whole::at_start;
 use part_rows::row::CLASS;
 use positions::Move;
@@ -29,20 +28,29 @@ ghost use Rattle.language.specs.Number.{numbers};
 ghost use Rattle.part_path.specs.States.{sheetAt, targetOf};
 ghost use Rattle.explicit.specs.inner.Waiting.{Listening, Calling, Argument, Arguments, Answering};
 ghost use Rattle.explicit.specs.inner.Rows.{withEdges, past};
-ghost use Rattle.explicit.specs.inner.Moves.{valueEdge, valueEdges, blockEdges, heardEdges};
-ghost use Rattle.explicit.specs.inner.Moves.{questionEdges, askedEdges, askingOf};
+ghost use Rattle.explicit.specs.inner.Moves.{valueEdge, valueEdges, blockEdges, heardEdges, questionEdges};
+ghost use Rattle.explicit.specs.inner.Moves.{askedEdges, askingOf};
+use positions::moves::MOVE_KINDS;
+use part_path::levels::PATH_WORDS;
+use records::limits::MOST_ARGUMENTS;
 
-// A name has at most this many arguments.
-const ARGUMENTS: usize = 4;
 // The name itself, as an argument.
 const OWN: usize = 0;
 // The places of moves: the name itself and its arguments.
-const PLACES: usize = 5;
+const PLACES: usize = 1 + MOST_ARGUMENTS;
 // All pairs of a kind of move and such a place.
-const BLOCKS: usize = 35;
+const BLOCKS: usize = MOVE_KINDS * PLACES;
 
 // Where a move leads at a state that waits, to which a path of c levels leads.
-fn heard(t: &[u16], n: Numbers, s: Site, p: &[usize; WORDS], c: usize, wait: Wait, m: Move) -> usize
+fn heard(
+    t: &[u16],
+    n: Numbers,
+    s: Site,
+    p: &[usize; PATH_WORDS],
+    c: usize,
+    wait: Wait,
+    m: Move,
+) -> usize
     requires { ⌜ Listening (now t) n (s .root) (now p) c wait ⌝ }
     ensures { λ r. ⌜ r ≡ targetOf s (sheetAt (now (t .entry)) n (s .root) (wait .state) m) ⌝ }
 {
@@ -64,7 +72,7 @@ fn hear_value(
     n: Numbers,
     s: Site,
     words: &mut [u32],
-    p: &[usize; WORDS],
+    p: &[usize; PATH_WORDS],
     c: usize,
     wait: Wait,
     kind: usize,
@@ -104,7 +112,7 @@ fn hear_values(
     n: Numbers,
     s: Site,
     words: &mut [u32],
-    p: &[usize; WORDS],
+    p: &[usize; PATH_WORDS],
     c: usize,
     wait: Wait,
     kind: usize,
@@ -133,7 +141,7 @@ fn hear_block(
     n: Numbers,
     s: Site,
     words: &mut [u32],
-    p: &[usize; WORDS],
+    p: &[usize; PATH_WORDS],
     c: usize,
     wait: Wait,
     kind: usize,
@@ -158,7 +166,7 @@ fn hear_argument(
     n: Numbers,
     s: Site,
     words: &mut [u32],
-    p: &[usize; WORDS],
+    p: &[usize; PATH_WORDS],
     c: usize,
     wait: Wait,
     kind: usize,
@@ -184,7 +192,7 @@ fn hear_questions(
     n: Numbers,
     s: Site,
     words: &mut [u32],
-    p: &[usize; WORDS],
+    p: &[usize; PATH_WORDS],
     c: usize,
     wait: Wait,
     kind: usize,
@@ -211,7 +219,7 @@ fn hear_kinds(
     n: Numbers,
     s: Site,
     words: &mut [u32],
-    p: &[usize; WORDS],
+    p: &[usize; PATH_WORDS],
     c: usize,
     wait: Wait,
     count: usize,
@@ -239,7 +247,7 @@ fn hear_answer(
     n: Numbers,
     s: Site,
     words: &mut [u32],
-    p: &[usize; WORDS],
+    p: &[usize; PATH_WORDS],
     c: usize,
     wait: Wait,
     kind: usize,
@@ -278,7 +286,7 @@ fn hear_answers(
     n: Numbers,
     s: Site,
     words: &mut [u32],
-    p: &[usize; WORDS],
+    p: &[usize; PATH_WORDS],
     c: usize,
     wait: Wait,
     kind: usize,
@@ -309,7 +317,7 @@ fn hear_all(
     n: Numbers,
     s: Site,
     words: &mut [u32],
-    p: &[usize; WORDS],
+    p: &[usize; PATH_WORDS],
     c: usize,
     wait: Wait,
     e: usize,
@@ -332,8 +340,8 @@ fn hear_all(
 fn asking(count: usize) -> usize
     ensures { λ r. ⌜ r ≡ askingOf count ⌝ }
 {
-    if ARGUMENTS < count {
-        return ARGUMENTS;
+    if MOST_ARGUMENTS < count {
+        return MOST_ARGUMENTS;
     }
     count
 }
@@ -345,7 +353,7 @@ fn hear_called(
     n: Numbers,
     s: Site,
     words: &mut [u32],
-    p: &[usize; WORDS],
+    p: &[usize; PATH_WORDS],
     c: usize,
     wait: Wait,
     e: usize,
@@ -380,7 +388,7 @@ pub(crate) fn hear(
     n: Numbers,
     s: Site,
     words: &mut [u32],
-    p: &[usize; WORDS],
+    p: &[usize; PATH_WORDS],
     c: usize,
     wait: Wait,
     e: usize,

@@ -20,17 +20,19 @@ use positions::row::cell;
 use positions::row::name_id;
 use positions::row::part_class;
 use positions::row::part_values;
-use positions::types::COMMAND;
-use positions::types::EXPRESSION;
 use positions::types::question_limit;
 ghost use mathlib.Core.Path.{_≡_};
 ghost use Prim.Native.Nat.{_%_, _≤_};
 ghost use Rattle.language.specs.Number.{finites};
 ghost use Rattle.language.specs.Order.{codeAt, rank};
 ghost use Rattle.explicit.specs.inner.Moves.{letterOf, answerLimit, answerKind, limitOf, waitOf};
+use positions::types::COMMANDS;
+use positions::types::EXPRESSIONS;
+use records::limits::BYTES;
+use records::read::SHORTS;
 
 // The rank of the value 0: a rank is the signed value plus this.
-const RANK_ZERO: usize = 128;
+pub const RANK_ZERO: usize = 128;
 
 // The ranks of minus infinity, of infinity and of not-a-number.
 const RANK_LEAST: usize = 1;
@@ -40,17 +42,14 @@ const RANK_GREATEST: usize = 254;
 const RANK_NONE: usize = 255;
 
 // A letter is kind, id, argument and rank, a byte each: what a kind, an id and an argument count.
-const KIND_UNIT: usize = 16777216;
+pub const KIND_UNIT: usize = 16777216;
 
-const ID_UNIT: usize = 65536;
+pub const ID_UNIT: usize = 65536;
 
-const ARGUMENT_UNIT: usize = 256;
-// How many numbers a byte, a kind and a value can be.
-const BYTES: usize = 256;
+pub const ARGUMENT_UNIT: usize = 256;
 
-const KINDS: usize = 8;
-
-const CODES: usize = 65536;
+// The kinds of moves and the opening are the numbers below this.
+const KIND_SPAN: usize = 8;
 
 // How many numbers there are from -Z to Z.
 fn count_of(n: Numbers) -> usize
@@ -83,7 +82,7 @@ pub(crate) fn rank_of(n: Numbers, value: usize) -> usize
     ensures { λ r. ⌜ r ≡ rank n (value % 65536) ⌝ }
 {
     let z = n.z as usize;
-    let v = value % CODES;
+    let v = value % SHORTS;
     if v <= z {
         return RANK_ZERO + v;
     }
@@ -107,7 +106,9 @@ pub(crate) fn rank_of(n: Numbers, value: usize) -> usize
 pub(crate) fn letter_of(n: Numbers, m: Move) -> usize
     ensures { λ r. ⌜ r ≡ letterOf n m ⌝ }
 {
-    let place = m.kind % KINDS * KIND_UNIT + m.id % BYTES * ID_UNIT + m.arg % BYTES * ARGUMENT_UNIT;
+    let place = m.kind % KIND_SPAN * KIND_UNIT
+        + m.id % BYTES * ID_UNIT
+        + m.arg % BYTES * ARGUMENT_UNIT;
     if m.kind < VALUE {
         return place;
     }
@@ -119,7 +120,7 @@ pub(crate) fn letter_of(n: Numbers, m: Move) -> usize
 pub(crate) fn answer_limit(class: usize, values: usize, q: usize, x: usize, kind: usize) -> usize
     ensures { λ r. ⌜ r ≡ answerLimit class values q x kind ⌝ }
 {
-    if class == COMMAND {
+    if class == COMMANDS {
         if q == RUN {
             if kind == DONE {
                 return 1;
@@ -127,7 +128,7 @@ pub(crate) fn answer_limit(class: usize, values: usize, q: usize, x: usize, kind
         }
         return 0;
     }
-    if class == EXPRESSION {
+    if class == EXPRESSIONS {
         if q == ASK {
             if kind == VALUE {
                 return values;
@@ -155,7 +156,7 @@ pub(crate) fn answer_limit(class: usize, values: usize, q: usize, x: usize, kind
 pub(crate) fn answer_kind(class: usize, q: usize) -> usize
     ensures { λ r. ⌜ r ≡ answerKind class q ⌝ }
 {
-    if class == COMMAND {
+    if class == COMMANDS {
         return DONE;
     }
     if q == WRITE {

@@ -3,9 +3,7 @@ use positions::row::mul_add;
 use positions::row::sum;
 ghost use mathlib.Core.Path.{_≡_};
 ghost use Rattle.explicit.specs.inner.Rows.{held, withEdge, withHead};
-
-// How many numbers a word of 32 bits can be.
-const WORDS: usize = 4294967296;
+use records::read::LONGS;
 
 // Where parts of an automaton of n states begin: this many times n words are before the first edges of its states, and
 // before the end of its edges.
@@ -18,7 +16,7 @@ pub(crate) fn put(words: &mut [u32], i: usize, v: usize)
     ensures { λ r. ⌜ now (words .exit) ≡ held (now (words .entry)) i v ⌝ }
 {
     if i < words.len() {
-        words[i] = (v % WORDS) as u32;
+        words[i] = (v % LONGS) as u32;
     }
 }
 

@@ -55,17 +55,17 @@ pub enum Head {
 }
 
 // Where the ranges of bytes end: types, truths, operators, ids, any bytes, the data of a new.
-const TYPES: u16 = 5;
+const TYPES: u16 = records::limits::TYPES as u16;
 
-const TRUTHS: u16 = 2;
+const TRUTHS: u16 = records::limits::TRUTHS as u16;
 
-const OPERATORS: u16 = 9;
+const OPERATORS: u16 = records::limits::OPERATORS as u16;
 
-const IDS: u16 = 255;
+const IDS: u16 = records::limits::IDS as u16;
 
-const BYTES: u16 = 256;
+const BYTES: u16 = records::limits::BYTES as u16;
 
-const DATA: u16 = 3;
+const DATA_TYPES: u16 = records::limits::DATA_TYPES as u16;
 
 // A byte in its range, or a refusal.
 pub enum Byte {
@@ -185,7 +185,7 @@ pub(crate) fn data_body(s: &[u8], r: Record, id: u8) -> Head
     ensures { λ x. ⌜ x ≡ dataByte (now (s .entry)) r id ⌝ }
 {
     let data_at = r.place + 2;
-    let found = byte_below(s, data_at, DATA);
+    let found = byte_below(s, data_at, DATA_TYPES);
     match found {
         Byte::Refused(refusal) => Head::Refused(refusal),
         Byte::Is { byte } => {

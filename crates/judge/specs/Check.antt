@@ -3,7 +3,7 @@
 use Prim.Native.Nat.{ℕ, _≤_}
 use mathlib.Core.Path.{_≡_}
 use mathlib.Core.Logic.{_⊎_}
-use Rattle.records.specs.Refusal.{cause, old-sheet}
+use Rattle.records.specs.Refusal.{cause, old-sheet, too-long, too-large, id-enclosed}
 use Rattle.records.specs.declared.edition.Edition.{Edition}
 use Rattle.records.specs.declared.edition.Edition.the-variants.{Earlier, Present}
 use Rattle.sheet.specs.Reader.{Checks, accepted, rejected}
@@ -17,5 +17,5 @@ checkedOf (rejected n p) = Refused (cause n old-sheet p)
 
 -- document 01's 1 to 11, and from document 02 [3] on also 16
 unfoldable pub NumberOf : Edition → ℕ → Type 0
-NumberOf Earlier k = (1 ≤ k) × (k ≤ 11)
-NumberOf Present k = ((1 ≤ k) × (k ≤ 11)) ⊎ (k ≡ 16)
+NumberOf Earlier k = (too-long ≤ k) × (k ≤ too-large)
+NumberOf Present k = ((too-long ≤ k) × (k ≤ too-large)) ⊎ (k ≡ id-enclosed)

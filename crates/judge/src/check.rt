@@ -6,7 +6,7 @@ use part_rows::row::TABLE;
 use records::edition::Edition;
 use records::refusal::Cause;
 use records::refusal::NOT_REFUSED;
-use records::refusal::OLD;
+use records::refusal::OLD_SHEET;
 use records::refusal::Refusal;
 use records::refusal::of_sheet;
 use records::refusal::refuse;
@@ -44,7 +44,7 @@ pub fn check(s: &[u8]) -> Checked
         uses,
     } = x
     else {
-        return Checked::Refused(of_sheet(refusal_of(x), OLD));
+        return Checked::Refused(of_sheet(refusal_of(x), OLD_SHEET));
     };
     Checked::Accepted { ty, size, uses }
 }

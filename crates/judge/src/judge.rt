@@ -3,7 +3,6 @@ use crate::mark::Uses;
 use crate::mark::uses_of;
 use crate::size::size_of;
 use part_rows::row::TABLE;
-use parts::weight::LIMIT;
 use plans::term::weight_of;
 use records::edition::Edition;
 use records::refusal::Refusal;
@@ -15,6 +14,7 @@ use sheet::reading::read_sheet;
 ghost use mathlib.Core.Path.{_≡_};
 ghost use Rattle.sheet.specs.table.Notes.{Blank};
 ghost use Rattle.judge.specs.Judged.{JudgedBy};
+use records::limits::GREATEST_SIZE;
 
 // What judging a sheet gives: the place of its term, its type, its size and which names it uses; or the refusal.
 pub enum Judgement {
@@ -38,7 +38,7 @@ pub fn judge_sheet(edition: Edition, s: &[u8], t: &mut [u16; TABLE]) -> Judgemen
         Reading::Sheet { root, ty, next: _ } => {
             let weight = weight_of(t);
             let size = size_of(numbers_of(s), ty, weight);
-            if LIMIT < size {
+            if GREATEST_SIZE < size {
                 return Judgement::Refused(refuse(TOO_LARGE, 0));
             }
             let uses = uses_of(s, t);

@@ -3,6 +3,8 @@ use records::kind::DECLARE;
 use records::kind::DECLARE_ONCE;
 use records::kind::ID;
 use records::kind::RETIRE;
+use records::limits::FIRST_RECORD;
+use records::limits::MOST_NAMES;
 use records::read::byte_at;
 use sheet::note::is_noted;
 ghost use mathlib.Core.Path.{_≡_};
@@ -20,11 +22,7 @@ pub struct Uses {
     pub unused: u32,
 }
 
-// Where the name records begin, how many there may be, and how many bytes a declaration and a retirement have.
-const FIRST: usize = 2;
-
-const NAMES: u8 = 32;
-
+// How many bytes a declaration and a retirement have.
 const DECLARATION: usize = 8;
 
 const RETIREMENT: usize = 2;
@@ -84,8 +82,8 @@ fn declared_from(s: &[u8], left: u8, at: usize) -> u32
 pub(crate) fn uses_of(s: &[u8], t: &[u16]) -> Uses
     ensures { λ r. ⌜ r ≡ usesAt (now (s .entry)) (now (t .entry)) ⌝ }
 {
-    let mark = mark_from(s, t, NAMES, FIRST);
-    let declared = declared_from(s, NAMES, FIRST);
+    let mark = mark_from(s, t, MOST_NAMES, FIRST_RECORD);
+    let declared = declared_from(s, MOST_NAMES, FIRST_RECORD);
     Uses {
         mark,
         used: u32::count_ones(mark),
@@ -97,5 +95,5 @@ pub(crate) fn uses_of(s: &[u8], t: &[u16]) -> Uses
 pub fn declared_count(s: &[u8]) -> usize
     ensures { λ r. ⌜ ((S : Sheet) (ty n : ℕ) → readSheet (now (s .entry)) ≡ accepted S ty n → r ≡ declaredIn S) ⌝ }
 {
-    u32::count_ones(declared_from(s, NAMES, FIRST)) as usize
+    u32::count_ones(declared_from(s, MOST_NAMES, FIRST_RECORD)) as usize
 }

@@ -5,6 +5,10 @@ use records::kind::ID;
 use records::kind::PARAMETER_IDS;
 use records::kind::PARAMETER_TYPES;
 use records::kind::RESULT;
+use records::limits::COUNTS;
+use records::limits::IDS;
+use records::limits::NOT_THERE;
+use records::limits::TYPES;
 use records::read::byte_at;
 use records::read::standing_of;
 use records::refusal::CUT_SHORT;
@@ -21,16 +25,6 @@ ghost use Rattle.records.specs.Standing.{standingOf};
 ghost use Rattle.judgements.specs.Judge.{andThen, below, unused, bound, hides, apart, earlier, unlike};
 ghost use Rattle.judgements.specs.Judge.{parameterId};
 ghost use Rattle.judgements.specs.Judge.{pair, procedureOf};
-
-// Where the ranges of bytes end: ids, types, counts of parameters.
-const IDS: u8 = 255;
-
-const TYPES: u8 = 5;
-
-const COUNTS: u8 = 5;
-
-// The byte of something that is not there.
-const UNUSED: u8 = 255;
 
 // A judgement of bytes: good, or the refusal's number and place.
 pub enum Judged {
@@ -68,7 +62,7 @@ pub fn judge_unused(s: &[u8], at: usize) -> Judged
     if s.len() <= at {
         return Judged::Refused(refuse(CUT_SHORT, s.len()));
     }
-    if s[at] == UNUSED {
+    if s[at] == NOT_THERE {
         return Judged::Good;
     }
     Judged::Refused(refuse(OUT_OF_RANGE, at))

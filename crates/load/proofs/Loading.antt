@@ -10,7 +10,7 @@ use Rattle.records.specs.declared.edition.Edition.the-variants.{Present}
 use Rattle.records.specs.declared.refusal.Refusal.{Refusal}
 use Rattle.procedures.specs.Written as written
 use Rattle.procedures.specs.Meaning.{tyOf, termOf, typeOf}
-use Rattle.procedures.specs.Fine.{Accepted}
+use Rattle.procedures.specs.Fine.{WellFormed}
 use Rattle.procedures.specs.Made.{made, madeSheet}
 use Rattle.procedures.specs.Context.{whole, forms, makes}
 use Rattle.procedures.specs.Table.{Shown}
@@ -57,7 +57,7 @@ module _ {s u : List ℕ} {root ty size : ℕ} {uses : Uses} (J : Judged Present
   S = J .sheet
 
   -- it is in order, and has its type
-  ordered : Accepted S
+  ordered : WellFormed S
   ordered = gives Present s S ty size (J .accepts) .1 .ordered
 
   types : ty ≡ typeOf S

@@ -1,4 +1,5 @@
 // Loading a sheet: it is judged, and its term is expanded to rows.
+use expand::expand::TERM_WORDS;
 use expand::expand::expand_term;
 use judge::judge::Judgement;
 use judge::judge::judge_sheet;
@@ -7,17 +8,13 @@ use part_rows::row::MARKS;
 use part_rows::row::TABLE;
 use part_rows::row::put;
 use records::edition::Edition;
+use records::limits::MOST_BYTES;
 use records::read::short_at;
 use records::refusal::Refusal;
 ghost use Rattle.load.specs.Loaded.{MarksOf, Expanded, LoadedBy};
 ghost use mathlib.Core.Path.{_≡_};
 ghost use Prim.Native.Nat.{_<_};
 ghost use lib.ListN.{length};
-
-// How many places a sheet has, and the words of the rows of a term.
-const PLACES: usize = 4096;
-
-pub const ROWS: usize = 110592;
 
 // What loading a sheet gives: the place of its term, the row of the term, its type, the sheet's size and which names it
 // uses; or the refusal.
@@ -38,25 +35,25 @@ fn copy_marks(t: &[u16], marks: &mut [u16])
     ensures { λ r. ⌜ MarksOf (now (t .entry)) (now (marks .exit)) 4096 ⌝ }
 {
     let mut i = 0;
-    while i < PLACES {
+    while i < MOST_BYTES {
         put(marks, i, short_at(t, MARKS + i));
         i += 1;
     }
 }
 
 // Expands the term whose parts the table has from the root on, and gives its row.
-fn expand_root(t: &[u16; TABLE], rows: &mut [u16; ROWS], root: usize) -> usize
+fn expand_root(t: &[u16; TABLE], rows: &mut [u16; TERM_WORDS], root: usize) -> usize
     requires { ⌜ root < 65536 ⌝ }
     ensures { λ r. ⌜ Expanded (now (t .entry)) root (now (rows .entry)) (now (rows .exit)) r ⌝ }
 {
-    let mut marks = [0u16; PLACES];
+    let mut marks = [0u16; MOST_BYTES];
     copy_marks(t, &mut marks);
     let made = expand_term(t, &marks, rows, root as u16);
     made.row as usize
 }
 
 // Loads a sheet, and leaves the rows of its term.
-pub fn load(s: &[u8], rows: &mut [u16; ROWS]) -> Loaded
+pub fn load(s: &[u8], rows: &mut [u16; TERM_WORDS]) -> Loaded
     requires { ⌜ length (now rows) ≡ 110592 ⌝ }
     ensures { λ x. ⌜ LoadedBy (now (s .entry)) x (now (rows .exit)) ⌝ }
 {

@@ -13,12 +13,11 @@ use Rattle.positions.specs.declared.Spot.{Spot}
 use Rattle.positions.specs.declared.Spot.the-variants.{Here, Inside}
 use Rattle.positions.specs.MoveKind.{DONE, OK, VALUE, NO-MOVE}
 use Rattle.positions.specs.Role.{ARGUMENT}
-use Rattle.positions.specs.Class.{COMMAND}
-use Rattle.positions.specs.Column.{CLASS, VALUES}
-use Rattle.positions.specs.Row.{partOf, partWeight, partClass, partValues, nameId, nameCount, nameSpent}
-use Rattle.positions.specs.Row.{sumOf, mulAddOf}
-use Rattle.positions.specs.Types.{questionsOf, answersOf, questionKind, questionValue, questionNumber}
-use Rattle.positions.specs.Types.{answerNumber}
+use Rattle.part_rows.specs.PartKind.{CLASS, VALUES}
+use Rattle.positions.specs.Row.{partOf, partWeight, partClass, partValues, nameId, nameCount, nameSpent, sumOf}
+use Rattle.positions.specs.Row.{mulAddOf}
+use Rattle.positions.specs.Types.{questionsOf, answersOf, questionKind, questionValue, questionNumber, answerNumber}
+use Rattle.part_rows.specs.Class.{COMMANDS}
 
 -- no move: what a state does before one is given
 abbrev pub noMove : Move
@@ -62,7 +61,7 @@ argSpots t at j (suc n) = sumOf (copiesOf t at j) (argSpots t at (sumOf j 1) n)
 -- the answer of number k of an argument, after which the name waits at the position `next`
 unfoldable pub replyHere : ℕ → ℕ → ℕ → ℕ → ℕ → ℕ → Out
 replyHere id class m arg k next =
-    pick (eqb class COMMAND) (saidOf DONE id arg 0 next)
+    pick (eqb class COMMANDS) (saidOf DONE id arg 0 next)
     (pick (leb m k) (saidOf OK id arg 0 next) (saidOf VALUE id arg k next))
 
 -- reply k of n arguments from argument j on

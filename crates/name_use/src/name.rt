@@ -21,7 +21,6 @@ use positions::row::part_class;
 use positions::row::part_values;
 use positions::row::part_weight;
 use positions::row::sum;
-use positions::types::COMMAND;
 use positions::types::answer_number;
 use positions::types::answers;
 use positions::types::question_kind;
@@ -29,9 +28,10 @@ use positions::types::question_number;
 use positions::types::question_value;
 use positions::types::questions;
 ghost use mathlib.Core.Path.{_≡_};
-ghost use Rattle.name_use.specs.Name.{saidOf, framedOf, copiesOf, argSpots, replyHere, replyOf, argHere};
-ghost use Rattle.name_use.specs.Name.{inArgs, hearAnswer, hearQuestion, listenOf, atWait, inName};
-ghost use Rattle.name_use.specs.Name.{noMove, innerOf, againOf, spentOf};
+ghost use Rattle.name_use.specs.Name.{saidOf, framedOf, copiesOf, argSpots, replyHere, replyOf, argHere, inArgs};
+ghost use Rattle.name_use.specs.Name.{hearAnswer, hearQuestion, listenOf, atWait, inName, noMove, innerOf};
+ghost use Rattle.name_use.specs.Name.{againOf, spentOf};
+use positions::types::COMMANDS;
 
 // The first positions of a name: its question is put, its moves are waited for; where it has no second wait, its
 // arguments begin.
@@ -115,7 +115,7 @@ pub(crate) fn reply_here(
 ) -> Out
     ensures { λ r. ⌜ r ≡ replyHere id class values arg k next ⌝ }
 {
-    if class == COMMAND {
+    if class == COMMANDS {
         return said(DONE, id, arg, 0, next);
     }
     if values <= k {

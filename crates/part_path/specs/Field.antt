@@ -52,5 +52,5 @@ abbrev pub UP : ℕ
 UP = 12
 
 -- all words
-abbrev pub WORDS : ℕ
-WORDS = 79885
+abbrev pub PATH-WORDS : ℕ
+PATH-WORDS = 79885

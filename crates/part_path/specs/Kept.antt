@@ -12,7 +12,7 @@ use Rattle.positions.specs.declared.Move.{Move}
 use Rattle.positions.specs.declared.Frame.{Frame}
 use Rattle.positions.specs.declared.Out.{Out}
 use Rattle.positions.specs.declared.Out.the-variants.{Say, Hear}
-use Rattle.positions.specs.Column.{WEIGHT, CLASS, VALUES}
+use Rattle.part_rows.specs.PartKind.{WEIGHT, CLASS, VALUES}
 use Rattle.positions.specs.declared.Spot.{Spot}
 use Rattle.positions.specs.declared.Spot.the-variants.{Here, Inside}
 use Rattle.name_use.specs.Name.{noMove, argHere, atWait}

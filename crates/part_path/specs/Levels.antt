@@ -8,7 +8,7 @@ use Rattle.positions.specs.declared.Frame.{Frame}
 use Rattle.part_path.specs.declared.Level.{Level}
 use Rattle.part_path.specs.Field.{LEVELS, FIELDS, PART, QUESTION, QUESTION-VALUE, BASE, END, OUTER, ROLE}
 use Rattle.part_path.specs.Field.{OFFSET, A, B, C, D, UP}
-use Rattle.part_path.specs.Field.{WORDS}
+use Rattle.part_path.specs.Field.{PATH-WORDS}
 use Rattle.part_path.specs.Path.{innermostOf, baseOf, Owned, upOf}
 
 -- word j of level i
@@ -55,6 +55,6 @@ pub record Plain (fs : List Frame) (l : Level) : Type 0 where
 
 -- the words hold c levels
 pub record Sound (p : List ℕ) (c : ℕ) : Type 0 where
-  pub room : length p ≡ WORDS
+  pub room : length p ≡ PATH-WORDS
   pub few : c ≤ LEVELS
   pub plain : (i : ℕ) → i < c → Plain (framesOf p i) (levelAt p i)

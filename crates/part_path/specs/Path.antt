@@ -16,8 +16,8 @@ use Rattle.positions.specs.declared.Out.{Out}
 use Rattle.positions.specs.declared.Out.the-variants.{Go, Exit, Say, Hear, Stuck}
 use Rattle.positions.specs.declared.Spot.{Spot}
 use Rattle.positions.specs.declared.Spot.the-variants.{Here, Inside}
-use Rattle.positions.specs.Role.{SAME, BLOCK}
-use Rattle.positions.specs.Column.{WEIGHT}
+use Rattle.positions.specs.Role.{BLOCK, AS-IS}
+use Rattle.part_rows.specs.PartKind.{WEIGHT}
 use Rattle.automaton.specs.walk.Store.{storeIn}
 use Rattle.rise.specs.Up.{riseOf}
 
@@ -57,7 +57,7 @@ Owned (f ∷ fs) = (f .role ≡ BLOCK → 0 < f .a) × Owned fs
 
 -- whether a frame of a role passes an exit on: the whole exits so, or a block does
 unfoldable pub passesOf : ℕ → Bool
-passesOf role = pick (eqb role SAME) true (eqb role BLOCK)
+passesOf role = pick (eqb role AS-IS) true (eqb role BLOCK)
 
 -- how many frames there are up to the innermost that does not pass an exit on, counted from the outermost; 0 where all
 -- do

@@ -10,14 +10,14 @@ use Rattle.positions.specs.declared.Move.{Move}
 use Rattle.positions.specs.declared.Out.{Out}
 use Rattle.positions.specs.declared.Out.the-variants.{Go, Exit, Say, Hear, Stuck}
 use Rattle.positions.specs.MoveKind.{DONE, OK, VALUE, OPENING, NO-MOVE}
-use Rattle.positions.specs.Class.{COMMAND}
-use Rattle.positions.specs.Column.{WEIGHT, CLASS, VALUES}
+use Rattle.part_rows.specs.PartKind.{WEIGHT, CLASS, VALUES}
 use Rattle.positions.specs.Row.{sumOf, mulAddOf}
 use Rattle.positions.specs.Types.{questionsOf, answersOf, questionNumber}
 use Rattle.name_use.specs.Name.{argHere}
 use Rattle.rise.specs.Up.{riseOf}
 use Rattle.automaton.specs.walk.Step.{onSpot, stepAt}
 use Rattle.part_path.specs.declared.Site.{Site}
+use Rattle.part_rows.specs.Class.{COMMANDS}
 
 -- the id that stands for the whole term
 abbrev pub WHOLE : ℕ
@@ -44,7 +44,7 @@ withinOf t N root k after m =
 -- answer k of a type, at the place of the whole term
 unfoldable pub repliedOf : ℕ → ℕ → ℕ → Move
 repliedOf class values k =
-    pick (eqb class COMMAND) (record { kind = DONE; id = WHOLE; arg = 0; value = 0 })
+    pick (eqb class COMMANDS) (record { kind = DONE; id = WHOLE; arg = 0; value = 0 })
     (pick (leb values k) (record { kind = OK; id = WHOLE; arg = 0; value = 0 })
     (record { kind = VALUE; id = WHOLE; arg = 0; value = k }))
 

@@ -1,7 +1,7 @@
 // Where a step of the innermost part of a path leads in the whole sheet.
 use crate::Site;
 use crate::levels::B;
-use crate::levels::WORDS;
+use crate::levels::PATH_WORDS;
 use crate::levels::block_at;
 use crate::levels::field;
 use crate::levels::frame_at;
@@ -37,7 +37,7 @@ pub fn dead(n: usize) -> usize
 }
 
 // A silent step inside c levels, seen in the whole sheet, level by level.
-fn climb(p: &[usize; WORDS], c: usize, g: Silent) -> Silent
+fn climb(p: &[usize; PATH_WORDS], c: usize, g: Silent) -> Silent
     requires { ⌜ Sound (now p) c ⌝ }
     ensures { λ r. ⌜ ((N : Numbers) → Go (r .next) (r .block) (r .set)
         ≡ riseAll N (framesOf (now (p .entry)) c) (Go (g .next) (g .block) (g .set))) ⌝ }
@@ -53,7 +53,14 @@ fn climb(p: &[usize; WORDS], c: usize, g: Silent) -> Silent
 
 // Where a silent step inside c levels leads, level by level, in a sheet whose states begin at `first`. Nothing else of the
 // site matters to a silent step, and a number is handed on more cheaply than the site.
-fn far(first: usize, p: &[usize; WORDS], c: usize, next: usize, block: usize, set: usize) -> usize
+fn far(
+    first: usize,
+    p: &[usize; PATH_WORDS],
+    c: usize,
+    next: usize,
+    block: usize,
+    set: usize,
+) -> usize
     requires { ⌜ Sound (now p) c ⌝ }
     ensures { λ r. ⌜ ((N : Numbers) (s : Site) → s .o ≡ first → r
         ≡ targetOf s (riseAll N (framesOf (now (p .entry)) c) (Go next block set))) ⌝ }
@@ -66,7 +73,7 @@ fn far(first: usize, p: &[usize; WORDS], c: usize, next: usize, block: usize, se
 // the block's copy of the value written; level by level where the number may be too large.
 fn moved(
     first: usize,
-    p: &[usize; WORDS],
+    p: &[usize; PATH_WORDS],
     c: usize,
     next: usize,
     block: usize,
@@ -92,7 +99,7 @@ fn moved(
 // is 0: its state is counted from the first state of the innermost, or of the block's copy of the value written.
 fn lead_at(
     first: usize,
-    p: &[usize; WORDS],
+    p: &[usize; PATH_WORDS],
     c: usize,
     next: usize,
     block: usize,
@@ -115,7 +122,7 @@ fn lead_at(
 // Where a silent step inside c levels leads.
 pub fn lead(
     first: usize,
-    p: &[usize; WORDS],
+    p: &[usize; PATH_WORDS],
     c: usize,
     next: usize,
     block: usize,
@@ -132,7 +139,7 @@ pub fn lead(
 // variable, at the level own - 1, is left. Most exits write nothing, and their steps are led from here.
 fn led(
     first: usize,
-    p: &[usize; WORDS],
+    p: &[usize; PATH_WORDS],
     i: usize,
     next: usize,
     own: usize,
@@ -158,7 +165,7 @@ fn led(
 pub fn exit(
     n: Numbers,
     s: Site,
-    p: &[usize; WORDS],
+    p: &[usize; PATH_WORDS],
     c: usize,
     kind: usize,
     value: usize,
@@ -205,7 +212,7 @@ pub fn exit(
 }
 
 // Where a step inside c levels leads.
-pub fn reach(n: Numbers, s: Site, p: &[usize; WORDS], c: usize, o: Out) -> usize
+pub fn reach(n: Numbers, s: Site, p: &[usize; PATH_WORDS], c: usize, o: Out) -> usize
     requires { ⌜ Sound (now p) c ⌝ }
     ensures { λ r. ⌜ r ≡ targetOf s (riseAll n (framesOf (now (p .entry)) c) o) ⌝ }
 {

@@ -2,7 +2,6 @@
 use crate::Level;
 use positions::Frame;
 use positions::roles::BLOCK;
-use positions::roles::SAME;
 ghost use mathlib.Core.Path.{_≡_};
 ghost use mathlib.Core.List.{[], _∷_};
 ghost use Prim.Native.Nat.{suc, _+_, _<_, _≤_};
@@ -10,6 +9,7 @@ ghost use Rattle.language.specs.Choice.{pick};
 ghost use Rattle.part_path.specs.Path.{innermostOf, passesOf, upOf, blockIn};
 ghost use Rattle.part_path.specs.Levels.{fieldOf, frameOf, framesOf, setAll, withLevel, Sound};
 ghost use Rattle.part_path.specs.Kept.{startOf};
+use positions::roles::AS_IS;
 
 // How many levels a path has at most: those of a term, and the whole.
 pub(crate) const LEVELS: usize = 6145;
@@ -42,10 +42,10 @@ pub(crate) const D: usize = 11;
 
 pub(crate) const UP: usize = 12;
 // All words.
-pub const WORDS: usize = 79885;
+pub const PATH_WORDS: usize = 79885;
 
 // Word j of level i.
-pub(crate) fn field(p: &[usize; WORDS], i: usize, j: usize) -> usize
+pub(crate) fn field(p: &[usize; PATH_WORDS], i: usize, j: usize) -> usize
     requires { ⌜ (i < 6145) × (j < 13) ⌝ }
     ensures { λ r. ⌜ r ≡ fieldOf (now (p .entry)) i j ⌝ }
 {
@@ -54,7 +54,7 @@ pub(crate) fn field(p: &[usize; WORDS], i: usize, j: usize) -> usize
 }
 
 // The frame of level i.
-pub(crate) fn frame_at(p: &[usize; WORDS], i: usize) -> Frame
+pub(crate) fn frame_at(p: &[usize; PATH_WORDS], i: usize) -> Frame
     requires { ⌜ i < 6145 ⌝ }
     ensures { λ r. ⌜ r ≡ frameOf (now (p .entry)) i ⌝ }
 {
@@ -75,7 +75,7 @@ pub(crate) fn frame_at(p: &[usize; WORDS], i: usize) -> Frame
 }
 
 // Four words from i on.
-fn put_four(p: &mut [usize; WORDS], i: usize, a: usize, b: usize, c: usize, d: usize)
+fn put_four(p: &mut [usize; PATH_WORDS], i: usize, a: usize, b: usize, c: usize, d: usize)
     requires { ⌜ i + 4 ≤ 79885 ⌝ }
     ensures { λ r. ⌜ now (p .exit) ≡ setAll (now (p .entry)) i (a ∷ b ∷ c ∷ d ∷ []) ⌝ }
 {
@@ -86,7 +86,7 @@ fn put_four(p: &mut [usize; WORDS], i: usize, a: usize, b: usize, c: usize, d: u
 }
 
 // Level i becomes l.
-pub(crate) fn put_level(p: &mut [usize; WORDS], i: usize, l: Level)
+pub(crate) fn put_level(p: &mut [usize; PATH_WORDS], i: usize, l: Level)
     requires { ⌜ i < 6145 ⌝ }
     ensures { λ r. ⌜ now (p .exit) ≡ withLevel (now (p .entry)) i l ⌝ }
 {
@@ -99,7 +99,7 @@ pub(crate) fn put_level(p: &mut [usize; WORDS], i: usize, l: Level)
 }
 
 // The first state of the innermost of c levels.
-pub(crate) fn start_at(p: &[usize; WORDS], c: usize) -> usize
+pub(crate) fn start_at(p: &[usize; PATH_WORDS], c: usize) -> usize
     requires { ⌜ Sound (now p) c ⌝ }
     ensures { λ r. ⌜ r ≡ startOf (now (p .entry)) c ⌝ }
 {
@@ -110,7 +110,7 @@ pub(crate) fn start_at(p: &[usize; WORDS], c: usize) -> usize
 }
 
 // How many of c levels there are up to the innermost block's; 0 where there is none.
-pub(crate) fn innermost(p: &[usize; WORDS], c: usize) -> usize
+pub(crate) fn innermost(p: &[usize; PATH_WORDS], c: usize) -> usize
     requires { ⌜ Sound (now p) c ⌝ }
     ensures { λ r. ⌜ r ≡ innermostOf (framesOf (now (p .entry)) c) ⌝ }
 {
@@ -124,7 +124,7 @@ pub(crate) fn innermost(p: &[usize; WORDS], c: usize) -> usize
 }
 
 // How many levels there are up to the innermost whose frame does not pass an exit on; 0 where all do.
-pub(crate) fn up_at(p: &[usize; WORDS], c: usize) -> usize
+pub(crate) fn up_at(p: &[usize; PATH_WORDS], c: usize) -> usize
     requires { ⌜ Sound (now p) c ⌝ }
     ensures { λ r. ⌜ r ≡ upOf (framesOf (now (p .entry)) c) ⌝ }
 {
@@ -135,11 +135,11 @@ pub(crate) fn up_at(p: &[usize; WORDS], c: usize) -> usize
 }
 
 // The same with a frame of this role inside them.
-pub(crate) fn up_with(p: &[usize; WORDS], c: usize, role: usize) -> usize
+pub(crate) fn up_with(p: &[usize; PATH_WORDS], c: usize, role: usize) -> usize
     requires { ⌜ Sound (now p) c ⌝ }
     ensures { λ r. ⌜ r ≡ pick (passesOf role) (upOf (framesOf (now (p .entry)) c)) (suc c) ⌝ }
 {
-    if role == SAME {
+    if role == AS_IS {
         return up_at(p, c);
     }
     if role == BLOCK {
@@ -150,7 +150,7 @@ pub(crate) fn up_with(p: &[usize; WORDS], c: usize, role: usize) -> usize
 
 // How many of c levels there are up to the innermost block whose new has the row `block - 1`; 0 where there is none. A
 // block's body is copied for each value of its variable, so that few blocks enclose a part: they are looked at one by one.
-pub(crate) fn block_at(p: &[usize; WORDS], c: usize, block: usize) -> usize
+pub(crate) fn block_at(p: &[usize; PATH_WORDS], c: usize, block: usize) -> usize
     requires { ⌜ Sound (now p) c ⌝ }
     ensures { λ r. ⌜ r ≡ blockIn (framesOf (now (p .entry)) c) block ⌝ }
 {

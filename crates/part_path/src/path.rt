@@ -9,7 +9,6 @@ use crate::levels::LEVELS;
 use crate::levels::PART;
 use crate::levels::QUESTION;
 use crate::levels::QUESTION_VALUE;
-use crate::levels::WORDS;
 use crate::levels::block_at;
 use crate::levels::field;
 use crate::levels::innermost;
@@ -19,7 +18,7 @@ use crate::levels::up_with;
 use crate::whole::after_of;
 use crate::whole::sheet_spot;
 use automaton::down::down;
-use automaton::kinds::PRIVATE;
+use part_rows::kind::PRIVATE;
 use part_rows::row::DETAIL;
 use part_rows::row::KIND;
 use part_rows::row::VALUES;
@@ -39,11 +38,12 @@ ghost use Rattle.name_use.specs.Name.{noMove};
 ghost use Rattle.automaton.specs.walk.Down.{inPrivate};
 ghost use Rattle.part_path.specs.Path.{storeOf};
 ghost use Rattle.part_path.specs.Levels.{framesOf, Sound};
-ghost use Rattle.part_path.specs.Kept.{spotIn, startOf, stopOf, leastOf, untilOf, childOf};
-ghost use Rattle.part_path.specs.Kept.{KeptPath, Covers, Arrived};
+ghost use Rattle.part_path.specs.Kept.{spotIn, startOf, stopOf, leastOf, untilOf, childOf, KeptPath, Covers};
+ghost use Rattle.part_path.specs.Kept.{Arrived};
+use crate::levels::PATH_WORDS;
 
 // The value of the private variable of the new at a row, inside c levels.
-fn value_at(p: &[usize; WORDS], c: usize, row: usize) -> usize
+fn value_at(p: &[usize; PATH_WORDS], c: usize, row: usize) -> usize
     requires { ⌜ Sound (now p) c × (row < 65536) ⌝ }
     ensures { λ r. ⌜ r ≡ storeOf (framesOf (now (p .entry)) c) row ⌝ }
 {
@@ -57,7 +57,7 @@ fn value_at(p: &[usize; WORDS], c: usize, row: usize) -> usize
 // Position k of a private variable inside c levels: its own step, then the exit.
 fn private_at(
     t: &[u16],
-    p: &[usize; WORDS],
+    p: &[usize; PATH_WORDS],
     c: usize,
     at: usize,
     q: usize,
@@ -97,7 +97,7 @@ fn private_at(
 }
 
 // Where the state k is in the innermost of c levels.
-fn spot_at(t: &[u16], root: usize, p: &[usize; WORDS], c: usize, k: usize) -> Spot
+fn spot_at(t: &[u16], root: usize, p: &[usize; PATH_WORDS], c: usize, k: usize) -> Spot
     requires { ⌜ KeptPath (now t) root (now p) c k ⌝ }
     ensures { λ r. ⌜ r ≡ spotIn (now (t .entry)) root (now (p .entry)) c k noMove ⌝ }
 {
@@ -118,7 +118,7 @@ fn spot_at(t: &[u16], root: usize, p: &[usize; WORDS], c: usize, k: usize) -> Sp
 }
 
 // The end of the states of the innermost of c levels.
-fn stop_at(t: &[u16], root: usize, p: &[usize; WORDS], c: usize) -> usize
+fn stop_at(t: &[u16], root: usize, p: &[usize; PATH_WORDS], c: usize) -> usize
     requires { ⌜ Sound (now p) c ⌝ }
     ensures { λ r. ⌜ r ≡ stopOf (now (t .entry)) root (now (p .entry)) c ⌝ }
 {
@@ -153,7 +153,7 @@ fn until(k: usize, past: usize, end: usize) -> usize
 fn child(
     t: &[u16],
     root: usize,
-    p: &[usize; WORDS],
+    p: &[usize; PATH_WORDS],
     c: usize,
     k: usize,
     part: usize,
@@ -181,7 +181,7 @@ fn child(
 }
 
 // Without the levels whose states are before k.
-fn leave(p: &[usize; WORDS], c: usize, k: usize) -> usize
+fn leave(p: &[usize; PATH_WORDS], c: usize, k: usize) -> usize
     requires { ⌜ Sound (now p) c ⌝ }
     ensures { λ r. ⌜ (r ≤ c) × Covers (now (p .entry)) r k ⌝ }
 {
@@ -196,7 +196,7 @@ fn leave(p: &[usize; WORDS], c: usize, k: usize) -> usize
 }
 
 // Down from the innermost of c levels to the part where the state k is at hand.
-fn enter(t: &[u16], root: usize, p: &mut [usize; WORDS], c: usize, k: usize) -> Stop
+fn enter(t: &[u16], root: usize, p: &mut [usize; PATH_WORDS], c: usize, k: usize) -> Stop
     requires { ⌜ KeptPath (now t) root (now p) c k × (Covers (now p) c k × (k < 65536)) ⌝ }
     ensures { λ r. ⌜ Arrived (now (t .entry)) root (now (p .exit)) (r .levels) k (r .out) ⌝ }
 {
@@ -227,7 +227,7 @@ fn enter(t: &[u16], root: usize, p: &mut [usize; WORDS], c: usize, k: usize) -> 
 }
 
 // From a path of c levels to one of a state before k to that of the state k.
-pub fn go_to(t: &[u16], root: usize, p: &mut [usize; WORDS], c: usize, k: usize) -> Stop
+pub fn go_to(t: &[u16], root: usize, p: &mut [usize; PATH_WORDS], c: usize, k: usize) -> Stop
     requires { ⌜ KeptPath (now t) root (now p) c k × (k < 65536) ⌝ }
     ensures { λ r. ⌜ Arrived (now (t .entry)) root (now (p .exit)) (r .levels) k (r .out) ⌝ }
 {

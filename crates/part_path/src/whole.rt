@@ -15,7 +15,6 @@ use positions::moves::VALUE;
 use positions::row::cell;
 use positions::row::mul_add;
 use positions::row::sum;
-use positions::types::COMMAND;
 use positions::types::answers;
 use positions::types::question_number;
 use positions::types::questions;
@@ -23,6 +22,7 @@ ghost use mathlib.Core.Path.{_≡_};
 ghost use Rattle.part_path.specs.States.{openedOf, atStart, repliedOf, afterOf, spotsOf};
 ghost use Rattle.name_use.specs.Name.{noMove};
 ghost use Rattle.part_path.specs.Kept.{sheetSpot};
+use positions::types::COMMANDS;
 
 // The id that stands for the whole term.
 pub const WHOLE: usize = 255;
@@ -67,7 +67,7 @@ pub fn at_start(t: &[u16], root: usize, m: Move) -> Out
 fn replied(class: usize, values: usize, k: usize) -> Move
     ensures { λ r. ⌜ r ≡ repliedOf class values k ⌝ }
 {
-    if class == COMMAND {
+    if class == COMMANDS {
         return Move {
             kind: DONE,
             id: WHOLE,

@@ -1,13 +1,18 @@
 -- The stores of a row, over plain variables.
-use Prim.Native.Nat.{ℕ, _+_}
+use Prim.Native.Nat.{ℕ, _+_, _*_}
 use native.Mathlib.Omega.{arith}
-use mathlib.Core.Path.{_≡_, _∙_}
+use mathlib.Core.Path.{_≡_, refl, _∙_}
 use mathlib.Core.List.{List}
-use lib.ListN.{set}
+use lib.ListN.{getD, set}
 use Rattle.language.specs.declared.Numbers.{Numbers}
 use Rattle.parts.specs.Rule.{values}
-use Rattle.part_rows.specs.Row.{cell, rowKind, classOf, detail, fiveFrom, five, rowWritten}
+use Rattle.part_rows.specs.Row.{cell, word, rowKind, classOf, detail, fiveFrom, five, rowWritten}
 use Rattle.heads.specs.declared.head.Record.{Record}
+
+-- a word of the table
+pub word-read : (t : List ℕ) (place i : ℕ) → getD t (9 * place + i) 0 ≡ word t place i
+unfolding word cell
+word-read t place i = refl
 
 -- the words of a row follow each other
 pub cell-next : (place i : ℕ) → cell place 0 + i ≡ cell place i

@@ -1,1 +1,3 @@
+pub mod PartKind
+pub mod Class
 pub mod Row

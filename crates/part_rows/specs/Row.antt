@@ -9,6 +9,9 @@ use Rattle.language.specs.Choice.{pick}
 use Rattle.language.specs.Number.{code, fromByte}
 use Rattle.language.specs.declared.Numbers.{Numbers}
 use Rattle.records.specs.Standing.{standingOf}
+use Rattle.part_rows.specs.PartKind.{CONSTANT, PRIVATE, PARAMETER, ROUTINE, KIND, END, CLASS, VALUES, DETAIL}
+use Rattle.part_rows.specs.PartKind.{PARTS, ROW-WORDS, ID-SPAN, COUNT-SPAN, PLACE-SPAN}
+use Rattle.part_rows.specs.Class.{COMMANDS, EXPRESSIONS, VARIABLES}
 use Rattle.parts.specs.Rule.{values}
 use Rattle.records.specs.declared.kind.Rule.{Rule}
 use Rattle.records.specs.declared.kind.Rule.the-variants.{Skip, Diverge, Truth, Number, Use, Fetch, Operate}
@@ -20,7 +23,7 @@ use Rattle.records.specs.declared.standing.Standing.the-variants.{Procedure as 
 
 -- where word i of the row at a place stands
 unfoldable pub cell : ℕ → ℕ → ℕ
-cell place i = 9 * place + i
+cell place i = ROW-WORDS * place + i
 
 -- word i of the row at a place
 unfoldable pub word : List ℕ → ℕ → ℕ → ℕ
@@ -31,15 +34,15 @@ unfoldable pub useKind : ℕ → Standing → ℕ
 useKind kind Free = kind
 useKind kind Retired = kind
 useKind kind (Declared place once) = kind
-useKind kind (Variable number holds) = 128
-useKind kind (Parameter number ty) = 129
-useKind kind (Routine number place) = 130
+useKind kind (Variable number holds) = PRIVATE
+useKind kind (Parameter number ty) = PARAMETER
+useKind kind (Routine number place) = ROUTINE
 
 unfoldable pub rowKind : Rule → Record → ℕ
 rowKind Skip r = r .kind
 rowKind Diverge r = r .kind
 rowKind Truth r = r .kind
-rowKind Number r = 18
+rowKind Number r = CONSTANT
 rowKind Use r = useKind (r .kind) (standingOf (r .b))
 rowKind Fetch r = r .kind
 rowKind Operate r = r .kind
@@ -51,11 +54,11 @@ rowKind New r = r .kind
 rowKind Procedure r = r .kind
 
 unfoldable pub classOf : ℕ → ℕ
-classOf ty = pick (eqb ty 0) 0 (pick (ltb ty 3) 1 2)
+classOf ty = pick (eqb ty 0) COMMANDS (pick (ltb ty 3) EXPRESSIONS VARIABLES)
 
--- the detail of a use of a name: its id, 256 times the number of its arguments and, where it asks once, 2,048
+-- the detail of a use of a name: its id, ID-SPAN times the number of its arguments and, where it asks once, ONCE
 unfoldable pub declaredDetail : ℕ → ℕ → ℕ → ℕ
-declaredDetail id count once = id + 256 * (count % 8 + 8 * (once % 2))
+declaredDetail id count once = id + ID-SPAN * (count % COUNT-SPAN + COUNT-SPAN * (once % 2))
 
 -- the detail of a use of an id with a number of arguments: of a name that, of a variable or a parameter its binder's
 -- number, of a procedure the place of its record and 4,096 times the number of arguments
@@ -65,7 +68,7 @@ useDetail id count Retired = declaredDetail id count 0
 useDetail id count (Declared place once) = declaredDetail id count once
 useDetail id count (Variable number holds) = number
 useDetail id count (Parameter number ty) = number
-useDetail id count (Routine number place) = place % 4096 + 4096 * (count % 8)
+useDetail id count (Routine number place) = place % PLACE-SPAN + PLACE-SPAN * (count % COUNT-SPAN)
 
 -- the detail of a record that `number` binders enclose
 unfoldable pub detail : Rule → Numbers → Record → ℕ → ℕ
@@ -86,22 +89,22 @@ detail Procedure N r number = number
 -- the table with five words from a place of it on
 unfoldable pub fiveFrom : ℕ → ℕ → ℕ → ℕ → ℕ → ℕ → List ℕ → List ℕ
 fiveFrom at kind end class values detail t =
-    set (set (set (set (set t at kind) (at + 1) end) (at + 2) class) (at + 3) values) (at + 4) detail
+    set (set (set (set (set t at kind) (at + END) end) (at + CLASS) class) (at + VALUES) values) (at + DETAIL) detail
 
 -- the table with the first five words of the row at a place
 abbrev pub five : ℕ → ℕ → ℕ → ℕ → ℕ → ℕ → List ℕ → List ℕ
-five place kind end class values detail t = fiveFrom (cell place 0) kind end class values detail t
+five place kind end class values detail t = fiveFrom (cell place KIND) kind end class values detail t
 
 -- the table with the first five words of a record's row written; the record has type ty, `number` binders enclose it, and it
 -- ends before a place
 unfoldable pub rowWritten : Numbers → Record → ℕ → ℕ → ℕ → List ℕ → List ℕ
 rowWritten N r ty number end t =
-    set (set (set (set (set t (cell (r .place) 0) (rowKind (r .rule) r))
-      (cell (r .place) 1) end)
-      (cell (r .place) 2) (classOf ty))
-      (cell (r .place) 3) (values N ty))
-      (cell (r .place) 4) (detail (r .rule) N r number)
+    set (set (set (set (set t (cell (r .place) KIND) (rowKind (r .rule) r))
+      (cell (r .place) END) end)
+      (cell (r .place) CLASS) (classOf ty))
+      (cell (r .place) VALUES) (values N ty))
+      (cell (r .place) DETAIL) (detail (r .rule) N r number)
 
 -- the table with the place of part j in the row at a place
 unfoldable pub linked : ℕ → ℕ → ℕ → List ℕ → List ℕ
-linked place j part t = set t (cell place (5 + j)) part
+linked place j part t = set t (cell place (PARTS + j)) part

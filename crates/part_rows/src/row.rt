@@ -1,17 +1,23 @@
 // The table of parts: nine words for each place of a sheet.
+use crate::short_kind::CONSTANT;
+use crate::short_kind::PARAMETER;
+use crate::short_kind::PRIVATE;
+use crate::short_kind::ROUTINE;
 use heads::head::Record;
 use language::Numbers;
 use parts::typing::COMMAND;
 use parts::typing::TRUTH_VARIABLE;
 use parts::weight::values_of;
 use records::kind::Rule;
+use records::read::short_at;
 use records::standing::Standing;
 use records::standing::meaning_of;
 ghost use mathlib.Core.Path.{_≡_};
 ghost use Prim.Native.Nat.{_+_, _*_, _≤_, _<_};
 ghost use lib.ListN.{set, length};
-ghost use Rattle.part_rows.specs.Row.{cell, useKind, rowKind, classOf, declaredDetail, useDetail, detail};
+ghost use Rattle.part_rows.specs.Row.{cell, word, useKind, rowKind, classOf, declaredDetail, useDetail, detail};
 ghost use Rattle.part_rows.specs.Row.{fiveFrom, five, rowWritten, linked};
+ghost use Rattle.part_rows.specs.PartKind.{ROW-WORDS};
 ghost use Rattle.records.specs.Standing.{standingOf};
 
 // The words of a row: the kind of the part, the place after it, the class of its type and the number of values of its
@@ -32,7 +38,7 @@ pub const DETAIL: usize = 4;
 pub const PARTS: usize = 5;
 
 // How many they are.
-pub const WORDS: usize = 9;
+pub const ROW_WORDS: usize = 9;
 
 // After the rows of 4,096 places a table has a word for each byte that may be an id, the notes; a mark and a slot for
 // each place; the height of the stack of forms, and the forms. Where they begin, and how many words a table has.
@@ -48,32 +54,20 @@ pub const FORMS: usize = 45313;
 
 pub const TABLE: usize = 58313;
 
-// The kinds of rows that are no kinds of records: of every constant, and of the uses of a private variable, of a
-// parameter and of a procedure.
-const CONSTANT: u16 = 18;
+// The classes of types, and what numbers are packed by, as words of the table.
+const COMMANDS: u16 = crate::class::COMMANDS as u16;
 
-const PRIVATE: u16 = 128;
+const EXPRESSIONS: u16 = crate::class::EXPRESSIONS as u16;
 
-const PARAMETER: u16 = 129;
+const VARIABLES: u16 = crate::class::VARIABLES as u16;
 
-const USED: u16 = 130;
+const ID_SPAN: u16 = crate::pack::ID_SPAN as u16;
 
-// The classes of types.
-const COMMANDS: u16 = 0;
+const PLACE_SPAN: u16 = crate::pack::PLACE_SPAN as u16;
 
-const EXPRESSIONS: u16 = 1;
+const COUNT_SPAN: u8 = crate::pack::COUNT_SPAN as u8;
 
-const VARIABLES: u16 = 2;
-
-// Where ids end in the detail of a use of a name, and places in that of a use of a procedure; where the number of
-// arguments ends in both; what the detail of a name has besides where it asks once.
-const IDS: u16 = 256;
-
-const PLACES: u16 = 4096;
-
-const COUNTS: u8 = 8;
-
-const ONCE: u16 = 2048;
+const ONCE: u16 = crate::pack::ONCE as u16;
 
 // Stores v at i, if the table reaches that far.
 pub fn put(t: &mut [u16], i: usize, v: u16)
@@ -89,7 +83,15 @@ pub(crate) fn cell_at(place: usize, i: usize) -> usize
     requires { ⌜ (place < 65536) × (i < 65536) ⌝ }
     ensures { λ r. ⌜ r ≡ cell place i ⌝ }
 {
-    WORDS * place + i
+    ROW_WORDS * place + i
+}
+
+// Word i of the row at a place, 0 past the end.
+pub fn word_of(t: &[u16], place: usize, i: usize) -> usize
+    requires { ⌜ (place < 65536) × (i < ROW-WORDS) ⌝ }
+    ensures { λ r. ⌜ (r ≡ word (now (t .entry)) place i) × (r < 65536) ⌝ }
+{
+    short_at(t, ROW_WORDS * place + i) as usize
 }
 
 // Stores v in word i of the row at a place, if the table reaches that far.
@@ -118,7 +120,7 @@ pub(crate) fn use_kind(kind: u16, c: u32) -> u16
         Standing::Procedure {
             number: _,
             place: _,
-        } => USED,
+        } => ROUTINE,
     }
 }
 
@@ -162,7 +164,7 @@ pub(crate) fn class_of(ty: u8) -> u16
 fn name_detail(id: u8, count: u8, once: u8) -> u16
     ensures { λ r. ⌜ r ≡ declaredDetail id count once ⌝ }
 {
-    id as u16 + IDS * ((count % COUNTS) as u16) + ONCE * ((once % 2) as u16)
+    id as u16 + ID_SPAN * ((count % COUNT_SPAN) as u16) + ONCE * ((once % 2) as u16)
 }
 
 // The detail of a use: of a name as above, of a variable or a parameter its number, of a procedure the place of its
@@ -178,7 +180,7 @@ pub(crate) fn use_detail(r: Record) -> u16
         Standing::Variable { number, holds: _ } => number,
         Standing::Parameter { number, ty: _ } => number,
         Standing::Procedure { number: _, place } => {
-            (place % PLACES as u32) as u16 + PLACES * ((r.parts % COUNTS) as u16)
+            (place % PLACE_SPAN as u32) as u16 + PLACE_SPAN * ((r.parts % COUNT_SPAN) as u16)
         }
     }
 }

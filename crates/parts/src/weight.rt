@@ -2,28 +2,25 @@
 use crate::typing::COMMAND;
 use crate::typing::TRUTH_VARIABLE;
 use language::Numbers;
+use records::limits::GREATEST_SIZE;
+use records::limits::HELD_AT;
 ghost use mathlib.Core.Path.{_≡_};
 ghost use Prim.Native.Nat.{_+_, _*_, _≤_, _<_, min};
 ghost use Rattle.records.specs.Limits.{held-at};
 ghost use Rattle.parts.specs.Rule.{values, questions, answers};
 
-// The greatest size of a sheet, and where weights and sizes are held.
-pub const LIMIT: u32 = 4096;
-
-pub const HELD: u32 = 4097;
-
 // a + b, held at 4,097.
 pub fn sat_add(a: u32, b: u32) -> u32
     ensures { λ r. ⌜ r ≡ min (a + b) held-at ⌝ }
 {
-    if HELD <= a {
-        return HELD;
+    if HELD_AT <= a {
+        return HELD_AT;
     }
-    if HELD <= b {
-        return HELD;
+    if HELD_AT <= b {
+        return HELD_AT;
     }
     let c = a + b;
-    if HELD <= c { HELD } else { c }
+    if HELD_AT <= c { HELD_AT } else { c }
 }
 
 // a * b, held at 4,097.
@@ -36,14 +33,14 @@ pub fn sat_mul(a: u32, b: u32) -> u32
     if b == 0 {
         return 0;
     }
-    if LIMIT < a {
-        return HELD;
+    if GREATEST_SIZE < a {
+        return HELD_AT;
     }
-    if LIMIT < b {
-        return HELD;
+    if GREATEST_SIZE < b {
+        return HELD_AT;
     }
     let c = a * b;
-    if HELD <= c { HELD } else { c }
+    if HELD_AT <= c { HELD_AT } else { c }
 }
 
 // The number of values of a type's data.

@@ -6,18 +6,14 @@ use mathlib.Core.Path.{_≡_, refl, ap, sym, _∙_}
 use lib.ListN.{getD}
 use lib.Seq.{getD-drop}
 use borrow.Author.Tests.{lt-ltb, le-ltb, eq-eqb, ne-eqb}
-use Rattle.procedures.specs.PartKind.{NAME, OPERATE, ASSIGN, NEW, PARAMETER, USE, VALUES, PARTS}
+use Rattle.part_rows.specs.PartKind.{NAME, OPERATE, ASSIGN, NEW, PARAMETER, ROUTINE, VALUES, PARTS}
 use Rattle.procedures.specs.Made.{sign}
 use Rattle.procedures.specs.Marks.{bits}
-use Rattle.part_rows.specs.Row.{cell, word}
+use Rattle.part_rows.specs.Row.{word}
 use Rattle.weighing.specs.Stack.{marks-from, slots-from, height-at, marksIn, slotOf, heightOf, coefficientOf}
 use Rattle.weighing.specs.Plan.{termPlace, termForm, factorOf, comeAt, argumentOf, throughOf, comeOf, usedOf}
 
 -- words of the table
-pub word-read : (t : List ℕ) (place i : ℕ) → getD t (9 * place + i) 0 ≡ word t place i
-unfolding word cell
-word-read t place i = refl
-
 pub height-read : (t : List ℕ) → getD t height-at 0 ≡ heightOf t
 unfolding heightOf
 height-read t = refl
@@ -42,16 +38,16 @@ factor-right t kind detail k at place j p r h n q e =
     rw (eq-eqb kind OPERATE h, ne-eqb j 0 n) (e ∙ ap (λ x. word t x VALUES) q)
 
 pub factor-use : (t : List ℕ) (kind detail k at place j p r : ℕ) → (kind ≡ OPERATE → ⊥) → (kind ≡ NAME → ⊥) →
-    kind ≡ USE → p ≡ termForm t detail → r ≡ coefficientOf t p (k + j) → r ≡ factorOf t kind detail k at place j
+    kind ≡ ROUTINE → p ≡ termForm t detail → r ≡ coefficientOf t p (k + j) → r ≡ factorOf t kind detail k at place j
 unfolding factorOf
 factor-use t kind detail k at place j p r a b u q e =
-    rw (ne-eqb kind OPERATE a, ne-eqb kind NAME b, eq-eqb kind USE u) (e ∙ ap (λ x. coefficientOf t x (k + j)) q)
+    rw (ne-eqb kind OPERATE a, ne-eqb kind NAME b, eq-eqb kind ROUTINE u) (e ∙ ap (λ x. coefficientOf t x (k + j)) q)
 
 pub factor-target : (t : List ℕ) (kind detail k at place j r : ℕ) → (kind ≡ OPERATE → ⊥) → (kind ≡ NAME → ⊥) →
-    (kind ≡ USE → ⊥) → kind ≡ ASSIGN → j ≡ 0 → r ≡ word t place VALUES → r ≡ factorOf t kind detail k at place j
+    (kind ≡ ROUTINE → ⊥) → kind ≡ ASSIGN → j ≡ 0 → r ≡ word t place VALUES → r ≡ factorOf t kind detail k at place j
 unfolding factorOf
 factor-target t kind detail k at place j r a b c l z e =
-    rw (ne-eqb kind OPERATE a, ne-eqb kind NAME b, ne-eqb kind USE c, eq-eqb kind ASSIGN l, eq-eqb j 0 z) e
+    rw (ne-eqb kind OPERATE a, ne-eqb kind NAME b, ne-eqb kind ROUTINE c, eq-eqb kind ASSIGN l, eq-eqb j 0 z) e
 
 -- marks
 pub come-read : (t : List ℕ) (place x : ℕ) → x ≡ getD t (marks-from + place) 0 →
@@ -86,16 +82,16 @@ pub come-parameter : (t M : List ℕ) (kind detail k at count r : ℕ) → kind 
 unfolding comeOf
 come-parameter t M kind detail k at count r h e = (rw (eq-eqb kind PARAMETER h) (ap (λ x. 1 + x) e), omega arith)
 
-pub come-use : (t M : List ℕ) (kind detail k at count p c r : ℕ) → (kind ≡ PARAMETER → ⊥) → kind ≡ USE →
+pub come-use : (t M : List ℕ) (kind detail k at count p c r : ℕ) → (kind ≡ PARAMETER → ⊥) → kind ≡ ROUTINE →
     p ≡ termPlace t detail → c ≡ comeAt M p → r ≡ throughOf t M at count k c → r ≡ comeOf t M kind detail k at count
 unfolding comeOf
 come-use t M kind detail k at count p c r h u q g e =
-    rw (ne-eqb kind PARAMETER h, eq-eqb kind USE u) (e ∙ ap (throughOf t M at count k) (g ∙ ap (comeAt M) q))
+    rw (ne-eqb kind PARAMETER h, eq-eqb kind ROUTINE u) (e ∙ ap (throughOf t M at count k) (g ∙ ap (comeAt M) q))
 
-pub come-none : (t M : List ℕ) (kind detail k at count : ℕ) → (kind ≡ PARAMETER → ⊥) → (kind ≡ USE → ⊥) →
+pub come-none : (t M : List ℕ) (kind detail k at count : ℕ) → (kind ≡ PARAMETER → ⊥) → (kind ≡ ROUTINE → ⊥) →
     (0 ≡ comeOf t M kind detail k at count) × (0 < 128)
 unfolding comeOf
-come-none t M kind detail k at count h u = (rw (ne-eqb kind PARAMETER h, ne-eqb kind USE u), omega arith)
+come-none t M kind detail k at count h u = (rw (ne-eqb kind PARAMETER h, ne-eqb kind ROUTINE u), omega arith)
 
 -- used parameters
 pub unused-is : (n r : ℕ) → r ≡ n → r ≡ 0 → (0 ≡ sign n) × (0 ≤ 1)

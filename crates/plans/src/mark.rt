@@ -1,8 +1,7 @@
 // Marks of parts: what they come down to, and which arguments a procedure uses.
-use crate::kind::PARAMETER;
-use crate::kind::USE;
+use part_rows::kind::PARAMETER;
 use crate::row::term_place;
-use crate::row::word_of;
+use part_rows::row::word_of;
 use forms::read::coefficient;
 use forms::set::least;
 use part_rows::row::MARKS;
@@ -13,19 +12,18 @@ ghost use Prim.Native.Nat.{_≤_, _<_};
 ghost use Rattle.procedures.specs.Made.{sign};
 ghost use Rattle.weighing.specs.Stack.{marksIn, coefficientOf};
 ghost use Rattle.weighing.specs.Plan.{comeAt, argumentOf, throughOf, comeOf, usedOf};
+use part_rows::kind::ROUTINE;
+use part_rows::pack::COME_SPAN;
 
 // The greatest number that a procedure has: it may have four parameters.
-const GREATEST: usize = 124;
-
-// Where what a part comes down to ends in its mark.
-pub const COMES: usize = 128;
+const LAST_PROCEDURE: usize = 124;
 
 // What the part at a place comes down to.
 pub fn come_at(t: &[u16], place: usize) -> usize
     requires { ⌜ place < 65536 ⌝ }
     ensures { λ r. ⌜ (r ≡ comeAt (marksIn (now (t .entry))) place) × (r < 128) ⌝ }
 {
-    short_at(t, MARKS + place) as usize % COMES
+    short_at(t, MARKS + place) as usize % COME_SPAN
 }
 
 // What argument j of the use at a place comes down to.
@@ -66,9 +64,9 @@ pub fn come_of(
     ensures { λ r. ⌜ (r ≡ comeOf (now (t .entry)) (marksIn (now (t .entry))) kind detail k at count) × (r < 128) ⌝ }
 {
     if kind == PARAMETER {
-        return 1 + least(detail, GREATEST);
+        return 1 + least(detail, LAST_PROCEDURE);
     }
-    if kind == USE {
+    if kind == ROUTINE {
         let c = come_at(t, term_place(t, detail));
         return through_of(t, at, count, k, c);
     }

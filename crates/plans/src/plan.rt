@@ -1,41 +1,34 @@
 // What a record's form is made of: a first form, and its parts with their factors.
-use crate::kind::ASSIGN;
-use crate::kind::FETCH;
-use crate::kind::IF;
-use crate::kind::NAME;
-use crate::kind::NEW;
-use crate::kind::OPERATE;
-use crate::kind::PARAMETER;
-use crate::kind::PRIVATE;
-use crate::kind::USE;
-use crate::row::PLACES;
 use crate::row::answers_at;
 use crate::row::questions_at;
 use crate::row::short;
 use crate::row::term_form;
 use crate::row::values_at;
-use crate::row::word_of;
 use forms::read::coefficient;
 use forms::set::least;
 use forms::set::set_constant;
 use forms::set::set_lower;
 use forms::set::set_unit;
+use part_rows::kind::ASSIGN;
+use part_rows::kind::FETCH;
+use part_rows::kind::IF;
+use part_rows::kind::NAME;
+use part_rows::kind::NEW;
+use part_rows::kind::OPERATE;
+use part_rows::kind::PARAMETER;
+use part_rows::kind::PRIVATE;
+use part_rows::kind::ROUTINE;
+use part_rows::pack::COUNT_SPAN;
+use part_rows::pack::ID_SPAN;
+use part_rows::pack::ONCE;
+use part_rows::pack::PLACE_SPAN;
 use part_rows::row::PARTS;
+use part_rows::row::word_of;
+use records::limits::MOST_ARGUMENTS;
 ghost use mathlib.Core.Path.{_≡_};
 ghost use Prim.Native.Nat.{_<_};
 ghost use Rattle.weighing.specs.Plan.{partsOf, ownOf, factorOf, extraOf};
 ghost use Rattle.weighing.specs.Step.{started};
-
-// The detail of a name is its id and this many times the number of its arguments, which is below COUNTS; where the name
-// asks once, it has ONCE besides.
-const IDS: usize = 256;
-
-const COUNTS: usize = 8;
-
-const ONCE: usize = 2048;
-
-// The greatest number of arguments.
-const ARGUMENTS: usize = 4;
 
 // The greatest number of a parameter.
 const LAST_PARAMETER: usize = 127;
@@ -48,7 +41,7 @@ pub fn parts_of(kind: usize, detail: usize) -> usize
         return 0;
     }
     if kind == NAME {
-        return least(detail / IDS % COUNTS, ARGUMENTS);
+        return least(detail / ID_SPAN % COUNT_SPAN, MOST_ARGUMENTS);
     }
     if kind == FETCH {
         return 1;
@@ -65,8 +58,8 @@ pub fn parts_of(kind: usize, detail: usize) -> usize
     if kind == NEW {
         return 1;
     }
-    if kind == USE {
-        return least(detail / PLACES, ARGUMENTS);
+    if kind == ROUTINE {
+        return least(detail / PLACE_SPAN, MOST_ARGUMENTS);
     }
     0
 }
@@ -92,7 +85,7 @@ pub fn start(t: &mut [u16], row: usize, kind: usize, detail: usize, k: usize)
     requires { ⌜ (row < 65536) × (k < 65536) ⌝ }
     ensures { λ r. ⌜ now (t .exit) ≡ started kind detail k row (now (t .entry)) ⌝ }
 {
-    if kind == USE {
+    if kind == ROUTINE {
         let from = term_form(t, detail);
         set_lower(t, row, from, k);
         return;
@@ -129,7 +122,7 @@ pub fn factor_of(
     if kind == NAME {
         return questions_at(t, place);
     }
-    if kind == USE {
+    if kind == ROUTINE {
         let term = term_form(t, detail);
         return coefficient(t, term, k + j);
     }

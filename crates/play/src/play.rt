@@ -1,4 +1,11 @@
 // The records of a play, and the letters of their moves.
+use automaton::moves::MOVE_KINDS;
+use automaton::moves::VALUE;
+use explicit::letters::ARGUMENT_UNIT;
+use explicit::letters::ID_UNIT;
+use explicit::letters::KIND_UNIT;
+use explicit::letters::RANK_ZERO;
+use records::limits::BYTES;
 use records::read::byte_at;
 use records::store::put_byte;
 ghost use mathlib.Core.Path.{_≡_};
@@ -8,32 +15,10 @@ ghost use Rattle.play.specs.Records.{parse};
 ghost use Rattle.play.specs.Bytes.{widthOf, counted, letterFrom, firstLetter, withRecord, afterRecord};
 ghost use Rattle.play.specs.Bytes.{withRecords};
 
-// The first kind of move with a value.
-const VALUED: usize = 5;
+// Bytes of a record without a value, and of one with a value.
+pub const BARE_BYTES: usize = 3;
 
-// The first number that is no kind of move.
-const KINDS: usize = 7;
-
-// Bytes of a record without a value.
-const SHORT: usize = 3;
-
-// Bytes of a record with a value.
-const LONG: usize = 4;
-
-// A letter has kind, id, argument and value in a byte each: the kind's place.
-const OF_KIND: usize = 16777216;
-
-// The id's place.
-const OF_ID: usize = 65536;
-
-// The argument's place.
-const OF_ARGUMENT: usize = 256;
-
-// What is added to a signed value.
-const SHIFT: usize = 128;
-
-// How many values a byte has.
-const BYTE: usize = 256;
+pub const VALUED_BYTES: usize = 4;
 
 // What a play's bytes are: so many records, or the place of the first bad one.
 pub enum Parsed {
@@ -45,11 +30,11 @@ pub enum Parsed {
 pub fn width_of(kind: usize) -> usize
     ensures { λ r. ⌜ r ≡ widthOf kind ⌝ }
 {
-    if kind < VALUED {
-        return SHORT;
+    if kind < VALUE {
+        return BARE_BYTES;
     }
-    if kind < KINDS {
-        return LONG;
+    if kind < MOVE_KINDS {
+        return VALUED_BYTES;
     }
     0
 }
@@ -79,11 +64,11 @@ pub(crate) fn letter_from(kind: u8, id: u8, arg: u8, value: u8) -> usize
     ensures { λ r. ⌜ r ≡ letterFrom kind id arg value ⌝ }
 {
     let k = kind as usize;
-    let place = k * OF_KIND + id as usize * OF_ID + arg as usize * OF_ARGUMENT;
-    if k < VALUED {
+    let place = k * KIND_UNIT + id as usize * ID_UNIT + arg as usize * ARGUMENT_UNIT;
+    if k < VALUE {
         return place;
     }
-    place + (value as usize + SHIFT) % BYTE
+    place + (value as usize + RANK_ZERO) % BYTES
 }
 
 // The letter of the record with which the bytes begin.
@@ -97,7 +82,7 @@ pub fn first_letter(s: &[u8]) -> usize
 pub fn put(s: &mut [u8], i: usize, v: usize)
     ensures { λ r. ⌜ now (s .exit) ≡ set (now (s .entry)) i (v % 256) ⌝ }
 {
-    put_byte(s, i, (v % BYTE) as u8);
+    put_byte(s, i, (v % BYTES) as u8);
 }
 
 // Writes the record of a letter from a place on: the place after it.
@@ -106,14 +91,14 @@ pub fn write_record(s: &mut [u8], at: usize, l: usize) -> usize
     ensures returned { λ r. ⌜ r ≡ afterRecord at l ⌝ }
     ensures written { λ r. ⌜ now (s .exit) ≡ withRecord (now (s .entry)) at l ⌝ }
 {
-    put(s, at, l / OF_KIND);
-    put(s, at + 1, l / OF_ID);
-    put(s, at + 2, l / OF_ARGUMENT);
-    if l / OF_KIND < VALUED {
-        return at + SHORT;
+    put(s, at, l / KIND_UNIT);
+    put(s, at + 1, l / ID_UNIT);
+    put(s, at + 2, l / ARGUMENT_UNIT);
+    if l / KIND_UNIT < VALUE {
+        return at + BARE_BYTES;
     }
-    put(s, at + 3, l % BYTE + SHIFT);
-    at + LONG
+    put(s, at + 3, l % BYTES + RANK_ZERO);
+    at + VALUED_BYTES
 }
 
 // Writes the records of the letters in the words from base on, len of them, from the start.

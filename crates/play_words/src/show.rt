@@ -2,8 +2,8 @@
 use crate::Decision;
 use difference::word::spell;
 use play::play::write_play;
-use records::refusal::NEW;
-use records::refusal::OLD;
+use records::refusal::NEW_SHEET;
+use records::refusal::OLD_SHEET;
 ghost use Prim.Native.Nat.{_*_, _≤_};
 ghost use lib.ListN.{length, take};
 ghost use Rattle.difference.specs.Spelled.{Trail};
@@ -18,7 +18,13 @@ pub fn show(words: &mut [u32], space: &mut [u8], n: usize, k: usize, f: usize) -
     let moves = spell(words, n, k);
     write_play(words, 5 * n, moves, space);
     if last == f {
-        return Decision::Apart { sheet: OLD, moves };
+        return Decision::Apart {
+            sheet: OLD_SHEET,
+            moves,
+        };
     }
-    Decision::Apart { sheet: NEW, moves }
+    Decision::Apart {
+        sheet: NEW_SHEET,
+        moves,
+    }
 }

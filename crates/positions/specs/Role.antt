@@ -2,8 +2,8 @@
 use Prim.Native.Nat.{ℕ}
 
 -- the whole exits so
-abbrev pub SAME : ℕ
-SAME = 0
+abbrev pub AS-IS : ℕ
+AS-IS = 0
 
 -- done leads to a
 abbrev pub THEN : ℕ

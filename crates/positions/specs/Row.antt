@@ -4,7 +4,7 @@ use mathlib.Core.List.{List}
 use lib.Dec.{ltb}
 use Rattle.language.specs.Choice.{pick}
 use Rattle.part_rows.specs.Row.{word}
-use Rattle.positions.specs.Column.{WEIGHT, CLASS, VALUES, DETAIL, PARTS}
+use Rattle.part_rows.specs.PartKind.{WEIGHT, CLASS, VALUES, DETAIL, PARTS, ID-SPAN, COUNT-SPAN, ONCE}
 
 -- the place of part j
 abbrev pub partOf : List ℕ → ℕ → ℕ → ℕ
@@ -20,23 +20,12 @@ partClass t at j = word t (partOf t at j) CLASS
 unfoldable pub partValues : List ℕ → ℕ → ℕ → ℕ
 partValues t at j = word t (partOf t at j) VALUES
 
--- the detail of a name is its id and this many times the number of its arguments, which is below COUNTS; where the name
--- asks once, it has ONCE besides
-abbrev pub IDS : ℕ
-IDS = 256
-
-abbrev pub COUNTS : ℕ
-COUNTS = 8
-
-abbrev pub ONCE : ℕ
-ONCE = 2048
-
 -- the id of a name, how many arguments it has, and how many second waits
 unfoldable pub nameId : List ℕ → ℕ → ℕ
-nameId t at = word t at DETAIL % IDS
+nameId t at = word t at DETAIL % ID-SPAN
 
 unfoldable pub nameCount : List ℕ → ℕ → ℕ
-nameCount t at = word t at DETAIL / IDS % COUNTS
+nameCount t at = word t at DETAIL / ID-SPAN % COUNT-SPAN
 
 unfoldable pub nameSpent : List ℕ → ℕ → ℕ
 nameSpent t at = word t at DETAIL / ONCE
@@ -46,17 +35,17 @@ abbrev pub SHORTS : ℕ
 SHORTS = 65536
 
 -- numbers below this are added without becoming too large, and those below its root are multiplied
-abbrev pub TOO-LARGE : ℕ
-TOO-LARGE = 4294967296
+abbrev pub SUM-LIMIT : ℕ
+SUM-LIMIT = 4294967296
 
-abbrev pub TOO-LARGE-FACTOR : ℕ
-TOO-LARGE-FACTOR = 65536
+abbrev pub FACTOR-LIMIT : ℕ
+FACTOR-LIMIT = 65536
 
 -- a + b, and 0 where one of them is too large
 unfoldable pub sumOf : ℕ → ℕ → ℕ
-sumOf a b = pick (ltb a TOO-LARGE) (pick (ltb b TOO-LARGE) (a + b) 0) 0
+sumOf a b = pick (ltb a SUM-LIMIT) (pick (ltb b SUM-LIMIT) (a + b) 0) 0
 
 -- x * w + n, and 0 where one of them is too large
 unfoldable pub mulAddOf : ℕ → ℕ → ℕ → ℕ
 mulAddOf x w n =
-    pick (ltb x TOO-LARGE-FACTOR) (pick (ltb w TOO-LARGE-FACTOR) (pick (ltb n TOO-LARGE) (x * w + n) 0) 0) 0
+    pick (ltb x FACTOR-LIMIT) (pick (ltb w FACTOR-LIMIT) (pick (ltb n SUM-LIMIT) (x * w + n) 0) 0) 0

@@ -12,6 +12,10 @@ pub const OK: usize = 4;
 pub const VALUE: usize = 5;
 
 pub const WRITE: usize = 6;
+
+// How many kinds of moves there are.
+pub const MOVE_KINDS: usize = 7;
+
 // Not a move's: the first question of a play, which the whole term waits for; and no move at all.
 pub const OPENING: usize = 7;
 

@@ -1,6 +1,6 @@
 // What the exits of a part become in the whole; a to d are the fields of the part's frame.
 // The whole exits so.
-pub const SAME: usize = 0;
+pub const AS_IS: usize = 0;
 // Done leads to a.
 pub const THEN: usize = 1;
 // True leads to a; false leads to b or, where b is 0, out with done.

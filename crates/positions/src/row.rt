@@ -1,38 +1,33 @@
 // Reading the table of parts, and sums and products that may be too large.
+use part_rows::pack::COUNT_SPAN;
+use part_rows::pack::ID_SPAN;
+use part_rows::pack::ONCE;
 use part_rows::row::CLASS;
 use part_rows::row::DETAIL;
 use part_rows::row::PARTS;
+use part_rows::row::ROW_WORDS;
 use part_rows::row::VALUES;
 use part_rows::row::WEIGHT;
-use part_rows::row::WORDS;
 ghost use mathlib.Core.Path.{_≡_};
 ghost use Prim.Native.Nat.{_+_};
 ghost use Rattle.part_rows.specs.Row.{word};
 ghost use Rattle.positions.specs.Row.{partWeight, partClass, partValues, nameId, nameCount, nameSpent};
 ghost use Rattle.positions.specs.Row.{sumOf, mulAddOf};
 
-// The detail of a name is its id and this many times the number of its arguments, which is below COUNTS; where the name
-// asks once, it has ONCE besides.
-const IDS: usize = 256;
-
-const COUNTS: usize = 8;
-
-const ONCE: usize = 2048;
-
 // Numbers below this are added without becoming too large, and those below its root are multiplied.
-const TOO_LARGE: usize = 4294967296;
+const SUM_LIMIT: usize = 4294967296;
 
-const TOO_LARGE_FACTOR: usize = 65536;
+const FACTOR_LIMIT: usize = 65536;
 
 // Word i of the row at a place, 0 past the end of the table.
 pub fn cell(t: &[u16], at: usize, i: usize) -> usize
     ensures { λ r. ⌜ r ≡ word (now (t .entry)) at i ⌝ }
 {
     let n = t.len();
-    if n / WORDS < at {
+    if n / ROW_WORDS < at {
         return 0;
     }
-    let row = WORDS * at;
+    let row = ROW_WORDS * at;
     if n - row <= i {
         return 0;
     }
@@ -79,14 +74,14 @@ pub fn part_values(t: &[u16], at: usize, j: usize) -> usize
 pub fn name_id(t: &[u16], at: usize) -> usize
     ensures { λ r. ⌜ r ≡ nameId (now (t .entry)) at ⌝ }
 {
-    cell(t, at, DETAIL) % IDS
+    cell(t, at, DETAIL) % ID_SPAN
 }
 
 // How many arguments a name has.
 pub fn name_count(t: &[u16], at: usize) -> usize
     ensures { λ r. ⌜ r ≡ nameCount (now (t .entry)) at ⌝ }
 {
-    cell(t, at, DETAIL) / IDS % COUNTS
+    cell(t, at, DETAIL) / ID_SPAN % COUNT_SPAN
 }
 
 // How many second waits a name has: one where it asks once.
@@ -100,8 +95,8 @@ pub fn name_spent(t: &[u16], at: usize) -> usize
 pub fn sum(a: usize, b: usize) -> usize
     ensures { λ r. ⌜ r ≡ sumOf a b ⌝ }
 {
-    if a < TOO_LARGE {
-        if b < TOO_LARGE {
+    if a < SUM_LIMIT {
+        if b < SUM_LIMIT {
             return a + b;
         }
     }
@@ -112,9 +107,9 @@ pub fn sum(a: usize, b: usize) -> usize
 pub fn mul_add(x: usize, w: usize, n: usize) -> usize
     ensures { λ r. ⌜ r ≡ mulAddOf x w n ⌝ }
 {
-    if x < TOO_LARGE_FACTOR {
-        if w < TOO_LARGE_FACTOR {
-            if n < TOO_LARGE {
+    if x < FACTOR_LIMIT {
+        if w < FACTOR_LIMIT {
+            if n < SUM_LIMIT {
                 return x * w + n;
             }
         }

@@ -12,17 +12,17 @@ ghost use Rattle.positions.specs.Types.{questionsOf, answersOf, question
 ghost use Rattle.positions.specs.Types.{questionLimit, valueAnswer, answerNumber};
 
 // The classes of types.
-pub const COMMAND: usize = 0;
+pub const COMMANDS: usize = part_rows::class::COMMANDS as usize;
 
-pub const EXPRESSION: usize = 1;
+pub const EXPRESSIONS: usize = part_rows::class::EXPRESSIONS as usize;
 
-pub(crate) const VARIABLE: usize = 2;
+pub(crate) const VARIABLES: usize = part_rows::class::VARIABLES as usize;
 
 // How many questions a type has.
 pub fn questions(class: usize, values: usize) -> usize
     ensures { λ r. ⌜ r ≡ questionsOf class values ⌝ }
 {
-    if class == VARIABLE {
+    if class == VARIABLES {
         return sum(1, values);
     }
     1
@@ -32,10 +32,10 @@ pub fn questions(class: usize, values: usize) -> usize
 pub fn answers(class: usize, values: usize) -> usize
     ensures { λ r. ⌜ r ≡ answersOf class values ⌝ }
 {
-    if class == COMMAND {
+    if class == COMMANDS {
         return 1;
     }
-    if class == EXPRESSION {
+    if class == EXPRESSIONS {
         return values;
     }
     sum(values, values)
@@ -45,10 +45,10 @@ pub fn answers(class: usize, values: usize) -> usize
 pub fn question_kind(class: usize, i: usize) -> usize
     ensures { λ r. ⌜ r ≡ questionKind class i ⌝ }
 {
-    if class == COMMAND {
+    if class == COMMANDS {
         return RUN;
     }
-    if class == EXPRESSION {
+    if class == EXPRESSIONS {
         return ASK;
     }
     if i == 0 {
@@ -61,7 +61,7 @@ pub fn question_kind(class: usize, i: usize) -> usize
 pub fn question_value(class: usize, i: usize) -> usize
     ensures { λ r. ⌜ r ≡ questionValue class i ⌝ }
 {
-    if class == VARIABLE {
+    if class == VARIABLES {
         if 0 < i {
             return i - 1;
         }
@@ -74,13 +74,13 @@ pub fn question_value(class: usize, i: usize) -> usize
 pub fn question_limit(class: usize, values: usize, kind: usize) -> usize
     ensures { λ r. ⌜ r ≡ questionLimit class values kind ⌝ }
 {
-    if class == COMMAND {
+    if class == COMMANDS {
         if kind == RUN {
             return 1;
         }
         return 0;
     }
-    if class == EXPRESSION {
+    if class == EXPRESSIONS {
         if kind == ASK {
             return 1;
         }
@@ -133,7 +133,7 @@ pub fn answer_number(
 ) -> usize
     ensures { λ r. ⌜ r ≡ answerNumber class values q x kind value ⌝ }
 {
-    if class == COMMAND {
+    if class == COMMANDS {
         if q == RUN {
             if kind == DONE {
                 return 1;
@@ -141,7 +141,7 @@ pub fn answer_number(
         }
         return 0;
     }
-    if class == EXPRESSION {
+    if class == EXPRESSIONS {
         if q == ASK {
             return value_answer(values, kind, value);
         }

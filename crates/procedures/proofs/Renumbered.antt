@@ -10,7 +10,7 @@ use Rattle.procedures.specs.Written.{Written}
 use Rattle.procedures.specs.Written.{Parameter, Writtens, none, Name, Sheet}
 use Rattle.procedures.specs.Meaning.{Binder, Meaning, private, argument, routine, named, retired, free, meaning}
 use Rattle.procedures.specs.Meaning.{typesOf}
-use Rattle.procedures.specs.Fine.{depth, depths, FineUse, Fine, FineArgs, Accepted}
+use Rattle.procedures.specs.Fine.{depth, depths, FineUse, Fine, FineArgs, WellFormed}
 use Rattle.procedures.specs.Ids.{FineIds, AllFineIds}
 use Rattle.procedures.specs.Like.{Like, like-skip, like-diverge, like-truth, like-number, like-call, like-fetch}
 use Rattle.procedures.specs.Like.{like-operate, like-assign, like-sequence, like-choose, like-while, like-new}
@@ -106,8 +106,9 @@ module _ (N : Numbers) (ns : List Name) where
         (like-fine x (f .0) (g .0), sym (like-typed N ns x) ∙ f .1, like-fine-args a tys (f .2) (g .1))
 
 -- THEOREM: an accepted sheet stays accepted
-pub like-accepted : (S : Sheet) (W : Written) → Like (S .names) [] [] (S .term) W → FineIds (S .names) W → Accepted S →
-    Accepted (record { numbers = S .numbers; names = S .names; term = W })
+pub like-accepted : (S : Sheet) (W : Written) → Like (S .names) [] [] (S .term) W → FineIds (S .names) W →
+    WellFormed S →
+    WellFormed (record { numbers = S .numbers; names = S .names; term = W })
 like-accepted S W h g A =
     let e = like-sheet S W h in
     let d : depth (S .term) ≡ depth W = like-depth h in

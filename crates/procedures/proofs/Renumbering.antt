@@ -8,7 +8,7 @@ use lib.ListN.{length, length-append}
 use lib.Dec.{eqb}
 use Rattle.procedures.specs.Written.{Written, Writtens, Name, declare, retire, Sheet}
 use Rattle.procedures.specs.Meaning.{meaning, declared, free, termOf, typeOf}
-use Rattle.procedures.specs.Fine.{Accepted}
+use Rattle.procedures.specs.Fine.{WellFormed}
 use Rattle.procedures.specs.Like.{Like}
 use Rattle.procedures.specs.Mapped.{Mapped, to-skip, to-diverge}
 use Rattle.procedures.specs.Mapped.{to-truth, to-number, to-call, to-fetch, to-operate, to-assign, to-sequence}
@@ -88,7 +88,7 @@ olds-map P Q [] h o = tt
 olds-map P Q (c ∷ cs) h o = (h (c .old) (o .0), olds-map P Q cs h (o .1))
 
 -- an accepted sheet
-module _ (S : Sheet) (A : Accepted S) where
+module _ (S : Sheet) (A : WellFormed S) where
   first-unnamed : (j : ℕ) → takenAtFirst S j ≡ false → declared (S .names) j ≡ free
   unfolding takenAtFirst
   first-unnamed j e =

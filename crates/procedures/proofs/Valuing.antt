@@ -21,7 +21,7 @@ use Rattle.procedures.specs.Meaning.{Binder, a-block, Meaning, private, 
 use Rattle.procedures.specs.Meaning.{meaning, inside, after, tyOf, typed, byMeaning, some-value, Terms, no-terms}
 use Rattle.procedures.specs.Meaning.{with-level, with-body, with-passed, resolve, resolveArgs, resolved, termOf}
 use Rattle.procedures.specs.Meaning.{typeOf}
-use Rattle.procedures.specs.Fine.{Accepted}
+use Rattle.procedures.specs.Fine.{WellFormed}
 use Rattle.procedures.specs.Nodes.{Valued, ValuedArgs, nodes, deep}
 use Rattle.procedures.proofs.Numbering.{beyond-all}
 use Rattle.procedures.proofs.Factors.{some-operand, some-question}
@@ -122,22 +122,22 @@ module _ (N : Numbers) (ns : List Name) (z : 0 < N .z) where
     valued-resolved (more w ws) bs ρ n zero h = valued w bs ρ n h
     valued-resolved (more w ws) bs ρ n (suc j) h = valued-resolved ws bs ρ n j h
 
-pub accepted-valued : (S : Sheet) → Accepted S → Valued (termOf S)
+pub accepted-valued : (S : Sheet) → WellFormed S → Valued (termOf S)
 unfolding termOf
 accepted-valued S A = valued (S .numbers) (S .names) (A .z-above) (S .term) [] no-terms 0 valued-nothing
 
 -- THEOREM: the term of an accepted sheet has at most 12,288 nodes and 6,144 levels
-pub accepted-light : (S : Sheet) → Accepted S → weight (termOf S) ≤ 4094
+pub accepted-light : (S : Sheet) → WellFormed S → weight (termOf S) ≤ 4094
 unfolding size
 accepted-light S A =
     let T : Ty = tyOf (S .numbers) (typeOf S) in
     omega (arith, A .small, mul-le-mul-right (weight (termOf S)) (some-question T))
 
-pub accepted-nodes : (S : Sheet) → Accepted S → nodes (termOf S) ≤ 12288
+pub accepted-nodes : (S : Sheet) → WellFormed S → nodes (termOf S) ≤ 12288
 accepted-nodes S A = omega (arith, nodes-bound (termOf S) (accepted-typed S A) (accepted-valued S A),
     accepted-light S A)
 
-pub accepted-deep : (S : Sheet) → Accepted S → deep (termOf S) ≤ 6144
+pub accepted-deep : (S : Sheet) → WellFormed S → deep (termOf S) ≤ 6144
 accepted-deep S A =
     omega (arith, not-deep (termOf S) (accepted-typed S A) (accepted-valued S A), accepted-light S A,
       slack-least (tyOf (S .numbers) (typeOf S)) .1)

@@ -21,7 +21,7 @@ use Rattle.procedures.specs.Meaning.{Binder, a-block, a-parameter, a-pro
 use Rattle.procedures.specs.Meaning.{routine, named, retired, free, declared, meant, meaning, inside, typesOf}
 use Rattle.procedures.specs.Meaning.{after, tyOf, useType, typed, byMeaning, Terms, no-terms, with-level}
 use Rattle.procedures.specs.Meaning.{with-body, with-passed, resolve, resolveArgs, resolved, termOf, typeOf}
-use Rattle.procedures.specs.Fine.{FineUse, FineParameters, Fine, FineArgs, FineNames, Accepted}
+use Rattle.procedures.specs.Fine.{FineUse, FineParameters, Fine, FineArgs, FineNames, WellFormed}
 use Rattle.procedures.proofs.Tests.{by-test}
 use Rattle.procedures.proofs.Types.{ty-expression, ty-variable, values-up, operands-type, results-type}
 use Rattle.procedures.proofs.Types.{result-below}
@@ -340,7 +340,7 @@ module _ (N : Numbers) (ns : List Name) where
             well-passed ws bs ρ v tys r (f .2))
 
 -- THEOREM: the term of an accepted sheet is well typed
-pub accepted-typed : (S : Sheet) → Accepted S → Typed [] (termOf S) (tyOf (S .numbers) (typeOf S))
+pub accepted-typed : (S : Sheet) → WellFormed S → Typed [] (termOf S) (tyOf (S .numbers) (typeOf S))
 unfolding termOf typeOf meaning
 accepted-typed S A =
     well-typed (S .numbers) (S .names) (S .term) [] no-terms []

@@ -110,8 +110,9 @@ FineNames earlier (declare often id ty tys ∷ ns) =
 FineNames earlier (retire id ∷ ns) =
     (id < ids) × (declared earlier id ≡ free) × FineNames (retire id ∷ earlier) ns
 
--- A sheet that is accepted. The bound on the length of its bytes is left to the crate that has the encoding.
-pub record Accepted (S : Sheet) : Type 0 where
+-- A sheet in order, by the earlier rule. The bound on the length of its bytes is left to the crate that has the
+-- encoding.
+pub record WellFormed (S : Sheet) : Type 0 where
   pub z-above : 0 < S .numbers .z
   pub z-below : S .numbers .z ≤ greatest-z
   pub rule-below : S .numbers .rule ≤ greatest-rule

@@ -12,7 +12,7 @@ use Rattle.procedures.specs.Written.{Written, skip, diverge, truth, numb
 use Rattle.procedures.specs.Written.{sequence, while, choose, new, procedure, Parameter, Writtens, none, more}
 use Rattle.procedures.specs.Written.{Sheet}
 use Rattle.procedures.specs.Meaning.{Binder, a-block, idOf, inside, after}
-use Rattle.procedures.specs.Fine.{Accepted}
+use Rattle.procedures.specs.Fine.{WellFormed}
 use Rattle.procedures.specs.Width.{width}
 
 -- an enclosing binder has the id
@@ -54,8 +54,8 @@ unfoldable mutual
   AllApart bs (more w ws) = Apart bs w × AllApart bs ws
 
 -- a sheet that is accepted from [3] on: accepted under the earlier rule, and no binder hides another
-pub record AcceptedApart (S : Sheet) : Type 0 where
-  pub accepted : Accepted S
+pub record WellFormedApart (S : Sheet) : Type 0 where
+  pub accepted : WellFormed S
   pub apart : Apart [] (S .term)
 
 -- a binder that hides another: the place of its id byte, and its id

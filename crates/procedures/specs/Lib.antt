@@ -22,7 +22,6 @@ pub mod LeaveOut
 pub mod Rules
 pub mod Asking
 pub mod Mapped
-pub mod PartKind
 pub mod Table
 pub mod Marks
 pub mod Width

@@ -12,7 +12,7 @@ use Rattle.procedures.specs.Written.{Name}
 use Rattle.procedures.specs.Come.{come}
 use Rattle.procedures.specs.Context.{Context, whole, in-block, in-procedure, in-scope, binders, downs, uses}
 use Rattle.procedures.specs.Made.{sign}
-use Rattle.procedures.specs.PartKind.{PARTS}
+use Rattle.part_rows.specs.PartKind.{PARTS}
 use Rattle.part_rows.specs.Row.{word}
 
 -- what a part comes down to is below this

@@ -7,11 +7,11 @@ use lib.ListN.{length}
 use Rattle.language.specs.Weight.{size}
 use Rattle.procedures.specs.Written.{Written, Sheet}
 use Rattle.procedures.specs.Meaning.{tyOf, termOf, typeOf}
-use Rattle.procedures.specs.Fine.{Accepted}
+use Rattle.procedures.specs.Fine.{WellFormed}
 use Rattle.procedures.specs.Like.{Like}
 use Rattle.procedures.specs.Mapped.{put}
 use Rattle.procedures.specs.Rules.{SameSheets, withTerm}
-use Rattle.procedures.specs.Hiding.{Apart, AcceptedApart, Hiding, hiding}
+use Rattle.procedures.specs.Hiding.{Apart, WellFormedApart, Hiding, hiding}
 use Rattle.procedures.specs.Width.{width, headingWidth}
 use Rattle.procedures.specs.Renumber.{isBound, takenAtFirst, ids, lowest, left, Change}
 use Rattle.procedures.specs.Renumber.{renumbered, none-left, renumberSheet}
@@ -52,7 +52,7 @@ pub record NoneLeft (taken : ℕ → Bool) (hs : List Hiding) (p : ℕ) : Type 0
 -- the term W is written for the sheet S, with the changes cs
 pub record Renumbered (S : Sheet) (W : Written) (cs : List Change) : Type 0 where
   -- "The sheet written is accepted"
-  pub accepted : AcceptedApart (withTerm S W)
+  pub accepted : WellFormedApart (withTerm S W)
   -- "the uses it governs follow": nothing but the ids of binders and of these uses is another
   pub like : Like (S .names) [] [] (S .term) W
   -- "and has the plays the earlier rule gave the old one"
@@ -73,7 +73,7 @@ pub record Renumbered (S : Sheet) (W : Written) (cs : List Change) : Type 0 wher
 
 unfoldable pub RenumberRule : Type 0
 RenumberRule =
-    (S : Sheet) (W : Written) (cs : List Change) (then : ℕ → Bool) → Accepted S →
+    (S : Sheet) (W : Written) (cs : List Change) (then : ℕ → Bool) → WellFormed S →
       renumberSheet S ≡ renumbered W cs then → Renumbered S W cs
 
 -- the ids that are given, in any sheet

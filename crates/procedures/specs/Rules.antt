@@ -10,7 +10,7 @@ use Rattle.language.specs.Weight.{weight}
 use Rattle.language.specs.declared.Numbers.{Numbers}
 use Rattle.procedures.specs.Written.{Written, call, procedure, Parameter, Writtens, Name, Sheet}
 use Rattle.procedures.specs.Meaning.{Binder, inside, after, typed, termOf, typeOf, CompletePlay}
-use Rattle.procedures.specs.Fine.{Accepted}
+use Rattle.procedures.specs.Fine.{WellFormed}
 use Rattle.procedures.specs.Weigh.{Weights, weigh, weighed, weighSheet, with-body, with-passed}
 use Rattle.procedures.specs.Form.{no-forms}
 use Rattle.procedures.specs.Playing.{CompleteIn}
@@ -76,7 +76,7 @@ pub record Exists (S : Sheet) : Type 0 where
   pub expansion : Expansion S rows row count
 
 unfoldable pub Expandable : Type 0
-Expandable = (S : Sheet) → Accepted S → Exists S
+Expandable = (S : Sheet) → WellFormed S → Exists S
 
 unfoldable pub FewRows : Type 0
-FewRows = (S : Sheet) (R : ℕ → Option Row) (r n : ℕ) → Accepted S → Expansion S R r n → n ≤ 12288
+FewRows = (S : Sheet) (R : ℕ → Option Row) (r n : ℕ) → WellFormed S → Expansion S R r n → n ≤ 12288

@@ -24,17 +24,17 @@ use Rattle.procedures.specs.Written.{Name}
 use Rattle.procedures.specs.Meaning.{private, argument, routine, named, meaning, typed}
 use Rattle.procedures.specs.Fine.{depth}
 use Rattle.procedures.specs.Context.{Context, whole, in-block, in-procedure, in-scope, binders}
-use Rattle.procedures.specs.PartKind.{SKIP, DIVERGE, CONSTANT, NAME, FETCH, OPERATE, ASSIGN, SEQUENCE, IF, WHILE}
-use Rattle.procedures.specs.PartKind.{NEW, PROCEDURE, PRIVATE, PARAMETER, USE, KIND, END, CLASS, VALUES, DETAIL}
-use Rattle.procedures.specs.PartKind.{PARTS, IDS, COUNTS, PLACES}
+use Rattle.part_rows.specs.PartKind.{SKIP, DIVERGE, CONSTANT, NAME, FETCH, OPERATE, ASSIGN, SEQUENCE, IF, WHILE}
+use Rattle.part_rows.specs.PartKind.{NEW, PROCEDURE, PRIVATE, PARAMETER, ROUTINE, KIND, END, CLASS, VALUES, DETAIL}
+use Rattle.part_rows.specs.PartKind.{PARTS, ID-SPAN, COUNT-SPAN, PLACE-SPAN}
 
 -- the place of a procedure's record and how many arguments a use of it has
 unfoldable pub useDetail : ℕ → ℕ → ℕ
-useDetail place count = place + PLACES * count
+useDetail place count = place + PLACE-SPAN * count
 
 -- the id of a name, how many arguments it has, and whether it asks once
 unfoldable pub nameDetail : ℕ → ℕ → Often → ℕ
-nameDetail id count often = id + IDS * (count + COUNTS * onces often)
+nameDetail id count often = id + ID-SPAN * (count + COUNT-SPAN * onces often)
 
 module _ (N : Numbers) (ns : List Name) (t : List ℕ) where
   -- the row of the part W, of a kind, from a place up to another
@@ -62,7 +62,7 @@ module _ (N : Numbers) (ns : List Name) (t : List ℕ) where
       shown-parameter : {Γ : Context} {π : ℕ → ℕ} {at end id k ty : ℕ} → meaning ns (binders Γ) id ≡ argument k ty →
         PartRow Γ PARAMETER (call id none) at end → word t at DETAIL ≡ k → Shown Γ π at end (call id none)
       shown-use : {Γ : Context} {π : ℕ → ℕ} {at from end id k ty : ℕ} {tys : List ℕ} {ws : Writtens} →
-        meaning ns (binders Γ) id ≡ routine k ty tys → PartRow Γ USE (call id ws) at end →
+        meaning ns (binders Γ) id ≡ routine k ty tys → PartRow Γ ROUTINE (call id ws) at end →
         word t at DETAIL ≡ useDetail (π k) (length tys) → length tys ≤ 4 → at < from →
         ShownArgs Γ π at 0 from end ws tys → Shown Γ π at end (call id ws)
       shown-name : {Γ : Context} {π : ℕ → ℕ} {at from end id ty : ℕ} {often : Often} {tys : List ℕ} {ws : Writtens} →

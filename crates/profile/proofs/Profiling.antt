@@ -4,7 +4,7 @@ use native.Mathlib.Omega.{arith}
 use mathlib.Core.Path.{_≡_, refl, sym, ap, _∙_, subst}
 use mathlib.Core.List.{List, [], _∷_}
 use lib.ListN.{length}
-use Rattle.records.specs.Refusal.{refusal, cause, old-sheet}
+use Rattle.records.specs.Refusal.{refusal, cause, old-sheet, not-quiet}
 use Rattle.records.specs.declared.edition.Edition.the-variants.{Present}
 use Rattle.records.specs.declared.refusal.Refusal.{Refusal}
 use Rattle.records.specs.declared.refusal.Cause.{Cause}
@@ -19,7 +19,7 @@ use Rattle.judge.specs.declared.check.Checked.{Checked}
 use Rattle.judge.specs.declared.check.Checked.the-variants.{Accepted, Refused as Turned}
 use Rattle.profile.specs.Offence.{offences}
 use Rattle.profile.specs.Pass.{firstOf, Finds}
-use Rattle.profile.specs.Profile.{not-quiet, heldTo, profiledOf}
+use Rattle.profile.specs.Profile.{heldTo, profiledOf}
 use Rattle.profile.specs.declared.offence.Offence.{Offence}
 use Rattle.profile.specs.declared.offence.Offence.the-variants.{Nothing, At}
 

@@ -5,7 +5,7 @@ use mathlib.Core.Path.{_≡_, refl, sym, ap, _∙_, subst}
 use mathlib.Core.Logic.{_⊎_, inl, inr}
 use mathlib.Core.List.{List, [], _∷_}
 use lib.ListN.{length-append}
-use Rattle.records.specs.Refusal.{cause, old-sheet}
+use Rattle.records.specs.Refusal.{cause, old-sheet, not-quiet}
 use Rattle.records.specs.declared.edition.Edition.the-variants.{Present}
 use Rattle.records.specs.declared.refusal.Cause.{Cause}
 use Rattle.procedures.specs.Written.{Sheet}
@@ -20,7 +20,7 @@ use Rattle.judge.proofs.Places.{check-refused}
 use Rattle.tabled.proofs.Widths.{wide, wide-heading}
 use Rattle.profile.specs.Offence.{isExpression, offences, InProfile}
 use Rattle.profile.specs.Quiet.{QuietPlays, Rising, PlacesRise}
-use Rattle.profile.specs.Profile.{not-quiet, heldTo, profiledOf}
+use Rattle.profile.specs.Profile.{heldTo, profiledOf}
 use Rattle.profile.specs.Service.{Passed, PassedRule, AsCheck, Offended, RefusedRule, WellRefused, ProfileNumbers}
 use Rattle.profile.proofs.Resolving.{quiet-plays}
 use Rattle.profile.proofs.Places.{places-rise}

@@ -6,7 +6,7 @@ use mathlib.Core.List.{List, [], _∷_}
 use lib.Dec.{eqb, leb, ltb}
 use Rattle.language.specs.Choice.{pick}
 use Rattle.part_rows.specs.Row.{word}
-use Rattle.procedures.specs.PartKind.{NAME, SEQUENCE, PROCEDURE, END, CLASS}
+use Rattle.part_rows.specs.PartKind.{NAME, SEQUENCE, PROCEDURE, END, CLASS}
 use Rattle.procedures.specs.Written.{Sheet}
 use Rattle.sheet.specs.Encoding.{headingLength}
 use Rattle.sheet.specs.Reader.{readSheet, accepted}

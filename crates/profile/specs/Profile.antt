@@ -3,16 +3,12 @@
 -- refusals."
 use Prim.Native.Nat.{ℕ}
 use mathlib.Core.List.{List, [], _∷_}
-use Rattle.records.specs.Refusal.{cause, old-sheet}
+use Rattle.records.specs.Refusal.{cause, old-sheet, not-quiet}
 use Rattle.sheet.specs.Reader.{Checks, accepted, rejected}
 use Rattle.judge.specs.Check.{checkedOf}
 use Rattle.judge.specs.declared.check.Checked.{Checked}
 use Rattle.judge.specs.declared.check.Checked.the-variants.{Refused}
 use Rattle.profile.specs.Offence.{offences}
-
--- the number of the refusal
-abbrev pub not-quiet : ℕ
-not-quiet = 18
 
 -- an answer, held to the places of the offending records
 unfoldable pub heldTo : List ℕ → Checked → Checked

@@ -11,7 +11,7 @@ use Rattle.language.specs.declared.Numbers.{Numbers}
 use Rattle.procedures.specs.Written.{Written, Name, Sheet}
 use Rattle.procedures.specs.Meaning.{Binder, a-block, a-parameter, a-procedure, typed, Terms, resolve, typeOf}
 use Rattle.procedures.specs.Meaning.{CompletePlay}
-use Rattle.procedures.specs.Fine.{Fine, Accepted}
+use Rattle.procedures.specs.Fine.{Fine, WellFormed}
 use Rattle.procedures.specs.Width.{width, headingWidth}
 use Rattle.procedures.specs.Like.{Like}
 use Rattle.procedures.specs.Rules.{withTerm}
@@ -31,7 +31,7 @@ AllCalm (move p e ∷ u) = Calm e × AllCalm u
 
 unfoldable pub QuietPlays : Type 0
 QuietPlays =
-    (S : Sheet) → Accepted S → isExpression (typeOf S) ≡ true → InProfile S →
+    (S : Sheet) → WellFormed S → isExpression (typeOf S) ≡ true → InProfile S →
       (u : Word) → CompletePlay S u → AllCalm u
 
 -- binders that are blocks only: no procedure and no parameter is around
@@ -66,5 +66,5 @@ IdsAside =
 -- so renumbering (02 [4]) keeps the profile: the sheet written offends at the same places as the one read
 unfoldable pub RenumberKeeps : Type 0
 RenumberKeeps =
-    (S : Sheet) (W : Written) (cs : List Change) (then : ℕ → Bool) → Accepted S →
+    (S : Sheet) (W : Written) (cs : List Change) (then : ℕ → Bool) → WellFormed S →
       renumberSheet S ≡ renumbered W cs then → offences S ≡ offences (withTerm S W)

@@ -6,7 +6,7 @@ use mathlib.Core.Bool.{true}
 use mathlib.Core.List.{List, _∷_}
 use Rattle.language.specs.Move.{Word}
 use Rattle.records.specs.Limits.{most-bytes}
-use Rattle.records.specs.Refusal.{old-sheet}
+use Rattle.records.specs.Refusal.{old-sheet, not-quiet}
 use Rattle.records.specs.declared.edition.Edition.the-variants.{Present}
 use Rattle.records.specs.declared.refusal.Cause.{Cause}
 use Rattle.procedures.specs.Written.{Sheet}
@@ -17,7 +17,7 @@ use Rattle.judge.specs.declared.mark.Uses.{Uses}
 use Rattle.judge.specs.declared.check.Checked.the-variants.{Accepted, Refused}
 use Rattle.profile.specs.Offence.{isExpression, offences, InProfile}
 use Rattle.profile.specs.Quiet.{AllCalm}
-use Rattle.profile.specs.Profile.{not-quiet, profiledOf}
+use Rattle.profile.specs.Profile.{profiledOf}
 
 -- a sheet that profile accepts
 pub record Passed (s : List ℕ) (ty size : ℕ) (uses : Uses) : Type 0 where

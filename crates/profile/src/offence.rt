@@ -3,17 +3,16 @@
 use part_rows::row::CLASS;
 use part_rows::row::END;
 use part_rows::row::TABLE;
-use part_rows::row::WORDS;
+use part_rows::row::word_of;
 use records::kind::PROCEDURE;
 use records::kind::SEQUENCE;
 use records::kind::USE;
 use records::kind::body_of;
+use records::limits::MOST_ARGUMENTS;
 use records::read::byte_at;
-use records::read::short_at;
 ghost use mathlib.Core.Path.{_≡_};
 ghost use Prim.Native.Nat.{_≤_, _<_};
 ghost use lib.ListN.{length};
-ghost use Rattle.part_rows.specs.Row.{word};
 ghost use Rattle.profile.specs.Pass.{loudFrom, loudAt, reachAt, offendsAt, Finds};
 
 // What the pass finds: no record that offends, or the place of the first.
@@ -23,20 +22,10 @@ pub enum Offence {
 }
 
 // The class of expressions.
-const EXPRESSIONS: usize = 1;
+const EXPRESSIONS: usize = part_rows::class::EXPRESSIONS as usize;
 
-// How many arguments a use may have, and its bytes before them.
-const ARGUMENTS: usize = 4;
-
+// The bytes of a use before its arguments.
 const USE_BYTES: usize = 2;
-
-// Word i of the row at a place.
-fn word_at(t: &[u16], at: usize, i: usize) -> usize
-    requires { ⌜ (at < 65536) × (i < 9) ⌝ }
-    ensures { λ r. ⌜ (r ≡ word (now (t .entry)) at i) × (r < 65536) ⌝ }
-{
-    short_at(t, WORDS * at + i) as usize
-}
 
 // Whether one of at most `left` arguments, which stand from one place up to another, is no expression. The classes
 // looked at are those of the arguments; what offends is defined by the types that are declared (`loudUse`). In an
@@ -51,10 +40,10 @@ fn any_loud(t: &[u16], left: usize, at: usize, end: usize) -> bool
     if end <= at {
         return false;
     }
-    if word_at(t, at, CLASS) != EXPRESSIONS {
+    if word_of(t, at, CLASS) != EXPRESSIONS {
         return true;
     }
-    let next = word_at(t, at, END);
+    let next = word_of(t, at, END);
     any_loud(t, left - 1, next, end)
 }
 
@@ -70,8 +59,8 @@ fn is_loud(t: &[u16], at: usize, kind: u8) -> bool
         return true;
     }
     if kind == USE {
-        let end = word_at(t, at, END);
-        return any_loud(t, ARGUMENTS, at + USE_BYTES, end);
+        let end = word_of(t, at, END);
+        return any_loud(t, MOST_ARGUMENTS, at + USE_BYTES, end);
     }
     false
 }
@@ -85,8 +74,8 @@ fn reach(t: &[u16], at: usize, until: usize) -> usize
     if at < until {
         return until;
     }
-    if word_at(t, at, CLASS) == EXPRESSIONS {
-        return word_at(t, at, END);
+    if word_of(t, at, CLASS) == EXPRESSIONS {
+        return word_of(t, at, END);
     }
     until
 }

@@ -7,15 +7,13 @@ use judge::judge::Judgement;
 use judge::judge::judge_sheet;
 use part_rows::row::TABLE;
 use records::edition::Edition;
-use records::refusal::OLD;
+use records::refusal::NOT_QUIET;
+use records::refusal::OLD_SHEET;
 use records::refusal::of_sheet;
 use records::refusal::refuse;
 ghost use mathlib.Core.Path.{_≡_};
 ghost use Rattle.sheet.specs.Reader.{readSheet};
 ghost use Rattle.profile.specs.Profile.{profiledOf};
-
-// The number of the refusal of a sheet that is not of the profile.
-const NOT_QUIET: u8 = 18;
 
 // The service profile: what check answers; where that is no refusal, the refusal at the first record that offends.
 pub fn profile(s: &[u8]) -> Checked
@@ -30,11 +28,11 @@ pub fn profile(s: &[u8]) -> Checked
         uses,
     } = x
     else {
-        return Checked::Refused(of_sheet(refusal_of(x), OLD));
+        return Checked::Refused(of_sheet(refusal_of(x), OLD_SHEET));
     };
     let found = first_offence(s, &t, root);
     match found {
         Offence::Nothing => Checked::Accepted { ty, size, uses },
-        Offence::At(place) => Checked::Refused(of_sheet(refuse(NOT_QUIET, place), OLD)),
+        Offence::At(place) => Checked::Refused(of_sheet(refuse(NOT_QUIET, place), OLD_SHEET)),
     }
 }

@@ -25,7 +25,7 @@ both-sheets = 2
 abbrev pub not-refused : ℕ
 not-refused = 0
 
--- the numbers of check's causes, as the table has them; document 02 [3] for 16
+-- the numbers of the causes, as the table has them: of a sheet's own 1 to 11
 abbrev pub too-long : ℕ
 too-long = 1
 
@@ -59,5 +59,27 @@ left-over = 10
 abbrev pub too-large : ℕ
 too-large = 11
 
+-- of follow and compare 12 to 15; the space of 14 is that for a play, by document 02 [4] and [12] also those for a
+-- sheet, its list of changes and a card
+abbrev pub headings-differ : ℕ
+headings-differ = 12
+
+abbrev pub too-few-words : ℕ
+too-few-words = 13
+
+abbrev pub space-too-short : ℕ
+space-too-short = 14
+
+abbrev pub bad-play : ℕ
+bad-play = 15
+
+-- of a sheet by document 02 [3]
 abbrev pub id-enclosed : ℕ
 id-enclosed = 16
+
+-- of renumber by document 02 [4]: no id is left; of profile by [13]: a record offends
+abbrev pub no-id-left : ℕ
+no-id-left = 17
+
+abbrev pub not-quiet : ℕ
+not-quiet = 18

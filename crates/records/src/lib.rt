@@ -1,6 +1,7 @@
-// Records of a sheet: their kinds, the standings of ids, and the numbers of refusals.
+// Records of a sheet: their kinds, the limits of sheets, the standings of ids, and the numbers of refusals.
 pub mod edition;
 pub mod kind;
+pub mod limits;
 pub mod read;
 pub mod refusal;
 pub mod standing;

@@ -2,6 +2,11 @@
 ghost use mathlib.Core.Path.{_≡_};
 ghost use lib.ListN.{getD};
 
+// How many numbers a word of 16 bits, and one of 32 bits, can be.
+pub const SHORTS: usize = 65536;
+
+pub const LONGS: usize = 4294967296;
+
 // The byte at a place, 0 past the end.
 pub fn byte_at(s: &[u8], at: usize) -> u8
     ensures { λ r. ⌜ r ≡ getD (now (s .entry)) at 0 ⌝ }

@@ -14,13 +14,13 @@ pub const FREE: u32 = 0;
 pub const RETIRED: u32 = 1;
 
 // The first standings of declared ids, of variables, of parameters and of procedures.
-pub const DECLARED: u32 = 256;
+pub const FIRST_DECLARED: u32 = 256;
 
-pub const VARIABLES: u32 = 12288;
+pub const FIRST_VARIABLE: u32 = 12288;
 
-pub const PARAMETERS: u32 = 16384;
+pub const FIRST_PARAMETER: u32 = 16384;
 
-pub const PROCEDURES: u32 = 32768;
+pub const FIRST_PROCEDURE: u32 = 32768;
 
 // By what the place of a name's record, the number of a variable or a parameter and the place of a procedure are
 // multiplied in a standing.
@@ -51,7 +51,7 @@ pub fn declared_standing(place: usize, once: u8) -> u32
     requires { ⌜ place ≤ 4096 ⌝ }
     ensures { λ r. ⌜ r ≡ declaredStanding place once ⌝ }
 {
-    DECLARED + DECLARED_STEP * (place as u32) + once as u32
+    FIRST_DECLARED + DECLARED_STEP * (place as u32) + once as u32
 }
 
 // The variable of a new that `number` binders enclose; it holds truths, 1, or numbers, 2.
@@ -59,14 +59,14 @@ pub fn variable_standing(number: u8, holds: u32) -> u32
     requires { ⌜ holds ≤ 2 ⌝ }
     ensures { λ r. ⌜ r ≡ variableStanding number holds ⌝ }
 {
-    VARIABLES + VARIABLE_STEP * (number as u32) + holds
+    FIRST_VARIABLE + VARIABLE_STEP * (number as u32) + holds
 }
 
 // The parameter with a number and a type.
 pub fn parameter_standing(number: u8, ty: u8) -> u32
     ensures { λ r. ⌜ r ≡ parameterStanding number ty ⌝ }
 {
-    PARAMETERS + PARAMETER_STEP * (number as u32) + ty as u32
+    FIRST_PARAMETER + PARAMETER_STEP * (number as u32) + ty as u32
 }
 
 // The procedure at a place that `number` binders enclose.
@@ -74,7 +74,7 @@ pub fn procedure_standing(number: u8, place: usize) -> u32
     requires { ⌜ place < 65536 ⌝ }
     ensures { λ r. ⌜ r ≡ procedureStanding number place ⌝ }
 {
-    PROCEDURES + PROCEDURE_STEP * (place as u32) + number as u32
+    FIRST_PROCEDURE + PROCEDURE_STEP * (place as u32) + number as u32
 }
 
 // What a standing says.
@@ -87,31 +87,31 @@ pub fn meaning_of(c: u32) -> Standing
     if c == RETIRED {
         return Standing::Retired;
     }
-    if c < DECLARED {
+    if c < FIRST_DECLARED {
         return Standing::Declared { place: 0, once: 0 };
     }
-    if c < VARIABLES {
-        let rest = c - DECLARED;
+    if c < FIRST_VARIABLE {
+        let rest = c - FIRST_DECLARED;
         return Standing::Declared {
             place: rest / DECLARED_STEP,
             once: (rest % DECLARED_STEP) as u8,
         };
     }
-    if c < PARAMETERS {
-        let rest = c - VARIABLES;
+    if c < FIRST_PARAMETER {
+        let rest = c - FIRST_VARIABLE;
         return Standing::Variable {
             number: (rest / VARIABLE_STEP) as u16,
             holds: (rest % VARIABLE_STEP) as u8,
         };
     }
-    if c < PROCEDURES {
-        let rest = c - PARAMETERS;
+    if c < FIRST_PROCEDURE {
+        let rest = c - FIRST_PARAMETER;
         return Standing::Parameter {
             number: (rest / PARAMETER_STEP) as u16,
             ty: (rest % PARAMETER_STEP) as u8,
         };
     }
-    let rest = c - PROCEDURES;
+    let rest = c - FIRST_PROCEDURE;
     Standing::Procedure {
         number: (rest % PROCEDURE_STEP) as u16,
         place: rest / PROCEDURE_STEP,
@@ -143,7 +143,7 @@ pub fn is_named(c: u32) -> bool
 pub fn is_held(c: u32) -> bool
     ensures { λ r. ⌜ r ≡ isHeld (standingOf c) ⌝ }
 {
-    if VARIABLES <= c {
+    if FIRST_VARIABLE <= c {
         return true;
     }
     false

@@ -3,16 +3,16 @@
 use judge::check::Checked;
 use judge::check::check;
 use libc::STDOUT_FILENO;
-use records::refusal::NEW;
-use records::refusal::OLD;
+use records::refusal::NEW_SHEET;
+use records::refusal::OLD_SHEET;
 
 // Writes the name of the sheet that a refusal names; any other number stands for both.
 fn name(sheet: u8) {
     match sheet {
-        OLD => {
+        OLD_SHEET => {
             io::write_all(STDOUT_FILENO, b" old ");
         }
-        NEW => {
+        NEW_SHEET => {
             io::write_all(STDOUT_FILENO, b" new ");
         }
         _ => {

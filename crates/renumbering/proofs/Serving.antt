@@ -29,7 +29,8 @@ use Rattle.sheet.proofs.Right.{gives, accepts}
 use Rattle.judge.proofs.Places.{check-refused}
 use Rattle.renumbering.specs.Outcome.{readEarlier, listed, Outcome, done, refused, written, checked, outcome}
 use Rattle.renumbering.specs.Outcome.{RenumberedBy}
-use Rattle.renumbering.specs.Service.{WrittenRule, Accepted, AcceptedRule, UnalteredService, RenumberNumber}
+use Rattle.renumbering.specs.Service.{WrittenRule, EarlierAccepted, AcceptedRule, UnalteredService}
+use Rattle.renumbering.specs.Service.{RenumberNumber}
 use Rattle.renumbering.specs.Service.{RenumberNumbers, RenumberUnique}
 use Rattle.renumbering.proofs.Lists.{listed-length}
 use Rattle.tabled.proofs.Widths.{wide}
@@ -116,7 +117,7 @@ pub accepted-rule : AcceptedRule
 unfolding AcceptedRule outcome checked
 accepted-rule s room space b cs o = go (readEarlier s) refl
   where
-    go : (c : Checks) → readEarlier s ≡ c → Accepted s
+    go : (c : Checks) → readEarlier s ≡ c → EarlierAccepted s
     go (accepted S ty n) e = record { sheet = S; type = ty; size = n; reads = e }
     go (rejected n p) e = clash (cause n 0 p) b cs (sym (ap (checked (length s) room space) e) ∙ o)
 

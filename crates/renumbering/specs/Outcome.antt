@@ -6,7 +6,7 @@ use mathlib.Core.List.{List, [], _∷_, _++_}
 use lib.ListN.{length, drop}
 use lib.Dec.{ltb}
 use Rattle.language.specs.Choice.{pick}
-use Rattle.records.specs.Refusal.{cause, old-sheet, both-sheets}
+use Rattle.records.specs.Refusal.{cause, old-sheet, both-sheets, space-too-short, no-id-left}
 use Rattle.records.specs.declared.edition.Edition.the-variants.{Earlier}
 use Rattle.records.specs.declared.refusal.Cause.{Cause}
 use Rattle.procedures.specs.Written.{Sheet, Written}
@@ -20,13 +20,6 @@ use Rattle.renumbering.specs.declared.renumber.Renumbered.the-variants.{
 -- "reads a sheet under the earlier rule"
 abbrev pub readEarlier : List ℕ → Checks
 readEarlier s = readUnder Earlier s
-
--- the numbers of refusals that reading does not give: "14 at place 0", "17 at the id byte for which no id is left"
-abbrev pub too-short : ℕ
-too-short = 14
-
-abbrev pub no-id-left : ℕ
-no-id-left = 17
 
 -- "That space must have 1,020 bytes"
 abbrev pub listSpace : ℕ
@@ -53,7 +46,8 @@ written S (none-left p) = refused (cause no-id-left old-sheet p)
 unfoldable pub checked : ℕ → ℕ → ℕ → Checks → Outcome
 checked long room space (rejected n p) = refused (cause n old-sheet p)
 checked long room space (accepted S ty n) =
-    pick (ltb room long || ltb space listSpace) (refused (cause too-short both-sheets 0)) (written S (renumberSheet S))
+    pick (ltb room long || ltb space listSpace) (refused (cause space-too-short both-sheets 0))
+    (written S (renumberSheet S))
 
 -- the outcome for a sheet, an output of `room` bytes and a list space of `space` bytes
 unfoldable pub outcome : List ℕ → ℕ → ℕ → Outcome

@@ -4,6 +4,7 @@ use mathlib.Core.Path.{_≡_}
 use mathlib.Core.Logic.{_⊎_}
 use mathlib.Core.List.{List, []}
 use lib.ListN.{length}
+use Rattle.records.specs.Refusal.{too-large, space-too-short, no-id-left}
 use Rattle.records.specs.declared.refusal.Cause.{Cause}
 use Rattle.procedures.specs.Written.{Sheet}
 use Rattle.procedures.specs.Meaning.{termOf}
@@ -11,7 +12,7 @@ use Rattle.procedures.specs.Rules.{SameSheets}
 use Rattle.procedures.specs.Hiding.{Apart}
 use Rattle.procedures.specs.Renumber.{Change}
 use Rattle.sheet.specs.Reader.{accepted, readSheet}
-use Rattle.renumbering.specs.Outcome.{readEarlier, listSpace, too-short, no-id-left, listed, done, refused}
+use Rattle.renumbering.specs.Outcome.{readEarlier, listSpace, listed, done, refused}
 use Rattle.renumbering.specs.Outcome.{outcome, RenumberPromise}
 use Rattle.renumbering.specs.declared.renumber.Renumbered.{Renumbered}
 
@@ -38,7 +39,7 @@ WrittenRule =
       outcome s room space ≡ done b cs → readEarlier s ≡ accepted S ty size → WellWritten s S ty size b cs
 
 -- only an accepted sheet is renumbered
-pub record Accepted (s : List ℕ) : Type 0 where
+pub record EarlierAccepted (s : List ℕ) : Type 0 where
   pub sheet : Sheet
   pub type : ℕ
   pub size : ℕ
@@ -46,7 +47,7 @@ pub record Accepted (s : List ℕ) : Type 0 where
 
 unfoldable pub AcceptedRule : Type 0
 AcceptedRule =
-    (s : List ℕ) (room space : ℕ) (b : List ℕ) (cs : List Change) → outcome s room space ≡ done b cs → Accepted s
+    (s : List ℕ) (room space : ℕ) (b : List ℕ) (cs : List Change) → outcome s room space ≡ done b cs → EarlierAccepted s
 
 -- "a sheet with nothing to change comes back unaltered"
 unfoldable pub UnalteredService : Type 0
@@ -56,7 +57,7 @@ UnalteredService =
 
 -- the numbers of renumber's refusals: those of check under the earlier rule, 14 and 17
 unfoldable pub RenumberNumber : ℕ → Type 0
-RenumberNumber n = ((0 < n) × (n ≤ 11)) ⊎ ((n ≡ too-short) ⊎ (n ≡ no-id-left))
+RenumberNumber n = ((0 < n) × (n ≤ too-large)) ⊎ ((n ≡ space-too-short) ⊎ (n ≡ no-id-left))
 
 unfoldable pub RenumberNumbers : Type 0
 RenumberNumbers =

@@ -7,7 +7,7 @@ use lib.ListN.{length, getD, set, drop}
 use lib.Dec.{eqb, leb}
 use Rattle.language.specs.Choice.{pick}
 use Rattle.records.specs.Limits.{ids}
-use Rattle.procedures.specs.PartKind.{NEW, PROCEDURE}
+use Rattle.part_rows.specs.PartKind.{NEW, PROCEDURE, ID-SPAN, COUNT-SPAN}
 use Rattle.procedures.specs.Written.{Name}
 use Rattle.procedures.specs.Meaning.{Binder, Meaning, private, argument, routine, named, retired, free, meaning}
 use Rattle.procedures.specs.Hiding.{isHeld}
@@ -32,35 +32,29 @@ tookIds s at kind count k =
     pick (eqb kind NEW) (set k (getD s (at + 1) 0) 1)
     (pick (eqb kind PROCEDURE) (tookParameters s (at + 4) count (set k (getD s (at + 1) 0) 1)) k)
 
--- An id's entry in the scope: `ARGUMENTS` times the number of arguments of a use, which is below `COUNTS`; where an
--- enclosing binder has the id `HELD` more, and the id which the innermost of these now has.
-abbrev pub ARGUMENTS : ℕ
-ARGUMENTS = 256
-
-abbrev pub COUNTS : ℕ
-COUNTS = 8
-
-abbrev pub HELD : ℕ
-HELD = 2048
+-- An id's entry in the scope: `ID-SPAN` times the number of arguments of a use, which is below `COUNT-SPAN`; where an
+-- enclosing binder has the id `FIRST-BOUND` more, and the id which the innermost of these now has.
+abbrev pub FIRST-BOUND : ℕ
+FIRST-BOUND = 2048
 
 unfoldable pub namedEntry : ℕ → ℕ
-namedEntry count = ARGUMENTS * count
+namedEntry count = ID-SPAN * count
 
 -- that of a name record of a kind
 unfoldable pub nameEntry : ℕ → ℕ → ℕ
 nameEntry kind count = pick (eqb kind 2) 0 (namedEntry count)
 
 unfoldable pub boundEntry : ℕ → ℕ → ℕ
-boundEntry given count = HELD + ARGUMENTS * count + given
+boundEntry given count = FIRST-BOUND + ID-SPAN * count + given
 
 unfoldable pub heldIn : ℕ → Bool
-heldIn e = leb HELD e
+heldIn e = leb FIRST-BOUND e
 
 unfoldable pub argumentsIn : ℕ → ℕ
-argumentsIn e = e / ARGUMENTS % COUNTS
+argumentsIn e = e / ID-SPAN % COUNT-SPAN
 
 unfoldable pub becomesIn : ℕ → ℕ → ℕ
-becomesIn e id = pick (leb HELD e) (e % ARGUMENTS) id
+becomesIn e id = pick (leb FIRST-BOUND e) (e % ID-SPAN) id
 
 -- how many arguments a use has, by what its id means
 unfoldable pub arity : Meaning → ℕ

@@ -4,13 +4,14 @@ use crate::bytes::byte;
 use crate::bytes::put;
 use crate::bytes::put_word;
 use crate::bytes::word;
+use crate::renumber::CHANGE;
+use crate::renumber::LIST;
 use crate::scope::arguments;
 use crate::scope::becomes;
 use crate::scope::bound_entry;
 use crate::scope::held;
 use crate::step::Step;
 use crate::taken::IDS;
-use crate::taken::PARAMETERS;
 use crate::taken::TAKEN;
 use crate::taken::lowest_free;
 use forms::set::least;
@@ -22,6 +23,8 @@ use records::kind::PROCEDURE;
 use records::kind::USE;
 use records::kind::body_of;
 use records::kind::parts_of;
+use records::limits::MOST_ARGUMENTS;
+use records::limits::MOST_BYTES;
 use records::read::byte_at;
 ghost use mathlib.Core.Path.{_≡_};
 ghost use Prim.Native.Nat.{_+_, _*_, _≤_, _<_};
@@ -30,15 +33,6 @@ ghost use Rattle.procedures.specs.Renumber.{Change};
 ghost use Rattle.renumbering.specs.Work.{note};
 ghost use Rattle.renumbering.specs.Found.{IdFound, ParametersFound, PartFound, PartsFound, CallFound, BlockFound};
 ghost use Rattle.renumbering.specs.Found.{RoutineFound};
-
-// How many bytes a sheet may have.
-pub(crate) const SHEET: usize = 4096;
-
-// The bytes of a list space.
-pub(crate) const LIST: usize = 1020;
-
-// How many bytes a change has.
-pub(crate) const CHANGE: usize = 4;
 
 // The bytes of a use, a new and a procedure before their parts.
 const USE_BYTES: usize = 2;
@@ -106,7 +100,7 @@ fn choose_parameters(
     s: &[u8],
     scope: &[u16; IDS],
     inner: &mut [u16; IDS],
-    bytes: &mut [u8; SHEET],
+    bytes: &mut [u8; MOST_BYTES],
     list: &mut [u8; LIST],
     taken: &mut [u8; IDS],
     at: usize,
@@ -150,7 +144,7 @@ fn choose_parameters(
 pub(crate) fn renumber_part(
     s: &[u8],
     scope: &[u16; IDS],
-    bytes: &mut [u8; SHEET],
+    bytes: &mut [u8; MOST_BYTES],
     list: &mut [u8; LIST],
     taken: &mut [u8; IDS],
     left: usize,
@@ -164,7 +158,7 @@ pub(crate) fn renumber_part(
     if left == 0 {
         return Step::Full { place: at };
     }
-    if SHEET <= at {
+    if MOST_BYTES <= at {
         return Step::Full { place: at };
     }
     let kind = byte_at(s, at);
@@ -195,7 +189,7 @@ pub(crate) fn renumber_part(
 fn renumber_parts(
     s: &[u8],
     scope: &[u16; IDS],
-    bytes: &mut [u8; SHEET],
+    bytes: &mut [u8; MOST_BYTES],
     list: &mut [u8; LIST],
     taken: &mut [u8; IDS],
     left: usize,
@@ -236,7 +230,7 @@ fn renumber_parts(
 fn renumber_call(
     s: &[u8],
     scope: &[u16; IDS],
-    bytes: &mut [u8; SHEET],
+    bytes: &mut [u8; MOST_BYTES],
     list: &mut [u8; LIST],
     taken: &mut [u8; IDS],
     left: usize,
@@ -258,7 +252,7 @@ fn renumber_call(
 fn renumber_block(
     s: &[u8],
     scope: &[u16; IDS],
-    bytes: &mut [u8; SHEET],
+    bytes: &mut [u8; MOST_BYTES],
     list: &mut [u8; LIST],
     taken: &mut [u8; IDS],
     left: usize,
@@ -286,7 +280,7 @@ fn renumber_block(
 fn renumber_routine(
     s: &[u8],
     scope: &[u16; IDS],
-    bytes: &mut [u8; SHEET],
+    bytes: &mut [u8; MOST_BYTES],
     list: &mut [u8; LIST],
     taken: &mut [u8; IDS],
     left: usize,
@@ -298,7 +292,7 @@ fn renumber_routine(
         (now (taken .entry)) left at n r (now (bytes .exit)) (now (list .exit)) (now (taken .exit)) ⌝ }
 {
     let id = byte(s, at + ID);
-    let count = least(byte(s, at + COUNT), PARAMETERS);
+    let count = least(byte(s, at + COUNT), MOST_ARGUMENTS);
     let own = choose_id(scope, list, taken, at + ID, id, n);
     let Step::Done { value, changes } = own else {
         return own;

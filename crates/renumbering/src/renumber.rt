@@ -1,31 +1,31 @@
 // The service renumber.
 use crate::bytes::copy;
-use crate::part::CHANGE;
-use crate::part::LIST;
-use crate::part::SHEET;
 use crate::step::Step;
 use crate::work::renumber_copy;
 use judge::judge::Judgement;
 use judge::judge::judge_sheet;
 use part_rows::row::TABLE;
 use records::edition::Edition;
-use records::refusal::BOTH;
+use records::limits::MOST_BYTES;
+use records::refusal::BOTH_SHEETS;
 use records::refusal::Cause;
-use records::refusal::OLD;
+use records::refusal::NO_ID_LEFT;
+use records::refusal::OLD_SHEET;
 use records::refusal::Refusal;
+use records::refusal::SPACE_TOO_SHORT;
 use records::refusal::of_sheet;
 use records::refusal::refuse;
 ghost use mathlib.Core.Path.{_≡_};
 ghost use Prim.Native.Nat.{_≤_};
 ghost use lib.ListN.{length};
-ghost use Rattle.records.specs.Refusal.{cause, both-sheets};
-ghost use Rattle.renumbering.specs.Outcome.{too-short, RenumberPromise};
+ghost use Rattle.records.specs.Refusal.{cause, both-sheets, space-too-short};
+ghost use Rattle.renumbering.specs.Outcome.{RenumberPromise};
 ghost use Rattle.renumbering.specs.Found.{AcceptedAt, EarlierRead, Renumbers};
 
-// The numbers of the refusals that reading does not give.
-const TOO_SHORT: u8 = 14;
+// The bytes of a list space, and of a change in it.
+pub const LIST: usize = 1020;
 
-const NO_ID_LEFT: u8 = 17;
+pub const CHANGE: usize = 4;
 
 // The answer of renumber: the number of changes, or the refusal.
 pub enum Renumbered {
@@ -58,9 +58,9 @@ fn read_earlier(s: &[u8]) -> Earlier
 
 // The refusal of an output or a list space that is too short.
 fn too_short() -> Renumbered
-    ensures { λ r. ⌜ r ≡ Renumbered.Refused (cause too-short both-sheets 0) ⌝ }
+    ensures { λ r. ⌜ r ≡ Renumbered.Refused (cause space-too-short both-sheets 0) ⌝ }
 {
-    Renumbered::Refused(of_sheet(refuse(TOO_SHORT, 0), BOTH))
+    Renumbered::Refused(of_sheet(refuse(SPACE_TOO_SHORT, 0), BOTH_SHEETS))
 }
 
 // Renumbers an accepted sheet whose term begins at the root. Nothing lent is written before it is known that no id is
@@ -70,11 +70,11 @@ fn renumber_accepted(s: &[u8], root: usize, out: &mut [u8], list: &mut [u8]) -> 
     ensures { λ r. ⌜ Renumbers (now (s .entry)) root r (now (out .entry)) (now (out .exit)) (now (list .entry))
         (now (list .exit)) ⌝ }
 {
-    let mut bytes = [0u8; SHEET];
+    let mut bytes = [0u8; MOST_BYTES];
     let mut changes = [0u8; LIST];
     let x = renumber_copy(s, root, &mut bytes, &mut changes);
     match x {
-        Step::Full { place } => Renumbered::Refused(of_sheet(refuse(NO_ID_LEFT, place), OLD)),
+        Step::Full { place } => Renumbered::Refused(of_sheet(refuse(NO_ID_LEFT, place), OLD_SHEET)),
         Step::Done {
             value: _,
             changes: n,
@@ -94,7 +94,7 @@ pub fn renumber(s: &[u8], out: &mut [u8], list: &mut [u8]) -> Renumbered
 {
     let x = read_earlier(s);
     match x {
-        Earlier::Refused(refusal) => Renumbered::Refused(of_sheet(refusal, OLD)),
+        Earlier::Refused(refusal) => Renumbered::Refused(of_sheet(refusal, OLD_SHEET)),
         Earlier::Sheet { root } => {
             if out.len() < s.len() {
                 return too_short();

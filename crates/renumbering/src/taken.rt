@@ -11,6 +11,8 @@ use records::kind::PARAMETER_IDS;
 use records::kind::PROCEDURE;
 use records::kind::RETIRE;
 use records::kind::body_of;
+use records::limits::FIRST_RECORD;
+use records::limits::MOST_ARGUMENTS;
 use records::read::byte_at;
 ghost use mathlib.Core.Path.{_≡_};
 ghost use Prim.Native.Nat.{_+_, _*_, _≤_, _<_, min};
@@ -23,13 +25,7 @@ ghost use Rattle.renumbering.specs.Found.{Headed, Taken};
 pub(crate) const TAKEN: usize = 1;
 
 // Ids are the numbers below this.
-pub(crate) const IDS: usize = 255;
-
-// How many parameters a procedure may have.
-pub(crate) const PARAMETERS: usize = 4;
-
-// Where the name records begin.
-const NAMES: usize = 2;
+pub(crate) const IDS: usize = records::limits::IDS as usize;
 
 // The lowest id that is not taken; 255 where no id is left.
 pub(crate) fn lowest_free(taken: &[u8]) -> usize
@@ -70,7 +66,7 @@ fn take_ids(s: &[u8], taken: &mut [u8; IDS], at: usize, kind: u8)
         return;
     }
     if kind == PROCEDURE {
-        let count = least(byte(s, at + COUNT), PARAMETERS);
+        let count = least(byte(s, at + COUNT), MOST_ARGUMENTS);
         put(taken, id, TAKEN);
         take_parameters(s, taken, at + PARAMETER_IDS, count);
     }
@@ -82,7 +78,7 @@ pub(crate) fn take_names(s: &[u8], root: usize, taken: &mut [u8; IDS], scope: &m
     ensures { λ r. ⌜ Headed (now (s .entry)) root (now (taken .entry)) (now (scope .entry)) (now (taken .exit))
         (now (scope .exit)) ⌝ }
 {
-    let mut at = NAMES;
+    let mut at = FIRST_RECORD;
     while at < root {
         let kind = byte_at(s, at);
         let id = byte(s, at + ID);

@@ -1,26 +1,26 @@
 // A sheet that is accepted, renumbered in a copy.
 use crate::bytes::copy;
-use crate::part::LIST;
-use crate::part::SHEET;
 use crate::part::renumber_part;
+use crate::renumber::LIST;
 use crate::step::Step;
 use crate::taken::IDS;
 use crate::taken::take_bound;
 use crate::taken::take_names;
+use records::limits::MOST_BYTES;
 ghost use mathlib.Core.Path.{_≡_};
 ghost use Prim.Native.Nat.{_≤_};
 ghost use lib.ListN.{length};
 ghost use Rattle.renumbering.specs.Found.{Worked};
 
 // How many levels a term may have.
-const DEPTH: usize = 32;
+const GREATEST_DEPTH: usize = records::limits::GREATEST_DEPTH as usize;
 
 // Renumbers a sheet whose term begins at the root: the sheet written goes to the start of `bytes`, the changes to the
 // start of `list`.
 pub(crate) fn renumber_copy(
     s: &[u8],
     root: usize,
-    bytes: &mut [u8; SHEET],
+    bytes: &mut [u8; MOST_BYTES],
     list: &mut [u8; LIST],
 ) -> Step
     requires { ⌜ (root ≤ 4096) × (length (now s) ≤ 4096) × (length (now bytes) ≡ 4096) ⌝ }
@@ -32,5 +32,5 @@ pub(crate) fn renumber_copy(
     take_names(s, root, &mut taken, &mut scope);
     take_bound(s, root, &mut taken);
     copy(s, bytes, s.len());
-    renumber_part(s, &scope, bytes, list, &mut taken, DEPTH, root, 0)
+    renumber_part(s, &scope, bytes, list, &mut taken, GREATEST_DEPTH, root, 0)
 }

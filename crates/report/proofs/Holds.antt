@@ -32,7 +32,7 @@ use Rattle.comparer.specs.Refusals.{compareRefusal}
 use Rattle.comparer.specs.Promise.{Holds, Decided, same, apart, ComparedBy}
 use Rattle.comparer.specs.declared.Comparison.{Comparison}
 use Rattle.comparer.proofs.Unique.{held-accepted}
-use Rattle.text.specs.Text.{ascii, apartText, firstMove, width, movesText, sizeIn, declaredOf, sheetsText}
+use Rattle.text.specs.Text.{ascii, apartText, firstMove, firstWidth, movesText, sizeIn, declaredOf, sheetsText}
 use Rattle.text.specs.Text.{textOf}
 use Rattle.report.specs.Program.{BufferHolds, PrintsWhole}
 use Rattle.report.proofs.Fits.{reported-fits}
@@ -47,8 +47,8 @@ module _ (M N : Numbers) where
   byte-below v = modulo-below (signed M v) 256 (omega arith)
 
   first-line : (m : Move) → Small N m → (s : List ℕ) → AtMost 15 (firstMove (record-of M m ++ s))
-      × (drop (width (record-of M m ++ s)) (record-of M m ++ s) ≡ s)
-  unfolding Small record-of kind valueOf bytes firstMove width
+      × (drop (firstWidth (record-of M m ++ s)) (record-of M m ++ s) ≡ s)
+  unfolding Small record-of kind valueOf bytes firstMove firstWidth
   first-line (move (private i) e) h s = absurd h
   first-line (move (at i j) (question run)) (hi, hj, hv) s = (plain-line 0 i j _ (omega arith) hi hj, refl)
   first-line (move (at i j) (answer done)) (hi, hj, hv) s = (plain-line 1 i j _ (omega arith) hi hj, refl)

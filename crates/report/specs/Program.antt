@@ -7,7 +7,7 @@ use Prim.Native.Nat.{ℕ, _≤_}
 use lib.ListN.{length, take}
 use Rattle.records.specs.declared.refusal.Cause.{Cause}
 use Rattle.comparer.specs.Promise.{ComparePromise}
-use Rattle.conditions.specs.Pair.{space-too-short}
+use Rattle.records.specs.Refusal.{space-too-short}
 use Rattle.comparer.specs.Refusals.{compareRefusal}
 use Rattle.comparer.specs.declared.Comparison.{Comparison}
 use Rattle.text.specs.Text.{textOf}

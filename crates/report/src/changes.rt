@@ -1,5 +1,7 @@
 // What the program renumber prints: the answer of renumber as text.
+use records::limits::BYTES;
 use records::read::byte_at;
+use renumbering::renumber::CHANGE;
 use renumbering::renumber::Renumbered;
 use renumbering::renumber::renumber;
 use text::lines::refused;
@@ -9,12 +11,6 @@ ghost use mathlib.Core.Path.{_≡_};
 ghost use Rattle.text.specs.Page.{page, pushes, Counts};
 ghost use Rattle.report.specs.Changes.{changeText, changeAt, changesText, changedText, renumberText};
 ghost use Rattle.report.specs.Changes.{isRenumbered, Representable, RenumberReported};
-
-// How many bytes a change has in the list.
-const CHANGE: usize = 4;
-
-// How many numbers a byte holds: what the high byte of a place counts.
-const BYTES: usize = 256;
 
 // How many bytes the text has, and whether the sheet is renumbered; else it is refused.
 pub struct Told {

@@ -21,18 +21,16 @@ use positions::types::answer_number;
 use positions::types::question_kind;
 use positions::types::question_value;
 ghost use mathlib.Core.Path.{_≡_};
-ghost use Rattle.rise.specs.Up.{exitDone, exitTruth, exitValue, exitOperate, exitAssign, exitArgument};
-ghost use Rattle.rise.specs.Up.{exitNew, exitsOf, goesOf};
+ghost use Rattle.rise.specs.Up.{exitDone, exitTruth, exitValue, exitOperate, exitAssign, exitArgument, exitNew};
+ghost use Rattle.rise.specs.Up.{exitsOf, goesOf};
 ghost use Rattle.positions.specs.declared.Out.the-variants.{Go};
+use records::limits::BYTES;
+use records::read::SHORTS;
 
 // The truths.
 const FALSE: usize = 0;
 
 const TRUE: usize = 1;
-// How many numbers a byte, and a word of 16 bits, can be.
-const BYTES: usize = 256;
-
-const CODES: usize = 65536;
 
 // Done leads on.
 pub(crate) fn exit_done(kind: usize, next: usize, block: usize, set: usize) -> Out
@@ -112,8 +110,8 @@ pub(crate) fn exit_operate(
     if kind == VALUE {
         if value < f.c {
             let op = (f.b % BYTES) as u8;
-            let x = (f.a % CODES) as u16;
-            let y = (value % CODES) as u16;
+            let x = (f.a % SHORTS) as u16;
+            let y = (value % SHORTS) as u16;
             let result = operate(n, op, x, y);
             return match result {
                 Outcome::Is { code } => Out::Exit {

@@ -13,7 +13,7 @@ use Rattle.procedures.specs.Hiding.{Apart}
 use Rattle.sheet.specs.Encoding.{encodeSheet}
 
 pub record AcceptedUnder (ed : Edition) (S : Sheet) : Type 0 where
-  pub ordered : fine.Accepted S
+  pub ordered : fine.WellFormed S
   pub short : length (encodeSheet S) ≤ most-bytes
   -- "a new, a procedure or a parameter may not take an id that an enclosing one holds"
   pub apart : ed ≡ Present → Apart [] (S .term)

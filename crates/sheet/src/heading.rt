@@ -4,6 +4,9 @@ use judgements::judgement::judge_below;
 use judgements::judgement::judge_both;
 use judgements::judgement::judge_unused;
 use parts::scope::with_standing;
+use records::limits::COUNTS;
+use records::limits::IDS;
+use records::limits::TYPES;
 use records::read::byte_at;
 use records::read::standing_of;
 use records::refusal::ID_TAKEN;
@@ -13,13 +16,6 @@ ghost use mathlib.Core.Path.{_≡_};
 ghost use Prim.Native.Nat.{_+_, _≤_, _<_};
 ghost use lib.ListN.{getD, set};
 ghost use Rattle.sheet.specs.Heading.{fresh, argument, arguments, declareOf};
-
-// Where the ranges of bytes end: ids, types, numbers of arguments.
-const IDS: u8 = 255;
-
-const TYPES: u8 = 5;
-
-const COUNTS: u8 = 5;
 
 // An id that is neither declared nor retired.
 pub(crate) fn judge_fresh(s: &[u8], st: &[u32; 255], at: usize) -> Judged

@@ -4,8 +4,8 @@ use heads::head::Record;
 use part_rows::row::NOTES;
 use part_rows::row::put;
 use records::kind::USE;
+use records::standing::FIRST_VARIABLE;
 use records::standing::RETIRED;
-use records::standing::VARIABLES;
 ghost use mathlib.Core.Path.{_≡_};
 ghost use Rattle.records.specs.Standing.{standingOf};
 ghost use Rattle.sheet.specs.table.Notes.{isNameStanding, usesName, noted, isNoted};
@@ -20,7 +20,7 @@ fn is_declared(c: u32) -> bool
     if c <= RETIRED {
         return false;
     }
-    c < VARIABLES
+    c < FIRST_VARIABLE
 }
 
 // Notes the use of a declared name, if the record is one.

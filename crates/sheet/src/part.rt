@@ -19,6 +19,7 @@ use parts::typing::accepts_part;
 use parts::typing::type_of;
 use records::edition::Edition;
 use records::kind::Rule;
+use records::limits::GREATEST_DEPTH;
 use records::refusal::Refusal;
 use records::refusal::WRONG_TYPE;
 use records::refusal::refuse;
@@ -31,9 +32,6 @@ ghost use Rattle.parts.specs.Scope.{opens, usable};
 ghost use Rattle.parts.specs.declared.scope.Opens.the-variants.{Block, Routine};
 ghost use Rattle.sheet.specs.Reader.{partsOf, scopeParts, readRecord, readPart};
 ghost use Rattle.sheet.specs.table.Fill.{fill, fills, fillsNext, Reads, Beyond, Ends, closedAnswer, closedTable};
-
-// How many levels a term may have.
-const DEPTH: u8 = 32;
 
 // The number of the second part of a record.
 const SECOND: u8 = 1;
@@ -395,7 +393,7 @@ pub(crate) fn read_root(
         t,
         n,
         0,
-        DEPTH,
+        GREATEST_DEPTH,
         0,
         Rule::Sequence,
         0,

@@ -3,6 +3,11 @@ use crate::names::Reading;
 use crate::names::read_names;
 use language::Numbers;
 use records::edition::Edition;
+use records::limits::FIRST_RECORD;
+use records::limits::GREATEST_RULE;
+use records::limits::GREATEST_Z;
+use records::limits::MOST_BYTES;
+use records::limits::MOST_NAMES;
 use records::read::byte_at;
 use records::refusal::CUT_SHORT;
 use records::refusal::LEFT_OVER;
@@ -13,15 +18,6 @@ ghost use mathlib.Core.Path.{_≡_};
 ghost use lib.ListN.{length};
 ghost use Rattle.sheet.specs.Reader.{wholeOf, numbersAt};
 ghost use Rattle.sheet.specs.table.Fill.{ReadsSheet, closedReading};
-
-// The greatest length of a sheet, Z at most, the last overflow rule, and how many name records a sheet may have.
-const LENGTH: usize = 4096;
-
-const GREATEST: u8 = 31;
-
-const LAST_RULE: u8 = 2;
-
-const NAMES: u8 = 32;
 
 // Nothing after the term.
 fn close_sheet(s: &[u8], x: Reading) -> Reading
@@ -46,8 +42,8 @@ pub fn read_sheet(edition: Edition, s: &[u8], t: &mut [u16]) -> Reading
     ensures { λ x. ⌜ ReadsSheet (numbersAt (now (s .entry))) (wholeOf edition (now (s .entry))) x
         (now (t .entry)) (now (t .exit)) ⌝ }
 {
-    if LENGTH < s.len() {
-        return Reading::Refused(refuse(TOO_LONG, LENGTH));
+    if MOST_BYTES < s.len() {
+        return Reading::Refused(refuse(TOO_LONG, MOST_BYTES));
     }
     if s.len() == 0 {
         return Reading::Refused(refuse(CUT_SHORT, s.len()));
@@ -56,19 +52,19 @@ pub fn read_sheet(edition: Edition, s: &[u8], t: &mut [u16]) -> Reading
     if z == 0 {
         return Reading::Refused(refuse(OUT_OF_RANGE, 0));
     }
-    if GREATEST < z {
+    if GREATEST_Z < z {
         return Reading::Refused(refuse(OUT_OF_RANGE, 0));
     }
     if s.len() <= 1 {
         return Reading::Refused(refuse(CUT_SHORT, s.len()));
     }
     let rule = s[1];
-    if LAST_RULE < rule {
+    if GREATEST_RULE < rule {
         return Reading::Refused(refuse(OUT_OF_RANGE, 1));
     }
     let n = Numbers { z, rule };
     let st = [0u32; 255];
-    let x = read_names(edition, s, &st, t, n, NAMES, 2);
+    let x = read_names(edition, s, &st, t, n, MOST_NAMES, FIRST_RECORD);
     close_sheet(s, x)
 }
 

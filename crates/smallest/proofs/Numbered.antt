@@ -16,8 +16,8 @@ use Rattle.smallest.proofs.Order.{less-irrefl, less-trans}
 use Rattle.smallest.proofs.Refining.{after-append, after-low, equal-on}
 
 -- the words that `start` accepts
-abbrev pub Accepted : (ℕ → ℕ → ℕ) → (ℕ → Bool) → ℕ → List ℕ → Type 0
-Accepted δ fin start x = fin (after δ start x) ≡ true
+abbrev pub AcceptedWord : (ℕ → ℕ → ℕ) → (ℕ → Bool) → ℕ → List ℕ → Type 0
+AcceptedWord δ fin start x = fin (after δ start x) ≡ true
 
 same-truth : (a b : Bool) → (a ≡ true → b ≡ true) → (b ≡ true → a ≡ true) → a ≡ b
 same-truth true b f g = sym (f refl)
@@ -33,28 +33,28 @@ module _ (δ : ℕ → ℕ → ℕ) (fin : ℕ → Bool) (n dead : ℕ) (F : Fin
   at-low x = after-low δ fin n dead F start x begin
 
   -- one class: the words go on alike
-  pub alike-of : (x y : List ℕ) → cls (at x) ≡ cls (at y) → Alike (Accepted δ fin start) x y
+  pub alike-of : (x y : List ℕ) → cls (at x) ≡ cls (at y) → Alike (AcceptedWord δ fin start) x y
   alike-of x y e u =
       let q : fin (after δ start (u ++ x)) ≡ fin (after δ start (u ++ y)) =
       ap fin (after-append δ start u x) ∙ C .tells (at x) (at y) (at-low x) (at-low y) e u
       ∙ sym (ap fin (after-append δ start u y)) in
       (λ h. sym q ∙ h, λ h. q ∙ h)
 
-  pub class-of : (x y : List ℕ) → Alike (Accepted δ fin start) x y → cls (at x) ≡ cls (at y)
+  pub class-of : (x y : List ℕ) → Alike (AcceptedWord δ fin start) x y → cls (at x) ≡ cls (at y)
   class-of x y h = C .joins (at x) (at y) (at-low x) (at-low y) (λ u.
       same-truth (fin (after δ (at x) u)) (fin (after δ (at y) u))
       (λ t. sym (ap fin (after-append δ start u y)) ∙ h u .0 (ap fin (after-append δ start u x) ∙ t))
       (λ t. sym (ap fin (after-append δ start u x)) ∙ h u .1 (ap fin (after-append δ start u y) ∙ t)))
 
   -- a beginning is a word that leads to a live state
-  pub begins-of : (x : List ℕ) → cls (at x) ≢ cls dead → Begins (Accepted δ fin start) x
+  pub begins-of : (x : List ℕ) → cls (at x) ≢ cls dead → Begins (AcceptedWord δ fin start) x
   begins-of x ne = let a = C .live (at x) (at-low x) ne in (a .0, ap fin (after-append δ start (a .0) x) ∙ a .1)
 
   dead-stays : (u : List ℕ) → after δ dead u ≡ dead
   dead-stays [] = refl
   dead-stays (m ∷ u) = ap (λ q. δ q m) (dead-stays u) ∙ F .stays m
 
-  pub live-of : (x : List ℕ) → Begins (Accepted δ fin start) x → cls (at x) ≢ cls dead
+  pub live-of : (x : List ℕ) → Begins (AcceptedWord δ fin start) x → cls (at x) ≢ cls dead
   live-of x b e =
       let z : true ≡ false = sym (b .1) ∙ ap fin (after-append δ start (b .0) x)
       ∙ C .tells (at x) dead (at-low x) (F .low) e (b .0) ∙ ap fin (dead-stays (b .0)) ∙ F .ends in
@@ -194,7 +194,7 @@ module _ (δ : ℕ → ℕ → ℕ) (fin : ℕ → Bool) (n dead : ℕ) (F : Fin
         (arcs : (k : ℕ) → k < count → (m j : ℕ) → Has (getD T k nowhere .arcs) m j
         ↔ ((cls (δ (state k) m) ≢ cls dead) × (number (cls (δ (state k) m)) ≡ j + 1))) where
       abbrev L : List ℕ → Type 0
-      L = Accepted δ fin start
+      L = AcceptedWord δ fin start
 
       live-word : (k : ℕ) → k < count → cls (at (word k)) ≢ cls dead
       live-word k h = rw (leads-to k h) (N .live k h)
@@ -259,7 +259,7 @@ module _ (δ : ℕ → ℕ → ℕ) (fin : ℕ → Bool) (n dead : ℕ) (F : Fin
       )
 
       -- the table of the numbered classes is the smallest
-      pub numbered-smallest : Smallest (Accepted δ fin start) T
+      pub numbered-smallest : Smallest (AcceptedWord δ fin start) T
       numbered-smallest = record {
         word = word;
         first = λ k h. foremost k (omega (arith, size));

@@ -2,8 +2,10 @@
 use class_words::words::edge_letter;
 use class_words::words::edge_target;
 use dfa::words::at;
+use play::play::BARE_BYTES;
 use play::play::put;
 use play::play::write_record;
+use records::limits::BYTES;
 ghost use mathlib.Core.Path.{_≡_};
 ghost use Prim.Native.Nat.{_+_, _*_, _-_, _%_, _<_, _≤_};
 ghost use lib.ListN.{length, getD};
@@ -16,10 +18,7 @@ ghost use Rattle.table_bytes.specs.InWords.{Edge, edgeBytes};
 const MOVE: usize = 41;
 
 // Bytes of a kind and of a record without a value.
-const BARE: usize = 4;
-
-// How many values a byte has.
-const BYTE: usize = 256;
+const BARE: usize = 1 + BARE_BYTES;
 
 // Writes the move of a letter to a position, from a place on: the place after it.
 fn write_move(s: &mut [u8], place: usize, l: usize, to: usize) -> usize
@@ -30,7 +29,7 @@ fn write_move(s: &mut [u8], place: usize, l: usize, to: usize) -> usize
     let end = write_record(s, place + 1, l);
     put(s, place, MOVE + (end - place - BARE));
     put(s, end, to);
-    put(s, end + 1, to / BYTE);
+    put(s, end + 1, to / BYTES);
     end + 2
 }
 

@@ -7,7 +7,7 @@ use lib.ListN.{length}
 use Rattle.part_rows.specs.Row.{word, classOf}
 use Rattle.procedures.specs.Written.{Written, Name}
 use Rattle.procedures.specs.Meaning.{Binder, typed}
-use Rattle.procedures.specs.PartKind.{END, CLASS}
+use Rattle.part_rows.specs.PartKind.{END, CLASS}
 use Rattle.procedures.specs.Width.{width}
 use Rattle.procedures.specs.Pieces.{Piece, pieces, ownWidth}
 

@@ -8,7 +8,7 @@ use lib.Seq.{take-all, drop-drop, getD-drop}
 use borrow.Author.Tests.{lt-ltb, le-ltb}
 use Rattle.text.specs.Page.{Page, pushes}
 use Rattle.language.specs.Number.{fromByte}
-use Rattle.text.specs.Text.{ascii, signedDigits, sheetName, valueText, firstMove, width, movesText}
+use Rattle.text.specs.Text.{ascii, signedDigits, sheetName, valueText, firstMove, firstWidth, movesText}
 use Rattle.text.proofs.Pages.{pushes-append, after}
 
 -- the first byte of what follows a place
@@ -16,12 +16,12 @@ first-of : (s : List ℕ) (place : ℕ) → getD (drop place s) 0 0 ≡ getD s p
 first-of s place = getD-drop place s 0 0 ∙ ap (λ (n : ℕ). getD s n 0) (omega arith)
 
 -- the width of the record at a place
-pub width-short : (s : List ℕ) (place b : ℕ) → b ≡ getD s place 0 → b < 5 → width (drop place s) ≡ 3
-unfolding width
+pub width-short : (s : List ℕ) (place b : ℕ) → b ≡ getD s place 0 → b < 5 → firstWidth (drop place s) ≡ 3
+unfolding firstWidth
 width-short s place b e h = rw (first-of s place, ← e, lt-ltb b 5 h)
 
-pub width-long : (s : List ℕ) (place b : ℕ) → b ≡ getD s place 0 → 5 ≤ b → width (drop place s) ≡ 4
-unfolding width
+pub width-long : (s : List ℕ) (place b : ℕ) → b ≡ getD s place 0 → 5 ≤ b → firstWidth (drop place s) ≡ 4
+unfolding firstWidth
 width-long s place b e h = rw (first-of s place, ← e, le-ltb b 5 h)
 
 -- nothing follows the end
@@ -32,13 +32,13 @@ past-end zero (x ∷ s) h = absurd (omega arith)
 past-end (suc n) (x ∷ s) h = past-end n s (omega arith)
 
 -- the place after a record, where there is room for it, and the end where there is none
-module _ (s : List ℕ) (place w : ℕ) (d : width (drop place s) ≡ w) (h : place ≤ length s) where
+module _ (s : List ℕ) (place w : ℕ) (d : firstWidth (drop place s) ≡ w) (h : place ≤ length s) where
   pub room : w ≤ length s - place →
-      (place + w ≤ length s) × (drop (place + w) s ≡ drop (width (drop place s)) (drop place s))
+      (place + w ≤ length s) × (drop (place + w) s ≡ drop (firstWidth (drop place s)) (drop place s))
   room l = (omega arith, rw d (sym (drop-drop w place s)))
 
   pub no-room : length s - place < w →
-      (length s ≤ length s) × (drop (length s) s ≡ drop (width (drop place s)) (drop place s))
+      (length s ≤ length s) × (drop (length s) s ≡ drop (firstWidth (drop place s)) (drop place s))
   no-room l =
       (omega arith, rw d (past-end (length s) s (omega arith)
       ∙ sym (drop-drop w place s ∙ past-end (place + w) s (omega arith))))
@@ -56,7 +56,7 @@ module _ (s : List ℕ) (count i place : ℕ) (p₀ p : Page)
   (inv : pushes (movesText (count - i) (drop place s)) p ≡ pushes (movesText count s) p₀) where
   pub moves-again : (q : Page) (next : ℕ) → i < count →
       q ≡ pushes (firstMove (take (length s - place) (drop place s))) p →
-      drop next s ≡ drop (width (drop place s)) (drop place s) →
+      drop next s ≡ drop (firstWidth (drop place s)) (drop place s) →
       pushes (movesText (count - (i + 1)) (drop next s)) q ≡ pushes (movesText count s) p₀
   unfolding movesText
   moves-again q next h e d =

@@ -4,7 +4,7 @@ use mathlib.Core.List.{[], _∷_}
 use Rattle.language.specs.Number.{fromByte}
 use Rattle.records.specs.Refusal.{cause}
 use Rattle.text.specs.Text.{ascii, digitsIn, digits, signedDigits, sheetName, refusedText, sizesText}
-use Rattle.text.specs.Text.{namesText, usesText, apartText, valueText, moveText, firstMove, width, movesText}
+use Rattle.text.specs.Text.{namesText, usesText, apartText, valueText, moveText, firstMove, firstWidth, movesText}
 
 refusal : refusedText (cause 7 0 3) ≡ ascii "refused 7 old 3\n"
 unfolding refusedText digits digitsIn sheetName
@@ -23,9 +23,9 @@ unfolding apartText digits digitsIn sheetName
 apart = refl
 
 moves : movesText 2 (0 ∷ 255 ∷ 0 ∷ 1 ∷ 255 ∷ 0 ∷ []) ≡ ascii "0 255 0\n1 255 0\n"
-unfolding movesText firstMove width moveText valueText digits digitsIn
+unfolding movesText firstMove firstWidth moveText valueText digits digitsIn
 moves = refl
 
 value : movesText 1 (5 ∷ 9 ∷ 1 ∷ 254 ∷ []) ≡ ascii "5 9 1 -2\n"
-unfolding movesText firstMove width moveText valueText digits digitsIn signedDigits fromByte
+unfolding movesText firstMove firstWidth moveText valueText digits digitsIn signedDigits fromByte
 value = refl

@@ -15,6 +15,7 @@ use Rattle.records.specs.declared.refusal.Cause.{Cause}
 use Rattle.procedures.specs.Uses.{declaredIn}
 use Rattle.sheet.specs.Reader.{Checks, accepted, rejected, readSheet}
 use Rattle.judge.specs.declared.mark.Uses.{Uses}
+use Rattle.play.specs.Records.{valued, width}
 use Rattle.comparer.specs.declared.Comparison.{Comparison}
 use Rattle.comparer.specs.declared.Comparison.the-variants.{Same, Apart, Refused}
 
@@ -68,7 +69,7 @@ apartText sheet moves = ascii "apart in " ++ sheetName sheet ++ ascii " " ++ dig
 
 -- the value of a move, where its kind has one; the byte is two's complement
 unfoldable pub valueText : ℕ → ℕ → List ℕ
-valueText kind byte = pick (ltb kind 5) [] (ascii " " ++ signedDigits (fromByte byte))
+valueText kind byte = pick (ltb kind valued) [] (ascii " " ++ signedDigits (fromByte byte))
 
 -- "5 255 0 -1"
 unfoldable pub moveText : ℕ → ℕ → ℕ → ℕ → List ℕ
@@ -80,13 +81,13 @@ unfoldable pub firstMove : List ℕ → List ℕ
 firstMove s = moveText (getD s 0 0) (getD s 1 0) (getD s 2 0) (getD s 3 0)
 
 -- how many bytes the first record has
-unfoldable pub width : List ℕ → ℕ
-width s = pick (ltb (getD s 0 0) 5) 3 4
+unfoldable pub firstWidth : List ℕ → ℕ
+firstWidth s = width (getD s 0 0)
 
 -- so many moves, one record after the other
 unfoldable pub movesText : ℕ → List ℕ → List ℕ
 movesText zero s = []
-movesText (suc n) s = firstMove s ++ movesText n (drop (width s) s)
+movesText (suc n) s = firstMove s ++ movesText n (drop (firstWidth s) s)
 
 -- the size of a sheet that is accepted
 unfoldable pub sizeIn : Checks → ℕ

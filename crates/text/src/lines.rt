@@ -5,10 +5,13 @@ use judge::check::Checked;
 use judge::check::check;
 use judge::mark::Uses;
 use judge::mark::declared_count;
+use play::play::BARE_BYTES;
+use play::play::VALUED_BYTES;
+use records::limits::BYTES;
 use records::read::byte_at;
 use records::refusal::Cause;
-use records::refusal::NEW;
-use records::refusal::OLD;
+use records::refusal::NEW_SHEET;
+use records::refusal::OLD_SHEET;
 ghost use mathlib.Core.Path.{_≡_};
 ghost use Prim.Native.Nat.{_≤_};
 ghost use lib.ListN.{length, drop};
@@ -16,21 +19,14 @@ ghost use Rattle.language.specs.Number.{fromByte};
 ghost use Rattle.sheet.specs.Reader.{readSheet};
 ghost use Rattle.text.specs.Page.{page, pushes};
 ghost use Rattle.text.specs.Text.{sheetName, refusedText, sizeIn, declaredOf, sizesText, namesText, usesText};
-ghost use Rattle.text.specs.Text.{sheetsText, apartText, signedDigits, valueText, moveText, firstMove, width};
-ghost use Rattle.text.specs.Text.{movesText};
+ghost use Rattle.text.specs.Text.{sheetsText, apartText, signedDigits, valueText, moveText, firstMove};
+ghost use Rattle.text.specs.Text.{firstWidth, movesText};
 
 // The first kind of move that has a value.
-const VALUE: u8 = 5;
+const VALUE: u8 = automaton::moves::VALUE as u8;
 
-// The first byte that stands for a number below 0, in two's complement, and how many bytes there are.
+// The first byte that stands for a number below 0, in two's complement.
 const NEGATIVE: u8 = 128;
-
-const BYTES: usize = 256;
-
-// How many bytes a record has, without and with a value.
-const PLAIN: usize = 3;
-
-const VALUED: usize = 4;
 
 // What is printed of a sheet beside the names that it uses: its size, and how many names it declares.
 struct Figures {
@@ -42,10 +38,10 @@ struct Figures {
 fn sheet_name(out: &mut [u8], at: usize, sheet: u8) -> usize
     ensures { λ r. ⌜ page (now (out .exit)) r ≡ pushes (sheetName sheet) (page (now (out .entry)) at) ⌝ }
 {
-    if sheet == OLD {
+    if sheet == OLD_SHEET {
         return text(out, at, b"old");
     }
-    if sheet == NEW {
+    if sheet == NEW_SHEET {
         return text(out, at, b"new");
     }
     text(out, at, b"both")
@@ -209,19 +205,19 @@ fn after(s: &[u8], place: usize) -> usize
     requires { ⌜ place ≤ length (now s) ⌝ }
     ensures within { λ r. ⌜ r ≤ length (now (s .entry)) ⌝ }
     ensures rest { λ r. ⌜ drop r (now (s .entry))
-        ≡ drop (width (drop place (now (s .entry)))) (drop place (now (s .entry))) ⌝ }
+        ≡ drop (firstWidth (drop place (now (s .entry)))) (drop place (now (s .entry))) ⌝ }
 {
     let left = s.len() - place;
     if byte_at(s, place) < VALUE {
-        if left < PLAIN {
+        if left < BARE_BYTES {
             return s.len();
         }
-        return place + PLAIN;
+        return place + BARE_BYTES;
     }
-    if left < VALUED {
+    if left < VALUED_BYTES {
         return s.len();
     }
-    place + VALUED
+    place + VALUED_BYTES
 }
 
 // So many moves, whose records stand one after the other from the start.

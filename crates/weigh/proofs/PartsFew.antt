@@ -5,7 +5,7 @@ use mathlib.Core.Path.{_≡_}
 use mathlib.Core.Bool.{Bool, true, false}
 use lib.Dec.{eqb, ltb}
 use Rattle.language.specs.Choice.{pick}
-use Rattle.procedures.specs.PartKind.{NAME, FETCH, IF, NEW, USE}
+use Rattle.part_rows.specs.PartKind.{NAME, FETCH, IF, NEW, ROUTINE}
 use Rattle.weighing.specs.Plan.{partsOf}
 
 either-few : (b : Bool) (x y : ℕ) → x ≤ 4 → y ≤ 4 → pick b x y ≤ 4
@@ -23,4 +23,4 @@ parts-few kind detail count e =
       (either-few (eqb kind IF) _ _ (omega arith)
       (either-few (ltb kind NEW) _ _ (omega arith)
       (either-few (eqb kind NEW) _ _ (omega arith)
-      (either-few (eqb kind USE) _ _ (omega arith) (omega arith)))))))))
+      (either-few (eqb kind ROUTINE) _ _ (omega arith) (omega arith)))))))))

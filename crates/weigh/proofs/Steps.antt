@@ -5,10 +5,9 @@ use mathlib.Core.List.{List}
 use mathlib.Core.Path.{_≡_, ap, ap₂, sym, _∙_}
 use lib.ListN.{set}
 use borrow.Author.Tests.{eq-eqb, ne-eqb}
-use Rattle.procedures.specs.PartKind.{KIND, DETAIL, PARTS, PROCEDURE}
+use Rattle.part_rows.specs.PartKind.{KIND, DETAIL, PARTS, PROCEDURE, ROUTINE}
 use Rattle.part_rows.specs.Row.{word}
-use Rattle.weighing.specs.Stack.{marks-from, slots-from, height-at, most-forms, marksIn, heightOf}
-use Rattle.weighing.specs.Stack.{lowerForm, addedForm}
+use Rattle.weighing.specs.Stack.{marks-from, slots-from, height-at, most-forms, marksIn, heightOf, lowerForm, addedForm}
 use Rattle.weighing.specs.Plan.{partsOf, factorOf, extraOf, comeAt, comeOf, usedOf}
 use Rattle.weighing.specs.Step.{started, partAdded, partsAdded, closed, weighedPlain, weighedProcedure, weighed}
 

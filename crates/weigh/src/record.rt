@@ -11,8 +11,7 @@ use part_rows::row::MARKS;
 use part_rows::row::PARTS;
 use part_rows::row::SLOTS;
 use part_rows::row::put;
-use plans::kind::PROCEDURE;
-use plans::mark::COMES;
+use part_rows::kind::PROCEDURE;
 use plans::mark::come_at;
 use plans::mark::come_of;
 use plans::mark::used_of;
@@ -21,12 +20,13 @@ use plans::plan::factor_of;
 use plans::plan::parts_of;
 use plans::plan::start;
 use plans::row::height_of;
-use plans::row::word_of;
+use part_rows::row::word_of;
 ghost use mathlib.Core.Path.{_≡_};
 ghost use Prim.Native.Nat.{suc, _+_, _-_, _≤_, _<_, min};
 ghost use lib.ListN.{set};
 ghost use Rattle.weighing.specs.Stack.{marks-from, slots-from, height-at, most-forms};
 ghost use Rattle.weighing.specs.Step.{partAdded, partsAdded, closed, weighedPlain, weighedProcedure, weighed};
+use part_rows::pack::COME_SPAN;
 
 // How many parts a procedure has.
 const TERMS: usize = 2;
@@ -142,7 +142,7 @@ fn weigh_procedure(t: &mut [u16], at: usize, number: usize)
     let to = less(height_of(t), TERMS);
     let used = used_of(t, to, number);
     let c = come_at(t, word_of(t, at, PARTS + 1));
-    close(t, at, to, to + 1, c + COMES * used);
+    close(t, at, to, to + 1, c + COME_SPAN * used);
 }
 
 // Weighs and marks the record at a place; k is the number of the procedure that it uses, if it is such a use.

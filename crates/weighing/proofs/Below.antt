@@ -9,7 +9,7 @@ use lib.ListN.{length, getD, set, length-set}
 use lib.Seq.{getD-set-other}
 use Rattle.language.specs.Choice.{pick}
 use Rattle.procedures.specs.Held.{held}
-use Rattle.procedures.specs.PartKind.{KIND, DETAIL, PARTS, PROCEDURE, PARAMETER, USE}
+use Rattle.part_rows.specs.PartKind.{KIND, DETAIL, PARTS, PROCEDURE, PARAMETER, ROUTINE}
 use Rattle.procedures.specs.Marks.{COMES}
 use Rattle.part_rows.specs.Row.{word}
 use Rattle.weighing.specs.Stack.{marks-from, slots-from, height-at, forms-from, most-forms, marksIn, heightOf}
@@ -116,7 +116,7 @@ from-started kind detail k row t =
     let x : List ℕ = lowerForm row (termForm t detail) k t in
     let y : List ℕ = unitForm row (min detail 127) t in
     let z : List ℕ = constantForm row (ownOf kind detail) t in
-    from-pick forms-from t x (pick (eqb kind PARAMETER) y z) (eqb kind USE)
+    from-pick forms-from t x (pick (eqb kind PARAMETER) y z) (eqb kind ROUTINE)
       (from-lower row (termForm t detail) k t)
       (from-pick forms-from t y z (eqb kind PARAMETER) (from-unit row (min detail 127) t)
         (from-constant row (ownOf kind detail) t))

@@ -13,7 +13,7 @@ use Rattle.language.specs.Term.{Often, onces}
 use Rattle.language.specs.Weight.{useWeight}
 use Rattle.language.proofs.AskOnceLaws.{onces-below}
 use Rattle.parts.specs.Rule.{values}
-use Rattle.part_rows.specs.Row.{classOf}
+use Rattle.part_rows.specs.Class.{questionsBy, answersBy}
 use Rattle.procedures.specs.Environment.{beyond}
 use Rattle.procedures.specs.Written.{call, Writtens, none, more, Name}
 use Rattle.procedures.specs.Meaning.{Binder, meaning, routine, named, tyOf, byMeaning, inside}
@@ -22,19 +22,18 @@ use Rattle.procedures.specs.Form.{Form, Forms, only, plus, times, lower, instan
 use Rattle.procedures.specs.Come.{come, comes, through}
 use Rattle.procedures.specs.Held.{held, SameForm}
 use Rattle.procedures.specs.Context.{Context, binders, forms, downs}
-use Rattle.procedures.specs.PartKind.{NAME, USE, CLASS, VALUES, DETAIL, PARTS}
-use Rattle.part_rows.specs.Row.{word}
+use Rattle.part_rows.specs.PartKind.{NAME, ROUTINE, CLASS, VALUES, DETAIL, PARTS}
+use Rattle.part_rows.specs.Row.{classOf, word}
 use Rattle.procedures.specs.Table.{ShownArgs, shown-none, shown-more, useDetail, nameDetail}
 use Rattle.procedures.specs.Marks.{Marked, MarkedArgs}
 use Rattle.procedures.proofs.Tests.{by-test}
 use Rattle.procedures.proofs.Holding.{held-held}
-use Rattle.procedures.proofs.Types.{Class, a-command, an-expression, a-variable, class, ty-expression, ty-variable}
-use Rattle.procedures.proofs.Types.{ty-command}
+use Rattle.procedures.proofs.Types.{class-questions, class-answers}
 use Rattle.procedures.proofs.Contexts.{sees-form, sees-count, sees-come, Found}
 use Rattle.procedures.proofs.Reach.{length-types}
 use Rattle.weighing.specs.Stack.{marksIn, slotOf, coefficientOf}
 use Rattle.weighing.specs.Shows.{Shows}
-use Rattle.weighing.specs.Plan.{questionsBy, answersBy, partsOf, ownOf, termPlace, termForm, factorOf, extraOf}
+use Rattle.weighing.specs.Plan.{partsOf, ownOf, termPlace, termForm, factorOf, extraOf}
 use Rattle.weighing.specs.Plan.{comeAt, argumentOf, throughOf, comeOf}
 use Rattle.weighing.specs.Step.{started}
 use Rattle.weighing.specs.Weighed.{many, partsIn, PartsFormed, ReadyOne}
@@ -43,25 +42,6 @@ use Rattle.weighing.proofs.Places.{places, values-of, class-of, marked-
 use Rattle.weighing.proofs.Kept.{Agrees, Shaped, word-agrees, slot-agrees, shows-agrees}
 use Rattle.weighing.proofs.FormLaws.{lower-formed, lower-only, shows-same}
 use Rattle.weighing.proofs.Plans.{Jobs, no-more, one-more, Plan, begun-plain}
-
--- questions and answers of a type, by its class
-pub class-questions : (N : Numbers) (ty : ℕ) → questionsBy (classOf ty) (values N ty) ≡ questions (tyOf N ty)
-unfolding questionsBy classOf questions
-class-questions N ty = go (class ty)
-  where
-    go : Class ty → questionsBy (classOf ty) (values N ty) ≡ questions (tyOf N ty)
-    go (a-command e) = rw (e, ty-command N)
-    go (an-expression h g) = rw (ne-eqb ty 0 (λ e. omega arith), lt-ltb ty 3 g, ty-expression N ty h g)
-    go (a-variable h) = rw (ne-eqb ty 0 (λ e. omega arith), le-ltb ty 3 h, ty-variable N ty h)
-
-pub class-answers : (N : Numbers) (ty : ℕ) → answersBy (classOf ty) (values N ty) ≡ answers (tyOf N ty)
-unfolding answersBy classOf answers
-class-answers N ty = go (class ty)
-  where
-    go : Class ty → answersBy (classOf ty) (values N ty) ≡ answers (tyOf N ty)
-    go (a-command e) = rw (e, ty-command N)
-    go (an-expression h g) = rw (ne-eqb ty 0 (λ e. omega arith), lt-ltb ty 3 g, ty-expression N ty h g)
-    go (a-variable h) = rw (ne-eqb ty 0 (λ e. omega arith), le-ltb ty 3 h, ty-variable N ty h)
 
 -- one argument more of a procedure
 same-more : (k j : ℕ) (f x : Form) (xs : ℕ → Form) → x ≡ xs j →
@@ -154,10 +134,10 @@ module _ (N : Numbers) (ns : List Name) (t : List ℕ) where
     -- arguments of the procedure k, whose term has the form f
     use-jobs : (ws : Writtens) (tys : List ℕ) (j from count detail : ℕ) (f g : Form) (xs : ℕ → Form) →
         ((t′ : List ℕ) → Agrees t t′ h → (a i : ℕ) →
-          held (factorOf t′ USE detail k at a i) ≡ held (f .of (k + i))) →
+          held (factorOf t′ ROUTINE detail k at a i) ≡ held (f .of (k + i))) →
         ((i : ℕ) → formed N ns (binders Γ) (forms N ns Γ) ws i ≡ xs (j + i)) →
         ShownArgs N ns t Γ π at j from end ws tys → count ≡ j + length tys → SameForm (instance k count f xs) g →
-        Jobs N ns t h Γ π at USE detail k j from end (instance k j f xs) g ws
+        Jobs N ns t h Γ π at ROUTINE detail k j from end (instance k j f xs) g ws
     unfolding formed extraOf
     use-jobs none [] j from count detail f g xs c x shown-none n S =
         let e : count ≡ j = omega arith in no-more {j = j} (rw e at S)
@@ -243,7 +223,7 @@ module _ (N : Numbers) (ns : List Name) (t : List ℕ) where
         rw (its-form, its-place, e) (R .formed)
 
     its-factor : (t′ : List ℕ) → Agrees t t′ h → (a i : ℕ) →
-        held (factorOf t′ USE detail k at a i) ≡ held (forms N ns Γ .form k .of (k + i))
+        held (factorOf t′ ROUTINE detail k at a i) ≡ held (forms N ns Γ .form k .of (k + i))
     unfolding factorOf termForm termPlace
     its-factor t′ A a i =
         let b : termPlace t detail < at = its-before in
@@ -272,7 +252,7 @@ module _ (N : Numbers) (ns : List Name) (t : List ℕ) where
     use-come : (l id ty from : ℕ) (ws : Writtens) → length (binders Γ) + 4 * suc l ≤ 128 →
         meaning ns (binders Γ) id ≡ routine k ty tys → ShownArgs N ns t Γ π at 0 from end ws tys → depths ws ≤ l →
         MarkedArgs N ns t (marksIn t) Γ at 0 ws →
-        comeOf t (marksIn t) USE detail k at (length tys) ≡ come ns (binders Γ) (downs ns Γ) (call id ws)
+        comeOf t (marksIn t) ROUTINE detail k at (length tys) ≡ come ns (binders Γ) (downs ns Γ) (call id ws)
     unfolding comeOf argumentOf
     use-come l id ty from ws few e s d m =
         rw (its-come, come-routine (binders Γ) (downs ns Γ) id k ty tys ws e)
@@ -281,20 +261,20 @@ module _ (N : Numbers) (ns : List Name) (t : List ℕ) where
               rw z at (comes-read h k Γ π at end long l few ws tys (marksIn t) 0 from j s m d)))
 
     use-start : (row : ℕ) (xs : ℕ → Form) → h ≤ row → row < 100 →
-        Shaped t (started USE detail k row t) row (instance k 0 (forms N ns Γ .form k) xs)
+        Shaped t (started ROUTINE detail k row t) row (instance k 0 (forms N ns Γ .form k) xs)
     unfolding started
     use-start row xs g b =
         let f : Form = forms N ns Γ .form k in
         let u : termForm t detail < h = its-below in
         record {
-          shows = shows-same (started USE detail k row t) row (lower k f) (instance k 0 f xs) (same-none k f xs)
+          shows = shows-same (started ROUTINE detail k row t) row (lower k f) (instance k 0 f xs) (same-none k f xs)
             (lower-formed t row (termForm t detail) k f long b (omega arith) (λ e. omega arith) its-row);
           only = lower-only t row (termForm t detail) k f long b (omega arith) (λ e. omega arith) its-row }
 
     pub plan-use : (l id ty from : ℕ) (ws : Writtens) → length (binders Γ) + 4 * suc l ≤ 128 →
         meaning ns (binders Γ) id ≡ routine k ty tys → length tys ≤ 4 → at < from →
         ShownArgs N ns t Γ π at 0 from end ws tys → depths ws ≤ l →
-        Plan N ns t h k Γ π at end (call id ws) USE detail
+        Plan N ns t h k Γ π at end (call id ws) ROUTINE detail
     unfolding partsOf partsIn PartsFormed Marked useDetail
     plan-use l id ty from ws few e n b s d =
         let f : Form = forms N ns Γ .form k in

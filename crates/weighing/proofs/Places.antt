@@ -13,7 +13,7 @@ use Rattle.procedures.specs.Meaning.{typed}
 use Rattle.procedures.specs.Fine.{depth}
 use Rattle.procedures.specs.Come.{come}
 use Rattle.procedures.specs.Context.{Context, binders, downs}
-use Rattle.procedures.specs.PartKind.{KIND, CLASS, VALUES, PROCEDURE}
+use Rattle.part_rows.specs.PartKind.{KIND, CLASS, VALUES, PROCEDURE}
 use Rattle.part_rows.specs.Row.{word}
 use Rattle.procedures.specs.Table.{PartRow, Shown, shown-skip, shown-diverge, shown-truth, shown-number}
 use Rattle.procedures.specs.Table.{shown-private, shown-parameter, shown-use, shown-name, shown-fetch, shown-operate}

@@ -11,7 +11,7 @@ use Rattle.procedures.specs.Written.{Written, call, Writtens, Name}
 use Rattle.procedures.specs.Meaning.{meaning, routine, named}
 use Rattle.procedures.specs.Fine.{Fine, FineUse, FineArgs, depth, depths}
 use Rattle.procedures.specs.Context.{Context, binders}
-use Rattle.procedures.specs.PartKind.{KIND, DETAIL, PROCEDURE, USE}
+use Rattle.part_rows.specs.PartKind.{KIND, DETAIL, PROCEDURE, ROUTINE}
 use Rattle.part_rows.specs.Row.{word}
 use Rattle.procedures.specs.Table.{PartRow, Shown, shown-skip, shown-diverge, shown-truth, shown-number}
 use Rattle.procedures.specs.Table.{shown-private, shown-parameter, shown-use, shown-name, shown-fetch, shown-operate}
@@ -47,7 +47,7 @@ module _ (N : Numbers) (ns : List Name) (t : List ℕ) (l h k : ℕ) (long : len
       meaning ns (binders Γ) id ≡ routine s ty tys → word t at DETAIL ≡ useDetail (π s) (length tys) →
       length tys ≤ 4 → at < from → ShownArgs N ns t Γ π at 0 from end ws tys → depths ws ≤ l →
       length (binders Γ) + 4 * suc l ≤ 128 → h ≤ 93 → at < 4096 → Ready N ns t Γ π at h → k ≡ s →
-      Plan N ns t h k Γ π at end (call id ws) USE (word t at DETAIL)
+      Plan N ns t h k Γ π at end (call id ws) ROUTINE (word t at DETAIL)
   use-planned Γ π at end from id s ty tys ws m w c b a d e g i R n =
       let X : Found Γ s tys = its-procedure Γ id s ty tys m in
       rw n (plan-use N ns t h s Γ π at end long (word t at DETAIL) tys X w i g

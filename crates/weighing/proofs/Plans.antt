@@ -15,8 +15,8 @@ use Rattle.procedures.specs.Form.{Form, only, unit, plus, times, formOf}
 use Rattle.procedures.specs.Come.{come}
 use Rattle.procedures.specs.Held.{held, SameForm}
 use Rattle.procedures.specs.Context.{Context, in-block, binders, forms, downs}
-use Rattle.procedures.specs.PartKind.{SKIP, DIVERGE, CONSTANT, FETCH, OPERATE, ASSIGN, SEQUENCE, IF, WHILE, NEW}
-use Rattle.procedures.specs.PartKind.{PRIVATE, PARAMETER, USE, VALUES, DETAIL, PARTS}
+use Rattle.part_rows.specs.PartKind.{SKIP, DIVERGE, CONSTANT, FETCH, OPERATE, ASSIGN, SEQUENCE, IF, WHILE, NEW}
+use Rattle.part_rows.specs.PartKind.{PRIVATE, PARAMETER, ROUTINE, VALUES, DETAIL, PARTS}
 use Rattle.part_rows.specs.Row.{word}
 use Rattle.procedures.specs.Table.{Shown}
 use Rattle.procedures.specs.Marks.{Marked, MarkedArgs}
@@ -63,11 +63,11 @@ module _ (N : Numbers) (ns : List Name) (t : List ℕ) where
       MarkedArgs N ns t′ M inner at 0 parts → Marked N ns t′ M Γ at W
 
 -- the form of a record that is no use of a parameter or of a procedure, without its parts
-pub begun-plain : (t : List ℕ) (kind detail k row c : ℕ) → length t ≡ 58313 → row < 100 → (kind ≡ USE → ⊥) →
+pub begun-plain : (t : List ℕ) (kind detail k row c : ℕ) → length t ≡ 58313 → row < 100 → (kind ≡ ROUTINE → ⊥) →
     (kind ≡ PARAMETER → ⊥) → ownOf kind detail ≡ c → Shaped t (started kind detail k row t) row (only c)
 unfolding started
 begun-plain t kind detail k row c l b u q o =
-    rw (ne-eqb kind USE u, ne-eqb kind PARAMETER q) (record {
+    rw (ne-eqb kind ROUTINE u, ne-eqb kind PARAMETER q) (record {
       shows = constant-formed t row (ownOf kind detail) c l b (ap held o);
       only = constant-only t row (ownOf kind detail) l b })
 
@@ -87,7 +87,7 @@ module _ (N : Numbers) (ns : List Name) (t : List ℕ) (h k : ℕ) (Γ : Context
   -- records without parts
   leaf : (kind c : ℕ) (W : Written) → partsOf kind (word t at DETAIL) ≡ 0 → partsIn W ≡ 0 →
       ownOf kind (word t at DETAIL) ≡ c →
-      (kind ≡ USE → ⊥) → (kind ≡ PARAMETER → ⊥) → formOf N ns (binders Γ) (forms N ns Γ) W ≡ only c →
+      (kind ≡ ROUTINE → ⊥) → (kind ≡ PARAMETER → ⊥) → formOf N ns (binders Γ) (forms N ns Γ) W ≡ only c →
       come ns (binders Γ) (downs ns Γ) W ≡ 0 → comeOf t (marksIn t) kind (word t at DETAIL) k at 0 ≡ 0 →
       ((t′ M : List ℕ) → getD M at 0 ≡ come ns (binders Γ) (downs ns Γ) W → Marked N ns t′ M Γ at W) →
       at < end → PlanOf W kind
@@ -159,7 +159,7 @@ module _ (N : Numbers) (ns : List Name) (t : List ℕ) (h k : ℕ) (Γ : Context
   -- two parts, each counted once
   pair : (kind a b : ℕ) (W x y : Written) → partsOf kind (word t at DETAIL) ≡ 2 → partsIn W ≡ 2 →
       ownOf kind (word t at DETAIL) ≡ 0 →
-      (kind ≡ USE → ⊥) → (kind ≡ PARAMETER → ⊥) →
+      (kind ≡ ROUTINE → ⊥) → (kind ≡ PARAMETER → ⊥) →
       formOf N ns (binders Γ) (forms N ns Γ) W
         ≡ plus (formOf N ns (binders Γ) (forms N ns Γ) x) (formOf N ns (binders Γ) (forms N ns Γ) y) →
       come ns (binders Γ) (downs ns Γ) W ≡ 0 → comeOf t (marksIn t) kind (word t at DETAIL) k at 2 ≡ 0 →

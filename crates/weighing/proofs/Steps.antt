@@ -15,7 +15,7 @@ use Rattle.procedures.specs.Come.{come}
 use Rattle.procedures.specs.Held.{held}
 use Rattle.procedures.specs.Made.{sign}
 use Rattle.procedures.specs.Context.{Context, in-procedure, in-scope, binders, forms, downs, uses}
-use Rattle.procedures.specs.PartKind.{KIND, DETAIL, PARTS, PROCEDURE}
+use Rattle.part_rows.specs.PartKind.{KIND, DETAIL, PARTS, PROCEDURE}
 use Rattle.part_rows.specs.Row.{cell, word}
 use Rattle.procedures.specs.Table.{Shown, shown-procedure}
 use Rattle.procedures.specs.Marks.{bits, usedBits, Marked, MarkedArgs}

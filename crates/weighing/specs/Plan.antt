@@ -4,34 +4,28 @@ use mathlib.Core.List.{List}
 use lib.ListN.{getD}
 use lib.Dec.{eqb, ltb}
 use Rattle.language.specs.Choice.{pick}
-use Rattle.procedures.specs.PartKind.{NAME, FETCH, OPERATE, ASSIGN, IF, NEW, PRIVATE, PARAMETER, USE}
-use Rattle.procedures.specs.PartKind.{CLASS, VALUES, PARTS, IDS, COUNTS, ONCE, PLACES}
+use Rattle.part_rows.specs.PartKind.{NAME, FETCH, OPERATE, ASSIGN, IF, NEW, PRIVATE, PARAMETER, ROUTINE}
+use Rattle.part_rows.specs.PartKind.{CLASS, VALUES, PARTS, ID-SPAN, COUNT-SPAN, ONCE, PLACE-SPAN}
+use Rattle.part_rows.specs.Class.{questionsBy, answersBy}
 use Rattle.part_rows.specs.Row.{word}
 use Rattle.procedures.specs.Marks.{COMES, bits}
 use Rattle.weighing.specs.Stack.{slotOf, coefficientOf}
 
 -- the greatest number that a procedure has: it may have four parameters
-abbrev pub GREATEST : ℕ
-GREATEST = 124
-
--- how many questions a type has, and how many answers they have in all, by its class and its number of values
-unfoldable pub questionsBy : ℕ → ℕ → ℕ
-questionsBy class values = pick (eqb class 2) (1 + values) 1
-
-unfoldable pub answersBy : ℕ → ℕ → ℕ
-answersBy class values = pick (eqb class 0) 1 (pick (eqb class 2) (values + values) values)
+abbrev pub LAST-PROCEDURE : ℕ
+LAST-PROCEDURE = 124
 
 -- how many parts a record has that is no procedure
 unfoldable pub partsOf : ℕ → ℕ → ℕ
 partsOf kind detail =
     pick (ltb kind NAME) 0
-    (pick (eqb kind NAME) (min (detail / IDS % COUNTS) 4)
+    (pick (eqb kind NAME) (min (detail / ID-SPAN % COUNT-SPAN) 4)
     (pick (eqb kind FETCH) 1
     (pick (ltb kind IF) 2
     (pick (eqb kind IF) 3
     (pick (ltb kind NEW) 2
     (pick (eqb kind NEW) 1
-    (pick (eqb kind USE) (min (detail / PLACES) 4) 0)))))))
+    (pick (eqb kind ROUTINE) (min (detail / PLACE-SPAN) 4) 0)))))))
 
 -- the weight of a record without its parts; a name that asks once weighs one more
 unfoldable pub ownOf : ℕ → ℕ → ℕ
@@ -40,7 +34,7 @@ ownOf kind detail =
 
 -- where the term of the procedure stands that a use with the given detail means, and which form is its own
 unfoldable pub termPlace : List ℕ → ℕ → ℕ
-termPlace t detail = word t (detail % PLACES) PARTS
+termPlace t detail = word t (detail % PLACE-SPAN) PARTS
 
 unfoldable pub termForm : List ℕ → ℕ → ℕ
 termForm t detail = slotOf t (termPlace t detail)
@@ -51,7 +45,7 @@ unfoldable pub factorOf : List ℕ → ℕ → ℕ → ℕ → ℕ → ℕ → �
 factorOf t kind detail k at place j =
     pick (eqb kind OPERATE) (pick (eqb j 0) 1 (word t (word t at PARTS) VALUES))
     (pick (eqb kind NAME) (questionsBy (word t place CLASS) (word t place VALUES))
-    (pick (eqb kind USE) (coefficientOf t (termForm t detail) (k + j))
+    (pick (eqb kind ROUTINE) (coefficientOf t (termForm t detail) (k + j))
     (pick (eqb kind ASSIGN) (pick (eqb j 0) (word t place VALUES) 1)
     (pick (eqb kind NEW) detail 1))))
 
@@ -74,8 +68,8 @@ throughOf t M at count k c = pick (eqb c 0) 0 (pick (ltb (c - 1) k) c (argumentO
 -- the same of any record but a procedure
 unfoldable pub comeOf : List ℕ → List ℕ → ℕ → ℕ → ℕ → ℕ → ℕ → ℕ
 comeOf t M kind detail k at count =
-    pick (eqb kind PARAMETER) (1 + min detail GREATEST)
-    (pick (eqb kind USE) (throughOf t M at count k (comeAt M (termPlace t detail))) 0)
+    pick (eqb kind PARAMETER) (1 + min detail LAST-PROCEDURE)
+    (pick (eqb kind ROUTINE) (throughOf t M at count k (comeAt M (termPlace t detail))) 0)
 
 -- which arguments the procedure k uses, by the form of its term
 unfoldable pub usedOf : List ℕ → ℕ → ℕ → ℕ

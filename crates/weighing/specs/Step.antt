@@ -5,7 +5,7 @@ use mathlib.Core.List.{List}
 use lib.ListN.{set}
 use lib.Dec.{eqb}
 use Rattle.language.specs.Choice.{pick}
-use Rattle.procedures.specs.PartKind.{KIND, DETAIL, PARTS, PROCEDURE, PARAMETER, USE}
+use Rattle.part_rows.specs.PartKind.{KIND, DETAIL, PARTS, PROCEDURE, PARAMETER, ROUTINE}
 use Rattle.procedures.specs.Marks.{COMES}
 use Rattle.part_rows.specs.Row.{word}
 use Rattle.weighing.specs.Stack.{marks-from, slots-from, height-at, most-forms, marksIn, heightOf}
@@ -16,7 +16,7 @@ use Rattle.weighing.specs.Plan.{partsOf, ownOf, termForm, factorOf, extr
 -- a form becomes that of a record without its parts
 unfoldable pub started : ℕ → ℕ → ℕ → ℕ → List ℕ → List ℕ
 started kind detail k row t =
-    pick (eqb kind USE) (lowerForm row (termForm t detail) k t)
+    pick (eqb kind ROUTINE) (lowerForm row (termForm t detail) k t)
     (pick (eqb kind PARAMETER) (unitForm row (min detail last-parameter) t) (constantForm row (ownOf kind detail) t))
 
 -- part j of the record `at`, whose form is `first + j`, is added to a form

@@ -12,14 +12,14 @@ use Rattle.procedures.specs.Fine.{Fine, depth}
 use Rattle.procedures.specs.Form.{formOf}
 use Rattle.procedures.specs.Come.{come}
 use Rattle.procedures.specs.Context.{Context, in-block, in-procedure, in-scope, binders, forms, downs, Sees}
-use Rattle.procedures.specs.PartKind.{PARTS}
+use Rattle.part_rows.specs.PartKind.{PARTS}
 use Rattle.records.specs.Limits.{most-bytes}
 use Rattle.part_rows.specs.Row.{word}
 use Rattle.procedures.specs.Table.{BINDERS, Shown}
 use Rattle.procedures.specs.Marks.{Marked}
 use Rattle.weighing.specs.Stack.{marks-from, form-words, all-words, marksIn, slotOf, heightOf, formWord}
 use Rattle.weighing.specs.Shows.{Shows}
-use Rattle.weighing.specs.Plan.{GREATEST, comeAt}
+use Rattle.weighing.specs.Plan.{LAST-PROCEDURE, comeAt}
 use Rattle.weighing.specs.Step.{weighed}
 
 -- how many forms there may be before those of a record's parts: theirs and its own have room after them
@@ -59,7 +59,7 @@ module _ (N : Numbers) (ns : List Name) where
   pub record ReadyOne (t : List ℕ) (p at h : ℕ) (Δ : Context) (ps : List Parameter) (body : Written) : Type 0 where
     pub placed : p < most-bytes
     pub before : word t p PARTS < at
-    pub few : length (binders Δ) ≤ GREATEST
+    pub few : length (binders Δ) ≤ LAST-PROCEDURE
     pub four : length ps ≤ 4
     pub comes : comeAt (marksIn t) (word t p PARTS) ≡ come ns (inside ps (binders Δ)) (downs ns Δ) body
     pub below : slotOf t (word t p PARTS) < h

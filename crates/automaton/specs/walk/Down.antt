@@ -11,10 +11,9 @@ use Rattle.positions.specs.declared.Out.the-variants.{Go, Exit, Stuck}
 use Rattle.positions.specs.declared.Spot.{Spot}
 use Rattle.positions.specs.declared.Spot.the-variants.{Here, Inside}
 use Rattle.positions.specs.MoveKind.{RUN, DONE, ASK, READ, OK, VALUE, WRITE}
-use Rattle.automaton.specs.walk.RowKind.{SKIP, CONSTANT, NAME, FETCH, OPERATE, ASSIGN, SEQUENCE, IF, WHILE, NEW}
-use Rattle.automaton.specs.walk.RowKind.{PRIVATE}
-use Rattle.positions.specs.Role.{SAME, THEN, TEST, SELECT, RIGHT, ASSIGNED, BLOCK}
-use Rattle.positions.specs.Column.{KIND, VALUES, DETAIL}
+use Rattle.part_rows.specs.PartKind.{SKIP, CONSTANT, NAME, FETCH, OPERATE, ASSIGN, SEQUENCE, IF, WHILE, NEW, PRIVATE}
+use Rattle.positions.specs.Role.{THEN, TEST, SELECT, RIGHT, ASSIGNED, BLOCK, AS-IS}
+use Rattle.part_rows.specs.PartKind.{KIND, VALUES, DETAIL}
 use Rattle.positions.specs.Row.{SHORTS, partOf, partWeight, partValues, sumOf, mulAddOf}
 use Rattle.name_use.specs.Name.{framedOf, inName}
 
@@ -24,13 +23,13 @@ leavesOf kind value = Here (Exit kind value 0 0)
 
 -- position k of a fetch: its variable is read
 unfoldable pub inFetch : List ℕ → ℕ → ℕ → Spot
-inFetch t at k = Inside (partOf t at 0) READ 0 k (framedOf SAME 0 0 0 0 0)
+inFetch t at k = Inside (partOf t at 0) READ 0 k (framedOf AS-IS 0 0 0 0 0)
 
 -- position k of a sequence
 unfoldable pub inSeq : List ℕ → ℕ → ℕ → ℕ → ℕ → Spot
 inSeq t at q x k =
     pick (ltb k (partWeight t at 0)) (Inside (partOf t at 0) RUN 0 k (framedOf THEN 0 (partWeight t at 0) 0 0 0))
-    (Inside (partOf t at 1) q x (k - partWeight t at 0) (framedOf SAME (partWeight t at 0) 0 0 0 0))
+    (Inside (partOf t at 1) q x (k - partWeight t at 0) (framedOf AS-IS (partWeight t at 0) 0 0 0 0))
 
 -- position k of a loop
 unfoldable pub inWhile : List ℕ → ℕ → ℕ → Spot
@@ -42,8 +41,8 @@ inWhile t at k =
 unfoldable pub condIn : ℕ → ℕ → ℕ → ℕ → ℕ → ℕ → ℕ → ℕ → Spot
 condIn b m n w v q x k =
     pick (ltb k w) (Inside b ASK 0 k (framedOf TEST 0 w (sumOf w v) 0 0))
-    (pick (ltb (k - w) v) (Inside m q x (k - w) (framedOf SAME w 0 0 0 0))
-    (Inside n q x (k - w - v) (framedOf SAME (sumOf w v) 0 0 0 0)))
+    (pick (ltb (k - w) v) (Inside m q x (k - w) (framedOf AS-IS w 0 0 0 0))
+    (Inside n q x (k - w - v) (framedOf AS-IS (sumOf w v) 0 0 0 0)))
 
 -- position k of the choice at a place
 unfoldable pub inCond : List ℕ → ℕ → ℕ → ℕ → ℕ → Spot

@@ -1,11 +1,10 @@
 -- The refusals of a sheet and of a play, taken out of the answers that hold them; the number is 0 where nothing is
 -- refused.
 use Prim.Native.Nat.{ℕ}
-use Rattle.records.specs.Refusal.{cause, old-sheet, not-refused}
+use Rattle.records.specs.Refusal.{cause, old-sheet, not-refused, bad-play}
 use Rattle.records.specs.declared.refusal.Cause.{Cause}
 use Rattle.load.specs.declared.load.Loaded.{Loaded}
 use Rattle.load.specs.declared.load.Loaded.the-variants.{Sheet, Refused}
-use Rattle.comparer.specs.Refusals.{bad-play}
 use Rattle.play.specs.declared.play.Parsed.{Parsed}
 use Rattle.play.specs.declared.play.Parsed.the-variants.{Moves, Bad}
 

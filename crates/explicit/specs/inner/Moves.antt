@@ -13,8 +13,7 @@ use Rattle.positions.specs.declared.Move.{Move}
 use Rattle.positions.specs.declared.Out.{Out}
 use Rattle.positions.specs.declared.Out.the-variants.{Go, Exit, Say, Hear, Stuck}
 use Rattle.positions.specs.MoveKind.{RUN, DONE, ASK, READ, OK, VALUE, WRITE, OPENING}
-use Rattle.positions.specs.Class.{COMMAND, EXPRESSION}
-use Rattle.positions.specs.Column.{CLASS, VALUES}
+use Rattle.part_rows.specs.PartKind.{CLASS, VALUES}
 use Rattle.positions.specs.Row.{SHORTS, sumOf, nameId, partClass, partValues}
 use Rattle.positions.specs.Types.{questionLimit}
 use Rattle.name_use.specs.Name.{noMove}
@@ -22,6 +21,7 @@ use Rattle.explicit.specs.declared.Wait.{Wait}
 use Rattle.part_path.specs.declared.Site.{Site}
 use Rattle.part_path.specs.States.{WHOLE, spotsOf, sheetAt, targetOf}
 use Rattle.explicit.specs.inner.Rows.{Edge, StateRow, noEdges, withRow, before, withRows}
+use Rattle.part_rows.specs.Class.{COMMANDS, EXPRESSIONS}
 
 -- the letter of a move
 unfoldable pub letterOf : Numbers → Move → ℕ
@@ -33,14 +33,14 @@ letterOf N m =
 -- question or the question no such answers, and one where they carry no value
 unfoldable pub answerLimit : ℕ → ℕ → ℕ → ℕ → ℕ → ℕ
 answerLimit class m q x kind =
-    pick (eqb class COMMAND) (pick (eqb q RUN) (pick (eqb kind DONE) 1 0) 0)
-    (pick (eqb class EXPRESSION) (pick (eqb q ASK) (pick (eqb kind VALUE) m 0) 0)
+    pick (eqb class COMMANDS) (pick (eqb q RUN) (pick (eqb kind DONE) 1 0) 0)
+    (pick (eqb class EXPRESSIONS) (pick (eqb q ASK) (pick (eqb kind VALUE) m 0) 0)
     (pick (eqb q READ) (pick (eqb kind VALUE) m 0)
     (pick (eqb q WRITE) (pick (ltb x m) (pick (eqb kind OK) 1 0) 0) 0)))
 
 -- the kind of the answers to the question q at a type
 unfoldable pub answerKind : ℕ → ℕ → ℕ
-answerKind class q = pick (eqb class COMMAND) DONE (pick (eqb q WRITE) OK VALUE)
+answerKind class q = pick (eqb class COMMANDS) DONE (pick (eqb q WRITE) OK VALUE)
 
 -- the same for the moves of a kind at an argument of the one a state waits for
 unfoldable pub limitOf : List ℕ → Wait → ℕ → ℕ → ℕ

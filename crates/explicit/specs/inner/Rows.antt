@@ -28,12 +28,12 @@ abbrev pub noEdges : StateRow
 noEdges = record { silent = 0; edges = [] }
 
 -- how many numbers a word of 32 bits can be
-abbrev pub WORDS : ℕ
-WORDS = 4294967296
+abbrev pub LONGS : ℕ
+LONGS = 4294967296
 
 -- word i becomes v, a word of 32 bits
 abbrev pub held : List ℕ → ℕ → ℕ → List ℕ
-held ws i v = set ws i (v % WORDS)
+held ws i v = set ws i (v % LONGS)
 
 -- the place of edge e
 unfoldable pub edgeAt : ℕ → ℕ → ℕ

@@ -12,7 +12,7 @@ use Rattle.machine.specs.Action.{Action}
 use Rattle.machine.specs.Edge.{edge}
 use Rattle.machine.specs.Settle.{Index}
 use Rattle.explicit.specs.Explicit.{packed, silentWord}
-use Rattle.explicit.specs.inner.Rows.{WORDS, Edge, StateRow}
+use Rattle.explicit.specs.inner.Rows.{LONGS, Edge, StateRow}
 
 -- where the letter x leads by the edges, and to the state d where no edge has it
 unfoldable pub lookup : ℕ → List Edge → ℕ → ℕ
@@ -55,7 +55,7 @@ STATES = 8193
 pub record Room (ws : List ℕ) (n e : ℕ) : Type 0 where
   pub few : n ≤ STATES
   pub words : 6 * n + 1 + 2 * e ≤ length ws
-  pub small : 6 * n + 1 + 2 * e < WORDS
+  pub small : 6 * n + 1 + 2 * e < LONGS
 
 -- the words are an automaton of n states, with these rows
 pub record Automaton (ws : List ℕ) (n : ℕ) (row : ℕ → StateRow) : Type 0 where

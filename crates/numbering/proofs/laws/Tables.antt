@@ -17,7 +17,7 @@ use Rattle.dfa.proofs.laws.Look.{edges-tail}
 use Rattle.smallest.specs.Classes.{Classes}
 use Rattle.smallest.specs.Numbered.{Numbered}
 use Rattle.smallest.specs.Table.{Arc, Has, Place, Rising, Smallest, nowhere}
-use Rattle.smallest.proofs.Numbered.{Accepted, numbered-smallest}
+use Rattle.smallest.proofs.Numbered.{AcceptedWord, numbered-smallest}
 use Rattle.numbering.specs.Tables.{arcsOf, placeOf, placesOf}
 use Rattle.numbering.proofs.laws.Counting.{step-letter}
 use Rattle.splitting.proofs.laws.Refining.{finite}
@@ -131,7 +131,7 @@ module _ (G : List ℕ) (n f : ℕ) (own number : ℕ → ℕ) where
 pub table-smallest : (G : List ℕ) (n f : ℕ) → Single G n f → f < n → (own : ℕ → ℕ)
     → Classes (δ G n) (accepting f f) n (n - 1) own → (count : ℕ) (state number : ℕ → ℕ)
     → Numbered (δ G n) n (n - 1) own 0 count state number
-    → Smallest (Accepted (δ G n) (accepting f f) 0) (placesOf G n f own number state count 0)
+    → Smallest (AcceptedWord (δ G n) (accepting f f) 0) (placesOf G n f own number state count 0)
 table-smallest G n f S low own C count state number N =
     numbered-smallest (δ G n) (accepting f f) n (n - 1) (finite G n f S low) own C 0 (S .graph .some) count state number
         N

@@ -14,7 +14,7 @@ use Rattle.procedures.specs.Written.{procedure, Parameter, Name}
 use Rattle.procedures.specs.Meaning.{Binder, inside, after}
 use Rattle.procedures.specs.Fine.{depth}
 use Rattle.procedures.specs.Context.{Context, in-procedure, in-scope, binders, forms, downs}
-use Rattle.procedures.specs.PartKind.{PARTS}
+use Rattle.part_rows.specs.PartKind.{PARTS}
 use Rattle.weighing.specs.Stack.{marksIn, slotOf}
 use Rattle.weighing.specs.Plan.{comeAt}
 use Rattle.weighing.specs.Weighed.{many, partsIn, ReadyOne, PartsFormed}

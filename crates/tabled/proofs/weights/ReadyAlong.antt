@@ -8,7 +8,7 @@ use Rattle.language.specs.declared.Numbers.{Numbers}
 use Rattle.part_rows.specs.Row.{word}
 use Rattle.procedures.specs.Environment.{beyond}
 use Rattle.procedures.specs.Written.{Written, Parameter, Name}
-use Rattle.procedures.specs.PartKind.{PARTS}
+use Rattle.part_rows.specs.PartKind.{PARTS}
 use Rattle.procedures.specs.Context.{Context, whole, in-block, in-procedure, in-scope, binders}
 use Rattle.procedures.specs.Context.{Sees, sees-it, from-block, from-procedure, from-scope}
 use Rattle.procedures.proofs.Numbering.{beyond-below, beyond-at}

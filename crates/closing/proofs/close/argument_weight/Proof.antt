@@ -22,5 +22,6 @@ returns-2 c = rw (← c .before .before .word-at .ensures, ← c .before .argume
 
 pub argument-weight-spec : {M : Type 1} → statement M
 argument-weight-spec = tie.close (tie.spec (λ c κs. search needs) (λ c κs. search needs) (search needs)
-    (λ c κs. search needs) (λ c κs. search needs) (λ c κs. search needs) (λ c κs. search needs)
-    (λ c κs. search needs) (λ c κs. search needs) (λ c κs. search needs) returns returns-2)
+    (λ c κs. search needs) (λ c κs. search needs) (λ c κs. search needs) (search needs) (search needs)
+    (λ c κs. search needs) (λ c κs. search needs) (search needs) (search needs) (λ c κs. search needs)
+    (λ c κs. search needs) returns returns-2)

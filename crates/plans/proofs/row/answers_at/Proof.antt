@@ -1,7 +1,7 @@
 -- The class and the number of values of the part.
 use borrow.Author.Needs.{needs}
 use mathlib.Core.Path.{ap₂, _∙_}
-use Rattle.weighing.specs.Plan.{answersBy}
+use Rattle.part_rows.specs.Class.{answersBy}
 use Rattle.plans.proofs.row.answers_at.Statement.{statement}
 use Rattle.plans.proofs.row.answers_at.Tie as tie
 

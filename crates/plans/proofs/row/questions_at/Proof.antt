@@ -1,7 +1,7 @@
 -- The class and the number of values of the part.
 use borrow.Author.Needs.{needs}
 use mathlib.Core.Path.{ap₂, _∙_}
-use Rattle.weighing.specs.Plan.{questionsBy}
+use Rattle.part_rows.specs.Class.{questionsBy}
 use Rattle.plans.proofs.row.questions_at.Statement.{statement}
 use Rattle.plans.proofs.row.questions_at.Tie as tie
 

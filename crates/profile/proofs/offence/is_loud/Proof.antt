@@ -12,7 +12,7 @@ returns-2 c = loud-procedure _ _ _ (c .if2 .taken)
 
 returns-3 : tie.Need-returns-3
 returns-3 c =
-    loud-used _ _ _ _ _ _ (c .before .before .if3 .taken) refl (c .before .word-at .ensures .0) (c .any-loud .ensures)
+    loud-used _ _ _ _ _ _ (c .before .before .if3 .taken) refl (c .before .word-of .ensures .0) (c .any-loud .ensures)
 
 returns-4 : tie.Need-returns-4
 returns-4 c = loud-other _ _ _ (c .before .before .if1 .left) (c .before .if2 .left) (c .if3 .left)

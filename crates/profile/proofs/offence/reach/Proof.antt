@@ -4,7 +4,7 @@ use Rattle.profile.proofs.offence.reach.Statement.{statement}
 use Rattle.profile.proofs.offence.reach.Tie as tie
 use Rattle.profile.proofs.offence.reach.Reads as reads
 use Rattle.profile.proofs.offence.reach.Lts as lts
-use Rattle.profile.proofs.offence.word_at.Reads as word-at-reads
+use Rattle.part_rows.proofs.row.word_of.Reads as word-of-reads
 
 -- src/offence.rt:82:9
 returns : tie.Need-returns
@@ -15,12 +15,12 @@ returns c = reach-inside _ _ _ (c .if1 .taken)
 -- src/offence.rt:85:9
 returns-2 : tie.Need-returns-2
 returns-2 c =
-    reach-opens _ _ _ _ _ (c .before .before .before .if1 .left) (c .before .before .word-at .ensures .0)
-    (c .before .if2 .taken) (c .word-at2 .ensures .0)
+    reach-opens _ _ _ _ _ (c .before .before .before .if1 .left) (c .before .before .word-of .ensures .0)
+    (c .before .if2 .taken) (c .word-of2 .ensures .0)
 
 -- src/offence.rt:77:1
 returns-3 : tie.Need-returns-3
-returns-3 c = reach-outside _ _ _ _ (c .before .before .if1 .left) (c .before .word-at .ensures .0) (c .if2 .left)
+returns-3 c = reach-outside _ _ _ _ (c .before .before .if1 .left) (c .before .word-of .ensures .0) (c .if2 .left)
 
 pub reach-spec : {M : Type 1} → statement M
 reach-spec = tie.close (tie.spec returns (λ c κs. search needs) (λ c κs. search needs) returns-2 returns-3)

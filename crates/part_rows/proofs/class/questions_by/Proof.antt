@@ -1,9 +1,9 @@
 -- By the class.
 use borrow.Author.Needs.{needs}
 use borrow.Author.Tests.{eq-eqb, ne-eqb}
-use Rattle.weighing.specs.Plan.{questionsBy}
-use Rattle.plans.proofs.row.questions_by.Statement.{statement}
-use Rattle.plans.proofs.row.questions_by.Tie as tie
+use Rattle.part_rows.specs.Class.{questionsBy}
+use Rattle.part_rows.proofs.class.questions_by.Statement.{statement}
+use Rattle.part_rows.proofs.class.questions_by.Tie as tie
 
 returns : tie.Need-returns
 unfolding questionsBy

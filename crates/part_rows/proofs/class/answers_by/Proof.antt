@@ -1,9 +1,9 @@
--- By the class of the type.
-use Rattle.closing.specs.Close.{answersBy}
+-- By the class.
 use borrow.Author.Needs.{needs}
 use borrow.Author.Tests.{eq-eqb, ne-eqb}
-use Rattle.closing.proofs.close.answers_by.Statement.{statement}
-use Rattle.closing.proofs.close.answers_by.Tie as tie
+use Rattle.part_rows.specs.Class.{answersBy}
+use Rattle.part_rows.proofs.class.answers_by.Statement.{statement}
+use Rattle.part_rows.proofs.class.answers_by.Tie as tie
 
 returns : tie.Need-returns
 unfolding answersBy
@@ -18,4 +18,4 @@ unfolding answersBy
 returns-3 c = simp (ne-eqb _ _ (c .before .if1 .left), ne-eqb _ _ (c .if2 .left))
 
 pub answers-by-spec : {M : Type 1} → statement M
-answers-by-spec = tie.close (tie.spec returns returns-2 (search needs) returns-3)
+answers-by-spec = tie.close (tie.spec returns (search needs) returns-2 returns-3)

@@ -2,9 +2,9 @@
 use borrow.Author.Needs.{needs}
 use native.Mathlib.Omega.{arith}
 use mathlib.Core.Path.{_∙_}
-use Rattle.plans.proofs.Leaves.{word-read}
-use Rattle.plans.proofs.row.word_of.Statement.{statement}
-use Rattle.plans.proofs.row.word_of.Tie as tie
+use Rattle.part_rows.proofs.RowSteps.{word-read}
+use Rattle.part_rows.proofs.row.word_of.Statement.{statement}
+use Rattle.part_rows.proofs.row.word_of.Tie as tie
 
 returns : tie.Need-returns
 returns c = (c .short-at .ensures ∙ word-read _ _ _, omega arith)

@@ -39,23 +39,26 @@ NEW = 27
 abbrev pub PROCEDURE : ℕ
 PROCEDURE = 28
 
--- uses of a private variable, of a parameter, of a procedure
+-- uses of a private variable, of a parameter, and of a procedure, which is a routine
 abbrev pub PRIVATE : ℕ
 PRIVATE = 128
 
 abbrev pub PARAMETER : ℕ
 PARAMETER = 129
 
-abbrev pub USE : ℕ
-USE = 130
+abbrev pub ROUTINE : ℕ
+ROUTINE = 130
 
--- the words of a row: the kind, the place after the part, the class of its type, the number of values of its data, a
--- detail by its kind, the place of its first part
+-- the words of a row: the kind, the place after the part or, in the rows of a term, its weight, the class of its type,
+-- the number of values of its data, a detail by its kind, the place of its first part
 abbrev pub KIND : ℕ
 KIND = 0
 
 abbrev pub END : ℕ
 END = 1
+
+abbrev pub WEIGHT : ℕ
+WEIGHT = 1
 
 abbrev pub CLASS : ℕ
 CLASS = 2
@@ -69,17 +72,21 @@ DETAIL = 4
 abbrev pub PARTS : ℕ
 PARTS = 5
 
--- the detail of a name is its id and this many times the number of its arguments, which is below COUNTS; where the name
--- asks once, it has ONCE besides
-abbrev pub IDS : ℕ
-IDS = 256
+-- how many words a row has
+abbrev pub ROW-WORDS : ℕ
+ROW-WORDS = 9
 
-abbrev pub COUNTS : ℕ
-COUNTS = 8
+-- the detail of a name is its id and this many times the number of its arguments, which is below COUNT-SPAN; where the
+-- name asks once, it has ONCE besides
+abbrev pub ID-SPAN : ℕ
+ID-SPAN = 256
+
+abbrev pub COUNT-SPAN : ℕ
+COUNT-SPAN = 8
 
 abbrev pub ONCE : ℕ
 ONCE = 2048
 
 -- the detail of a use of a procedure is the place of the procedure's record and this many times the number of arguments
-abbrev pub PLACES : ℕ
-PLACES = 4096
+abbrev pub PLACE-SPAN : ℕ
+PLACE-SPAN = 4096
