@@ -13,10 +13,11 @@ use Rattle.procedures.specs.Meaning.{Binder, a-block, a-parameter, a-pro
 use Rattle.procedures.specs.Meaning.{after, typesOf}
 use Rattle.procedures.specs.Fine.{Unlike, FineParameters}
 use Rattle.procedures.specs.Ids.{FineIds, AllFineIds}
-use Rattle.procedures.specs.Mapped.{put, Clear, Binds, seenInside, mapInside, Mapped, to-skip, to-diverge}
+use Rattle.procedures.specs.Mapped.{Clear, Binds, seenInside, Mapped, to-skip, to-diverge}
 use Rattle.procedures.specs.Mapped.{to-truth, to-number, to-call, to-fetch, to-operate, to-assign, to-sequence}
 use Rattle.procedures.specs.Mapped.{to-choose, to-while, to-new, to-procedure, Mappeds, to-none, to-more}
 use Rattle.procedures.specs.Hiding.{isHeld, Unheld, ApartParameters, Apart, AllApart}
+use Rattle.procedures.specs.Renumber.{put, mapInside}
 use Rattle.procedures.specs.Renumber.{Change, Renumbering, renumbered, none-left, over, before, next, lowest}
 use Rattle.procedures.specs.Renumber.{changed, renumberId, withId, renumberParameters, renumber, renumberAll}
 use Rattle.procedures.specs.Width.{width}

@@ -20,7 +20,7 @@ empty-second : (xs ys : List Hiding) → xs ++ ys ≡ [] → ys ≡ []
 empty-second [] ys e = e
 empty-second (x ∷ xs) ys e = let z : _≡_ {A = ℕ} 0 1 = cc in absurd (omega arith)
 
-unheld-id : (bs : List Binder) (at id : ℕ) → hidingId bs at id ≡ [] → Unheld bs id
+pub unheld-id : (bs : List Binder) (at id : ℕ) → hidingId bs at id ≡ [] → Unheld bs id
 unfolding hidingId Unheld
 unheld-id bs at id e =
     by-test (isHeld bs id)

@@ -15,8 +15,7 @@ use Rattle.procedures.specs.Meaning.{Binder, a-block, a-parameter, a-pro
 use Rattle.procedures.specs.Meaning.{routine, named, retired, free, declared, meaning, inside, after, idOf}
 use Rattle.procedures.specs.Meaning.{typesOf}
 use Rattle.procedures.specs.Fine.{FineUse, FineParameters, Fine, FineArgs}
-use Rattle.procedures.specs.Rename.{holds-id}
-use Rattle.procedures.specs.Renumber.{isBound, isBoundIn}
+use Rattle.procedures.specs.Renumber.{holds-id, isBound, isBoundIn}
 use Rattle.procedures.proofs.Scopes.{meaning-past}
 use Rattle.procedures.proofs.Lowest.{or-left, or-right, by-id}
 

@@ -11,9 +11,9 @@ use borrow.Author.Tests.{ltb-true, ltb-false}
 use Rattle.procedures.specs.Written.{Written, skip, diverge, truth, number, call, fetch, operate, assign}
 use Rattle.procedures.specs.Written.{sequence, while, choose, new, procedure, Parameter, Writtens, none, more}
 use Rattle.procedures.specs.Meaning.{Binder, a-block, inside, after}
-use Rattle.procedures.specs.Mapped.{put, mapInside}
 use Rattle.procedures.specs.Width.{width}
 use Rattle.procedures.specs.Hiding.{isHeld, Hiding, hidingId, hidingParameters, hiding, allHiding}
+use Rattle.procedures.specs.Renumber.{put, mapInside}
 use Rattle.procedures.specs.Renumber.{Change, Renumbering, renumbered, none-left, over, before, next, lowest}
 use Rattle.procedures.specs.Renumber.{left, changed, renumberId, withId, renumberParameters, renumber}
 use Rattle.procedures.specs.Renumber.{renumberAll}

@@ -8,9 +8,8 @@ use lib.Dec.{eqb}
 use borrow.Author.Tests.{eqb-true, eqb-false, eq-eqb, ne-eqb}
 use Rattle.procedures.specs.Written.{Name, declare, retire}
 use Rattle.procedures.specs.Meaning.{Binder, idOf, free, declared}
-use Rattle.procedures.specs.Mapped.{put}
 use Rattle.procedures.specs.Hiding.{isHeld}
-use Rattle.procedures.specs.Renumber.{lowestFrom, lowest, left, isNamed}
+use Rattle.procedures.specs.Renumber.{put, lowestFrom, lowest, left, isNamed}
 use Rattle.procedures.proofs.Tests.{by-test}
 
 pub true-false : {P : Type 0} (t : Bool) → t ≡ true → t ≡ false → P

@@ -13,9 +13,10 @@ use Rattle.procedures.specs.Meaning.{idOf, meant, meaning, inside, after
 use Rattle.procedures.specs.Like.{IsNamed, Like, like-skip, like-diverge, like-truth, like-number, like-call}
 use Rattle.procedures.specs.Like.{like-fetch, like-operate, like-assign, like-sequence, like-choose, like-while}
 use Rattle.procedures.specs.Like.{like-new, like-procedure, Likes, like-none, like-more}
-use Rattle.procedures.specs.Mapped.{put, Clear, Binds, seenInside, mapInside, Mapped, to-skip, to-diverge}
+use Rattle.procedures.specs.Mapped.{Clear, Binds, seenInside, Mapped, to-skip, to-diverge}
 use Rattle.procedures.specs.Mapped.{to-truth, to-number, to-call, to-fetch, to-operate, to-assign, to-sequence}
 use Rattle.procedures.specs.Mapped.{to-choose, to-while, to-new, to-procedure, Mappeds, to-none, to-more}
+use Rattle.procedures.specs.Renumber.{put, mapInside}
 use Rattle.procedures.proofs.Tests.{by-test}
 use Rattle.procedures.proofs.Scopes.{unnamed-meant, meaning-here, meaning-past}
 use Rattle.procedures.proofs.Renaming.{like-sheet}

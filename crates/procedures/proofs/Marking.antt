@@ -24,7 +24,7 @@ use Rattle.procedures.specs.Uses.{isName, uses, someUses, isDeclared, is
 use Rattle.procedures.specs.Uses.{UseIn, here, in-argument, in-fetch, in-left, in-right, in-target, in-value}
 use Rattle.procedures.specs.Uses.{in-first, in-second, in-test, in-then, in-else, in-guard, in-loop, in-block}
 use Rattle.procedures.specs.Uses.{in-procedure, in-scope, UseAmong, among-first, among-rest, Touched, recordAt}
-use Rattle.procedures.specs.Uses.{UsedRecord, MarkRule}
+use Rattle.procedures.specs.Uses.{UsedRecord, DeclaredRecord, Unset, FirstUnset, MarkRule, usedOf, unusedOf}
 
 or-either : {P : Type 0} (a b : Bool) → (a ≡ true → P) → (b ≡ true → P) → (a || b) ≡ true → P
 or-either true b f g e = f refl
@@ -209,11 +209,6 @@ mark-bits S (declare often id ty tys ∷ ns) zero u =
 mark-bits S (retire id ∷ ns) zero u = absurd u
 mark-bits S (n ∷ ns) (suc i) u = bits-next (isUsed S) n ns i ∙ mark-bits S ns i u
 
--- THEOREM: a bit of the mark is set exactly if some use in the sheet means the name of its record
-pub mark-rule : MarkRule
-unfolding MarkRule markOf
-mark-rule S i = (bits-mark S (S .names) i, mark-bits S (S .names) i)
-
 -- so many bits are set
 pub bits-ones : (f : Name → Bool) (ns : List Name) → ones (bits f ns) ≡ count f ns
 unfolding bits count ones
@@ -222,6 +217,113 @@ bits-ones f (n ∷ ns) =
     ones-step (bits f (n ∷ ns))
     ∙ ap₂ (λ x y. x + ones y) (bit-odd (f n) (bits f ns)) (bit-half (f n) (bits f ns))
     ∙ ap (λ x. bit (f n) + x) (bits-ones f ns)
+
+-- the bit of a record
+bit-at : (f : Name → Bool) (ns : List Name) (i : ℕ) (m : Name) → recordAt i ns ≡ some m →
+    (bits f ns / 2 ^ i) % 2 ≡ bit (f m)
+unfolding recordAt bits
+bit-at f [] i m e = let z : _≡_ {A = ℕ} 0 1 = cc in absurd (omega arith)
+bit-at f (n ∷ ns) zero m e =
+    let k : n ≡ m = cc e in
+    lowest-bit (bits f (n ∷ ns)) ∙ bit-odd (f n) (bits f ns) ∙ ap (λ (x : Name). bit (f x)) k
+bit-at f (n ∷ ns) (suc i) m e = bits-next f n ns i ∙ bit-at f ns i m e
+
+-- the record with number n, of those that begin with number i, is among these
+record Hit (f : Name → Bool) (ns : List Name) (i n : ℕ) : Type 0 where
+  index : ℕ
+  name : Name
+  numbered : n ≡ i + index
+  there : recordAt index ns ≡ some name
+  among : f name ≡ true
+
+record First (f : Name → Bool) (ns : List Name) (i n : ℕ) : Type 0 where
+  before : (k : ℕ) (m : Name) → i + k < n → recordAt k ns ≡ some m → f m ≡ true → ⊥
+  here-or : (n ≡ 32) ⊎ Hit f ns i n
+
+first-among : (f : Name → Bool) (ns : List Name) (i : ℕ) → First f ns i (firstFrom i f ns)
+unfolding firstFrom recordAt
+first-among f [] i = record {
+    before = λ k m l e h. let z : _≡_ {A = ℕ} 0 1 = cc e in absurd (omega arith); here-or = inl refl }
+first-among f (n ∷ ns) i = go (f n) refl (first-among f ns (suc i))
+  where
+    go : (t : Bool) → f n ≡ t → First f ns (suc i) (firstFrom (suc i) f ns) →
+      First f (n ∷ ns) i (pick t i (firstFrom (suc i) f ns))
+    go true t R = record {
+        before = λ k m l e h. absurd (omega (arith, l));
+        here-or = inr (record { index = 0; name = n; numbered = omega arith; there = refl; among = t }) }
+    go false t R = record { before = earlier; here-or = further (R .here-or) }
+      where
+        earlier : (k : ℕ) (m : Name) → i + k < firstFrom (suc i) f ns → recordAt k (n ∷ ns) ≡ some m → f m ≡ true → ⊥
+        earlier zero m l e h =
+            let k : n ≡ m = cc e in
+            false≢true (sym t ∙ ap f k ∙ h)
+        earlier (suc k) m l e h = R .before k m (omega arith) e h
+
+        further : (firstFrom (suc i) f ns ≡ 32) ⊎ Hit f ns (suc i) (firstFrom (suc i) f ns) →
+          (firstFrom (suc i) f ns ≡ 32) ⊎ Hit f (n ∷ ns) i (firstFrom (suc i) f ns)
+        further (inl e) = inl e
+        further (inr H) = inr (record {
+            index = suc (H .index); name = H .name; numbered = omega (arith, H .numbered); there = H .there;
+            among = H .among })
+
+-- a declared record without its bit is one that is declared and not used
+module _ (S : Sheet) where
+  abbrev lacks : Name → Bool
+  lacks n = isDeclared n && not (isUsed S n)
+
+  bit-clear : (b : Bool) → bit b ≡ 0 → not b ≡ true
+  unfolding bit
+  bit-clear true e = absurd (omega arith)
+  bit-clear false e = refl
+
+  clear-bit : (b : Bool) → not b ≡ true → bit b ≡ 0
+  unfolding bit
+  clear-bit true e = absurd (false≢true e)
+  clear-bit false e = refl
+
+  unset-lacks : (i : ℕ) (n : Name) → recordAt i (S .names) ≡ some n → Unset S i → lacks n ≡ true
+  unfolding Unset DeclaredRecord isDeclared markOf
+  unset-lacks i (declare often id ty tys) e u =
+      bit-clear _ (sym (bit-at (isUsed S) (S .names) i (declare often id ty tys) e) ∙ u .1)
+  unset-lacks i (retire id) e u = absurd (rw e at (u .0))
+
+  lacks-unset : (i : ℕ) (n : Name) → recordAt i (S .names) ≡ some n → lacks n ≡ true → Unset S i
+  unfolding Unset DeclaredRecord isDeclared markOf
+  lacks-unset i (declare often id ty tys) e h =
+      (rw e tt, bit-at (isUsed S) (S .names) i (declare often id ty tys) e ∙ clear-bit _ h)
+  lacks-unset i (retire id) e h = absurd (false≢true h)
+
+  unset-record : (i : ℕ) → ((n : Name) → recordAt i (S .names) ≡ some n → ⊥) → Unset S i → ⊥
+  unfolding Unset DeclaredRecord
+  unset-record i f u = go (recordAt i (S .names)) refl (u .0)
+    where
+      go : (o : Option Name) → recordAt i (S .names) ≡ o → DeclaredRecord o → ⊥
+      go nothing e d = d
+      go (some n) e d = f n e
+
+  first-unset : FirstUnset S (unusedOf S)
+  unfolding unusedOf
+  first-unset =
+      let F = first-among lacks (S .names) 0 in
+      record {
+        first = λ i l u. unset-record i (λ n e. F .before i n (omega (arith, l)) e (unset-lacks i n e u)) u;
+        unset = here-or-32 (F .here-or) }
+    where
+      here-or-32 : (firstFrom 0 lacks (S .names) ≡ 32) ⊎ Hit lacks (S .names) 0 (firstFrom 0 lacks (S .names)) →
+        (firstFrom 0 lacks (S .names) ≡ 32) ⊎ Unset S (firstFrom 0 lacks (S .names))
+      here-or-32 (inl e) = inl e
+      here-or-32 (inr H) =
+          let e : H .index ≡ firstFrom 0 lacks (S .names) = omega (arith, H .numbered) in
+          inr (subst (λ (x : ℕ). Unset S x) e (lacks-unset (H .index) (H .name) (H .there) (H .among)))
+
+-- THEOREM: a bit of the mark is set exactly if some use in the sheet means the name of its record, so many are set, and
+-- the first that is not set is the one given
+pub mark-rule : (S : Sheet) → MarkRule S
+unfolding markOf usedOf
+mark-rule S = record {
+    set = λ i. (bits-mark S (S .names) i, mark-bits S (S .names) i);
+    counted = sym (bits-ones (isUsed S) (S .names));
+    unused = first-unset S }
 
 -- as many bits as records
 pub bits-below : (f : Name → Bool) (ns : List Name) (k : ℕ) → length ns ≤ k → bits f ns < 2 ^ k

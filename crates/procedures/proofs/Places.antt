@@ -10,8 +10,8 @@ use Rattle.procedures.specs.Written.{Written, skip, diverge, truth, numb
 use Rattle.procedures.specs.Written.{sequence, while, choose, new, procedure, Parameter, Writtens, none, more}
 use Rattle.procedures.specs.Written.{Name}
 use Rattle.procedures.specs.Meaning.{Binder, a-block, inside, after}
-use Rattle.procedures.specs.Mapped.{put, mapInside}
 use Rattle.procedures.specs.Hiding.{isHeld}
+use Rattle.procedures.specs.Renumber.{put, mapInside}
 use Rattle.procedures.specs.Renumber.{Change, Renumbering, renumbered, none-left, over, before, next, lowest}
 use Rattle.procedures.specs.Renumber.{changed, renumberId, withId, renumberParameters, renumber, renumberAll}
 use Rattle.procedures.specs.Width.{width, widths}
@@ -32,7 +32,7 @@ unfolding Ascending
 ascending-append [] ds low mid high a b = wider ds low mid high high a (omega arith) b
 ascending-append (c ∷ cs) ds low mid high a b = (a .0, ascending-append cs ds (suc (c .place)) mid high (a .1) b)
 
-ascending-from : (cs : List Change) (low high : ℕ) → Ascending low high cs → low ≤ high
+pub ascending-from : (cs : List Change) (low high : ℕ) → Ascending low high cs → low ≤ high
 unfolding Ascending
 ascending-from [] low high a = a
 ascending-from (c ∷ cs) low high a =

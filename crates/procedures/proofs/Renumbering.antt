@@ -130,7 +130,7 @@ module _ (S : Sheet) (A : WellFormed S) where
   good-sheet W cs then e =
       subst (λ (a : Renumbering Written). AllGood OldIn (λ X t. GivenSheet X) (takenAtFirst S) a) e given-sheet
 
-  within-sheet : Within (headingWidth S) (headingWidth S + width (S .term)) (renumberSheet S)
+  pub within-sheet : Within (headingWidth S) (headingWidth S + width (S .term)) (renumberSheet S)
   unfolding renumberSheet
   within-sheet = within (S .names) (takenAtFirst S) (S .term) [] (λ j. j) (takenAtFirst S) (headingWidth S) sheet-known
 

@@ -1,7 +1,8 @@
 -- What document 02 [1] says of procedures holds (specs/Rules).
-use Prim.Native.Nat.{ℕ}
+use Prim.Native.Nat.{ℕ, _≤_, _<_}
+use native.Mathlib.Omega.{arith}
 use mathlib.Core.Path.{_≡_, refl, sym, ap, _∙_, subst}
-use mathlib.Core.List.{List, [], _∷_}
+use mathlib.Core.List.{List, []}
 use lib.ListN.{length}
 use Rattle.language.specs.Move.{Word}
 use Rattle.language.specs.Play.{Complete}
@@ -10,34 +11,52 @@ use Rattle.language.specs.Term.{Term}
 use Rattle.language.specs.Weight.{weight}
 use Rattle.language.specs.declared.Numbers.{Numbers}
 use Rattle.procedures.specs.Written.{Written, call, Parameter, Writtens, Name, Sheet}
-use Rattle.procedures.specs.Meaning.{Binder, a-procedure, meant, meaning, inside, after, typesOf, typed, tyOf}
-use Rattle.procedures.specs.Meaning.{byMeaning, no-terms, termOf, typeOf, idOf}
+use Rattle.procedures.specs.Meaning.{Binder, routine, meaning, inside, after, typesOf, typed, tyOf, byMeaning}
+use Rattle.procedures.specs.Meaning.{no-terms, termOf, typeOf}
 use Rattle.procedures.specs.Weigh.{Weights, weigh, weighed, with-body, with-passed}
 use Rattle.procedures.specs.Form.{no-forms}
 use Rattle.procedures.specs.Occurs.{IsParameter}
-use Rattle.procedures.specs.Rules.{weightsAfter, WeightRule, SectionSeven, SameSheets, withTerm, UnusedProcedure}
-use Rattle.procedures.specs.Rules.{UnusedArgument}
-use Rattle.procedures.proofs.Numbering.{beyond-at}
-use Rattle.procedures.proofs.Scopes.{meaning-here}
+use Rattle.procedures.specs.Rules.{weightsAfter, Reaches, here, in-block, in-procedure, in-scope, WeightRule}
+use Rattle.procedures.specs.Rules.{SectionSeven, SameSheets, withTerm, UnusedProcedure, UnusedArgument}
+use Rattle.procedures.proofs.Numbering.{beyond-below, beyond-at}
+use Rattle.procedures.proofs.Renaming.{length-inside}
 use Rattle.procedures.proofs.Weighing.{weigh-sheet}
 use Rattle.procedures.proofs.Reduction.{complete-reduce}
 use Rattle.procedures.proofs.Alike.{alike-declared}
 use Rattle.procedures.proofs.Leaving.{left-typed, left-resolve}
 use Rattle.procedures.proofs.Exchanging.{exchanged-typed, exchanged}
 
-use-weight : (N : Numbers) (ns : List Name) (bs : List Binder) (ω : Weights) (id ty : ℕ) (ps : List Parameter)
-    (body : Written)
-    (ws : Writtens) →
-    weigh N ns (after id ty ps bs) (weightsAfter N ns bs ω ps body) (call id ws)
-    ≡ weigh N ns (inside ps bs)
-        (with-passed (length bs) (λ j. weighed N ns (after id ty ps bs) (weightsAfter N ns bs ω ps body) ws j) ω) body
-unfolding weigh weightsAfter with-body after meant idOf byMeaning
-use-weight N ns bs ω id ty ps body ws =
+-- a place in the scope of binders has them around it, and their procedures weigh there what they did
+record Keeps (bs : List Binder) (ω : Weights) (cs : List Binder) (ψ : Weights) : Type 0 where
+  more : length bs ≤ length cs
+  bodies : (k : ℕ) → k < length bs → ψ .body k ≡ ω .body k
+
+module _ (N : Numbers) (ns : List Name) (bs : List Binder) (ω : Weights) where
+  keeps : {cs : List Binder} {ψ : Weights} → Reaches N ns bs ω cs ψ → Keeps bs ω cs ψ
+  unfolding weightsAfter with-body with-passed after
+  keeps here = record { more = omega arith; bodies = λ k h. refl }
+  keeps (in-block id d r) = let K = keeps r in record { more = omega (arith, K .more); bodies = K .bodies }
+  keeps (in-procedure {cs = cs} ps xs r) =
+      let K = keeps r in record { more = omega (arith, K .more, length-inside ps cs); bodies = K .bodies }
+  keeps (in-scope {cs = cs} {ψ = ψ} id ty ps body r) =
+      let K = keeps r in
+      record {
+        more = omega (arith, K .more);
+        bodies = λ k h. beyond-below (length cs) (ψ .body) _ k (omega (arith, K .more)) ∙ K .bodies k h }
+
+use-weight : (N : Numbers) (ns : List Name) (bs cs : List Binder) (ω ψ : Weights) (id ty : ℕ) (ps : List Parameter)
+    (body : Written) (ws : Writtens) →
+    Reaches N ns (after id ty ps bs) (weightsAfter N ns bs ω ps body) cs ψ →
+    meaning ns cs id ≡ routine (length bs) ty (typesOf ps) →
+    weigh N ns cs ψ (call id ws)
+    ≡ weigh N ns (inside ps bs) (with-passed (length bs) (λ j. weighed N ns cs ψ ws j) ω) body
+unfolding weigh weightsAfter with-body after byMeaning
+use-weight N ns bs cs ω ψ id ty ps body ws r m =
     let k : ℕ = length bs in
-    let c : Binder = a-procedure id ty (typesOf ps) in
     let p : (ℕ → ℕ) → ℕ = λ xs. weigh N ns (inside ps bs) (with-passed k xs ω) body in
-    rw (meaning-here ns c bs id refl)
-      (ap (λ (f : (ℕ → ℕ) → ℕ). f (λ j. weighed N ns (c ∷ bs) (with-body k p ω) ws j)) (beyond-at k (ω .body) (λ j. p)))
+    let K = keeps N ns (after id ty ps bs) (weightsAfter N ns bs ω ps body) r in
+    let e : ψ .body k ≡ p = K .bodies k (omega arith) ∙ beyond-at k (ω .body) (λ j. p) in
+    rw m (ap (λ (f : (ℕ → ℕ) → ℕ). f (λ j. weighed N ns cs ψ ws j)) e)
 
 -- THEOREM (a): weights
 pub weight-rule : WeightRule

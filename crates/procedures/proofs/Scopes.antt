@@ -12,7 +12,8 @@ use Rattle.procedures.specs.Meaning.{Binder, a-block, a-parameter, a-pro
 use Rattle.procedures.specs.Meaning.{idOf, meant, meaning, inside, typesOf}
 use Rattle.procedures.specs.Fine.{Unlike}
 use Rattle.procedures.specs.Like.{IsNamed}
-use Rattle.procedures.specs.Rename.{holds-id, renamed}
+use Rattle.procedures.specs.Rename.{renamed}
+use Rattle.procedures.specs.Renumber.{holds-id}
 use Rattle.procedures.proofs.Tests.{by-test}
 
 false-true : false ≡ true → ⊥

@@ -6,8 +6,8 @@ use mathlib.Core.List.{List, [], _∷_}
 use Rattle.procedures.specs.Written.{Written, skip, diverge, truth, number, call, fetch, operate, assign}
 use Rattle.procedures.specs.Written.{sequence, while, choose, new, procedure, Parameter, Writtens, none, more}
 use Rattle.procedures.specs.Meaning.{Binder, a-block, a-procedure, inside, after, typesOf}
-use Rattle.procedures.specs.Mapped.{put, mapInside}
 use Rattle.procedures.specs.Hiding.{Unheld, ApartParameters, Apart, AllApart}
+use Rattle.procedures.specs.Renumber.{put, mapInside}
 use Rattle.procedures.specs.Renumber.{Renumbering, renumbered, over, before, next, renumberId, withId}
 use Rattle.procedures.specs.Renumber.{renumberParameters, renumber, renumberAll}
 use Rattle.procedures.specs.Width.{width}

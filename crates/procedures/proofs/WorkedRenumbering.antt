@@ -6,10 +6,9 @@ use mathlib.Core.List.{List, [], _∷_}
 use Rattle.procedures.specs.Written.{Written, skip, truth, call, assign, sequence, new, procedure, Parameter}
 use Rattle.procedures.specs.Written.{none, more, Name, declare, retire, Sheet}
 use Rattle.procedures.specs.Meaning.{a-block, idOf, inside, after}
-use Rattle.procedures.specs.Rename.{holds-id}
-use Rattle.procedures.specs.Mapped.{put, mapInside}
 use Rattle.procedures.specs.Width.{width, nameWidth, namesWidth, headingWidth}
 use Rattle.procedures.specs.Hiding.{isHeld}
+use Rattle.procedures.specs.Renumber.{holds-id, put, mapInside}
 use Rattle.procedures.specs.Renumber.{isNamed, isBound, takenAtFirst, lowestFrom, lowest, Change, Renumbering}
 use Rattle.procedures.specs.Renumber.{renumbered, none-left, over, before, next, changed, renumberId, withId}
 use Rattle.procedures.specs.Renumber.{renumberParameters, renumber, renumberAll, renumberSheet}

@@ -4,14 +4,9 @@ use Prim.Native.Nat.{ℕ}
 use mathlib.Core.Path.{_≡_}
 use mathlib.Core.Bool.{Bool, true}
 use mathlib.Core.List.{List, [], _∷_}
-use lib.Dec.{eqb}
-use Rattle.language.specs.Choice.{pick}
 use Rattle.procedures.specs.Written.{Written, skip, diverge, truth, number, call, fetch, operate, assign}
 use Rattle.procedures.specs.Written.{sequence, while, choose, new, procedure, Parameter, Writtens, none, more}
-
--- f, but x at a
-unfoldable pub put : {X : Type 0} → ℕ → X → (ℕ → X) → ℕ → X
-put a x f j = pick (eqb j a) x (f j)
+use Rattle.procedures.specs.Renumber.{put, mapInside}
 
 -- no other id that may be used becomes b
 unfoldable pub Clear : (ℕ → Bool) → (ℕ → ℕ) → ℕ → ℕ → Type 0
@@ -28,11 +23,6 @@ Binds seen f (p ∷ ps) (q ∷ qs) =
 unfoldable pub seenInside : (ℕ → Bool) → List Parameter → ℕ → Bool
 seenInside seen [] = seen
 seenInside seen (p ∷ ps) = seenInside (put (p .id) true seen) ps
-
-unfoldable pub mapInside : (ℕ → ℕ) → List Parameter → List Parameter → ℕ → ℕ
-mapInside f [] qs = f
-mapInside f (p ∷ ps) [] = f
-mapInside f (p ∷ ps) (q ∷ qs) = mapInside (put (p .id) (q .id) f) ps qs
 
 -- seen says which ids may be used, f what they become
 mutual

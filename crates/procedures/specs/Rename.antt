@@ -1,18 +1,14 @@
 -- One binder and the uses that it governs get another id. Document 02 [4].
 use Prim.Native.Nat.{ℕ}
 use mathlib.Core.Path.{_≡_}
-use mathlib.Core.Bool.{Bool, true, false}
+use mathlib.Core.Bool.{true}
 use mathlib.Core.List.{List, [], _∷_}
 use lib.Dec.{eqb}
 use Rattle.language.specs.Choice.{pick}
 use Rattle.procedures.specs.Written.{Written, skip, diverge, truth, number, call, fetch, operate, assign}
 use Rattle.procedures.specs.Written.{sequence, while, choose, new, procedure, Parameter, Writtens, none, more}
 use Rattle.procedures.specs.Fine.{Unlike}
-
--- one of the parameters has the id a
-unfoldable pub holds-id : ℕ → List Parameter → Bool
-holds-id a [] = false
-holds-id a (p ∷ ps) = pick (eqb (p .id) a) true (holds-id a ps)
+use Rattle.procedures.specs.Renumber.{holds-id}
 
 -- the uses of a that no binder inside governs become uses of b
 unfoldable mutual

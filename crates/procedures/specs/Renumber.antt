@@ -8,12 +8,11 @@ use mathlib.Core.Bool.{Bool, true, false, _||_}
 use mathlib.Core.List.{List, [], _∷_, _++_}
 use lib.Dec.{eqb, ltb}
 use Rattle.language.specs.Choice.{pick}
+use Rattle.records.specs.Limits.{ids}
 use Rattle.procedures.specs.Written.{Written, skip, diverge, truth, number, call, fetch, operate, assign}
 use Rattle.procedures.specs.Written.{sequence, while, choose, new, procedure, Parameter, Writtens, none, more}
 use Rattle.procedures.specs.Written.{Name, declare, retire, Sheet}
 use Rattle.procedures.specs.Meaning.{Binder, a-block, inside, after}
-use Rattle.procedures.specs.Rename.{holds-id}
-use Rattle.procedures.specs.Mapped.{put, mapInside}
 use Rattle.procedures.specs.Width.{width, headingWidth}
 use Rattle.procedures.specs.Hiding.{isHeld}
 
@@ -22,6 +21,11 @@ unfoldable pub isNamed : List Name → ℕ → Bool
 isNamed [] id = false
 isNamed (declare often k ty tys ∷ ns) id = eqb k id || isNamed ns id
 isNamed (retire k ∷ ns) id = eqb k id || isNamed ns id
+
+-- one of the parameters has the id
+unfoldable pub holds-id : ℕ → List Parameter → Bool
+holds-id id [] = false
+holds-id id (p ∷ ps) = pick (eqb (p .id) id) true (holds-id id ps)
 
 -- "bound anywhere in the sheet"
 unfoldable mutual
@@ -47,10 +51,6 @@ unfoldable mutual
 -- the ids that may not be given at first; later those given are taken too
 unfoldable pub takenAtFirst : Sheet → ℕ → Bool
 takenAtFirst S id = isNamed (S .names) id || isBound (S .term) id
-
--- ids are the numbers below 255
-abbrev pub ids : ℕ
-ids = 255
 
 -- the first id from id on that is not taken, of n ids
 unfoldable pub lowestFrom : (ℕ → Bool) → ℕ → ℕ → ℕ
@@ -92,6 +92,10 @@ unfoldable pub next : {X Y : Type 0} → Renumbering X → (X → (ℕ → Bool)
 next (renumbered x cs taken) k = before cs (k x taken)
 next (none-left at) k = none-left at
 
+-- f, but x at a
+unfoldable pub put : {X : Type 0} → ℕ → X → (ℕ → X) → ℕ → X
+put a x f j = pick (eqb j a) x (f j)
+
 -- a binder gets the lowest id that is not taken
 unfoldable pub changed : ℕ → ℕ → ℕ → (ℕ → Bool) → Renumbering ℕ
 changed at id low taken =
@@ -111,6 +115,12 @@ unfoldable pub renumberParameters : List Binder → (ℕ → Bool) → ℕ → L
 renumberParameters bs taken at [] = renumbered [] [] taken
 renumberParameters bs taken at (p ∷ ps) =
     next (renumberId bs taken at (p .id)) (λ id then. over (_∷_ (withId p id)) (renumberParameters bs then (2 + at) ps))
+
+-- what the ids become inside a procedure whose parameters become others
+unfoldable pub mapInside : (ℕ → ℕ) → List Parameter → List Parameter → ℕ → ℕ
+mapInside f [] qs = f
+mapInside f (p ∷ ps) [] = f
+mapInside f (p ∷ ps) (q ∷ qs) = mapInside (put (p .id) (q .id) f) ps qs
 
 -- a term whose kind byte is at a place, with the binders around it as read and with what the ids in scope become
 unfoldable mutual

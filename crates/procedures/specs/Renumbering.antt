@@ -5,15 +5,15 @@ use mathlib.Core.Bool.{Bool, true}
 use mathlib.Core.List.{List, [], _∷_, _++_}
 use lib.ListN.{length}
 use Rattle.language.specs.Weight.{size}
+use Rattle.records.specs.Limits.{ids}
 use Rattle.procedures.specs.Written.{Written, Sheet}
 use Rattle.procedures.specs.Meaning.{tyOf, termOf, typeOf}
 use Rattle.procedures.specs.Fine.{WellFormed}
 use Rattle.procedures.specs.Like.{Like}
-use Rattle.procedures.specs.Mapped.{put}
 use Rattle.procedures.specs.Rules.{SameSheets, withTerm}
 use Rattle.procedures.specs.Hiding.{Apart, WellFormedApart, Hiding, hiding}
 use Rattle.procedures.specs.Width.{width, headingWidth}
-use Rattle.procedures.specs.Renumber.{isBound, takenAtFirst, ids, lowest, left, Change}
+use Rattle.procedures.specs.Renumber.{put, isBound, takenAtFirst, lowest, left, Change}
 use Rattle.procedures.specs.Renumber.{renumbered, none-left, renumberSheet}
 
 -- the changes take one id after the other, each "the lowest id that is neither declared, retired, nor bound anywhere in

@@ -3,13 +3,13 @@ use Prim.Native.Nat.{ℕ, _≤_}
 use mathlib.Core.Path.{_≡_}
 use mathlib.Core.Logic.{_↔_}
 use mathlib.Core.Option.{Option}
-use mathlib.Core.List.{List, []}
+use mathlib.Core.List.{List, [], _∷_}
 use lib.ListN.{length}
 use Rattle.language.specs.Move.{Word}
 use Rattle.language.specs.Weight.{weight}
 use Rattle.language.specs.declared.Numbers.{Numbers}
 use Rattle.procedures.specs.Written.{Written, call, procedure, Parameter, Writtens, Name, Sheet}
-use Rattle.procedures.specs.Meaning.{Binder, inside, after, typed, termOf, typeOf, CompletePlay}
+use Rattle.procedures.specs.Meaning.{Binder, inside, after, typed, termOf, typeOf, CompletePlay, a-block, routine}
 use Rattle.procedures.specs.Fine.{WellFormed}
 use Rattle.procedures.specs.Weigh.{Weights, weigh, weighed, weighSheet, with-body, with-passed}
 use Rattle.procedures.specs.Form.{no-forms}
@@ -18,19 +18,35 @@ use Rattle.procedures.specs.Shared.{Row, Rep, Fresh}
 use Rattle.procedures.specs.Expand.{Expansion}
 use Rattle.procedures.specs.Exchange.{Exchanged}
 use Rattle.procedures.specs.LeaveOut.{LeftOut}
+use Rattle.procedures.specs.Meaning.{meaning, typesOf}
 
 -- what the binders weigh in the second term of a procedure
 unfoldable pub weightsAfter : Numbers → List Name → List Binder → Weights → List Parameter → Written → Weights
 weightsAfter N ns bs ω ps body =
     with-body (length bs) (λ xs. weigh N ns (inside ps bs) (with-passed (length bs) xs ω) body) ω
 
+-- the binders around a place in the scope of others, and what they weigh there
+pub data Reaches (N : Numbers) (ns : List Name) (bs : List Binder) (ω : Weights) : List Binder → Weights → Type 0 where
+  here : Reaches N ns bs ω bs ω
+  -- in the block of a new
+  in-block : {cs : List Binder} {ψ : Weights} (id d : ℕ) → Reaches N ns bs ω cs ψ →
+    Reaches N ns bs ω (a-block id d ∷ cs) ψ
+  -- in the first term of a procedure, whose parameters weigh what some use gives them
+  in-procedure : {cs : List Binder} {ψ : Weights} (ps : List Parameter) (xs : ℕ → ℕ) → Reaches N ns bs ω cs ψ →
+    Reaches N ns bs ω (inside ps cs) (with-passed (length cs) xs ψ)
+  -- in its second term
+  in-scope : {cs : List Binder} {ψ : Weights} (id ty : ℕ) (ps : List Parameter) (body : Written) →
+    Reaches N ns bs ω cs ψ → Reaches N ns bs ω (after id ty ps cs) (weightsAfter N ns cs ψ ps body)
+
 pub record WeightRule : Type 0 where
-  -- "The weight of a use is that of the procedure's term with each parameter weighing what its argument weighs"
-  pub use-weighs : (N : Numbers) (ns : List Name) (bs : List Binder) (ω : Weights) (id ty : ℕ) (ps : List Parameter)
-    (body : Written) (ws : Writtens) →
-    weigh N ns (after id ty ps bs) (weightsAfter N ns bs ω ps body) (call id ws)
-    ≡ weigh N ns (inside ps bs)
-        (with-passed (length bs) (λ j. weighed N ns (after id ty ps bs) (weightsAfter N ns bs ω ps body) ws j) ω) body
+  -- "The weight of a use is that of the procedure's term with each parameter weighing what its argument weighs": of
+  -- every use that means the procedure, wherever it stands in its scope; the arguments weigh what they do there
+  pub use-weighs : (N : Numbers) (ns : List Name) (bs cs : List Binder) (ω ψ : Weights) (id ty : ℕ)
+    (ps : List Parameter) (body : Written) (ws : Writtens) →
+    Reaches N ns (after id ty ps bs) (weightsAfter N ns bs ω ps body) cs ψ →
+    meaning ns cs id ≡ routine (length bs) ty (typesOf ps) →
+    weigh N ns cs ψ (call id ws)
+    ≡ weigh N ns (inside ps bs) (with-passed (length bs) (λ j. weighed N ns cs ψ ws j) ω) body
   -- "and kind 28 itself has the type of its second term and weighs what that weighs"
   pub scope-weighs : (N : Numbers) (ns : List Name) (bs : List Binder) (ω : Weights) (id ty : ℕ) (ps : List Parameter)
     (body rest : Written) →

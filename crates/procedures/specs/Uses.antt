@@ -1,13 +1,14 @@
 -- Which names a routine uses. Document 02 [6]: "a 32-bit mark with one bit for each name record, the first record
 -- lowest, set exactly if some use in the sheet means that name. It also gives how many bits are set and the first
 -- declared record without one, by its bit's number from 0, or 32." SHEETS 8.2.
-use Prim.Native.Nat.{ℕ, zero, suc, _+_, _*_, _/_, _%_, _^_}
+use Prim.Native.Nat.{ℕ, zero, suc, _+_, _*_, _/_, _%_, _^_, _<_}
 use mathlib.Core.Path.{_≡_}
-use mathlib.Core.Logic.{_↔_}
+use mathlib.Core.Logic.{_↔_, _⊎_}
 use mathlib.Core.Bool.{Bool, true, false, _||_, _&&_, not}
 use mathlib.Core.List.{List, [], _∷_}
 use mathlib.Core.Option.{Option, none as nothing, some}
 use lib.Dec.{eqb}
+use lib.Count.{ones}
 use Rattle.language.specs.Choice.{pick}
 use Rattle.language.specs.Term.{Often}
 use Rattle.procedures.specs.Written.{Written, skip, diverge, truth, number, call, fetch, operate, assign}
@@ -146,6 +147,25 @@ UsedRecord S nothing = ⊥
 UsedRecord S (some (declare often id ty tys)) = Touched S id
 UsedRecord S (some (retire id)) = ⊥
 
--- "set exactly if some use in the sheet means that name": bit i of the mark
-unfoldable pub MarkRule : Type 0
-MarkRule = (S : Sheet) (i : ℕ) → ((markOf S / 2 ^ i) % 2 ≡ 1) ↔ UsedRecord S (recordAt i (S .names))
+-- the record declares a name
+unfoldable pub DeclaredRecord : Option Name → Type 0
+DeclaredRecord nothing = ⊥
+DeclaredRecord (some (declare often id ty tys)) = Unit
+DeclaredRecord (some (retire id)) = ⊥
+
+-- bit i of the mark is not set, and record i declares a name
+unfoldable pub Unset : Sheet → ℕ → Type 0
+Unset S i = DeclaredRecord (recordAt i (S .names)) × ((markOf S / 2 ^ i) % 2 ≡ 0)
+
+-- n is the first such bit, or none is below 32
+pub record FirstUnset (S : Sheet) (n : ℕ) : Type 0 where
+  pub first : (i : ℕ) → i < n → Unset S i → ⊥
+  pub unset : (n ≡ mark-bits) ⊎ Unset S n
+
+pub record MarkRule (S : Sheet) : Type 0 where
+  -- "set exactly if some use in the sheet means that name": bit i of the mark
+  pub set : (i : ℕ) → ((markOf S / 2 ^ i) % 2 ≡ 1) ↔ UsedRecord S (recordAt i (S .names))
+  -- "how many bits are set"
+  pub counted : usedOf S ≡ ones (markOf S)
+  -- "the first declared record without one, by its bit's number from 0, or 32"
+  pub unused : FirstUnset S (unusedOf S)

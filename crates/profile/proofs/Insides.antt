@@ -10,7 +10,7 @@ use Rattle.procedures.specs.Written.{Name}
 use Rattle.procedures.specs.Meaning.{Binder, typed}
 use Rattle.procedures.specs.Width.{width, headingWidth}
 use Rattle.procedures.specs.Pieces.{Piece, pieces, ownWidth}
-use Rattle.tabled.proofs.Widths.{width-some}
+use Rattle.sheet.proofs.Widths.{width-some}
 use Rattle.profile.specs.Offence.{isExpression, loud, within, hit, offending, offences}
 use Rattle.profile.specs.Inside.{Stands, itself, below, StandsIn, in-first, in-later, Offends, Has, has-first}
 use Rattle.profile.specs.Inside.{has-later, OffenceRule}

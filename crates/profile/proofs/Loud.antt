@@ -18,7 +18,7 @@ use Rattle.procedures.specs.Width.{width, widths}
 use Rattle.procedures.specs.Pieces.{piece, each, pieces, ownWidth}
 use Rattle.tabled.specs.Seats.{Seat, seated, SeatedAll}
 use Rattle.tabled.specs.Seats.{seated-more}
-use Rattle.tabled.proofs.Widths.{width-some}
+use Rattle.sheet.proofs.Widths.{width-some}
 use Rattle.profile.specs.Offence.{isExpression, anyLoud, loudUse, loud, within}
 use Rattle.profile.specs.Pass.{loudFrom, loudAt, reachAt}
 use Rattle.profile.proofs.Pieces.{kindOf}

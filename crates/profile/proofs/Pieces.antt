@@ -14,7 +14,7 @@ use Rattle.procedures.specs.Meaning.{a-block, inside, after}
 use Rattle.procedures.specs.Fine.{Fine, FineUse, FineArgs}
 use Rattle.procedures.specs.Width.{width, widths}
 use Rattle.sheet.specs.Encoding.{pairs, encode, encodes}
-use Rattle.tabled.proofs.Widths.{pairs-length}
+use Rattle.sheet.proofs.Pairs.{pairs-length}
 use Rattle.procedures.specs.Pieces.{Piece, piece, each, pieces, ownWidth}
 use Rattle.profile.specs.Offence.{loud, within, hit, recordAnd, offending, allOffending}
 

@@ -17,7 +17,7 @@ use Rattle.judge.specs.Check.{checkedOf}
 use Rattle.judge.specs.Mark.{usesOf}
 use Rattle.judge.specs.declared.check.Checked.the-variants.{Accepted, Refused}
 use Rattle.judge.proofs.Places.{check-refused}
-use Rattle.tabled.proofs.Widths.{wide, wide-heading}
+use Rattle.sheet.proofs.Widths.{wide, wide-heading}
 use Rattle.profile.specs.Offence.{isExpression, offences, InProfile}
 use Rattle.profile.specs.Quiet.{QuietPlays, Rising, PlacesRise}
 use Rattle.profile.specs.Profile.{heldTo, profiledOf}

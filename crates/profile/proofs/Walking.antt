@@ -18,7 +18,7 @@ use Rattle.procedures.specs.Width.{width}
 use Rattle.sheet.specs.Encoding.{encode, encodeNames, encodeSheet, headingLength}
 use Rattle.sheet.specs.Reader.{readSheet, accepted}
 use Rattle.sheet.proofs.Right.{gives}
-use Rattle.tabled.proofs.Widths.{wide, wide-heading, width-some}
+use Rattle.sheet.proofs.Widths.{wide, wide-heading, width-some}
 use Rattle.procedures.specs.Pieces.{Piece, pieces, ownWidth}
 use Rattle.tabled.specs.Seats.{Seated, seated, SeatedAll, seated-more}
 use Rattle.profile.specs.Offence.{loud, within, hit, offending, offences}

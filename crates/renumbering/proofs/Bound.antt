@@ -13,10 +13,8 @@ use Rattle.procedures.specs.Written.{Written, skip, diverge, truth, number, cal
 use Rattle.procedures.specs.Written.{while, choose, new, procedure, Parameter, Writtens, none, more, Name, Sheet}
 use Rattle.procedures.specs.Meaning.{Binder, a-block, inside, after, meaning}
 use Rattle.procedures.specs.Fine.{Fine}
-use Rattle.procedures.specs.Rename.{holds-id}
-use Rattle.procedures.specs.Mapped.{put}
 use Rattle.procedures.specs.Width.{width}
-use Rattle.procedures.specs.Renumber.{isNamed, isBound, isBoundIn, takenAtFirst}
+use Rattle.procedures.specs.Renumber.{holds-id, put, isNamed, isBound, isBoundIn, takenAtFirst}
 use Rattle.procedures.proofs.Tests.{by-test}
 use Rattle.sheet.specs.Encoding.{pairs, encode, encodes, encodeNames, encodeSheet, headingLength}
 use Rattle.sheet.specs.Reader.{accepted}
@@ -27,7 +25,8 @@ use Rattle.renumbering.specs.Work.{Takes, tookParameters, tookIds, Lies}
 use Rattle.renumbering.specs.Found.{AllFine, Taken}
 use Rattle.renumbering.proofs.Leaves.{took-new, took-procedure, took-nothing}
 use Rattle.renumbering.proofs.Lists.{lies-get, lies-head, lies-after, lies-first}
-use Rattle.tabled.proofs.Widths.{wide, pairs-length, width-some}
+use Rattle.sheet.proofs.Pairs.{pairs-length}
+use Rattle.sheet.proofs.Widths.{wide, width-some}
 use Rattle.renumbering.proofs.Entries.{takes-put, takes-same}
 use Rattle.renumbering.proofs.Steps.{use-arity}
 use Rattle.renumbering.proofs.Plain.{one-bytes, two-bytes, three-bytes}

@@ -11,8 +11,7 @@ use borrow.Author.Tests.{eq-eqb, ne-eqb, le-leb}
 use Rattle.procedures.specs.Written.{Name}
 use Rattle.procedures.specs.Meaning.{Binder, idOf, meant, meaning}
 use Rattle.procedures.specs.Hiding.{isHeld}
-use Rattle.procedures.specs.Mapped.{put}
-use Rattle.procedures.specs.Renumber.{lowestFrom, lowest}
+use Rattle.procedures.specs.Renumber.{put, lowestFrom, lowest}
 use Rattle.procedures.proofs.Lowest.{by-id, put-here, put-past}
 use Rattle.renumbering.specs.Work.{marked, Takes, boundEntry, heldIn, argumentsIn, becomesIn, arity, Scoped}
 

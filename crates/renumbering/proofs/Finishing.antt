@@ -34,7 +34,7 @@ use Rattle.renumbering.specs.declared.renumber.Earlier.the-variants as e
 use Rattle.renumbering.specs.declared.renumber.Renumbered.{Renumbered}
 use Rattle.renumbering.specs.declared.renumber.Renumbered.the-variants.{Changed, Refused}
 use Rattle.renumbering.proofs.Lists.{notes-listed, listed-length}
-use Rattle.tabled.proofs.Widths.{wide, wide-heading}
+use Rattle.sheet.proofs.Widths.{wide, wide-heading}
 use Rattle.renumbering.proofs.Finding.{found-so, not-full, done-changes}
 
 -- nothing is taken or in scope at first

@@ -1,11 +1,16 @@
 -- Bytes that lie in a sheet, bytes that are written anew, and the list of changes.
-use Prim.Native.Nat.{ℕ, suc, _+_, _*_, _/_, _%_, _≤_}
+use Prim.Native.Nat.{ℕ, zero, suc, _+_, _*_, _/_, _%_, _≤_, _<_}
 use native.Mathlib.Omega.{arith}
 use mathlib.Core.Path.{_≡_, refl, sym, ap, _∙_}
+use mathlib.Core.Bool.{Bool, true}
 use mathlib.Core.List.{List, [], _∷_, _++_, append-assoc}
 use lib.ListN.{length, getD, set, drop, length-append}
 use lib.Seq.{drop-drop, drop-append-seam, getD-drop, set-at}
-use Rattle.procedures.specs.Renumber.{Change}
+use Rattle.records.specs.Limits.{ids}
+use Rattle.procedures.specs.Written.{Written}
+use Rattle.procedures.specs.Renumber.{isBound, put, Change}
+use Rattle.procedures.specs.Renumbering.{Gives, Olds, Ascending}
+use Rattle.procedures.proofs.Places.{ascending-from}
 use Rattle.renumbering.specs.Outcome.{listed}
 use Rattle.renumbering.specs.Work.{Lies, Rewrites, note, notes}
 
@@ -70,6 +75,20 @@ pub listed-length : (cs : List Change) → length (listed cs) ≡ 4 * length cs
 unfolding listed
 listed-length [] = omega arith
 listed-length (c ∷ cs) = omega (arith, listed-length cs)
+
+-- they are below 256, where places are within a sheet
+pub listed-small : (cs : List Change) (W : Written) (low high : ℕ) (taken then : ℕ → Bool) → high ≤ 65536 →
+    Ascending low high cs → Olds (λ id. (id < ids) × (isBound W id ≡ true)) cs → Gives taken cs then →
+    (i : ℕ) → getD (listed cs) i 0 < 256
+unfolding listed Ascending Olds Gives
+listed-small [] W low high taken then h a o g i = omega arith
+listed-small (c ∷ cs) W low high taken then h a o g zero = omega arith
+listed-small (c ∷ cs) W low high taken then h a o g (suc zero) =
+    omega (arith, ascending-from cs (suc (c .place)) high (a .1))
+listed-small (c ∷ cs) W low high taken then h a o g (suc (suc zero)) = omega (arith, o .0 .0)
+listed-small (c ∷ cs) W low high taken then h a o g (suc (suc (suc zero))) = omega (arith, g .1)
+listed-small (c ∷ cs) W low high taken then h a o g (suc (suc (suc (suc i)))) =
+    listed-small cs W (suc (c .place)) high (put (c .given) true taken) then h (a .1) (o .1) (g .2) i
 
 set-inside : (X zs : List ℕ) (i v : ℕ) → set (X ++ zs) (length X + i) v ≡ X ++ set zs i v
 set-inside [] zs i v = let e : 0 + i ≡ i = omega arith in ap (λ (x : ℕ). set zs x v) e

@@ -14,9 +14,8 @@ use Rattle.procedures.specs.Written.{Name, declare, retire, Sheet}
 use Rattle.procedures.specs.Meaning.{Meaning, private, argument, routine, named, retired, free, declared, meaning}
 use Rattle.procedures.specs.Fine.{FineNames}
 use Rattle.procedures.specs.Hiding.{isHeld}
-use Rattle.procedures.specs.Mapped.{put}
 use Rattle.procedures.specs.Width.{nameWidth}
-use Rattle.procedures.specs.Renumber.{isNamed}
+use Rattle.procedures.specs.Renumber.{put, isNamed}
 use Rattle.procedures.proofs.Lowest.{by-id, put-here, put-past}
 use Rattle.sheet.specs.Encoding.{encode, declareKind, encodeName, encodeNames, encodeSheet, headingLength}
 use Rattle.sheet.specs.Reader.{accepted}
@@ -28,7 +27,7 @@ use Rattle.renumbering.specs.Work.{Scoped}
 use Rattle.renumbering.specs.Work.{Lies}
 use Rattle.renumbering.specs.Found.{Headed}
 use Rattle.renumbering.proofs.Lists.{lies-get, lies-head, lies-after}
-use Rattle.tabled.proofs.Widths.{wide-name}
+use Rattle.sheet.proofs.Widths.{wide-name}
 use Rattle.renumbering.proofs.Entries.{takes-put, takes-same}
 
 -- what is meant by the first that means something

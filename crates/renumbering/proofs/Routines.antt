@@ -9,9 +9,8 @@ use Rattle.language.specs.declared.Numbers.{Numbers}
 use Rattle.procedures.specs.Written.{Written, procedure, Parameter, Name}
 use Rattle.procedures.specs.Meaning.{Binder, a-procedure, idOf, meant, inside, after, typesOf}
 use Rattle.procedures.specs.Fine.{Fine, depth}
-use Rattle.procedures.specs.Mapped.{put, mapInside}
 use Rattle.procedures.specs.Width.{width}
-use Rattle.procedures.specs.Renumber.{Renumbering, over, next, renumberId, renumberParameters, renumber}
+use Rattle.procedures.specs.Renumber.{put, mapInside, Renumbering, over, next, renumberId, renumberParameters, renumber}
 use Rattle.procedures.proofs.Reach.{length-types}
 use Rattle.sheet.specs.Encoding.{pairs, encode}
 use Rattle.renumbering.specs.Work.{Takes, boundEntry, arity, Scoped, Lies, Rewrites}
@@ -21,7 +20,8 @@ use Rattle.renumbering.specs.Found.{RoutineFound}
 use Rattle.renumbering.specs.declared.step.Step.{Step}
 use Rattle.renumbering.specs.declared.step.Step.the-variants.{Done, Full}
 use Rattle.renumbering.proofs.Lists.{lies-get, lies-after, lies-first, rewrites-after, rewrites-then, rewrites-byte}
-use Rattle.tabled.proofs.Widths.{wide, pairs-length}
+use Rattle.sheet.proofs.Pairs.{pairs-length}
+use Rattle.sheet.proofs.Widths.{wide}
 use Rattle.renumbering.proofs.Entries.{scoped-bound}
 use Rattle.renumbering.proofs.Finding.{found-over, found-so, found-full, found-next}
 use Rattle.renumbering.proofs.Steps.{onward-full, id-at}

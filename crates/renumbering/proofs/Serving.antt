@@ -1,11 +1,11 @@
 -- What document 02 [4] says of renumber holds (specs/Service).
-use Prim.Native.Nat.{ℕ, _≤_}
+use Prim.Native.Nat.{ℕ, _≤_, _+_, _<_}
 use native.Mathlib.Omega.{arith}
 use mathlib.Core.Path.{_≡_, refl, sym, ap, ap₂, _∙_, subst}
 use mathlib.Core.Bool.{Bool, true, false, _||_}
 use mathlib.Core.Logic.{inl, inr}
 use mathlib.Core.List.{List, []}
-use lib.ListN.{length, length-append}
+use lib.ListN.{length, length-append, getD}
 use lib.Dec.{ltb}
 use borrow.Author.Tests.{le-ltb}
 use Rattle.language.specs.Choice.{pick}
@@ -17,11 +17,11 @@ use Rattle.records.specs.declared.edition.Edition.the-variants.{Earlier, Presen
 use Rattle.procedures.specs.Written.{Written, Sheet}
 use Rattle.procedures.specs.Meaning.{tyOf, termOf, typeOf}
 use Rattle.procedures.specs.Rules.{withTerm}
-use Rattle.procedures.specs.Width.{width}
-use Rattle.procedures.specs.Renumber.{Change, Renumbering, renumbered, none-left, renumberSheet}
-use Rattle.procedures.specs.Renumbering.{Renumbered, RenumberRule, UnalteredRule}
-use Rattle.procedures.proofs.Renumbering.{renumber-rule, unaltered-rule}
-use Rattle.sheet.specs.Encoding.{encode, encodeNames, encodeSheet}
+use Rattle.procedures.specs.Width.{width, headingWidth}
+use Rattle.procedures.specs.Renumber.{Change, Renumbering, renumbered, none-left, renumberSheet, takenAtFirst}
+use Rattle.procedures.specs.Renumbering.{Renumbered, RenumberRule, UnalteredRule, GivenRule}
+use Rattle.procedures.proofs.Renumbering.{renumber-rule, unaltered-rule, given-rule, within-sheet}
+use Rattle.sheet.specs.Encoding.{encode, encodeNames, encodeSheet, headingLength}
 use Rattle.sheet.specs.Fine as fine
 use Rattle.sheet.specs.Reader.{Checks, accepted, rejected, readUnder}
 use Rattle.judge.specs.Check.{NumberOf}
@@ -30,10 +30,10 @@ use Rattle.judge.proofs.Places.{check-refused}
 use Rattle.renumbering.specs.Outcome.{readEarlier, listed, Outcome, done, refused, written, checked, outcome}
 use Rattle.renumbering.specs.Outcome.{RenumberedBy}
 use Rattle.renumbering.specs.Service.{WrittenRule, EarlierAccepted, AcceptedRule, UnalteredService}
-use Rattle.renumbering.specs.Service.{RenumberNumber}
-use Rattle.renumbering.specs.Service.{RenumberNumbers, RenumberUnique}
-use Rattle.renumbering.proofs.Lists.{listed-length}
-use Rattle.tabled.proofs.Widths.{wide}
+use Rattle.renumbering.specs.Service.{RenumberNumber, RenumberNumbers, RenumberUnique, WellWritten}
+use Rattle.renumbering.proofs.Lists.{listed-length, listed-small}
+use Rattle.sheet.proofs.Widths.{wide, wide-heading}
+use Rattle.procedures.proofs.Places.{Within}
 
 -- what was written and changed
 record Made (S : Sheet) (a : Renumbering Written) (b : List ℕ) (cs : List Change) : Type 0 where
@@ -89,7 +89,7 @@ same-bytes S W h =
 
 -- THEOREM: the sheet written
 pub written-rule : WrittenRule
-unfolding WrittenRule RenumberRule withTerm written
+unfolding WrittenRule RenumberRule GivenRule withTerm written
 written-rule s room space b cs S ty n o e =
     let M : Made S (renumberSheet S) b cs = made s room space b cs S ty n o e in
     let W : Written = M .term in
@@ -106,9 +106,10 @@ written-rule s room space b cs S ty n o e =
     let h : (ed : Edition) → readUnder ed b ≡ accepted T ty n = λ ed.
       subst (λ (x : List ℕ). readUnder ed x ≡ accepted T ty n) (M .bytes) (k ed) in
     record {
-      sheet = T; reads = h Present; apart = R .accepted .apart; same-term = R .same-term; same-sheets = R .same-sheets;
+      term = W; reads = h Present; renumbers = R; taken = M .ids;
+      gives = given-rule S W cs (M .ids) (M .renumbers);
       same-length = ap length (sym (M .bytes)) ∙ l ∙ ap length (sym (g .0));
-      few = R .few; fits = omega (arith, R .few, listed-length cs);
+      fits = omega (arith, R .few, listed-length cs);
       again = λ room′ space′ i j. enough b room′ space′ T ty n (h Earlier) i j ∙ ap (written T) (R .again)
         ∙ ap (λ (x : List ℕ). done x []) (M .bytes) }
 
@@ -133,7 +134,7 @@ refused-number : (x y : Cause) → refused x ≡ refused y → x .number ≡ y .
 refused-number x y e = let f : x ≡ y = cc in ap (λ (z : Cause). z .number) f
 
 pub renumber-numbers : RenumberNumbers
-unfolding RenumberNumbers RenumberNumber NumberOf outcome checked written
+unfolding RenumberNumbers RenumberNumber outcome checked written
 renumber-numbers s room space x o = go (readEarlier s) refl
   where
     of : (S : Sheet) (t : Bool) (a : Renumbering Written) → pick t (refused (cause 14 2 0)) (written S a) ≡ refused x →
@@ -147,8 +148,47 @@ renumber-numbers s room space x o = go (readEarlier s) refl
         of S (ltb room (length s) || ltb space 1020) (renumberSheet S) (sym (ap (checked (length s) room space) e) ∙ o)
     go (rejected n p) e =
         let z : n ≡ x .number = refused-number (cause n 0 p) x (sym (ap (checked (length s) room space) e) ∙ o) in
-        let r = check-refused Earlier s e .known in
-        inl (omega (arith, r .0, z), omega (arith, r .1, z))
+        inl (subst (λ (k : ℕ). NumberOf Earlier k) z (check-refused Earlier s e .known))
+
+-- and their places: within a sheet that may be read
+refused-place : (x y : Cause) → refused x ≡ refused y → x .place ≡ y .place
+refused-place x y e = let f : x ≡ y = cc in ap (λ (z : Cause). z .place) f
+
+sheet-end : (S : Sheet) → length (encodeSheet S) ≡ headingWidth S + width (S .term)
+unfolding encodeSheet headingLength
+sheet-end S =
+    omega (arith, wide-heading S, wide (S .term), length-append (encodeNames (S .names)) (encode (S .term)))
+
+pub renumber-places : (s : List ℕ) (room space : ℕ) (x : Cause) → outcome s room space ≡ refused x → x .place ≤ 4096
+unfolding outcome checked written Within
+renumber-places s room space x o = go (readEarlier s) refl
+  where
+    of : (S : Sheet) → fine.AcceptedUnder Earlier S → (t : Bool) (a : Renumbering Written) → renumberSheet S ≡ a →
+        pick t (refused (cause 14 2 0)) (written S a) ≡ refused x → x .place ≤ 4096
+    of S A true a r e = omega (arith, refused-place (cause 14 2 0) x e)
+    of S A false (none-left p) r e =
+        let h : ℕ = headingWidth S in
+        let w : Within h (h + width (S .term)) (none-left p) =
+            subst (λ (y : Renumbering Written). Within h (h + width (S .term)) y) r (within-sheet S (A .ordered)) in
+        omega (arith, refused-place (cause 17 0 p) x e, w .1, sheet-end S, A .short)
+    of S A false (renumbered W cs then) r e = clash x (encodeSheet (withTerm S W)) cs (sym e)
+
+    go : (c : Checks) → readEarlier s ≡ c → x .place ≤ 4096
+    go (accepted S ty n) e =
+        of S (gives Earlier s S ty n e .1) (ltb room (length s) || ltb space 1020) (renumberSheet S) refl
+          (sym (ap (checked (length s) room space) e) ∙ o)
+    go (rejected n p) e =
+        omega (arith, refused-place (cause n 0 p) x (sym (ap (checked (length s) room space) e) ∙ o),
+          check-refused Earlier s e .within)
+
+-- the list written has bytes
+module _ {s : List ℕ} {S : Sheet} {ty n : ℕ} {b : List ℕ} {cs : List Change} (e : readEarlier s ≡ accepted S ty n)
+    (W : WellWritten s S ty n b cs) where
+  pub listed-bytes : (i : ℕ) → getD (listed cs) i 0 < 256
+  listed-bytes =
+      let R = W .renumbers in
+      listed-small cs (S .term) (headingWidth S) (headingWidth S + width (S .term)) (takenAtFirst S) (W .taken)
+        (omega (arith, sheet-end S, gives Earlier s S ty n e .1 .short)) (R .places) (R .olds) (W .gives)
 
 -- THEOREM: one answer
 pub renumber-unique : RenumberUnique

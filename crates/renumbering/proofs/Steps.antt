@@ -11,9 +11,8 @@ use Rattle.procedures.specs.Written.{while, choose, new, procedure, Writtens, n
 use Rattle.procedures.specs.Meaning.{Binder, a-block, idOf, meant, Meaning, private, argument, routine, named}
 use Rattle.procedures.specs.Meaning.{retired, free, meaning, after}
 use Rattle.procedures.specs.Fine.{Fine, FineUse, FineArgs, depth, depths}
-use Rattle.procedures.specs.Mapped.{put}
 use Rattle.procedures.specs.Width.{width, widths}
-use Rattle.procedures.specs.Renumber.{over, next, renumberId}
+use Rattle.procedures.specs.Renumber.{put, over, next, renumberId}
 use Rattle.procedures.specs.Renumber.{renumber, renumberAll}
 use Rattle.sheet.specs.Encoding.{encode, encodes}
 use Rattle.renumbering.specs.Work.{Takes, boundEntry, argumentsIn, becomesIn, arity, Scoped}
@@ -26,7 +25,7 @@ use Rattle.renumbering.specs.declared.step.Step.{Step}
 use Rattle.renumbering.specs.declared.step.Step.the-variants.{Done, Full}
 use Rattle.renumbering.proofs.Lists.{lies-get, lies-after, lies-first, rewrites-same, rewrites-after}
 use Rattle.renumbering.proofs.Lists.{rewrites-then, rewrites-byte}
-use Rattle.tabled.proofs.Widths.{wide, width-some}
+use Rattle.sheet.proofs.Widths.{wide, width-some}
 use Rattle.renumbering.proofs.Entries.{scoped-bound}
 use Rattle.renumbering.proofs.Finding.{found-over, found-so, found-full, found-next}
 

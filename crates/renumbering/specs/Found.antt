@@ -10,9 +10,9 @@ use Rattle.records.specs.Limits.{most-bytes}
 use Rattle.procedures.specs.Written.{Written, call, new, procedure, Parameter, Writtens, none, more, Name, Sheet}
 use Rattle.procedures.specs.Rules.{withTerm}
 use Rattle.procedures.specs.Meaning.{Binder, inside}
-use Rattle.procedures.specs.Mapped.{mapInside}
 use Rattle.procedures.specs.Fine.{Fine, FineParameters, depth, depths}
 use Rattle.procedures.specs.Width.{width, widths}
+use Rattle.procedures.specs.Renumber.{mapInside}
 use Rattle.procedures.specs.Renumber.{Change, Renumbering, renumbered, none-left, renumberId, renumberParameters}
 use Rattle.procedures.specs.Renumber.{renumber, renumberAll, renumberSheet, isNamed, takenAtFirst}
 use Rattle.sheet.specs.Encoding.{pairs, encode, encodes, encodeSheet, headingLength}

@@ -1,34 +1,38 @@
 -- What document 02 [4] says of renumber, as statements.
-use Prim.Native.Nat.{ℕ, _≤_, _<_}
+use Prim.Native.Nat.{ℕ, _≤_}
 use mathlib.Core.Path.{_≡_}
 use mathlib.Core.Logic.{_⊎_}
 use mathlib.Core.List.{List, []}
 use lib.ListN.{length}
-use Rattle.records.specs.Refusal.{too-large, space-too-short, no-id-left}
+use Rattle.records.specs.Refusal.{space-too-short, no-id-left}
 use Rattle.records.specs.declared.refusal.Cause.{Cause}
-use Rattle.procedures.specs.Written.{Sheet}
-use Rattle.procedures.specs.Meaning.{termOf}
-use Rattle.procedures.specs.Rules.{SameSheets}
+use Rattle.procedures.specs.Written.{Sheet, Written}
 use Rattle.procedures.specs.Hiding.{Apart}
-use Rattle.procedures.specs.Renumber.{Change}
+use Rattle.procedures.specs.Renumber.{Change, takenAtFirst}
 use Rattle.sheet.specs.Reader.{accepted, readSheet}
-use Rattle.renumbering.specs.Outcome.{readEarlier, listSpace, listed, done, refused}
-use Rattle.renumbering.specs.Outcome.{outcome, RenumberPromise}
+use Rattle.renumbering.specs.Outcome.{readEarlier, listSpace, listed, done, refused, outcome, RenumberPromise}
 use Rattle.renumbering.specs.declared.renumber.Renumbered.{Renumbered}
+use mathlib.Core.Bool.{Bool}
+use Rattle.records.specs.declared.edition.Edition.the-variants.{Earlier}
+use Rattle.procedures.specs.Rules.{withTerm}
+use Rattle.procedures.specs.Renumbering.{Gives, Renumbered as RenumberedSheet}
+use Rattle.judge.specs.Check.{NumberOf}
 
 -- the bytes b written for those of the sheet S, of a type and a size, with the changes cs
 pub record WellWritten (s : List ℕ) (S : Sheet) (ty size : ℕ) (b : List ℕ) (cs : List Change) : Type 0 where
-  pub sheet : Sheet
-  -- "The sheet written is accepted": by the present rule, with the same type and size, since no binder hides another
-  pub reads : readSheet b ≡ accepted sheet ty size
-  pub apart : Apart [] (sheet .term)
-  -- "and has the plays the earlier rule gave the old one"
-  pub same-term : termOf S ≡ termOf sheet
-  pub same-sheets : SameSheets S sheet
+  pub term : Written
+  -- "The sheet written is accepted": by the present rule, with the same type and size
+  pub reads : readSheet b ≡ accepted (withTerm S term) ty size
+  -- "and has the plays the earlier rule gave the old one", "the uses it governs follow", "and lists each binding
+  -- record's change, left to right"
+  pub renumbers : RenumberedSheet S term cs
+  -- "gives each inner name that hides an outer one the lowest id that is neither declared, retired, nor bound anywhere
+  -- in the sheet as read or as changed so far"; the ids taken at last
+  pub taken : ℕ → Bool
+  pub gives : Gives (takenAtFirst S) cs taken
   -- "It writes the sheet at the same length"
   pub same-length : length b ≡ length s
   -- "That space must have 1,020 bytes": so they suffice
-  pub few : length cs ≤ 254
   pub fits : length (listed cs) ≤ listSpace
   -- renumbering the sheet written changes nothing, where enough is lent
   pub again : (room space : ℕ) → length b ≤ room → listSpace ≤ space → outcome b room space ≡ done b []
@@ -57,7 +61,7 @@ UnalteredService =
 
 -- the numbers of renumber's refusals: those of check under the earlier rule, 14 and 17
 unfoldable pub RenumberNumber : ℕ → Type 0
-RenumberNumber n = ((0 < n) × (n ≤ too-large)) ⊎ ((n ≡ space-too-short) ⊎ (n ≡ no-id-left))
+RenumberNumber n = NumberOf Earlier n ⊎ ((n ≡ space-too-short) ⊎ (n ≡ no-id-left))
 
 unfoldable pub RenumberNumbers : Type 0
 RenumberNumbers =

@@ -1,51 +1,56 @@
--- The buffer of the program renumber holds every text that it can print: a list of 1,020 bytes has at most 255 changes,
--- of 14 bytes each, after one line.
-use Prim.Native.Nat.{ℕ, _*_, _≤_}
+-- The buffer of the program renumber holds every text that it can print: there are at most 254 changes, of 14 bytes each,
+-- after one line.
+use Prim.Native.Nat.{ℕ, _≤_, _<_}
 use native.Mathlib.Omega.{arith}
 use mathlib.Core.Path.{_≡_, refl, ap, _∙_}
-use mathlib.Core.List.{List, [], _∷_, _++_}
-use lib.ListN.{length, drop, length-append}
+use mathlib.Core.Logic.{_⊎_, inl, inr}
+use mathlib.Core.List.{List, _++_}
+use lib.ListN.{length, getD, drop, List·getD-append}
 use lib.Seq.{take-append-seam}
-use Rattle.procedures.specs.Renumber.{Change}
+use Rattle.records.specs.declared.refusal.Cause.{Cause}
+use Rattle.records.specs.declared.edition.Edition.the-variants.{Earlier}
+use Rattle.judge.specs.Check.{NumberOf}
 use Rattle.renumbering.specs.Outcome.{Outcome, done, refused, outcome, listed, RenumberedBy}
-use Rattle.renumbering.specs.declared.renumber.Renumbered.{Renumbered}
+use Rattle.renumbering.specs.Service.{WrittenRule, AcceptedRule, RenumberNumber, RenumberNumbers}
+use Rattle.renumbering.proofs.Lists.{listed-length}
+use Rattle.renumbering.proofs.Serving.{written-rule, accepted-rule, renumber-numbers, renumber-places, listed-bytes}
 use Rattle.text.specs.Page.{Page}
-use Rattle.report.specs.Changes.{renumberText, Representable}
+use Rattle.report.specs.Changes.{renumberText}
 use Rattle.report.specs.Program.{RenumberBufferHolds, RenumberPrintsWhole}
 use Rattle.report.proofs.Fits.{at-start}
-use Rattle.report.proofs.Short.{looser, refused-any, changed-short}
+use Rattle.report.proofs.Short.{looser, refused-short, changed-short}
 
--- a change has four bytes in the list
-listed-length : (cs : List Change) → length (listed cs) ≡ 4 * length cs
-unfolding listed
-listed-length [] = refl
-listed-length (c ∷ cs) = omega (arith, listed-length cs)
-
-few-changes : (cs : List Change) (list list′ : List ℕ) → length list ≡ 1020 → length list′ ≡ length list →
-    list′ ≡ listed cs ++ drop (length (listed cs)) list → length cs ≤ 255
-few-changes cs list list′ a k e =
-    omega (arith, ap length e, length-append (listed cs) (drop (length (listed cs)) list), listed-length cs)
+-- a refusal's number has two digits
+small-number : (n : ℕ) → RenumberNumber n → n < 100
+unfolding RenumberNumber NumberOf
+small-number n (inl h) = omega (arith, h .1)
+small-number n (inr (inl h)) = omega (arith, h)
+small-number n (inr (inr h)) = omega (arith, h)
 
 -- THEOREM: the buffer holds every text
 pub renumber-buffer-holds : RenumberBufferHolds
-unfolding RenumberedBy Representable renumberText
-renumber-buffer-holds s output list r output′ list′ a k p b =
-    go (outcome s (length output) (length list)) p
+unfolding RenumberedBy renumberText WrittenRule AcceptedRule RenumberNumbers
+renumber-buffer-holds s output list r output′ list′ p = go (outcome s (length output) (length list)) refl p
   where
-    go : (x : Outcome) → RenumberedBy x r output output′ list list′ → length (renumberText r list′) ≤ 4096
-    go (done sheet cs) h =
-        let few = few-changes cs list list′ a k (h .2) in
-        let bytes = rw (h .0) at b in
-        let q = changed-short (length cs) list′ (omega (arith, few)) bytes in
+    go : (x : Outcome) → outcome s (length output) (length list) ≡ x → RenumberedBy x r output output′ list list′ →
+      length (renumberText r list′) ≤ 4096
+    go (done b cs) e h =
+        let A = accepted-rule s (length output) (length list) b cs e in
+        let W = written-rule s (length output) (length list) b cs (A .sheet) (A .type) (A .size) e (A .reads) in
+        let few = W .renumbers .few in
+        let k = listed-length cs in
+        let q = changed-short (length cs) list′ (omega (arith, few)) (λ j l.
+            rw (h .2, List·getD-append (listed cs) (drop (length (listed cs)) list) 0 j (omega (arith, l, k)))
+              (listed-bytes (A .reads) W j)) in
         rw (h .0) (looser 4096 (omega (arith, few)) q .holds)
-    go (refused x) h =
-        let small = rw (h .0) at b in
-        let q = refused-any x (small .0) (small .1) in
+    go (refused x) e h =
+        let n = small-number (x .number) (renumber-numbers s (length output) (length list) x e) in
+        let q = refused-short x n (omega (arith, renumber-places s (length output) (length list) x e)) in
         rw (h .0) (looser 4096 (omega arith) q .holds)
 
 -- THEOREM: what is printed is the whole text
 pub renumber-prints-whole : RenumberPrintsWhole
-renumber-prints-whole s output list out t output′ list′ out′ a b R =
-    let h = renumber-buffer-holds s output list (R .answer) output′ list′ a (R .kept) (R .promised) (R .small) in
+renumber-prints-whole s output list out t output′ list′ out′ b R =
+    let h = renumber-buffer-holds s output list (R .answer) output′ list′ (R .promised) in
     let e = R .written ∙ at-start (renumberText (R .answer) list′) out (omega arith) in
     rw (ap (λ (p : Page). p .out) e, ap (λ (p : Page). p .at) e) (take-append-seam _ _)

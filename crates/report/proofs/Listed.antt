@@ -11,7 +11,6 @@ use Rattle.renumbering.specs.declared.renumber.Renumbered.the-variants.{Changed
 use Rattle.text.specs.Page.{Page, pushes}
 use Rattle.text.specs.Text.{refusedText}
 use Rattle.report.specs.Changes.{changeText, changeAt, changesText, changedText, renumberText, isRenumbered}
-use Rattle.report.specs.Changes.{Representable}
 use Rattle.text.proofs.Pages.{pushes-append}
 
 -- a change, by the bytes that are read
@@ -43,13 +42,11 @@ module _ (list : List ℕ) (count i : ℕ) (p₀ p : Page)
 -- the whole text, and what else is told
 module _ (p : Page) (list : List ℕ) {r : Renumbered} where
   pub told-changed : {q : Page} {n : ℕ} → r ≡ Changed n → q ≡ pushes (changedText n list) p →
-      ((i : ℕ) → getD list i 0 < 256) →
-      (q ≡ pushes (renumberText r list) p) × ((true ≡ isRenumbered r) × Representable r list)
-  unfolding renumberText isRenumbered Representable
-  told-changed e h b = rw e (h, (refl, b))
+      (q ≡ pushes (renumberText r list) p) × (true ≡ isRenumbered r)
+  unfolding renumberText isRenumbered
+  told-changed e h = rw e (h, refl)
 
-  pub told-refused : {q : Page} {x : Cause} → r ≡ Refused x → q ≡ pushes (refusedText x) p → x .number < 256 →
-      x .place < 18446744073709551616 →
-      (q ≡ pushes (renumberText r list) p) × ((false ≡ isRenumbered r) × Representable r list)
-  unfolding renumberText isRenumbered Representable
-  told-refused e h b l = rw e (h, (refl, (b, l)))
+  pub told-refused : {q : Page} {x : Cause} → r ≡ Refused x → q ≡ pushes (refusedText x) p →
+      (q ≡ pushes (renumberText r list) p) × (false ≡ isRenumbered r)
+  unfolding renumberText isRenumbered
+  told-refused e h = rw e (h, refl)

@@ -81,15 +81,6 @@ refused-short x h l =
           (name-short (x .sheet))) (all (ascii " "))) (four-digits (x .place) l)) (all (ascii "\n")) in
     p
 
--- the same for a number of 8 bits and a place of 64
-pub refused-any : (x : Cause) → x .number < 256 → x .place < 18446744073709551616 → AtMost 38 (refusedText x)
-unfolding refusedText
-refused-any x h l =
-    let p = both (both (both (both (both (both (all (ascii "refused ")) (three-digits (x .number) (omega arith)))
-          (all (ascii " "))) (name-short (x .sheet))) (all (ascii " "))) (few-digits 19 (x .place) (omega arith)))
-          (all (ascii "\n")) in
-    p
-
 pub sizes-short : (old new : ℕ) → old < 10000 → new < 10000 → AtMost 18 (sizesText old new)
 unfolding sizesText
 sizes-short old new h l =
@@ -145,23 +136,28 @@ change-short place old given h l m =
           (three-digits old (omega arith))) (all (ascii " "))) (three-digits given (omega arith))) (all (ascii "\n")) in
     p
 
-change-at-short : (i : ℕ) (list : List ℕ) → ((j : ℕ) → getD list j 0 < 256) → AtMost 14 (changeAt i list)
+-- the bytes of the first n changes
+abbrev Bytes : ℕ → List ℕ → Type 0
+Bytes n list = (j : ℕ) → j < 4 * n → getD list j 0 < 256
+
+change-at-short : (i : ℕ) (list : List ℕ) → Bytes (i + 1) list → AtMost 14 (changeAt i list)
 unfolding changeAt
 change-at-short i list b =
     change-short (getD list (4 * i) 0 + 256 * getD list (4 * i + 1) 0) (getD list (4 * i + 2) 0)
-    (getD list (4 * i + 3) 0) (omega (arith, b (4 * i), b (4 * i + 1))) (b (4 * i + 2)) (b (4 * i + 3))
+    (getD list (4 * i + 3) 0) (omega (arith, b (4 * i) (omega arith), b (4 * i + 1) (omega arith)))
+    (b (4 * i + 2) (omega arith)) (b (4 * i + 3) (omega arith))
 
-changes-short : (n i : ℕ) (list : List ℕ) → ((j : ℕ) → getD list j 0 < 256) → AtMost (14 * n) (changesText n i list)
+changes-short : (n i : ℕ) (list : List ℕ) → Bytes (i + n) list → AtMost (14 * n) (changesText n i list)
 unfolding changesText
 changes-short zero i list b = all []
 changes-short (suc n) i list b =
-    let p = both (change-at-short i list b) (changes-short n (i + 1) list b) in
+    let p = both (change-at-short i list (λ j l. b j (omega (arith, l))))
+          (changes-short n (i + 1) list (λ j l. b j (omega (arith, l)))) in
     looser (14 * suc n) (omega arith) p
 
-pub changed-short : (n : ℕ) (list : List ℕ) → n < 1000 → ((j : ℕ) → getD list j 0 < 256) →
-    AtMost (12 + 14 * n) (changedText n list)
+pub changed-short : (n : ℕ) (list : List ℕ) → n < 1000 → Bytes n list → AtMost (12 + 14 * n) (changedText n list)
 unfolding changedText
 changed-short n list h b =
     let p = both (both (both (all (ascii "changes ")) (three-digits n h)) (all (ascii "\n")))
-          (changes-short n 0 list b) in
+          (changes-short n 0 list (λ j l. b j (omega (arith, l)))) in
     p

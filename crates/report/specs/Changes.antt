@@ -1,11 +1,11 @@
 -- What the program renumber prints, as bytes, and what its report promises. Document 02, [4]: a change is listed as
 -- "place of the id byte in two bytes, low byte first, old id, new id", "and the number of changes is given". A refusal
 -- is one line, as document 01 has it.
-use Prim.Native.Nat.{ℕ, zero, suc, _+_, _*_, _<_}
+use Prim.Native.Nat.{ℕ, zero, suc, _+_, _*_}
 use mathlib.Core.Path.{_≡_}
 use mathlib.Core.Bool.{Bool, true, false}
 use mathlib.Core.List.{List, [], _++_}
-use lib.ListN.{length, getD}
+use lib.ListN.{getD}
 use Rattle.renumbering.specs.Outcome.{RenumberPromise}
 use Rattle.renumbering.specs.declared.renumber.Renumbered.{Renumbered}
 use Rattle.renumbering.specs.declared.renumber.Renumbered.the-variants.{Changed, Refused}
@@ -41,11 +41,6 @@ unfoldable pub isRenumbered : Renumbered → Bool
 isRenumbered (Changed n) = true
 isRenumbered (Refused x) = false
 
--- the list has bytes, and a refusal's number is a byte and its place a number of 64 bits
-unfoldable pub Representable : Renumbered → List ℕ → Type 0
-Representable (Changed n) list = (i : ℕ) → getD list i 0 < 256
-Representable (Refused x) list = (x .number < 256) × (x .place < 18446744073709551616)
-
 -- an answer of renumber, its text at the start of out, as much as there is room for, and whether a sheet is to be
 -- written
 pub record RenumberReported (s output list out : List ℕ) (t : Told) (output′ list′ out′ : List ℕ) : Type 0 where
@@ -53,5 +48,3 @@ pub record RenumberReported (s output list out : List ℕ) (t : Told) (output′
   pub promised : RenumberPromise s answer output output′ list list′
   pub written : page out′ (t .count) ≡ pushes (renumberText answer list′) (page out 0)
   pub said : t .renumbered ≡ isRenumbered answer
-  pub small : Representable answer list′
-  pub kept : length list′ ≡ length list

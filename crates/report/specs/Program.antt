@@ -12,10 +12,10 @@ use Rattle.comparer.specs.Refusals.{compareRefusal}
 use Rattle.comparer.specs.declared.Comparison.{Comparison}
 use Rattle.text.specs.Text.{textOf}
 use Rattle.report.specs.Reported.{Reported}
-use Rattle.renumbering.specs.Outcome.{listSpace, RenumberPromise}
+use Rattle.renumbering.specs.Outcome.{RenumberPromise}
 use Rattle.renumbering.specs.declared.renumber.Renumbered.{Renumbered}
 use Rattle.report.specs.declared.changes.Told.{Told}
-use Rattle.report.specs.Changes.{renumberText, Representable, RenumberReported}
+use Rattle.report.specs.Changes.{renumberText, RenumberReported}
 
 -- how many working words, bytes of play space and bytes for the text the program that compares lends
 abbrev pub lent-words : ℕ
@@ -27,7 +27,7 @@ lent-space = 2040
 abbrev pub lent-text : ℕ
 lent-text = 8192
 
--- how many bytes for the text the program that renumbers lends; its list has what it must have
+-- how many bytes for the text the program that renumbers lends
 abbrev pub lent-changes : ℕ
 lent-changes = 4096
 
@@ -50,12 +50,11 @@ PrintsWhole = (old new ws space out : List ℕ) (count : ℕ) (ws′ space′ ou
 
 -- every text that the program renumber can print, of whatever sheet, has room
 abbrev pub RenumberBufferHolds : Type 0
-RenumberBufferHolds = (s output list : List ℕ) (r : Renumbered) (output′ list′ : List ℕ) → length list ≡ listSpace →
-  length list′ ≡ length list → RenumberPromise s r output output′ list list′ → Representable r list′ →
-  length (renumberText r list′) ≤ lent-changes
+RenumberBufferHolds = (s output list : List ℕ) (r : Renumbered) (output′ list′ : List ℕ) →
+  RenumberPromise s r output output′ list list′ → length (renumberText r list′) ≤ lent-changes
 
 -- so the bytes that it prints are the whole text of the answer
 abbrev pub RenumberPrintsWhole : Type 0
 RenumberPrintsWhole = (s output list out : List ℕ) (t : Told) (output′ list′ out′ : List ℕ) →
-  length list ≡ listSpace → length out ≡ lent-changes → (R : RenumberReported s output list out t output′ list′ out′) →
+  length out ≡ lent-changes → (R : RenumberReported s output list out t output′ list′ out′) →
   take (t .count) out′ ≡ renumberText (R .answer) list′

@@ -10,7 +10,7 @@ use text::write::text;
 ghost use mathlib.Core.Path.{_≡_};
 ghost use Rattle.text.specs.Page.{page, pushes, Counts};
 ghost use Rattle.report.specs.Changes.{changeText, changeAt, changesText, changedText, renumberText};
-ghost use Rattle.report.specs.Changes.{isRenumbered, Representable, RenumberReported};
+ghost use Rattle.report.specs.Changes.{isRenumbered, RenumberReported};
 
 // How many bytes the text has, and whether the sheet is renumbered; else it is refused.
 pub struct Told {
@@ -74,7 +74,6 @@ fn answer(r: Renumbered, list: &[u8], out: &mut [u8]) -> Told
     ensures written { λ t. ⌜ page (now (out .exit)) (t .count)
         ≡ pushes (renumberText r (now (list .entry))) (page (now (out .entry)) 0) ⌝ }
     ensures said { λ t. ⌜ t .renumbered ≡ isRenumbered r ⌝ }
-    ensures small { λ t. ⌜ Representable r (now (list .entry)) ⌝ }
 {
     match r {
         Renumbered::Changed { changes: n } => {

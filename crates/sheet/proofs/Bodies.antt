@@ -114,7 +114,7 @@ procedure-all ed s st at =
       pairs = four (Pair ed s st at) a₀ a₁ a₂ a₃ }) (pair-all ed s st at 3))))))))
 
 -- the other way round
-bound-is : {ed : Edition} (s st : List ℕ) (p : ℕ) → Bound ed s st p → bound s st p ≡ Good
+pub bound-is : {ed : Edition} (s st : List ℕ) (p : ℕ) → Bound ed s st p → bound s st p ≡ Good
 unfolding bound andThen
 bound-is s st p B = rw (below-is s p 255 (B .within) (B .below), B .unnamed) refl
 
@@ -122,7 +122,7 @@ apart-is : (ed : Edition) (s st : List ℕ) (p : ℕ) → Bound ed s st p → ap
 unfolding apart
 apart-is ed s st p B = rw (B .unhiding) refl
 
-pair-is : (ed : Edition) (s st : List ℕ) (at j : ℕ) → Pair ed s st at j → pair ed s st at j ≡ Good
+pub pair-is : (ed : Edition) (s st : List ℕ) (at j : ℕ) → Pair ed s st at j → pair ed s st at j ≡ Good
 unfolding pair parameterId unlike andThen
 pair-is ed s st at j P =
     pick-all (λ x. x ≡ Good) (ltb j (getD s (at + 3) 0))

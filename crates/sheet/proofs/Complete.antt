@@ -96,7 +96,7 @@ module _
   abbrev Whole : Written → Type 0
   Whole W = Read s (readPart ed (suc left) N s st (length bs) at) W (typed ns bs W) (at + length (encode W))
 
-  record-read :
+  pub record-read :
       {r : Record} → Heads ed s st N at r →
       readPart ed (suc left) N s st (length bs) at ≡ readRecord sub s st (length bs) r
   unfolding readPart onHead
@@ -297,7 +297,7 @@ module _
       (ap (λ (x : Writtens). call a x) (A .writes)) e′ (omega arith)
 
 -- a part has a depth
-depth-above : (W : Written) → 0 < depth W
+pub depth-above : (W : Written) → 0 < depth W
 unfolding depth
 depth-above skip = omega arith
 depth-above (diverge ty) = omega arith
@@ -383,16 +383,16 @@ module _ (ed : Edition) (N : Numbers) (s : List ℕ) (ns : List Name) where
   complete-call left bs π st at a ws rest R l d e M k w free q f v = absurd f
 
   -- the bytes of a procedure, and what follows
-  record Opened (at a ty : ℕ) (ps : List Parameter) (x y rest : List ℕ) : Type 0 where
-    kind : Byte s at 28
-    id : Byte s (at + 1) a
-    type : Byte s (at + 2) ty
-    count : Byte s (at + 3) (length ps)
-    pairs-are : Pairs s ns at (length ps) ps
-    first-term : drop (at + 12) s ≡ x ++ (y ++ rest)
-    second-term : drop (at + 12 + length x) s ≡ y ++ rest
+  pub record Opened (at a ty : ℕ) (ps : List Parameter) (x y rest : List ℕ) : Type 0 where
+    pub kind : Byte s at 28
+    pub id : Byte s (at + 1) a
+    pub type : Byte s (at + 2) ty
+    pub count : Byte s (at + 3) (length ps)
+    pub pairs-are : Pairs s ns at (length ps) ps
+    pub first-term : drop (at + 12) s ≡ x ++ (y ++ rest)
+    pub second-term : drop (at + 12 + length x) s ≡ y ++ rest
 
-  open-procedure :
+  pub open-procedure :
       (at a ty : ℕ) (ps : List Parameter) (x y rest : List ℕ) →
       drop at s ≡ 28 ∷ a ∷ ty ∷ length ps ∷ ((pairs 4 ps ++ (x ++ y)) ++ rest) → length ps < 5 →
       FineParameters ns [] ps → Opened at a ty ps x y rest

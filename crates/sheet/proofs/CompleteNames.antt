@@ -76,6 +76,12 @@ kind-of (new id d c) =
 kind-of (procedure id ty ps x y) =
     record { kind = 28; tail = _; body = 11; parts = 2; rule = Procedure; bytes = refl; shape = refl; high = omega arith }
 
+-- the shape of a declare record
+pub declare-shape : (often : Often) → shapeOf (declareKind often) ≡ Declare 7 (onces often)
+unfolding shapeOf declareKind onces
+declare-shape freely = refl
+declare-shape once = refl
+
 -- the rest of a sheet that is read: the name records ns, then the term W
 pub record RestRead (s : List ℕ) (A : Answer Whole) (ns : List Name) (W : Written) (ty end : ℕ) : Type 0 where
   pub root : ℕ
@@ -102,12 +108,6 @@ module _ (ed : Edition) (N : Numbers) (s : List ℕ) (π : ℕ → ℕ) (names :
       record {
         root = at; tree = R .tree; reads = rw (lt-leb (length s) at (b .0), b .1, K .shape, R .reads) refl;
         writes = R .writes }
-
-  -- the shape of a declare record
-  declare-shape : (often : Often) → shapeOf (declareKind often) ≡ Declare 7 (onces often)
-  unfolding shapeOf declareKind onces
-  declare-shape freely = refl
-  declare-shape once = refl
 
   -- the rest after a name record
   complete-declare :

@@ -172,7 +172,7 @@ module _ (ed : Edition) (s st : List ℕ) (N : Numbers) (at : ℕ) where
         (body-fit (shapeOf (getD s at 0)) (leb-false (length s) at e) (shaped (getD s at 0))))
 
 -- and a record of some kind is the head
-byte-is : (s : List ℕ) (p limit : ℕ) {a : ℕ} → Byte s p a → a < limit → byteOf s p limit ≡ Is a
+pub byte-is : (s : List ℕ) (p limit : ℕ) {a : ℕ} → Byte s p a → a < limit → byteOf s p limit ≡ Is a
 unfolding byteOf
 byte-is s p limit {a} (l, e) h = rw (lt-leb (length s) p l, e, lt-leb limit a h) refl
 

@@ -15,10 +15,14 @@ pub mod Heads
 pub mod Parameters
 pub mod Parse
 pub mod Sound
+pub mod Widths
 pub mod Complete
+pub mod Hides
+pub mod Hidden
 pub mod NameBytes
 pub mod NameList
 pub mod CompleteNames
+pub mod HiddenNames
 pub mod Right
 pub mod Range
 pub mod WellTyped

@@ -12,23 +12,27 @@ use Rattle.language.specs.Choice.{pick}
 use Rattle.language.specs.Weight.{size}
 use Rattle.language.specs.declared.Numbers.{Numbers}
 use Rattle.records.specs.Limits.{greatest-z, greatest-rule}
-use Rattle.records.specs.Refusal.{too-large}
+use Rattle.records.specs.Refusal.{too-large, id-enclosed}
 use Rattle.records.specs.declared.edition.Edition.{Edition}
 use Rattle.records.specs.declared.edition.Edition.the-variants.{Earlier, Present}
 use Rattle.procedures.specs.Written.{Written, Name, Sheet}
 use Rattle.procedures.specs.Meaning.{tyOf, termOf, typeOf}
 use Rattle.procedures.specs.Fine.{FineNames}
-use Rattle.procedures.specs.Hiding.{Apart}
+use Rattle.procedures.specs.Hiding.{Apart, Hiding, hiding}
+use Rattle.procedures.specs.Width.{headingWidth}
 use Rattle.sheet.specs.Encoding.{encode, encodeNames, encodeSheet}
 use Rattle.sheet.specs.Fine.{AcceptedUnder}
-use Rattle.sheet.specs.Reader.{Tree, Answer, got, bind, Whole, whole, namesOf, closed, numbersAt, nothing}
-use Rattle.sheet.specs.Reader.{wholeBy, wholeOf, written, accepted, rejected, sheetIn, sizeIn, checks, readUnder}
-use Rattle.sheet.specs.Agreement.{ReaderGives, ReaderAccepts, EarlierToo, PresentApart}
+use Rattle.sheet.specs.Reader.{Tree, Answer, got, refused, bind, Whole, whole, namesOf, closed, numbersAt}
+use Rattle.sheet.specs.Reader.{nothing, wholeBy, wholeOf, written, accepted, rejected, sheetIn, sizeIn, checks}
+use Rattle.sheet.specs.Reader.{readUnder}
+use Rattle.sheet.specs.Agreement.{ReaderGives, ReaderAccepts, EarlierToo, PresentApart, HiddenRefused}
 use Rattle.sheet.proofs.Standings.{matches-nothing}
 use Rattle.sheet.proofs.Answers.{All, one, none′, pick-all, bind-all}
 use Rattle.sheet.proofs.Sound.{Sound, sound}
 use Rattle.sheet.proofs.NameList.{extends-first, NamesRead, names-read, names-all}
 use Rattle.sheet.proofs.CompleteNames.{RestRead, complete-names}
+use Rattle.sheet.proofs.Hides.{Hides}
+use Rattle.sheet.proofs.HiddenNames.{names-hide}
 
 -- a sheet that is read passed every test but that of its size
 pub record SheetRead (ed : Edition) (s : List ℕ) (π : ℕ → ℕ) (x : Whole) (ty end : ℕ) : Type 0 where
@@ -230,3 +234,33 @@ earlier-too s S ty n e = also s S ty n Present Earlier e (λ p. let z : _≡_ {A
 pub present-apart : PresentApart
 present-apart s S ty n e =
     ((λ h. gives Present s S ty n h .1 .apart refl), (λ a. also s S ty n Earlier Present e (λ p. a)))
+
+-- the bytes of a sheet of the earlier rule, in whose term some binder hides another
+module _ (S : Sheet) (A : AcceptedUnder Earlier S) (s : List ℕ) (b : s ≡ encodeSheet S) where
+  names-refused : Hides (hiding [] (headingWidth S) (S .term)) (namesOf Present 32 (S .numbers) s nothing 2)
+  unfolding headingWidth
+  names-refused =
+      names-hide (S .numbers) s places (S .names) (S .term) (A .ordered .fine-term) (A .ordered .shallow) (S .names) 32
+        [] nothing 2 (matches-nothing s places (read-short Earlier S A s b)) (extends-first (S .names))
+        (A .ordered .fine-names) (A .ordered .few-names) (read-rest Earlier S A s b)
+
+  whole-refused : (h : Hiding) (hs : List Hiding) → hiding [] (headingWidth S) (S .term) ≡ h ∷ hs →
+      wholeOf Present s ≡ refused id-enclosed (h .place)
+  unfolding wholeBy closed bind
+  whole-refused h hs e =
+      let O = A .ordered in
+      let l : 1 < length s = omega (arith, read-length Earlier S A s b) in
+      rw
+        (read-first Earlier S A s b, read-second Earlier S A s b,
+        le-ltb 4096 (length s) (read-short Earlier S A s b), lt-leb (length s) 0 (omega arith),
+        ne-eqb (S .numbers .z) 0 (λ z. omega (arith, O .z-above)), le-ltb greatest-z (S .numbers .z) (O .z-below),
+        lt-leb (length s) 1 l, le-ltb greatest-rule (S .numbers .rule) (O .rule-below),
+        names-refused .stops h hs e) refl
+
+-- THEOREM: what the earlier rule accepted, and in which some binder hides another, the present one refuses by 16 at the
+-- first that does
+pub hidden-refused : HiddenRefused
+unfolding readUnder checks
+hidden-refused s S ty n h hs e k =
+    let G = gives Earlier s S ty n e in
+    ap (checks s) (whole-refused S (G .1) s (G .0) h hs k)

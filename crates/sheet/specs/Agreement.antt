@@ -2,19 +2,21 @@
 -- the two rules differ, and that no sheet with a Z of document 01 is read otherwise since 02 [11]. SHEETS 2 and 9.
 use mathlib.Core.Path.{_≡_}
 use mathlib.Core.Logic.{_↔_}
-use mathlib.Core.List.{List, []}
+use mathlib.Core.List.{List, [], _∷_}
 use Prim.Native.Nat.{ℕ, _≤_}
 use lib.ListN.{getD}
 use Rattle.language.specs.Weight.{size}
 use Rattle.records.specs.Limits.{earlier-z}
+use Rattle.records.specs.Refusal.{id-enclosed}
 use Rattle.records.specs.declared.edition.Edition.{Edition}
 use Rattle.records.specs.declared.edition.Edition.the-variants.{Earlier, Present}
 use Rattle.procedures.specs.Written.{Sheet}
-use Rattle.procedures.specs.Hiding.{Apart}
+use Rattle.procedures.specs.Hiding.{Apart, Hiding, hiding}
+use Rattle.procedures.specs.Width.{headingWidth}
 use Rattle.sheet.specs.Encoding.{encodeSheet}
 use Rattle.procedures.specs.Meaning.{tyOf, termOf, typeOf}
 use Rattle.sheet.specs.Fine.{AcceptedUnder}
-use Rattle.sheet.specs.Reader.{wholeBy, checks, readUnder, accepted}
+use Rattle.sheet.specs.Reader.{wholeBy, checks, readUnder, accepted, rejected}
 
 -- what is accepted is the bytes of a sheet in order, with its type and its exact size
 abbrev pub ReaderGives : Type 0
@@ -35,6 +37,13 @@ EarlierToo = (s : List ℕ) (S : Sheet) (ty n : ℕ) → readUnder Present s ≡
 abbrev pub PresentApart : Type 0
 PresentApart = (s : List ℕ) (S : Sheet) (ty n : ℕ) → readUnder Earlier s ≡ accepted S ty n →
   (readUnder Present s ≡ accepted S ty n) ↔ Apart [] (S .term)
+
+-- document 02 [3], "Refused: 16 at the id byte": what the earlier rule accepted, and in which some binder hides
+-- another, the present one refuses at the first that does
+abbrev pub HiddenRefused : Type 0
+HiddenRefused = (s : List ℕ) (S : Sheet) (ty n : ℕ) (h : Hiding) (hs : List Hiding) →
+  readUnder Earlier s ≡ accepted S ty n → hiding [] (headingWidth S) (S .term) ≡ h ∷ hs →
+  readUnder Present s ≡ rejected id-enclosed (h .place)
 
 -- document 02 [11], of Z up to 7: such a sheet is read as with 7 for the greatest Z, to the sheet, its type and its
 -- size or to the number and the place of its refusal

@@ -1,18 +1,16 @@
 -- What `answer` writes is the text `renumberText`.
 use borrow.Author.Needs.{needs}
-use native.Mathlib.Omega.{arith}
 use Rattle.report.proofs.Listed.{told-changed, told-refused}
 use Rattle.report.proofs.changes.answer.Statement.{statement}
 use Rattle.report.proofs.changes.answer.Tie as tie
 
 returns : tie.Need-returns
 returns c = told-changed _ _ (c .before .before .before .before .before .r .given .1) (c .before .before .changed
-        .ensures) (λ i. omega (arith, c .before .before .before .before .before .before .before .before
-        .shared-slice-known .given i))
+        .ensures)
 
 returns-2 : tie.Need-returns-2
 returns-2 c = told-refused _ _ (c .before .before .before .before .before .r2 .given .1) (c .before .before .refused
-        .ensures) (omega arith) (omega arith)
+        .ensures)
 
 pub answer-spec : {M : Type 1} → statement M
 answer-spec = tie.close

@@ -8,9 +8,7 @@ returns : tie.Need-returns
 returns c =
     (record { answer = _; promised = c .before .before .before .before .before .before .before .before .before
         .renumber .ensures; written = c .before .before .answer .ensures .0; said = c .before .before .answer
-        .ensures .1 .0;
-        small = c .before .before .answer .ensures .1 .1; kept = search needs }, counts _ _ _ _ (c .before .before
-        .answer .ensures .0))
+        .ensures .1 }, counts _ _ _ _ (c .before .before .answer .ensures .0))
 
 pub report-changes-spec : {M : Type 1} → statement M
 report-changes-spec = tie.close

@@ -1,20 +1,16 @@
 -- The widths of records are the lengths of their bytes.
-use Prim.Native.Nat.{ℕ, zero, suc, _+_, _*_, _<_}
+use Prim.Native.Nat.{_<_}
 use native.Mathlib.Omega.{arith}
-use mathlib.Core.Path.{_≡_, refl, ap}
+use mathlib.Core.Path.{_≡_, refl}
 use mathlib.Core.List.{List, [], _∷_, _++_}
 use lib.ListN.{length, length-append}
 use Rattle.procedures.specs.Written.{Written, skip, diverge, truth, number, call, fetch, operate, assign, sequence}
-use Rattle.procedures.specs.Written.{while, choose, new, procedure, Parameter, Writtens, none, more, Name, declare}
+use Rattle.procedures.specs.Written.{while, choose, new, procedure, Writtens, none, more, Name, declare}
 use Rattle.procedures.specs.Written.{retire, Sheet}
 use Rattle.procedures.specs.Width.{width, widths, nameWidth, namesWidth, headingWidth}
-use Rattle.sheet.specs.Encoding.{pairs, encode, encodes, padded, encodeName, encodeNames, headingLength}
-
-pub pairs-length : (n : ℕ) (ps : List Parameter) → length (pairs n ps) ≡ 2 * n
-unfolding pairs
-pairs-length zero ps = omega arith
-pairs-length (suc n) [] = omega (arith, pairs-length n [])
-pairs-length (suc n) (p ∷ ps) = omega (arith, pairs-length n ps)
+use Rattle.sheet.specs.Encoding.{pairs, encode, encodes, encodeName, encodeNames, headingLength}
+use Rattle.sheet.proofs.Padding.{padded-length}
+use Rattle.sheet.proofs.Pairs.{pairs-length}
 
 mutual
   unfolding encode encodes width widths
@@ -57,12 +53,6 @@ width-some (choose b x y) = omega arith
 width-some (while x y) = omega arith
 width-some (new id d c) = omega arith
 width-some (procedure id ty ps x y) = omega arith
-
-padded-length : (n : ℕ) (tys : List ℕ) → length (padded n tys) ≡ n
-unfolding padded
-padded-length zero tys = refl
-padded-length (suc n) [] = ap suc (padded-length n [])
-padded-length (suc n) (ty ∷ tys) = ap suc (padded-length n tys)
 
 pub wide-name : (n : Name) → length (encodeName n) ≡ nameWidth n
 unfolding encodeName nameWidth
