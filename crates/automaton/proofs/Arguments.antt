@@ -28,13 +28,13 @@ use Rattle.machine.specs.Step.{later, again, step, stepArgs}
 use Rattle.machine.proofs.Unique.{Answers-prop}
 use Rattle.part_rows.specs.Row.{word}
 use Rattle.nodes.specs.Rep.{count, RepArgs, r-none, r-arg}
-use Rattle.positions.specs.declared.Move.{Move as Record}
-use Rattle.positions.specs.declared.Frame.{Frame}
-use Rattle.positions.specs.declared.Out.{Out as Did}
-use Rattle.positions.specs.declared.Out.the-variants.{Go, Say, Stuck}
-use Rattle.positions.specs.declared.Spot.the-variants.{Inside}
-use Rattle.positions.specs.Row.{partWeight, partClass, partValues, sumOf, mulAddOf}
-use Rattle.positions.specs.Types.{answersOf, answerNumber}
+use Rattle.term_positions.specs.declared.Move.{Move as Record}
+use Rattle.term_positions.specs.declared.Frame.{Frame}
+use Rattle.term_positions.specs.declared.Out.{Out as Did}
+use Rattle.term_positions.specs.declared.Out.the-variants.{Go, Say, Stuck}
+use Rattle.term_positions.specs.declared.Spot.the-variants.{Inside}
+use Rattle.term_positions.specs.Row.{partWeight, partClass, partValues, sumOf, mulAddOf}
+use Rattle.term_positions.specs.Types.{answersOf, answerNumber}
 use Rattle.name_use.specs.Name.{framedOf, saidOf, copiesOf, argSpots, replyHere, replyOf, argHere, inArgs}
 use Rattle.rise.specs.Up.{exitArgument, exitsOf, goesOf, riseOf}
 use Rattle.automaton.specs.walk.Step.{stepAt}

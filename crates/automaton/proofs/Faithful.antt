@@ -21,10 +21,10 @@ use Rattle.part_rows.specs.Row.{cell}
 use Rattle.part_rows.specs.Row.{word}
 use Rattle.nodes.specs.Rep.{TyRow, count, Rep, r-skip, r-diverge, r-const, r-private, r-name, r-fetch}
 use Rattle.nodes.specs.Rep.{r-operate, r-assign, r-seq, r-cond, r-while, r-new, RepArgs, r-none, r-arg}
-use Rattle.positions.specs.declared.Move.{Move as Record}
-use Rattle.positions.specs.declared.Out.the-variants.{Go, Exit, Stuck}
-use Rattle.positions.specs.declared.Spot.the-variants.{Inside}
-use Rattle.positions.specs.Row.{nameId, nameCount, nameSpent, sumOf, mulAddOf}
+use Rattle.term_positions.specs.declared.Move.{Move as Record}
+use Rattle.term_positions.specs.declared.Out.the-variants.{Go, Exit, Stuck}
+use Rattle.term_positions.specs.declared.Spot.the-variants.{Inside}
+use Rattle.term_positions.specs.Row.{nameId, nameCount, nameSpent, sumOf, mulAddOf}
 use Rattle.automaton.specs.walk.Store.{withValue}
 use Rattle.name_use.specs.Name.{framedOf}
 use Rattle.automaton.specs.walk.Down.{inFetch, inSeq, inWhile, condIn, inCond, operateIn, inOperate, assignIn}

@@ -29,12 +29,12 @@ use Rattle.machine.specs.Step.{enter, listen, closing, closes}
 use Rattle.machine.proofs.Unique.{FitsAt-prop}
 use Rattle.part_rows.specs.Row.{word}
 use Rattle.nodes.specs.Rep.{count, Rep, RepArgs, r-none, r-arg}
-use Rattle.positions.specs.declared.Move.{Move as Record}
-use Rattle.positions.specs.declared.Out.{Out as Did}
-use Rattle.positions.specs.declared.Out.the-variants.{Go, Exit, Hear, Stuck}
-use Rattle.positions.specs.Row.{partWeight, partClass, partValues, nameId, nameCount, nameSpent, sumOf}
-use Rattle.positions.specs.Row.{mulAddOf}
-use Rattle.positions.specs.Types.{questionNumber, answerNumber}
+use Rattle.term_positions.specs.declared.Move.{Move as Record}
+use Rattle.term_positions.specs.declared.Out.{Out as Did}
+use Rattle.term_positions.specs.declared.Out.the-variants.{Go, Exit, Hear, Stuck}
+use Rattle.term_positions.specs.Row.{partWeight, partClass, partValues, nameId, nameCount, nameSpent, sumOf}
+use Rattle.term_positions.specs.Row.{mulAddOf}
+use Rattle.term_positions.specs.Types.{questionNumber, answerNumber}
 use Rattle.name_use.specs.Name.{innerOf, againOf, argSpots, hearAnswer, hearQuestion, listenOf, atWait}
 use Rattle.name_use.specs.Name.{atSpent}
 use Rattle.automaton.specs.walk.Shows.{kindQ, valueQ, kindA, valueA, moveOf, stored, held, valued, updated}

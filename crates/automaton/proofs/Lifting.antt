@@ -23,11 +23,11 @@ use Rattle.machine.specs.Edge.{edge-hear}
 use Rattle.machine.specs.Position.{Context, Position, State, Exit as ExitOf}
 use Rattle.machine.specs.Numbering.{numbered}
 use Rattle.machine.specs.Step.{onDone, onOk, onValue, onTruth, onSome}
-use Rattle.positions.specs.declared.Move.{Move as Record}
-use Rattle.positions.specs.declared.Frame.{Frame}
-use Rattle.positions.specs.declared.Out.{Out as Did}
-use Rattle.positions.specs.declared.Out.the-variants.{Go, Say, Stuck}
-use Rattle.positions.specs.Row.{sumOf, mulAddOf}
+use Rattle.term_positions.specs.declared.Move.{Move as Record}
+use Rattle.term_positions.specs.declared.Frame.{Frame}
+use Rattle.term_positions.specs.declared.Out.{Out as Did}
+use Rattle.term_positions.specs.declared.Out.the-variants.{Go, Say, Stuck}
+use Rattle.term_positions.specs.Row.{sumOf, mulAddOf}
 use Rattle.name_use.specs.Name.{framedOf}
 use Rattle.rise.specs.Up.{exitDone, exitTruth, exitValue, exitResult, exitOperate, exitAssign}
 use Rattle.rise.specs.Up.{exitsOf}

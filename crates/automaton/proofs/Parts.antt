@@ -13,7 +13,7 @@ use Rattle.machine.specs.Numbering.{numbered}
 use Rattle.part_rows.specs.Row.{word}
 use Rattle.nodes.specs.Rep.{Represented, Rep, r-skip, r-diverge, r-const, r-private, r-name, r-fetch, r-operate}
 use Rattle.nodes.specs.Rep.{r-assign, r-seq, r-cond, r-while, r-new}
-use Rattle.positions.specs.Row.{partWeight, partClass, partValues}
+use Rattle.term_positions.specs.Row.{partWeight, partClass, partValues}
 use Rattle.automaton.proofs.TypeNumbers.{HasType, has-type}
 
 pub row-of : {K : Numbers} {t rs n : List ℕ} {left at : ℕ} {M : Term} {T : Ty} → Rep K t left at rs n M T →

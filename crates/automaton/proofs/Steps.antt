@@ -4,7 +4,7 @@ use mathlib.Core.Path.{_≡_, refl}
 use mathlib.Core.List.{List}
 use native.Mathlib.Numerals.{sub-one}
 use Rattle.language.specs.declared.Numbers.{Numbers}
-use Rattle.positions.specs.declared.Move.{Move}
+use Rattle.term_positions.specs.declared.Move.{Move}
 use Rattle.automaton.specs.walk.Store.{storeIn}
 use Rattle.automaton.specs.walk.Down.{downOf}
 use Rattle.rise.specs.Up.{riseOf}

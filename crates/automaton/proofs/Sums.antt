@@ -10,7 +10,7 @@ use Rattle.language.specs.Move.{question, answer, at, private, Move, move}
 use Rattle.machine.specs.Action.{Next, dead, Heard, asked, answered, opened, Listen, who, Hears, mapNext}
 use Rattle.machine.specs.Decide.{when, hears?}
 use Rattle.machine.specs.Edge.{received, edge-hear}
-use Rattle.positions.specs.Row.{sumOf, mulAddOf}
+use Rattle.term_positions.specs.Row.{sumOf, mulAddOf}
 
 pub sum-small : (a b : ℕ) → a + b < 4294967296 → sumOf a b ≡ a + b
 unfolding sumOf

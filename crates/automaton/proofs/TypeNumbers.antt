@@ -17,9 +17,9 @@ use Rattle.machine.specs.Numbered.{single, values, iso, sum, sum-code}
 use Rattle.machine.specs.Numbering.{alone, numbered-questions, numbered-answers}
 use Rattle.part_rows.specs.Row.{word}
 use Rattle.nodes.specs.Rep.{TyRow}
-use Rattle.positions.specs.Row.{sumOf}
-use Rattle.positions.specs.Types.{questionsOf, answersOf, questionKind, questionValue, questionNumber}
-use Rattle.positions.specs.Types.{questionLimit, valueAnswer, answerNumber}
+use Rattle.term_positions.specs.Row.{sumOf}
+use Rattle.term_positions.specs.Types.{questionsOf, answersOf, questionKind, questionValue, questionNumber}
+use Rattle.term_positions.specs.Types.{questionLimit, valueAnswer, answerNumber}
 use Rattle.automaton.specs.walk.Shows.{kindQ, valueQ, kindA, valueA}
 use Rattle.automaton.proofs.Sums.{sum-small}
 

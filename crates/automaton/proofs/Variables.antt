@@ -24,11 +24,11 @@ use Rattle.machine.specs.Numbering.{numbered}
 use Rattle.machine.specs.Step.{askVariable, access}
 use Rattle.part_rows.specs.Row.{word}
 use Rattle.nodes.specs.Rep.{Fresh}
-use Rattle.positions.specs.declared.Move.{Move as Record}
-use Rattle.positions.specs.declared.Frame.{Frame}
-use Rattle.positions.specs.declared.Out.{Out as Did}
-use Rattle.positions.specs.declared.Out.the-variants.{Go, Exit, Say}
-use Rattle.positions.specs.Row.{sumOf, mulAddOf}
+use Rattle.term_positions.specs.declared.Move.{Move as Record}
+use Rattle.term_positions.specs.declared.Frame.{Frame}
+use Rattle.term_positions.specs.declared.Out.{Out as Did}
+use Rattle.term_positions.specs.declared.Out.the-variants.{Go, Exit, Say}
+use Rattle.term_positions.specs.Row.{sumOf, mulAddOf}
 use Rattle.automaton.specs.walk.Store.{withValue}
 use Rattle.name_use.specs.Name.{framedOf}
 use Rattle.automaton.specs.walk.Down.{inPrivate}

@@ -21,12 +21,12 @@ use Rattle.machine.specs.Numbering.{numberedArgs}
 use Rattle.machine.specs.Step.{listen, again, closes, step, stepArgs}
 use Rattle.part_rows.specs.Row.{word}
 use Rattle.nodes.specs.Rep.{count, RepArgs}
-use Rattle.positions.specs.declared.Move.{Move as Record}
-use Rattle.positions.specs.declared.Frame.{Frame}
-use Rattle.positions.specs.declared.Out.{Out as Did}
-use Rattle.positions.specs.declared.Out.the-variants.{Go, Say}
-use Rattle.positions.specs.declared.Spot.the-variants.{Here, Inside}
-use Rattle.positions.specs.Row.{nameId, nameCount, nameSpent, sumOf, mulAddOf}
+use Rattle.term_positions.specs.declared.Move.{Move as Record}
+use Rattle.term_positions.specs.declared.Frame.{Frame}
+use Rattle.term_positions.specs.declared.Out.{Out as Did}
+use Rattle.term_positions.specs.declared.Out.the-variants.{Go, Say}
+use Rattle.term_positions.specs.declared.Spot.the-variants.{Here, Inside}
+use Rattle.term_positions.specs.Row.{nameId, nameCount, nameSpent, sumOf, mulAddOf}
 use Rattle.automaton.specs.walk.Store.{withValue, storeIn}
 use Rattle.name_use.specs.Name.{framedOf, innerOf, againOf, saidOf, argSpots, replyOf, inArgs, atWait}
 use Rattle.name_use.specs.Name.{atSpent, inName}

@@ -18,7 +18,7 @@ use Rattle.machine.proofs.Accepts.{spots-size}
 use Rattle.dfa.specs.Graph.{rest, δ}
 use Rattle.difference.specs.Outcome.{Setting, ToldApart, Outcome}
 use Rattle.dfa.specs.Reading.{walk, FirstWord, reversed}
-use Rattle.difference.specs.Spelled.{Spelled, none, more as longer}
+use Rattle.search_words.specs.Spelled.{Spelled, none, more as longer}
 use Rattle.dfa.specs.Word.{accepting, after}
 use Rattle.difference.specs.declared.Task.{Task}
 use Rattle.difference.specs.declared.Verdict.{Verdict}

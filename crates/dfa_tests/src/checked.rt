@@ -12,7 +12,7 @@ use crate::tested::words_ok;
 use difference::Task;
 use difference::Verdict;
 use difference::search::first_difference;
-use difference::word::spell;
+use search_words::word::spell;
 use live::is_marked;
 use live::mark_live;
 use silent::settle;

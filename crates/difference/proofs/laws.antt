@@ -1,14 +1,11 @@
 pub mod Order
 pub mod Merge
 pub mod Comparison
-pub mod Classes
 pub mod Queue
 pub mod Turn
-pub mod Trace
 pub mod Level
 pub mod Alike
 pub mod Run
 pub mod Search
 pub mod Outcome
-pub mod Spell
 pub mod Short

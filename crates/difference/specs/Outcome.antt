@@ -4,7 +4,7 @@ use mathlib.Core.Path.{_≡_}
 use Prim.Native.Nat.{_+_, _*_, _<_, _≤_, ℕ}
 use lib.ListN.{getD, length}
 use Rattle.dfa.specs.Graph.{Graph, δ}
-use Rattle.difference.specs.Spelled.{Spelled, Trail}
+use Rattle.search_words.specs.Spelled.{Spelled, Trail}
 use Rattle.dfa.specs.Word.{First, accepting, after}
 use Rattle.difference.specs.declared.Task.{Task}
 use Rattle.difference.specs.declared.Verdict.{Verdict}

@@ -7,23 +7,23 @@ ghost use mathlib.Core.Bool.{Bool·beq};
 ghost use Rattle.dfa.specs.Graph.{rest};
 ghost use Rattle.difference.specs.Outcome.{Setting, Outcome};
 ghost use Rattle.dfa.specs.Word.{accepting};
-ghost use Rattle.difference.specs.inner.Classes.{Low};
+ghost use Rattle.search_words.specs.Classes.{Low};
 ghost use Rattle.difference.specs.inner.Queue.{pushed, Visited, Grown};
 ghost use Rattle.difference.specs.inner.State.{State, Half};
 ghost use Rattle.difference.specs.inner.Level.{alikeAt, Deep, Shallow, Leveled};
-use crate::ENTRY;
-use crate::FROM;
-use crate::LETTER;
-use crate::SECOND;
 use crate::Task;
 use crate::Verdict;
-use crate::classes::find;
-use crate::classes::link;
-use crate::classes::singles;
 use dfa::step::ends_of;
 use dfa::step::step;
 use dfa::words::at;
 use dfa::words::put;
+use search_words::ENTRY;
+use search_words::FROM;
+use search_words::LETTER;
+use search_words::SECOND;
+use search_words::classes::find;
+use search_words::classes::link;
+use search_words::classes::singles;
 
 // Entry k.
 fn push(work: &mut [u32], n: usize, k: usize, p: usize, q: usize, from: usize, letter: usize)

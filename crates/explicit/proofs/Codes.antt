@@ -12,7 +12,7 @@ use Rattle.language.proofs.OrderLaws.{rank-small}
 use Rattle.language.specs.Ty.{run, ask, read, write, done, ok, value}
 use Rattle.language.specs.Move.{Event, question, answer, at, private, Move, move, kind, valueOf}
 use Rattle.explicit.specs.Letter.{ranked, letter, Values, Small}
-use Rattle.positions.specs.declared.Move.{Move as Record}
+use Rattle.term_positions.specs.declared.Move.{Move as Record}
 use Rattle.automaton.specs.walk.Shows.{kindQ, valueQ, kindA, valueA, moveOf}
 use Rattle.explicit.specs.inner.Moves.{letterOf}
 

@@ -28,13 +28,13 @@ use Rattle.machine.specs.Sheet.{numbered-spots, index, numbered-step, steps}
 use Rattle.machine.proofs.Unique.{Fits-prop, Answers-prop}
 use Rattle.part_rows.specs.Row.{word}
 use Rattle.nodes.specs.Rep.{Rep}
-use Rattle.positions.specs.declared.Move.{Move as Record}
-use Rattle.positions.specs.declared.Frame.{Frame}
-use Rattle.positions.specs.declared.Out.{Out as Did}
-use Rattle.positions.specs.declared.Out.the-variants.{Go, Say, Hear, Stuck}
-use Rattle.positions.specs.declared.Spot.the-variants.{Inside}
-use Rattle.positions.specs.Row.{sumOf, mulAddOf}
-use Rattle.positions.specs.Types.{questionNumber, answerNumber}
+use Rattle.term_positions.specs.declared.Move.{Move as Record}
+use Rattle.term_positions.specs.declared.Frame.{Frame}
+use Rattle.term_positions.specs.declared.Out.{Out as Did}
+use Rattle.term_positions.specs.declared.Out.the-variants.{Go, Say, Hear, Stuck}
+use Rattle.term_positions.specs.declared.Spot.the-variants.{Inside}
+use Rattle.term_positions.specs.Row.{sumOf, mulAddOf}
+use Rattle.term_positions.specs.Types.{questionNumber, answerNumber}
 use Rattle.name_use.specs.Name.{framedOf, argHere}
 use Rattle.rise.specs.Up.{exitArgument, exitsOf, goesOf, riseOf}
 use Rattle.automaton.specs.walk.Step.{onSpot}

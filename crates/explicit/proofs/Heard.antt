@@ -18,12 +18,12 @@ use Rattle.machine.specs.Position.{types}
 use Rattle.machine.specs.Degree.{answersTo, asks, hearings}
 use Rattle.part_rows.specs.Row.{word}
 use Rattle.nodes.specs.Rep.{count, Rep, RepArgs, r-none, r-arg, r-name, TyRow}
-use Rattle.positions.specs.Row.{partClass, partValues, nameId}
+use Rattle.term_positions.specs.Row.{partClass, partValues, nameId}
 use Rattle.automaton.specs.walk.Shows.{kindQ, valueQ, kindA, valueA, moveOf, Takes, takes-all, takes-none}
 use Rattle.automaton.proofs.TypeNumbers.{HasType, has-type}
 use Rattle.automaton.proofs.Parts.{part-type}
 use Rattle.explicit.specs.declared.Wait.{Wait}
-use Rattle.positions.specs.Types.{questionLimit}
+use Rattle.term_positions.specs.Types.{questionLimit}
 use Rattle.explicit.specs.inner.Moves.{answerLimit, limitOf, waitOf}
 use Rattle.explicit.specs.inner.Acts.{Waits, calls, opens}
 

@@ -10,10 +10,10 @@ use borrow.Author.Tests.{lt-ltb, le-ltb, eq-eqb, ne-eqb}
 use Rattle.language.specs.Choice.{pick}
 use Rattle.language.specs.declared.Numbers.{Numbers}
 use Rattle.part_rows.specs.Row.{word}
-use Rattle.positions.specs.declared.Out.{Out}
-use Rattle.positions.specs.declared.Out.the-variants.{Exit}
-use Rattle.positions.specs.Row.{sumOf, nameId}
-use Rattle.positions.specs.Types.{valueAnswer, answerNumber}
+use Rattle.term_positions.specs.declared.Out.{Out}
+use Rattle.term_positions.specs.declared.Out.the-variants.{Exit}
+use Rattle.term_positions.specs.Row.{sumOf, nameId}
+use Rattle.term_positions.specs.Types.{valueAnswer, answerNumber}
 use Rattle.name_use.specs.Name.{hearAnswer, listenOf, atWait}
 use Rattle.automaton.specs.walk.Shows.{Words}
 use Rattle.automaton.proofs.Sums.{sum-small}

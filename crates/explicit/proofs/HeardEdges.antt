@@ -10,7 +10,7 @@ use borrow.Author.Tests.{lt-leb, leb-false, ne-eqb}
 use Rattle.language.specs.declared.Numbers.{Numbers}
 use Rattle.language.specs.Choice.{pick}
 use Rattle.language.specs.Number.{numbers}
-use Rattle.positions.specs.declared.Move.{Move as Record}
+use Rattle.term_positions.specs.declared.Move.{Move as Record}
 use Rattle.explicit.specs.declared.Wait.{Wait}
 use Rattle.part_path.specs.declared.Site.{Site}
 use Rattle.explicit.specs.inner.Rows.{Edge}

@@ -11,12 +11,12 @@ use borrow.Author.Tests.{lt-ltb, le-ltb, ne-eqb}
 use Rattle.language.specs.Choice.{pick}
 use Rattle.language.specs.declared.Numbers.{Numbers}
 use Rattle.part_rows.specs.Row.{word}
-use Rattle.positions.specs.Row.{partClass, partValues}
+use Rattle.term_positions.specs.Row.{partClass, partValues}
 use Rattle.explicit.specs.declared.Wait.{Wait}
 use Rattle.part_path.specs.declared.Site.{Site}
 use Rattle.explicit.specs.inner.Rows.{withEdges, past}
 use Rattle.explicit.specs.inner.Waiting.{Calling, Argument, Arguments}
-use Rattle.positions.specs.Types.{questionLimit}
+use Rattle.term_positions.specs.Types.{questionLimit}
 use Rattle.explicit.specs.inner.Moves.{answerKind, limitOf, askingOf, blockEdges, heardEdges}
 use Rattle.explicit.specs.inner.Moves.{questionEdges, askedEdges}
 use Rattle.explicit.proofs.HeardAnswers.{no-choice, own-small, other-kind, limit-own}

@@ -5,10 +5,10 @@ use Prim.Native.Nat.{ℕ}
 use native.Mathlib.Decide.{ℕ-discrete}
 use borrow.Author.Tests.{eq-eqb, ne-eqb}
 use Rattle.language.specs.declared.Numbers.{Numbers}
-use Rattle.positions.specs.declared.Move.{Move}
-use Rattle.positions.specs.declared.Out.{Out}
-use Rattle.positions.specs.declared.Out.the-variants.{Hear}
-use Rattle.positions.specs.Row.{nameId}
+use Rattle.term_positions.specs.declared.Move.{Move}
+use Rattle.term_positions.specs.declared.Out.{Out}
+use Rattle.term_positions.specs.declared.Out.the-variants.{Hear}
+use Rattle.term_positions.specs.Row.{nameId}
 use Rattle.name_use.specs.Name.{noMove, atWait}
 use Rattle.part_path.specs.declared.Site.{Site}
 use Rattle.part_path.specs.States.{atStart, sheetAt, targetOf}

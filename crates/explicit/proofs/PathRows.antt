@@ -5,11 +5,11 @@ use mathlib.Core.List.{List, [], _∷_}
 use Prim.Native.Nat.{ℕ, _-_}
 use Rattle.language.specs.Choice.{pick}
 use Rattle.language.specs.declared.Numbers.{Numbers}
-use Rattle.positions.specs.declared.Move.{Move}
-use Rattle.positions.specs.declared.Frame.{Frame}
-use Rattle.positions.specs.declared.Out.{Out}
-use Rattle.positions.specs.declared.Out.the-variants.{Go, Exit, Say, Hear, Stuck}
-use Rattle.positions.specs.Row.{sumOf}
+use Rattle.term_positions.specs.declared.Move.{Move}
+use Rattle.term_positions.specs.declared.Frame.{Frame}
+use Rattle.term_positions.specs.declared.Out.{Out}
+use Rattle.term_positions.specs.declared.Out.the-variants.{Go, Exit, Say, Hear, Stuck}
+use Rattle.term_positions.specs.Row.{sumOf}
 use Rattle.part_path.specs.declared.Site.{Site}
 use Rattle.explicit.specs.declared.Wait.{Wait}
 use Rattle.part_path.specs.Path.{riseAll, Owned}

@@ -15,10 +15,10 @@ use Rattle.machine.specs.Decide.{when, same-move?}
 use Rattle.machine.specs.Edge.{edge-hear, edge}
 use Rattle.machine.specs.Settle.{Index}
 use Rattle.machine.specs.Degree.{hearings, degree}
-use Rattle.positions.specs.declared.Move.{Move as Record}
-use Rattle.positions.specs.declared.Out.{Out}
-use Rattle.positions.specs.declared.Out.the-variants.{Say, Hear}
-use Rattle.positions.specs.Row.{sumOf}
+use Rattle.term_positions.specs.declared.Move.{Move as Record}
+use Rattle.term_positions.specs.declared.Out.{Out}
+use Rattle.term_positions.specs.declared.Out.the-variants.{Say, Hear}
+use Rattle.term_positions.specs.Row.{sumOf}
 use Rattle.automaton.specs.walk.Shows.{moveOf, GivenMove}
 use Rattle.automaton.proofs.Sums.{sum-small, when-no}
 use Rattle.explicit.specs.declared.Wait.{Wait}

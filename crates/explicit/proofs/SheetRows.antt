@@ -15,7 +15,7 @@ use Rattle.machine.specs.Sheet.{spots, steps}
 use Rattle.machine.specs.Degree.{degree, total, numberIf, degreeAt}
 use Rattle.machine.proofs.Accepts.{spots-size}
 use Rattle.machine.proofs.Degrees.{few-edges}
-use Rattle.positions.specs.declared.Move.{Move as Record}
+use Rattle.term_positions.specs.declared.Move.{Move as Record}
 use Rattle.automaton.specs.walk.Shows.{GivenMove}
 use Rattle.part_path.specs.declared.Site.{Site}
 use Rattle.part_path.specs.States.{spotsOf, sheetAt}

@@ -8,7 +8,7 @@ use native.Mathlib.Decide.{decLt}
 use native.Mathlib.Nat.{mod-eq-of-lt, add-zero, add-suc}
 use lib.ListN.{length, getD, set, length-set}
 use lib.Seq.{getD-set-same, getD-set-other}
-use Rattle.positions.specs.Row.{sumOf, mulAddOf}
+use Rattle.term_positions.specs.Row.{sumOf, mulAddOf}
 use Rattle.automaton.proofs.Sums.{sum-small, mul-add-small}
 use Rattle.explicit.specs.inner.Rows.{Edge, StateRow, noEdges, edgeAt, withEdge, withEdges, past, withHead}
 use Rattle.explicit.specs.inner.Rows.{withRow, before, withRows, closedOf}

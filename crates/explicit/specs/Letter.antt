@@ -9,7 +9,7 @@ use Rattle.language.specs.Choice.{pick}
 use Rattle.language.specs.Number.{numbers}
 use Rattle.language.specs.Order.{rank, unranked}
 use Rattle.language.specs.Ty.{run, ask, read, write, done, ok, value}
-use Rattle.positions.specs.MoveKind.{RUN, DONE, ASK, READ, OK, VALUE}
+use Rattle.term_positions.specs.MoveKind.{RUN, DONE, ASK, READ, OK, VALUE}
 use Rattle.language.specs.Move.{Event, question, answer, Move, move, Word, at, private, kind, valueOf}
 
 -- what a kind, an id and an argument count in a letter

@@ -1,6 +1,6 @@
 // Rows of the automaton in words: the silent word and the first edge of a state, and its edges.
-use positions::row::mul_add;
-use positions::row::sum;
+use term_positions::row::mul_add;
+use term_positions::row::sum;
 ghost use mathlib.Core.Path.{_≡_};
 ghost use Rattle.explicit.specs.inner.Rows.{held, withEdge, withHead};
 use records::read::LONGS;

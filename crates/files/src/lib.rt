@@ -1,12 +1,13 @@
-// The sheets that the programs read and write. Where a file cannot be read to its end, or written whole, a line on
-// standard error says so.
+// What the programs read, print and write. Where a sheet cannot be read to its end, or something cannot be printed or
+// written whole, a line on standard error says so.
 use libc::ENOENT;
-ghost use Rattle.io.specs.Counts.{Counts};
+use libc::STDOUT_FILENO;
+ghost use Rattle.files.specs.Reading.{Within};
 
-// What was read of a file: how many bytes, and whether a sheet can be judged by them.
-pub struct Read {
-    pub count: usize,
-    pub good: bool,
+// What was read of a file: a sheet, which so many bytes of the buffer are, or nothing that can be judged.
+pub enum Read {
+    Sheet(usize),
+    Failed,
 }
 
 // Whether the file ends where it was read to. A read that fails does not find the end.
@@ -17,60 +18,80 @@ fn at_end(file: i32) -> bool {
 
 // What is read where no file could be opened: a missing file counts as empty, another is a failure.
 fn read_none(buf: &[u8]) -> Read
-    ensures { λ r. ⌜ Counts (r .count) (now (buf .entry)) ⌝ }
+    ensures { λ r. ⌜ Within r (now (buf .entry)) ⌝ }
 {
-    Read {
-        good: os::errno() == ENOENT,
-        count: io::count(0, buf),
+    if os::errno() == ENOENT {
+        return Read::Sheet(io::count(0, buf));
     }
+    Read::Failed
 }
 
 // Reads an open file from its start into buf, to its end or until buf is full.
 fn read_open(file: i32, buf: &mut [u8]) -> Read
-    ensures { λ r. ⌜ Counts (r .count) (now (buf .exit)) ⌝ }
+    ensures { λ r. ⌜ Within r (now (buf .exit)) ⌝ }
 {
     let count = io::read_full(file, buf);
-    if count < buf.len() {
-        return Read {
-            count,
-            good: at_end(file),
-        };
+    if count == buf.len() || at_end(file) {
+        return Read::Sheet(count);
     }
-    Read { count, good: true }
+    Read::Failed
 }
 
 // Reads the file from its start into buf.
-pub fn read_sheet(path: &[u8], buf: &mut [u8]) -> Read
-    ensures { λ r. ⌜ Counts (r .count) (now (buf .exit)) ⌝ }
+fn read_path(path: &[u8], buf: &mut [u8]) -> Read
+    ensures { λ r. ⌜ Within r (now (buf .exit)) ⌝ }
 {
     let file = os::open_read(path);
     if file < 0 {
-        let none = read_none(buf);
-        if !none.good {
-            os::fail(path);
-        }
-        return none;
+        return read_none(buf);
     }
     let read = read_open(file, buf);
-    if !read.good {
-        os::fail(path);
-    }
     libc::close(file);
     read
 }
 
-// Writes the bytes as the whole of the file, which is made where it is missing: whether they are all written.
-pub fn write_sheet(path: &[u8], bytes: &[u8]) -> bool {
-    let file = os::open_overwrite(path);
-    if file < 0 {
+// Reads the sheet that the file at path is into buf; where that fails, standard error says so.
+pub fn read_sheet(path: &[u8], buf: &mut [u8]) -> Read
+    ensures { λ r. ⌜ Within r (now (buf .exit)) ⌝ }
+{
+    let read = read_path(path, buf);
+    if let Read::Failed = read {
         os::fail(path);
+    }
+    read
+}
+
+// Prints the text on standard output: whether it is all printed.
+pub fn print(text: &[u8]) -> bool {
+    let whole = io::write_all(STDOUT_FILENO, text);
+    if !whole {
+        os::fail(b"standard output");
+    }
+    whole
+}
+
+// Writes the bytes as the whole of a new file, in the place of one of that name: whether they are all written.
+fn write_part(part: &[u8], bytes: &[u8]) -> bool {
+    os::unlink(part);
+    let file = os::create(part);
+    if file < 0 {
         return false;
     }
     let whole = io::write_all(file, bytes);
     let closed = libc::close(file) == 0;
-    let good = whole && closed;
-    if !good {
-        os::fail(path);
+    whole && closed
+}
+
+// Writes the bytes as the whole of the file at path; where that fails, standard error says so. They are written to a
+// file part beside it, which takes the name path when it is whole, so that no half a sheet ever has that name.
+pub fn write_sheet(path: &[u8], part: &[u8], bytes: &[u8]) {
+    if !write_part(part, bytes) {
+        os::fail(part);
+        os::unlink(part);
+        return;
     }
-    good
+    if os::rename(part, path) < 0 {
+        os::fail(path);
+        os::unlink(part);
+    }
 }

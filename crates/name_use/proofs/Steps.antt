@@ -6,8 +6,8 @@ use lib.Dec.{leb}
 use native.Mathlib.Numerals.{sub-one}
 use Rattle.language.specs.Choice.{pick}
 use Rattle.part_rows.specs.Row.{word}
-use Rattle.positions.specs.Row.{partWeight, partClass, partValues, sumOf}
-use Rattle.positions.specs.Types.{answersOf}
+use Rattle.term_positions.specs.Row.{partWeight, partClass, partValues, sumOf}
+use Rattle.term_positions.specs.Types.{answersOf}
 use Rattle.name_use.specs.Name.{copiesOf, argSpots, replyHere, replyOf, argHere, inArgs}
 
 pub spots-step : (t : List ℕ) (at j n : ℕ) → (n ≡ 0 → ⊥) →

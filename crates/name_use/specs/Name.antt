@@ -5,18 +5,18 @@ use mathlib.Core.List.{List}
 use lib.Dec.{eqb, ltb, leb}
 use Rattle.language.specs.Choice.{pick}
 use Rattle.part_rows.specs.Row.{word}
-use Rattle.positions.specs.declared.Move.{Move}
-use Rattle.positions.specs.declared.Frame.{Frame}
-use Rattle.positions.specs.declared.Out.{Out}
-use Rattle.positions.specs.declared.Out.the-variants.{Go, Exit, Say, Hear, Stuck}
-use Rattle.positions.specs.declared.Spot.{Spot}
-use Rattle.positions.specs.declared.Spot.the-variants.{Here, Inside}
-use Rattle.positions.specs.MoveKind.{DONE, OK, VALUE, NO-MOVE}
-use Rattle.positions.specs.Role.{ARGUMENT}
+use Rattle.term_positions.specs.declared.Move.{Move}
+use Rattle.term_positions.specs.declared.Frame.{Frame}
+use Rattle.term_positions.specs.declared.Out.{Out}
+use Rattle.term_positions.specs.declared.Out.the-variants.{Go, Exit, Say, Hear, Stuck}
+use Rattle.term_positions.specs.declared.Spot.{Spot}
+use Rattle.term_positions.specs.declared.Spot.the-variants.{Here, Inside}
+use Rattle.term_positions.specs.MoveKind.{DONE, OK, VALUE, NO-MOVE}
+use Rattle.term_positions.specs.Role.{ARGUMENT}
 use Rattle.part_rows.specs.PartKind.{CLASS, VALUES}
-use Rattle.positions.specs.Row.{partOf, partWeight, partClass, partValues, nameId, nameCount, nameSpent, sumOf}
-use Rattle.positions.specs.Row.{mulAddOf}
-use Rattle.positions.specs.Types.{questionsOf, answersOf, questionKind, questionValue, questionNumber, answerNumber}
+use Rattle.term_positions.specs.Row.{partOf, partWeight, partClass, partValues, nameId, nameCount, nameSpent, sumOf}
+use Rattle.term_positions.specs.Row.{mulAddOf}
+use Rattle.term_positions.specs.Types.{questionsOf, answersOf, questionKind, questionValue, questionNumber, answerNumber}
 use Rattle.part_rows.specs.Class.{COMMANDS}
 
 -- no move: what a state does before one is given

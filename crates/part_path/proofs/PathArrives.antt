@@ -7,12 +7,12 @@ use native.Mathlib.Decide.{decLt, ℕ-discrete}
 use lib.ListN.{length}
 use borrow.Author.Tests.{lt-ltb, le-ltb, eq-eqb, ne-eqb}
 use Rattle.language.specs.declared.Numbers.{Numbers}
-use Rattle.positions.specs.declared.Move.{Move}
-use Rattle.positions.specs.declared.Frame.{Frame}
-use Rattle.positions.specs.declared.Out.{Out}
-use Rattle.positions.specs.declared.Out.the-variants.{Hear, Stuck}
-use Rattle.positions.specs.declared.Spot.{Spot}
-use Rattle.positions.specs.declared.Spot.the-variants.{Here}
+use Rattle.term_positions.specs.declared.Move.{Move}
+use Rattle.term_positions.specs.declared.Frame.{Frame}
+use Rattle.term_positions.specs.declared.Out.{Out}
+use Rattle.term_positions.specs.declared.Out.the-variants.{Hear, Stuck}
+use Rattle.term_positions.specs.declared.Spot.{Spot}
+use Rattle.term_positions.specs.declared.Spot.the-variants.{Here}
 use Rattle.name_use.specs.Name.{atWait}
 use Rattle.automaton.specs.walk.Step.{onSpot, stepAt}
 use Rattle.part_path.specs.States.{afterOf, sheetAt}

@@ -7,10 +7,10 @@ use native.Mathlib.Decide.{ℕ-discrete}
 use lib.ListN.{length}
 use borrow.Author.Tests.{eq-eqb, ne-eqb}
 use Rattle.language.specs.declared.Numbers.{Numbers}
-use Rattle.positions.specs.declared.Frame.{Frame}
-use Rattle.positions.specs.declared.Out.{Out}
-use Rattle.positions.specs.declared.Out.the-variants.{Go}
-use Rattle.positions.specs.Row.{mulAddOf}
+use Rattle.term_positions.specs.declared.Frame.{Frame}
+use Rattle.term_positions.specs.declared.Out.{Out}
+use Rattle.term_positions.specs.declared.Out.the-variants.{Go}
+use Rattle.term_positions.specs.Row.{mulAddOf}
 use Rattle.rise.specs.Up.{goesOf, riseOf}
 use Rattle.part_path.specs.Path.{riseAll, baseOf, storeOf, innermostOf, blockIn}
 use Rattle.part_path.specs.Levels.{frameOf, framesOf}

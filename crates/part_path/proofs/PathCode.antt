@@ -7,14 +7,14 @@ use borrow.Author.Tests.{ne-eqb}
 use Rattle.language.specs.Choice.{pick}
 use Rattle.language.specs.declared.Numbers.{Numbers}
 use Rattle.part_rows.specs.Row.{word}
-use Rattle.positions.specs.declared.Frame.{Frame}
-use Rattle.positions.specs.declared.Out.{Out}
-use Rattle.positions.specs.declared.Spot.{Spot}
-use Rattle.positions.specs.declared.Spot.the-variants.{Here}
+use Rattle.term_positions.specs.declared.Frame.{Frame}
+use Rattle.term_positions.specs.declared.Out.{Out}
+use Rattle.term_positions.specs.declared.Spot.{Spot}
+use Rattle.term_positions.specs.declared.Spot.the-variants.{Here}
 use Rattle.rise.specs.Up.{goesOf, riseOf}
-use Rattle.positions.specs.declared.Silent.{Silent}
+use Rattle.term_positions.specs.declared.Silent.{Silent}
 use Rattle.automaton.specs.walk.Down.{inPrivate, downOf}
-use Rattle.positions.specs.Row.{sumOf}
+use Rattle.term_positions.specs.Row.{sumOf}
 use Rattle.part_path.specs.Path.{riseAll, storeOf, passesOf, upOf, innermostOf}
 use Rattle.part_path.proofs.PathWords.{frames-length}
 use Rattle.part_path.specs.Levels.{fieldOf, frameOf, levelAt, framesOf, Sound}
@@ -22,7 +22,7 @@ use Rattle.name_use.specs.Name.{noMove}
 use Rattle.part_path.specs.Kept.{spotIn, startOf, stopOf, untilOf, childOf, Covers}
 use Rattle.part_path.specs.declared.Site.{Site}
 use Rattle.part_path.specs.States.{targetOf}
-use Rattle.positions.specs.declared.Out.the-variants.{Go}
+use Rattle.term_positions.specs.declared.Out.the-variants.{Go}
 use Rattle.part_path.proofs.PathValues.{down-private}
 
 -- the frames below the first `left`

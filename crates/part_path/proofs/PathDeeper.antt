@@ -7,8 +7,8 @@ use native.Mathlib.Omega.{arith}
 use native.Mathlib.Numerals.{add-one}
 use native.Mathlib.Decide.{decLt}
 use lib.ListN.{length}
-use Rattle.positions.specs.declared.Frame.{Frame}
-use Rattle.positions.specs.declared.Spot.the-variants.{Inside}
+use Rattle.term_positions.specs.declared.Frame.{Frame}
+use Rattle.term_positions.specs.declared.Spot.the-variants.{Inside}
 use Rattle.automaton.specs.walk.Shows.{Words}
 use Rattle.part_path.specs.declared.Level.{Level}
 use Rattle.part_path.specs.Path.{Owned}

@@ -10,9 +10,9 @@ use lib.ListN.{length}
 use borrow.Author.Tests.{eq-eqb, ne-eqb, lt-ltb, le-ltb}
 use Rattle.language.specs.Choice.{pick}
 use Rattle.language.specs.declared.Numbers.{Numbers}
-use Rattle.positions.specs.declared.Frame.{Frame}
-use Rattle.positions.specs.declared.Out.{Out}
-use Rattle.positions.specs.declared.Out.the-variants.{Exit}
+use Rattle.term_positions.specs.declared.Frame.{Frame}
+use Rattle.term_positions.specs.declared.Out.{Out}
+use Rattle.term_positions.specs.declared.Out.the-variants.{Exit}
 use Rattle.rise.specs.Up.{exitNew, exitsOf, riseOf}
 use Rattle.part_path.specs.Path.{riseAll, Owned, passesOf, upOf, blockIn, leftOf}
 use Rattle.part_path.specs.Levels.{frameOf, levelAt, framesOf, Sound}

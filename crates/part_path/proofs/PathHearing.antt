@@ -8,20 +8,20 @@ use native.Mathlib.Omega.{arith}
 use lib.Dec.{eqb, ltb, leb}
 use Rattle.language.specs.Choice.{pick}
 use Rattle.part_rows.specs.Row.{word}
-use Rattle.positions.specs.declared.Move.{Move}
-use Rattle.positions.specs.declared.Out.{Out}
-use Rattle.positions.specs.declared.Out.the-variants.{Go, Exit, Say, Hear, Stuck}
-use Rattle.positions.specs.declared.Spot.{Spot}
-use Rattle.positions.specs.declared.Spot.the-variants.{Here, Inside}
-use Rattle.positions.specs.Row.{nameCount, nameId, sumOf, partClass, partValues, partWeight}
+use Rattle.term_positions.specs.declared.Move.{Move}
+use Rattle.term_positions.specs.declared.Out.{Out}
+use Rattle.term_positions.specs.declared.Out.the-variants.{Go, Exit, Say, Hear, Stuck}
+use Rattle.term_positions.specs.declared.Spot.{Spot}
+use Rattle.term_positions.specs.declared.Spot.the-variants.{Here, Inside}
+use Rattle.term_positions.specs.Row.{nameCount, nameId, sumOf, partClass, partValues, partWeight}
 use Rattle.language.specs.Operator.{operate}
-use Rattle.positions.specs.Types.{answersOf, answerNumber, questionKind, questionValue}
+use Rattle.term_positions.specs.Types.{answersOf, answerNumber, questionKind, questionValue}
 use Rattle.name_use.specs.Name.{argHere, inArgs, replyHere, replyOf, atWait, atSpent, inName, argSpots, saidOf}
 use Rattle.name_use.specs.Name.{copiesOf, innerOf, againOf}
 use Rattle.automaton.specs.walk.Down.{inFetch, inSeq, inWhile, condIn, inCond, operateIn, inOperate, assignIn, inAssign}
 use Rattle.automaton.specs.walk.Down.{inNew, inPrivate, downAs, downOf}
 use Rattle.language.specs.declared.Numbers.{Numbers}
-use Rattle.positions.specs.declared.Frame.{Frame}
+use Rattle.term_positions.specs.declared.Frame.{Frame}
 use Rattle.rise.specs.Up.{exitDone, exitTruth, exitValue, exitResult, exitOperate, exitAssign, exitArgument}
 use Rattle.rise.specs.Up.{exitNew, exitsOf, goesOf, riseOf}
 use Rattle.part_path.specs.Path.{riseAll}

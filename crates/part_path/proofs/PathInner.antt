@@ -9,11 +9,11 @@ use lib.ListN.{length}
 use borrow.Author.Tests.{lt-ltb, le-ltb, lt-leb, le-leb, eq-eqb, ne-eqb}
 use Rattle.language.specs.declared.Numbers.{Numbers}
 use Rattle.part_rows.specs.Row.{word}
-use Rattle.positions.specs.declared.Move.{Move}
-use Rattle.positions.specs.declared.Frame.{Frame}
-use Rattle.positions.specs.declared.Out.the-variants.{Stuck}
-use Rattle.positions.specs.declared.Spot.{Spot}
-use Rattle.positions.specs.declared.Spot.the-variants.{Here, Inside}
+use Rattle.term_positions.specs.declared.Move.{Move}
+use Rattle.term_positions.specs.declared.Frame.{Frame}
+use Rattle.term_positions.specs.declared.Out.the-variants.{Stuck}
+use Rattle.term_positions.specs.declared.Spot.{Spot}
+use Rattle.term_positions.specs.declared.Spot.the-variants.{Here, Inside}
 use Rattle.name_use.specs.Name.{framedOf, argHere}
 use Rattle.automaton.specs.walk.Down.{downOf}
 use Rattle.automaton.specs.walk.Step.{stepAt}
@@ -24,7 +24,7 @@ use Rattle.part_path.specs.Levels.{framesOf, levelAt}
 use Rattle.name_use.specs.Name.{noMove}
 use Rattle.part_path.specs.Kept.{sheetSpot, spotIn, startOf, stopOf, leastOf, untilOf, childOf}
 use Rattle.part_path.specs.Kept.{Stands, KeptPath, Covers}
-use Rattle.positions.specs.Row.{mulAddOf}
+use Rattle.term_positions.specs.Row.{mulAddOf}
 use Rattle.automaton.proofs.Sums.{mul-add-small}
 use Rattle.part_path.proofs.Steady.{in-copy, small-word, steady, steady-argument}
 use Rattle.part_path.proofs.PathWords.{frames-length}

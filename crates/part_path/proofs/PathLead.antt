@@ -9,11 +9,11 @@ use native.Mathlib.Decide.{decLt, ℕ-discrete}
 use lib.ListN.{length}
 use borrow.Author.Tests.{eq-eqb, ne-eqb}
 use Rattle.language.specs.declared.Numbers.{Numbers}
-use Rattle.positions.specs.declared.Move.{Move}
-use Rattle.positions.specs.declared.Frame.{Frame}
-use Rattle.positions.specs.declared.Out.{Out}
-use Rattle.positions.specs.declared.Out.the-variants.{Go, Exit, Say, Hear, Stuck}
-use Rattle.positions.specs.Row.{sumOf, mulAddOf}
+use Rattle.term_positions.specs.declared.Move.{Move}
+use Rattle.term_positions.specs.declared.Frame.{Frame}
+use Rattle.term_positions.specs.declared.Out.{Out}
+use Rattle.term_positions.specs.declared.Out.the-variants.{Go, Exit, Say, Hear, Stuck}
+use Rattle.term_positions.specs.Row.{sumOf, mulAddOf}
 use Rattle.rise.specs.Up.{goesOf, riseOf}
 use Rattle.automaton.proofs.Sums.{sum-small}
 use Rattle.part_path.specs.Path.{riseAll, baseOf, Owned, blockIn}

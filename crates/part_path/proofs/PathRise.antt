@@ -10,13 +10,13 @@ use mathlib.Core.Option.{Option, none, some}
 use borrow.Author.Tests.{ne-eqb}
 use Rattle.language.specs.Choice.{pick}
 use Rattle.language.specs.declared.Numbers.{Numbers}
-use Rattle.positions.specs.declared.Move.{Move}
-use Rattle.positions.specs.declared.Frame.{Frame}
-use Rattle.positions.specs.declared.Out.{Out}
-use Rattle.positions.specs.declared.Out.the-variants.{Go, Exit, Say, Hear, Stuck}
+use Rattle.term_positions.specs.declared.Move.{Move}
+use Rattle.term_positions.specs.declared.Frame.{Frame}
+use Rattle.term_positions.specs.declared.Out.{Out}
+use Rattle.term_positions.specs.declared.Out.the-variants.{Go, Exit, Say, Hear, Stuck}
 use Rattle.language.specs.Operator.{operate}
-use Rattle.positions.specs.Row.{sumOf, mulAddOf}
-use Rattle.positions.specs.Types.{questionKind, questionValue, answerNumber}
+use Rattle.term_positions.specs.Row.{sumOf, mulAddOf}
+use Rattle.term_positions.specs.Types.{questionKind, questionValue, answerNumber}
 use Rattle.rise.specs.Up.{exitDone, exitTruth, exitValue, exitResult, exitOperate, exitAssign, exitArgument}
 use Rattle.rise.specs.Up.{exitNew, goesOf, exitsOf, riseOf}
 use Rattle.part_path.specs.Path.{riseAll}

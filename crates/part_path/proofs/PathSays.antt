@@ -8,11 +8,11 @@ use lib.ListN.{length}
 use borrow.Author.Tests.{lt-ltb, le-ltb, eq-eqb, ne-eqb}
 use Rattle.language.specs.declared.Numbers.{Numbers}
 use Rattle.part_rows.specs.Row.{word}
-use Rattle.positions.specs.declared.Move.{Move}
-use Rattle.positions.specs.declared.Frame.{Frame}
-use Rattle.positions.specs.declared.Out.{Out}
-use Rattle.positions.specs.declared.Spot.{Spot}
-use Rattle.positions.specs.declared.Spot.the-variants.{Here, Inside}
+use Rattle.term_positions.specs.declared.Move.{Move}
+use Rattle.term_positions.specs.declared.Frame.{Frame}
+use Rattle.term_positions.specs.declared.Out.{Out}
+use Rattle.term_positions.specs.declared.Spot.{Spot}
+use Rattle.term_positions.specs.declared.Spot.the-variants.{Here, Inside}
 use Rattle.automaton.specs.walk.Store.{storeIn}
 use Rattle.name_use.specs.Name.{argHere}
 use Rattle.automaton.specs.walk.Down.{downOf}

@@ -4,9 +4,9 @@ use mathlib.Core.List.{List, [], _∷_}
 use Prim.Native.Nat.{ℕ, suc}
 use borrow.Author.Tests.{eq-eqb, ne-eqb}
 use Rattle.part_rows.specs.Row.{word}
-use Rattle.positions.specs.declared.Move.{Move}
-use Rattle.positions.specs.declared.Frame.{Frame}
-use Rattle.positions.specs.declared.Spot.the-variants.{Here}
+use Rattle.term_positions.specs.declared.Move.{Move}
+use Rattle.term_positions.specs.declared.Frame.{Frame}
+use Rattle.term_positions.specs.declared.Spot.the-variants.{Here}
 use Rattle.automaton.specs.walk.Store.{withValue, storeIn}
 use Rattle.automaton.specs.walk.Down.{inPrivate, downAs, downOf}
 use Rattle.part_path.specs.Path.{storeOf}

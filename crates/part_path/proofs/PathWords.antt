@@ -6,7 +6,7 @@ use native.Mathlib.Omega.{arith}
 use native.Mathlib.Numerals.{add-one}
 use lib.ListN.{getD, set, length, length-set}
 use lib.Seq.{getD-set-same, getD-set-other}
-use Rattle.positions.specs.declared.Frame.{Frame}
+use Rattle.term_positions.specs.declared.Frame.{Frame}
 use Rattle.part_path.specs.declared.Level.{Level}
 use Rattle.part_path.specs.Levels.{fieldOf, frameOf, levelAt, framesOf, setAll, levelWords, withLevel}
 

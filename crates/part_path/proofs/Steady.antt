@@ -12,14 +12,14 @@ use borrow.Author.Tests.{lt-ltb, le-ltb, lt-leb, le-leb, eq-eqb, ne-eqb}
 use Rattle.language.specs.Choice.{pick}
 use Rattle.part_rows.specs.Row.{cell}
 use Rattle.part_rows.specs.Row.{word}
-use Rattle.positions.specs.declared.Move.{Move}
-use Rattle.positions.specs.declared.Frame.{Frame}
-use Rattle.positions.specs.declared.Out.{Out}
-use Rattle.positions.specs.declared.Out.the-variants.{Exit, Stuck}
-use Rattle.positions.specs.declared.Spot.{Spot}
-use Rattle.positions.specs.declared.Spot.the-variants.{Here, Inside}
-use Rattle.positions.specs.Row.{partWeight, partClass, partValues, nameCount, nameId, nameSpent, sumOf, mulAddOf}
-use Rattle.positions.specs.Types.{questionsOf, questionKind, questionValue, answersOf}
+use Rattle.term_positions.specs.declared.Move.{Move}
+use Rattle.term_positions.specs.declared.Frame.{Frame}
+use Rattle.term_positions.specs.declared.Out.{Out}
+use Rattle.term_positions.specs.declared.Out.the-variants.{Exit, Stuck}
+use Rattle.term_positions.specs.declared.Spot.{Spot}
+use Rattle.term_positions.specs.declared.Spot.the-variants.{Here, Inside}
+use Rattle.term_positions.specs.Row.{partWeight, partClass, partValues, nameCount, nameId, nameSpent, sumOf, mulAddOf}
+use Rattle.term_positions.specs.Types.{questionsOf, questionKind, questionValue, answersOf}
 use Rattle.name_use.specs.Name.{framedOf, copiesOf, argHere, inArgs, argSpots, innerOf, inName}
 use Rattle.automaton.specs.walk.Down.{inFetch, inSeq, inWhile, condIn, inCond, operateIn, inOperate, assignIn, inAssign}
 use Rattle.automaton.specs.walk.Down.{inNew, inPrivate, downAs, downOf}

@@ -3,8 +3,8 @@ use mathlib.Core.Path.{_≡_}
 use mathlib.Core.List.{List, [], _∷_}
 use Prim.Native.Nat.{ℕ, zero, suc, _+_, _*_, _≤_, _<_}
 use lib.ListN.{getD, set, length}
-use Rattle.positions.specs.Row.{SHORTS}
-use Rattle.positions.specs.declared.Frame.{Frame}
+use Rattle.term_positions.specs.Row.{SHORTS}
+use Rattle.term_positions.specs.declared.Frame.{Frame}
 use Rattle.part_path.specs.declared.Level.{Level}
 use Rattle.part_path.specs.Field.{LEVELS, FIELDS, PART, QUESTION, QUESTION-VALUE, BASE, END, OUTER, ROLE}
 use Rattle.part_path.specs.Field.{OFFSET, A, B, C, D, UP}

@@ -6,13 +6,13 @@ use Rattle.language.specs.Choice.{pick}
 use Rattle.language.specs.declared.Numbers.{Numbers}
 use Rattle.part_rows.specs.Row.{word}
 use Rattle.nodes.specs.Rep.{DEPTH}
-use Rattle.positions.specs.declared.Move.{Move}
-use Rattle.positions.specs.declared.Out.{Out}
-use Rattle.positions.specs.declared.Out.the-variants.{Go, Exit, Say, Hear, Stuck}
-use Rattle.positions.specs.MoveKind.{DONE, OK, VALUE, OPENING, NO-MOVE}
+use Rattle.term_positions.specs.declared.Move.{Move}
+use Rattle.term_positions.specs.declared.Out.{Out}
+use Rattle.term_positions.specs.declared.Out.the-variants.{Go, Exit, Say, Hear, Stuck}
+use Rattle.term_positions.specs.MoveKind.{DONE, OK, VALUE, OPENING, NO-MOVE}
 use Rattle.part_rows.specs.PartKind.{WEIGHT, CLASS, VALUES}
-use Rattle.positions.specs.Row.{sumOf, mulAddOf}
-use Rattle.positions.specs.Types.{questionsOf, answersOf, questionNumber}
+use Rattle.term_positions.specs.Row.{sumOf, mulAddOf}
+use Rattle.term_positions.specs.Types.{questionsOf, answersOf, questionNumber}
 use Rattle.name_use.specs.Name.{argHere}
 use Rattle.rise.specs.Up.{riseOf}
 use Rattle.automaton.specs.walk.Step.{onSpot, stepAt}

@@ -1,7 +1,7 @@
 // The words of a path: thirteen for each level.
 use crate::Level;
-use positions::Frame;
-use positions::roles::BLOCK;
+use term_positions::Frame;
+use term_positions::roles::BLOCK;
 ghost use mathlib.Core.Path.{_≡_};
 ghost use mathlib.Core.List.{[], _∷_};
 ghost use Prim.Native.Nat.{suc, _+_, _<_, _≤_};
@@ -9,7 +9,7 @@ ghost use Rattle.language.specs.Choice.{pick};
 ghost use Rattle.part_path.specs.Path.{innermostOf, passesOf, upOf, blockIn};
 ghost use Rattle.part_path.specs.Levels.{fieldOf, frameOf, framesOf, setAll, withLevel, Sound};
 ghost use Rattle.part_path.specs.Kept.{startOf};
-use positions::roles::AS_IS;
+use term_positions::roles::AS_IS;
 
 // How many levels a path has at most: those of a term, and the whole.
 pub(crate) const LEVELS: usize = 6145;

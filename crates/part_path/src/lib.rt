@@ -10,8 +10,8 @@ pub mod path;
 // Where a step leads in the whole sheet.
 pub mod exits;
 
-use positions::Frame;
-use positions::Out;
+use term_positions::Frame;
+use term_positions::Out;
 
 // Where the automaton of a sheet stands: the root in its table of parts, how many states the words have, and its
 // first state there.

@@ -8,12 +8,12 @@ use lib.Dec.{eqb}
 use borrow.Author.Tests.{eq-eqb, ne-eqb}
 use Rattle.language.specs.Choice.{pick}
 use Rattle.dfa.specs.Graph.{rest}
-use Rattle.difference.specs.Spelled.{Trail, Spelled, Spelling}
+use Rattle.search_words.specs.Spelled.{Trail, Spelled, Spelling}
 use Rattle.dfa.specs.Reading.{reversed}
 use Rattle.dfa.proofs.laws.Reading.{reversed-length, reversed-reversed}
-use Rattle.difference.proofs.laws.Spell.{written-take, spelled-length}
+use Rattle.search_words.proofs.Spell.{written-take, spelled-length}
 use Rattle.dfa.proofs.laws.Rest.{rest-is, rest-length}
-use Rattle.difference.proofs.laws.Trace.{trail-spelled}
+use Rattle.search_words.proofs.Trace.{trail-spelled}
 use Rattle.play.specs.Bytes.{withRecords}
 use Rattle.play_words.specs.Shown.{Shown}
 use Rattle.play_words.specs.declared.Decision.the-variants.{Apart}

@@ -6,7 +6,7 @@ use lib.ListN.{length, getD, take}
 use lib.Dec.{eqb}
 use Rattle.language.specs.Choice.{pick}
 use Rattle.dfa.specs.Reading.{reversed}
-use Rattle.difference.specs.Spelled.{Spelled}
+use Rattle.search_words.specs.Spelled.{Spelled}
 use Rattle.play.specs.Bytes.{withRecords}
 use Rattle.play_words.specs.declared.Decision.{Decision}
 use Rattle.play_words.specs.declared.Decision.the-variants.{Apart}

@@ -5,6 +5,7 @@ use mathlib.Core.Bool.{Bool, true, false, _&&_}
 use mathlib.Core.List.{List, [], _∷_}
 use lib.Dec.{eqb, leb, ltb}
 use Rattle.language.specs.Choice.{pick}
+use Rattle.part_rows.specs.Class.{EXPRESSIONS}
 use Rattle.part_rows.specs.Row.{word}
 use Rattle.part_rows.specs.PartKind.{NAME, SEQUENCE, PROCEDURE, END, CLASS}
 use Rattle.procedures.specs.Written.{Sheet}
@@ -14,10 +15,6 @@ use Rattle.tabled.specs.Seats.{Seated}
 use Rattle.profile.specs.Offence.{offences}
 use Rattle.profile.specs.declared.offence.Offence.{Offence}
 use Rattle.profile.specs.declared.offence.Offence.the-variants.{Nothing, At}
-
--- the class of expressions
-abbrev pub EXPRESSIONS : ℕ
-EXPRESSIONS = 1
 
 -- whether one of at most so many arguments, which stand from one place up to another, is no expression: by the classes
 -- of the arguments, where the definition goes by the types declared (`loudUse`)

@@ -1,9 +1,11 @@
-// Renumbers old.sheet: gives each inner name that hides an outer one an id of its own, writes the sheet as new.sheet,
-// and prints the changes. Where the sheet is refused it prints the refusal and writes nothing. Where old.sheet is there
-// and cannot be read to its end, or new.sheet cannot be written, it prints nothing but a line on standard error.
+// Renumbers old.sheet: gives each inner name that hides an outer one an id of its own, prints the changes, and writes the
+// sheet as new.sheet. Where the sheet is refused it prints the refusal and writes nothing. Where old.sheet is there and
+// cannot be read to its end it prints nothing but a line on standard error. Such a line comes also where its text cannot
+// be printed whole, and then nothing is written, and where new.sheet cannot be written, which then stays as it was.
+use files::Read;
+use files::print;
 use files::read_sheet;
 use files::write_sheet;
-use libc::STDOUT_FILENO;
 use report::changes::report_changes;
 
 // One byte more than a sheet may have, so that a longer file is refused.
@@ -17,21 +19,16 @@ const TEXT: usize = 4096;
 
 fn main() {
     let mut old = [0u8; LONGEST];
-    let read = read_sheet(b"old.sheet", &mut old);
-    if !read.good {
+    let Read::Sheet(n) = read_sheet(b"old.sheet", &mut old) else {
         return;
-    }
-    let n = read.count;
+    };
     let mut new = [0u8; LONGEST];
     let mut list = [0u8; LIST];
     let mut text = [0u8; TEXT];
     let told = report_changes(&old[..n], &mut new, &mut list, &mut text);
-    if told.renumbered {
-        // The sheet written is as long as the one read.
-        if !write_sheet(b"new.sheet", &new[..n]) {
-            return;
-        }
-    }
     let count = told.count;
-    io::write_all(STDOUT_FILENO, &text[..count]);
+    if print(&text[..count]) && told.renumbered {
+        // The sheet written is as long as the one read.
+        write_sheet(b"new.sheet", b"new.sheet.part", &new[..n]);
+    }
 }

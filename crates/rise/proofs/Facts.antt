@@ -4,7 +4,7 @@ use mathlib.Core.Path.{_≡_, refl}
 use mathlib.Core.Option.{Option, none, some}
 use Rattle.language.specs.Operator.{outcome}
 use Rattle.language.specs.declared.operator.Outcome.the-variants.{Is, Nothing}
-use Rattle.positions.specs.declared.Out.the-variants.{Exit, Stuck}
+use Rattle.term_positions.specs.declared.Out.the-variants.{Exit, Stuck}
 use Rattle.rise.specs.Up.{exitResult}
 
 -- the exit with the code that the operator answers

@@ -5,13 +5,13 @@ use lib.Dec.{eqb, ltb}
 use Rattle.language.specs.Choice.{pick}
 use Rattle.language.specs.Operator.{operate}
 use Rattle.language.specs.declared.Numbers.{Numbers}
-use Rattle.positions.specs.declared.Frame.{Frame}
-use Rattle.positions.specs.declared.Out.{Out}
-use Rattle.positions.specs.declared.Out.the-variants.{Go, Exit, Say, Hear, Stuck}
-use Rattle.positions.specs.MoveKind.{DONE, OK, VALUE}
-use Rattle.positions.specs.Role.{THEN, TEST, SELECT, RIGHT, ASSIGNED, ARGUMENT, BLOCK}
-use Rattle.positions.specs.Row.{SHORTS, sumOf, mulAddOf}
-use Rattle.positions.specs.Types.{questionKind, questionValue, answerNumber}
+use Rattle.term_positions.specs.declared.Frame.{Frame}
+use Rattle.term_positions.specs.declared.Out.{Out}
+use Rattle.term_positions.specs.declared.Out.the-variants.{Go, Exit, Say, Hear, Stuck}
+use Rattle.term_positions.specs.MoveKind.{DONE, OK, VALUE}
+use Rattle.term_positions.specs.Role.{THEN, TEST, SELECT, RIGHT, ASSIGNED, ARGUMENT, BLOCK}
+use Rattle.term_positions.specs.Row.{SHORTS, sumOf, mulAddOf}
+use Rattle.term_positions.specs.Types.{questionKind, questionValue, answerNumber}
 
 -- the truths
 abbrev pub FALSE : ℕ

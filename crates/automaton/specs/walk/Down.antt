@@ -5,16 +5,16 @@ use mathlib.Core.List.{List}
 use lib.Dec.{eqb, ltb}
 use Rattle.language.specs.Choice.{pick}
 use Rattle.part_rows.specs.Row.{word}
-use Rattle.positions.specs.declared.Move.{Move}
-use Rattle.positions.specs.declared.Out.{Out}
-use Rattle.positions.specs.declared.Out.the-variants.{Go, Exit, Stuck}
-use Rattle.positions.specs.declared.Spot.{Spot}
-use Rattle.positions.specs.declared.Spot.the-variants.{Here, Inside}
-use Rattle.positions.specs.MoveKind.{RUN, DONE, ASK, READ, OK, VALUE, WRITE}
+use Rattle.term_positions.specs.declared.Move.{Move}
+use Rattle.term_positions.specs.declared.Out.{Out}
+use Rattle.term_positions.specs.declared.Out.the-variants.{Go, Exit, Stuck}
+use Rattle.term_positions.specs.declared.Spot.{Spot}
+use Rattle.term_positions.specs.declared.Spot.the-variants.{Here, Inside}
+use Rattle.term_positions.specs.MoveKind.{RUN, DONE, ASK, READ, OK, VALUE, WRITE}
 use Rattle.part_rows.specs.PartKind.{SKIP, CONSTANT, NAME, FETCH, OPERATE, ASSIGN, SEQUENCE, IF, WHILE, NEW, PRIVATE}
-use Rattle.positions.specs.Role.{THEN, TEST, SELECT, RIGHT, ASSIGNED, BLOCK, AS-IS}
+use Rattle.term_positions.specs.Role.{THEN, TEST, SELECT, RIGHT, ASSIGNED, BLOCK, AS-IS}
 use Rattle.part_rows.specs.PartKind.{KIND, VALUES, DETAIL}
-use Rattle.positions.specs.Row.{SHORTS, partOf, partWeight, partValues, sumOf, mulAddOf}
+use Rattle.term_positions.specs.Row.{SHORTS, partOf, partWeight, partValues, sumOf, mulAddOf}
 use Rattle.name_use.specs.Name.{framedOf, inName}
 
 -- the exit with an answer

@@ -15,12 +15,12 @@ use Rattle.machine.specs.Edge.{edge-hear}
 use Rattle.machine.specs.Position.{Context, Store, types, State, Exit as ExitOf, StateArgs, ExitArgs}
 use Rattle.machine.specs.Numbering.{numbered, numberedArgs, numbered-replies}
 use Rattle.nodes.specs.Rep.{count, Rep}
-use Rattle.positions.specs.Row.{SHORTS}
-use Rattle.positions.specs.declared.Move.{Move as Record}
-use Rattle.positions.specs.MoveKind.{RUN, DONE, ASK, READ, OK, VALUE, WRITE, NO-MOVE}
+use Rattle.term_positions.specs.Row.{SHORTS}
+use Rattle.term_positions.specs.declared.Move.{Move as Record}
+use Rattle.term_positions.specs.MoveKind.{RUN, DONE, ASK, READ, OK, VALUE, WRITE, NO-MOVE}
 use Rattle.name_use.specs.Name.{noMove}
-use Rattle.positions.specs.declared.Out.{Out as Did}
-use Rattle.positions.specs.declared.Out.the-variants.{Go, Exit, Say, Hear, Stuck}
+use Rattle.term_positions.specs.declared.Out.{Out as Did}
+use Rattle.term_positions.specs.declared.Out.the-variants.{Go, Exit, Say, Hear, Stuck}
 
 -- the kind and the value of a question, and of an answer
 unfoldable pub kindQ : Question → ℕ

@@ -2,12 +2,12 @@
 use Prim.Native.Nat.{ℕ, zero, suc}
 use mathlib.Core.List.{List}
 use Rattle.language.specs.declared.Numbers.{Numbers}
-use Rattle.positions.specs.declared.Move.{Move}
-use Rattle.positions.specs.declared.Frame.{Frame}
-use Rattle.positions.specs.declared.Out.{Out}
-use Rattle.positions.specs.declared.Out.the-variants.{Stuck}
-use Rattle.positions.specs.declared.Spot.{Spot}
-use Rattle.positions.specs.declared.Spot.the-variants.{Here, Inside}
+use Rattle.term_positions.specs.declared.Move.{Move}
+use Rattle.term_positions.specs.declared.Frame.{Frame}
+use Rattle.term_positions.specs.declared.Out.{Out}
+use Rattle.term_positions.specs.declared.Out.the-variants.{Stuck}
+use Rattle.term_positions.specs.declared.Spot.{Spot}
+use Rattle.term_positions.specs.declared.Spot.the-variants.{Here, Inside}
 use Rattle.automaton.specs.walk.Store.{storeIn}
 use Rattle.automaton.specs.walk.Down.{downOf}
 use Rattle.rise.specs.Up.{riseOf}

@@ -2,8 +2,8 @@
 use Prim.Native.Nat.{ℕ, suc}
 use lib.Dec.{eqb}
 use Rattle.language.specs.Choice.{pick}
-use Rattle.positions.specs.declared.Frame.{Frame}
-use Rattle.positions.specs.Role.{BLOCK}
+use Rattle.term_positions.specs.declared.Frame.{Frame}
+use Rattle.term_positions.specs.Role.{BLOCK}
 
 -- the values with v at the row a - 1
 unfoldable pub withValue : (ℕ → ℕ) → ℕ → ℕ → ℕ → ℕ

@@ -9,14 +9,14 @@ use Rattle.dfa.specs.Graph.{Graph, rest, δ}
 use Rattle.live.specs.Marks.{Markable}
 use Rattle.difference.specs.Outcome.{Outcome, Setting, ToldApart}
 use Rattle.dfa.specs.Reading.{FirstWord, reversed, walk}
-use Rattle.difference.specs.Spelled.{Spelling}
+use Rattle.search_words.specs.Spelled.{Spelling}
 use Rattle.dfa.specs.Word.{accepting, after}
 use Rattle.difference.specs.declared.Task.{Task}
 use Rattle.difference.specs.declared.Verdict.{Verdict}
 use Rattle.difference.specs.declared.Verdict.the-variants.{Same}
 use Rattle.dfa_tests.specs.declared.checked.Answer.the-variants.{Distinguished, Equivalent}
 use Rattle.dfa.proofs.laws.Reading.{first-word, reversed-length, reversed-reversed, walk-reversed}
-use Rattle.difference.proofs.laws.Spell.{written-take}
+use Rattle.search_words.proofs.Spell.{written-take}
 use Rattle.dfa.proofs.laws.Rest.{rest-at, rest-length}
 
 pub answer-alike : (G : List ℕ) (t : Task) (ws out : List ℕ) (v : Verdict) → v ≡ Same → Outcome G t ws v

@@ -9,8 +9,10 @@ use native.Mathlib.Omega.{arith}
 use lib.ListN.{length}
 use borrow.Author.Tests.{eq-eqb, ne-eqb}
 use Rattle.dfa.specs.Word.{First, Less, after}
-use Rattle.difference.specs.inner.Comparison.{Tied, Closed, Entry, Inv, Le, Mid, Top, merge, roots, snoc}
-use Rattle.difference.proofs.laws.Merge.{merge-idem, merge-in, merge-out, roots-all, roots-merge, roots-pos}
+use Rattle.difference.specs.inner.Comparison.{Tied, Closed, Entry, Inv, Le, Mid, Top, roots, snoc}
+use Rattle.search_words.specs.Classes.{merge}
+use Rattle.difference.proofs.laws.Merge.{merge-idem, roots-all, roots-merge, roots-pos}
+use Rattle.search_words.proofs.Merging.{merge-in, merge-out}
 use Rattle.difference.proofs.laws.Merge.{snoc-all, snoc-new, snoc-old}
 use Rattle.difference.proofs.laws.Order.{le-length, le-less, le-snoc, less-irrefl, less-snoc, less-trans}
 
@@ -100,8 +102,8 @@ module _ (n : ℕ) (δ : ℕ → ℕ → ℕ) (fin : ℕ → Bool) (p₀ q₀ : 
 
           to : (z : ℕ) → Dec (rep z ≡ rep a) → f z ≡ f (merge rep a b z)
           to z (yes h) = old z a h ∙ ends f (newest f (g tail (omega arith))) ∙ old b (rep b) (sym (t .inv .idem b))
-            ∙ ap f (sym (merge-in rep (t .inv .idem) a b ne z h))
-          to z (no h) = old z (rep z) (sym (t .inv .idem z)) ∙ ap f (sym (merge-out rep (t .inv .idem) a b ne z h))
+            ∙ ap f (sym (merge-in rep a b z h))
+          to z (no h) = old z (rep z) (sym (t .inv .idem z)) ∙ ap f (sym (merge-out rep a b z h))
 
       push-bound : (x : ℕ) → x < n → Dec (rep x ≡ rep a) → merge rep a b x < n
       push-bound x h (yes k) = rw (eq-eqb (rep x) (rep a) k) (t .inv .bound b b-lt)
@@ -259,8 +261,8 @@ module _ (n : ℕ) (δ : ℕ → ℕ → ℕ) (fin : ℕ → Bool) (p₀ q₀ : 
       ends f e (inr h) = ap f (h .0) ∙ sym e ∙ ap f (sym (h .1))
 
       to : (f : ℕ → Bool) → f p₀ ≡ f q₀ → (y : ℕ) → Dec (y ≡ a) → f y ≡ f (merge (λ x. x) a b y)
-      to f g y (yes h) = ap f h ∙ ends f g ab ∙ ap f (sym (merge-in (λ x. x) (λ x. refl) a b ne y h))
-      to f g y (no h) = ap f (sym (merge-out (λ x. x) (λ x. refl) a b ne y h))
+      to f g y (yes h) = ap f h ∙ ends f g ab ∙ ap f (sym (merge-in (λ x. x) a b y h))
+      to f g y (no h) = ap f (sym (merge-out (λ x. x) a b y h))
 
       low : (x : ℕ) → x < n → Dec (x ≡ a) → merge (λ x. x) a b x < n
       low x h (yes k) = rw (eq-eqb x a k) (lt-b ab)

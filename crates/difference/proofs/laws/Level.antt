@@ -5,10 +5,10 @@ use Prim.Native.Nat.{_*_, _+_, _<_, _≤_, suc, ℕ}
 use native.Mathlib.Decide.{decLt}
 use native.Mathlib.Omega.{arith}
 use lib.ListN.{getD, length}
-use Rattle.difference.specs.Spelled.{Spelled, more, none}
+use Rattle.search_words.specs.Spelled.{Spelled, more, none}
 use Rattle.difference.specs.inner.Level.{Deep, Layer}
 use Rattle.difference.specs.inner.Queue.{Grown}
-use Rattle.difference.proofs.laws.Trace.{empty, longer}
+use Rattle.search_words.proofs.Trace.{empty, longer}
 
 -- the words of the entries that stay
 pub spelled-stays : (n tail : ℕ) (ws ws′ : List ℕ)

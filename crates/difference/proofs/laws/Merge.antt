@@ -7,7 +7,9 @@ use native.Mathlib.Decide.{ℕ-discrete}
 use native.Mathlib.Omega.{arith}
 use lib.Dec.{eqb}
 use borrow.Author.Tests.{eq-eqb, ne-eqb}
-use Rattle.difference.specs.inner.Comparison.{Entry, merge, one-if, roots, snoc}
+use Rattle.difference.specs.inner.Comparison.{Entry, one-if, roots, snoc}
+use Rattle.search_words.specs.Classes.{merge}
+use Rattle.search_words.proofs.Merging.{merge-in, merge-out}
 
 pub roots-pos : (rep : ℕ → ℕ) (x m : ℕ) → rep x ≡ x → x < m → 0 < roots rep m
 unfolding roots
@@ -39,29 +41,23 @@ snoc-all E tail e Φ old new k h = go (ℕ-discrete k tail)
     go (no q) = rw (ne-eqb k tail q) (old k (omega arith))
 
 module _ (rep : ℕ → ℕ) (idem : (x : ℕ) → rep (rep x) ≡ rep x) (a b : ℕ) (apart′ : rep a ≢ rep b) where
-  pub merge-in : (x : ℕ) → rep x ≡ rep a → merge rep a b x ≡ rep b
-  merge-in x e = rw (eq-eqb (rep x) (rep a) e)
-
-  pub merge-out : (x : ℕ) → rep x ≢ rep a → merge rep a b x ≡ rep x
-  merge-out x e = rw (ne-eqb (rep x) (rep a) e)
-
   pub merge-idem : (x : ℕ) → merge rep a b (merge rep a b x) ≡ merge rep a b x
   merge-idem x = go (ℕ-discrete (rep x) (rep a))
     where
       go : Dec (rep x ≡ rep a) → merge rep a b (merge rep a b x) ≡ merge rep a b x
-      go (yes e) = ap (merge rep a b) (merge-in x e) ∙ merge-out (rep b) (λ h. apart′ (sym h ∙ idem b)) ∙ idem b
-        ∙ sym (merge-in x e)
-      go (no e) = ap (merge rep a b) (merge-out x e) ∙ merge-out (rep x) (λ h. e (sym (idem x) ∙ h)) ∙ idem x
-        ∙ sym (merge-out x e)
+      go (yes e) = ap (merge rep a b) (merge-in rep a b x e) ∙ merge-out rep a b (rep b) (λ h. apart′ (sym h ∙ idem b))
+        ∙ idem b ∙ sym (merge-in rep a b x e)
+      go (no e) = ap (merge rep a b) (merge-out rep a b x e) ∙ merge-out rep a b (rep x) (λ h. e (sym (idem x) ∙ h))
+        ∙ idem x ∙ sym (merge-out rep a b x e)
 
   -- a state other than the root of a stands for its class as before
   merge-root : (x : ℕ) → x ≢ rep a → eqb (merge rep a b x) x ≡ eqb (rep x) x
   merge-root x ne = go (ℕ-discrete (rep x) (rep a))
     where
       go : Dec (rep x ≡ rep a) → eqb (merge rep a b x) x ≡ eqb (rep x) x
-      go (yes e) = ne-eqb (merge rep a b x) x (λ h. apart′ (sym e ∙ ap rep (sym h ∙ merge-in x e) ∙ idem b))
+      go (yes e) = ne-eqb (merge rep a b x) x (λ h. apart′ (sym e ∙ ap rep (sym h ∙ merge-in rep a b x e) ∙ idem b))
         ∙ sym (ne-eqb (rep x) x (λ h. ne (sym h ∙ e)))
-      go (no e) = ap (λ y. eqb y x) (merge-out x e)
+      go (no e) = ap (λ y. eqb y x) (merge-out rep a b x e)
 
   roots-below : (m : ℕ) → m ≤ rep a → roots (merge rep a b) m ≡ roots rep m
   unfolding roots
@@ -77,7 +73,7 @@ module _ (rep : ℕ → ℕ) (idem : (x : ℕ) → rep (rep x) ≡ rep x) (a b :
         → suc (one-if (eqb (merge rep a b m) m) + roots (merge rep a b) m) ≡ one-if (eqb (rep m) m) + roots rep m
       go (yes e) ih =
         let h₁ : eqb (merge rep a b m) m ≡ false = ne-eqb _ _
-          (λ k. apart′ (sym e ∙ sym k ∙ merge-in m (ap rep e ∙ idem a))) in
+          (λ k. apart′ (sym e ∙ sym k ∙ merge-in rep a b m (ap rep e ∙ idem a))) in
         let h₂ : eqb (rep m) m ≡ true = eq-eqb _ _ (ap rep e ∙ idem a ∙ sym e) in
         rw (h₁, h₂, roots-below m (omega arith)) (omega arith)
       go (no e) ih =

@@ -8,11 +8,12 @@ use native.Mathlib.Omega.{arith}
 use lib.ListN.{getD, length, length-set, set}
 use lib.Seq.{getD-set-other, getD-set-same}
 use borrow.Author.Tests.{le-ltb, lt-ltb}
-use Rattle.difference.specs.inner.Classes.{Found, Low, Rep, linked}
-use Rattle.difference.specs.inner.Comparison.{Entry, merge, snoc}
+use Rattle.search_words.specs.Classes.{Found, Low, Rep, linked}
+use Rattle.difference.specs.inner.Comparison.{Entry, snoc}
+use Rattle.search_words.specs.Classes.{merge}
 use Rattle.dfa.specs.Frame.{SameBelow, SameFrom}
 use Rattle.difference.specs.inner.Queue.{Grown, Queue, Visited, entryOf, pushed}
-use Rattle.difference.proofs.laws.Classes.{linked-low, linked-rep, low-frame, rep-frame}
+use Rattle.search_words.proofs.ClassLaws.{linked-low, linked-rep, low-frame, rep-frame}
 use Rattle.dfa.proofs.laws.Frame.{set-from}
 use Rattle.difference.proofs.laws.Merge.{snoc-all, snoc-old}
 

@@ -10,19 +10,20 @@ use lib.ListN.{drop, getD, length, length-take, set, take}
 use borrow.Author.Tests.{le-ltb, lt-ltb}
 use Rattle.dfa.specs.Graph.{rest, δ}
 use Rattle.difference.specs.Outcome.{Outcome, Setting, ToldApart}
-use Rattle.difference.specs.Spelled.{Spelled, more, none}
+use Rattle.search_words.specs.Spelled.{Spelled, more, none}
 use Rattle.dfa.specs.Word.{First, accepting, after}
 use Rattle.difference.specs.declared.Task.{Task}
 use Rattle.difference.specs.declared.Verdict.{Verdict}
 use Rattle.dfa.specs.declared.step.Move.{Move}
-use Rattle.difference.specs.inner.Classes.{Low, Rep, linked}
-use Rattle.difference.specs.inner.Comparison.{Entry, Top, merge}
+use Rattle.search_words.specs.Classes.{Low, Rep, linked}
+use Rattle.difference.specs.inner.Comparison.{Entry, Top}
+use Rattle.search_words.specs.Classes.{merge}
 use Rattle.difference.specs.inner.Level.{Deep, alikeAt}
 use Rattle.difference.specs.inner.Queue.{Grown, Visited, pushed}
 use Rattle.difference.specs.inner.State.{Expanding, Half, State, Turn}
 use Rattle.dfa.specs.Step.{Moved}
 use Rattle.difference.proofs.laws.Alike.{beq-no, beq-yes}
-use Rattle.difference.proofs.laws.Classes.{linked-low, linked-rep, low-frame, rep-frame}
+use Rattle.search_words.proofs.ClassLaws.{linked-low, linked-rep, low-frame, rep-frame}
 use Rattle.difference.proofs.laws.Comparison.{agree, all-same, begin, begun, roots-1, told, told-at}
 use Rattle.difference.proofs.laws.Queue.{at-0, at-1, pushed-below, pushed-length}
 use Rattle.dfa.proofs.laws.Rest.{back, back-length, back-rest, rest-length}

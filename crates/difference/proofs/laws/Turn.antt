@@ -9,8 +9,9 @@ use lib.ListN.{getD, length}
 use Rattle.dfa.specs.Graph.{letter, look, δ}
 use Rattle.difference.specs.Outcome.{Setting}
 use Rattle.difference.specs.declared.Task.{Task}
-use Rattle.difference.specs.inner.Classes.{Low}
-use Rattle.difference.specs.inner.Comparison.{Entry, merge, snoc}
+use Rattle.search_words.specs.Classes.{Low}
+use Rattle.difference.specs.inner.Comparison.{Entry, snoc}
+use Rattle.search_words.specs.Classes.{merge}
 use Rattle.difference.specs.inner.Queue.{Joined, Kept, Visited, entryOf}
 use Rattle.difference.specs.inner.State.{Half, State, Turn}
 use Rattle.dfa.specs.Step.{Next, Past}

@@ -18,10 +18,6 @@ pub record Entry : Type 0 where
   pub right : ℕ
   pub word : List ℕ
 
--- the class of a becomes that of b
-abbrev pub merge : (ℕ → ℕ) → ℕ → ℕ → ℕ → ℕ
-merge rep a b x = cond (eqb (rep x) (rep a)) (rep b) (rep x)
-
 abbrev pub one-if : Bool → ℕ
 one-if true = 1
 one-if false = 0

@@ -6,7 +6,7 @@ use Prim.Native.Nat.{_*_, _+_, _<_, _≤_, ℕ}
 use lib.ListN.{getD, length}
 use Rattle.dfa.specs.Word.{accepting}
 use Rattle.difference.specs.Outcome.{ToldApart}
-use Rattle.difference.specs.Spelled.{Spelled}
+use Rattle.search_words.specs.Spelled.{Spelled}
 use Rattle.difference.specs.declared.Task.{Task}
 use Rattle.difference.specs.declared.search.Level.{Level}
 use Rattle.difference.specs.declared.search.Level.the-variants.{Alike, Apart}

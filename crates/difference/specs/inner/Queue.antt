@@ -4,8 +4,9 @@ use mathlib.Core.Logic.{_≢_, _⊎_}
 use mathlib.Core.Path.{_≡_}
 use Prim.Native.Nat.{_*_, _+_, _<_, _≤_, suc, ℕ}
 use lib.ListN.{getD, set}
-use Rattle.difference.specs.inner.Classes.{Low, Rep}
-use Rattle.difference.specs.inner.Comparison.{Entry, merge, snoc}
+use Rattle.search_words.specs.Classes.{Low, Rep}
+use Rattle.difference.specs.inner.Comparison.{Entry, snoc}
+use Rattle.search_words.specs.Classes.{merge}
 
 -- the words from n on are the entries E
 pub record Queue (n : ℕ) (ws : List ℕ) (tail : ℕ) (E : ℕ → Entry) : Type 0 where

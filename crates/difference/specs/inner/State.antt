@@ -7,7 +7,7 @@ use Rattle.dfa.specs.Graph.{Edges, letter, look, rest, δ}
 use Rattle.difference.specs.Outcome.{Setting}
 use Rattle.dfa.specs.Word.{accepting}
 use Rattle.difference.specs.declared.Task.{Task}
-use Rattle.difference.specs.inner.Classes.{Low, Rep}
+use Rattle.search_words.specs.Classes.{Low, Rep}
 use Rattle.difference.specs.inner.Comparison.{Entry, Mid, Top}
 use Rattle.difference.specs.inner.Queue.{Queue, Grown}
 

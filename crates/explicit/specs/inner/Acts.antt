@@ -10,10 +10,10 @@ use Rattle.machine.specs.Action.{Next, to, out, dead, Heard, Listen, calling, o
 use Rattle.machine.specs.Edge.{edge-hear}
 use Rattle.machine.specs.Settle.{Index}
 use Rattle.nodes.specs.Rep.{TyRow}
-use Rattle.positions.specs.declared.Move.{Move as Record}
-use Rattle.positions.specs.declared.Out.{Out}
-use Rattle.positions.specs.declared.Out.the-variants.{Go, Exit, Say, Hear, Stuck}
-use Rattle.positions.specs.MoveKind.{OPENING, NO-MOVE}
+use Rattle.term_positions.specs.declared.Move.{Move as Record}
+use Rattle.term_positions.specs.declared.Out.{Out}
+use Rattle.term_positions.specs.declared.Out.the-variants.{Go, Exit, Say, Hear, Stuck}
+use Rattle.term_positions.specs.MoveKind.{OPENING, NO-MOVE}
 use Rattle.automaton.specs.walk.Shows.{moveOf, Awaits}
 use Rattle.part_path.specs.States.{WHOLE}
 

@@ -9,13 +9,13 @@ use Rattle.language.specs.Number.{numbers}
 use Rattle.language.specs.Order.{codeAt, rank}
 use Rattle.explicit.specs.Letter.{KIND-UNIT, ID-UNIT, ARGUMENT-UNIT}
 use Rattle.part_rows.specs.Row.{word}
-use Rattle.positions.specs.declared.Move.{Move}
-use Rattle.positions.specs.declared.Out.{Out}
-use Rattle.positions.specs.declared.Out.the-variants.{Go, Exit, Say, Hear, Stuck}
-use Rattle.positions.specs.MoveKind.{RUN, DONE, ASK, READ, OK, VALUE, WRITE, OPENING}
+use Rattle.term_positions.specs.declared.Move.{Move}
+use Rattle.term_positions.specs.declared.Out.{Out}
+use Rattle.term_positions.specs.declared.Out.the-variants.{Go, Exit, Say, Hear, Stuck}
+use Rattle.term_positions.specs.MoveKind.{RUN, DONE, ASK, READ, OK, VALUE, WRITE, OPENING}
 use Rattle.part_rows.specs.PartKind.{CLASS, VALUES}
-use Rattle.positions.specs.Row.{SHORTS, sumOf, nameId, partClass, partValues}
-use Rattle.positions.specs.Types.{questionLimit}
+use Rattle.term_positions.specs.Row.{SHORTS, sumOf, nameId, partClass, partValues}
+use Rattle.term_positions.specs.Types.{questionLimit}
 use Rattle.name_use.specs.Name.{noMove}
 use Rattle.explicit.specs.declared.Wait.{Wait}
 use Rattle.part_path.specs.declared.Site.{Site}

@@ -3,7 +3,7 @@
 use Prim.Native.Nat.{ℕ, zero, suc, _-_, _%_}
 use mathlib.Core.List.{List, [], _∷_}
 use lib.ListN.{set}
-use Rattle.positions.specs.Row.{sumOf, mulAddOf}
+use Rattle.term_positions.specs.Row.{sumOf, mulAddOf}
 
 -- where parts of an automaton of n states begin: this many times n words are before the first edges of its states, and
 -- before the end of its edges

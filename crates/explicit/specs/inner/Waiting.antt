@@ -3,10 +3,10 @@ use mathlib.Core.Path.{_≡_}
 use mathlib.Core.List.{List}
 use Prim.Native.Nat.{ℕ, _≤_, _<_}
 use Rattle.language.specs.declared.Numbers.{Numbers}
-use Rattle.positions.specs.declared.Move.{Move}
-use Rattle.positions.specs.declared.Out.the-variants.{Exit}
-use Rattle.positions.specs.MoveKind.{OPENING}
-use Rattle.positions.specs.Row.{nameId}
+use Rattle.term_positions.specs.declared.Move.{Move}
+use Rattle.term_positions.specs.declared.Out.the-variants.{Exit}
+use Rattle.term_positions.specs.MoveKind.{OPENING}
+use Rattle.term_positions.specs.Row.{nameId}
 use Rattle.part_path.specs.declared.Site.{Site}
 use Rattle.part_path.specs.States.{sheetAt, targetOf}
 use Rattle.part_path.specs.Path.{riseAll}

@@ -1,6 +1,6 @@
 -- `visit` keeps what `Visited` says.
 use native.Mathlib.Omega.{arith}
-use Rattle.difference.proofs.laws.Classes.{sinks-of}
+use Rattle.search_words.proofs.ClassLaws.{sinks-of}
 use native.Mathlib.Numerals.{add-one}
 use borrow.Author.Needs.{needs}
 use Rattle.difference.proofs.laws.Queue.{visit-same, visit-new}

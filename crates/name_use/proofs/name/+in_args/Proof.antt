@@ -11,12 +11,12 @@ use Rattle.name_use.proofs.name.in_args.Kinds as in-args-kinds
 use Rattle.name_use.proofs.name.+in_args.Lts-in_args as in-args-lts
 use Rattle.name_use.proofs.name.arg_in.Reads as arg-in-reads
 use Rattle.name_use.proofs.name.copies.Reads as copies-reads
-use Rattle.positions.proofs.row.part_at.Reads as part-at-reads
-use Rattle.positions.proofs.row.part_class.Reads as part-class-reads
-use Rattle.positions.proofs.row.part_values.Reads as part-values-reads
-use Rattle.positions.proofs.row.part_weight.Reads as part-weight-reads
-use Rattle.positions.proofs.row.sum.Reads as sum-reads
-use Rattle.positions.proofs.types.answers.Reads as answers-reads
+use Rattle.term_positions.proofs.row.part_at.Reads as part-at-reads
+use Rattle.term_positions.proofs.row.part_class.Reads as part-class-reads
+use Rattle.term_positions.proofs.row.part_values.Reads as part-values-reads
+use Rattle.term_positions.proofs.row.part_weight.Reads as part-weight-reads
+use Rattle.term_positions.proofs.row.sum.Reads as sum-reads
+use Rattle.term_positions.proofs.types.answers.Reads as answers-reads
 use Rattle.name_use.proofs.name.+in_args.{statement}
 use Rattle.name_use.proofs.name.+in_args.Tie.{close}
 

@@ -10,10 +10,10 @@ use Rattle.name_use.proofs.name.reply.Reads as reply
 use Rattle.name_use.proofs.name.reply.Kinds as reply-kinds
 use Rattle.name_use.proofs.name.+reply.Lts-reply as reply-lts
 use Rattle.name_use.proofs.name.reply_here.Reads as reply-here-reads
-use Rattle.positions.proofs.row.part_class.Reads as part-class-reads
-use Rattle.positions.proofs.row.part_values.Reads as part-values-reads
-use Rattle.positions.proofs.row.sum.Reads as sum-reads
-use Rattle.positions.proofs.types.answers.Reads as answers-reads
+use Rattle.term_positions.proofs.row.part_class.Reads as part-class-reads
+use Rattle.term_positions.proofs.row.part_values.Reads as part-values-reads
+use Rattle.term_positions.proofs.row.sum.Reads as sum-reads
+use Rattle.term_positions.proofs.types.answers.Reads as answers-reads
 use Rattle.name_use.proofs.name.+reply.{statement}
 use Rattle.name_use.proofs.name.+reply.Tie.{close}
 

@@ -9,7 +9,7 @@ use Rattle.name_use.proofs.name.spots.Reads as spots
 use Rattle.name_use.proofs.name.spots.Kinds as spots-kinds
 use Rattle.name_use.proofs.name.+spots.Lts-spots as spots-lts
 use Rattle.name_use.proofs.name.copies.Reads as copies-reads
-use Rattle.positions.proofs.row.sum.Reads as sum-reads
+use Rattle.term_positions.proofs.row.sum.Reads as sum-reads
 use Rattle.name_use.proofs.name.+spots.{statement}
 use Rattle.name_use.proofs.name.+spots.Tie.{close}
 

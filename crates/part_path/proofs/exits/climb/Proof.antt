@@ -4,7 +4,7 @@ use native.Mathlib.Omega.{arith}
 use mathlib.Core.Path.{_≡_, refl}
 use Prim.Native.Nat.{_≤_}
 use Rattle.language.specs.declared.Numbers.{Numbers}
-use Rattle.positions.specs.declared.Out.the-variants.{Go}
+use Rattle.term_positions.specs.declared.Out.the-variants.{Go}
 use Rattle.part_path.specs.Path.{riseAll}
 use Rattle.part_path.specs.Levels.{framesOf}
 use Rattle.part_path.proofs.PathCode.{climb-again, climb-last}

@@ -2,7 +2,7 @@
 use borrow.Author.Needs.{needs}
 use native.Mathlib.Omega.{arith}
 use mathlib.Core.Path.{refl, _∙_}
-use Rattle.positions.specs.declared.Out.the-variants.{Exit}
+use Rattle.term_positions.specs.declared.Out.the-variants.{Exit}
 use Rattle.part_path.proofs.PathSteps.{Exiting, exit-first, exit-last, exit-within, exit-leads, exit-stops, exit-says, exit-hears}
 use Rattle.part_path.proofs.PathSteps.{exit-again, exit-less, own-there}
 use Rattle.part_path.proofs.PathCode.{fewer}

@@ -1,0 +1,4 @@
+pub mod Merging
+pub mod ClassLaws
+pub mod Trace
+pub mod Spell

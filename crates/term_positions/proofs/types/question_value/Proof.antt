@@ -1,0 +1,21 @@
+-- What `question_value` gives is what `questionValue` says, case by case.
+use borrow.Author.Needs.{needs}
+use borrow.Author.Tests.{lt-ltb, le-ltb, eq-eqb, ne-eqb}
+use Rattle.term_positions.specs.Types.{questionValue}
+use Rattle.term_positions.proofs.types.question_value.Statement.{statement}
+use Rattle.term_positions.proofs.types.question_value.Tie as tie
+
+returns : tie.Need-returns
+unfolding questionValue
+returns c = simp (eq-eqb _ _ (c .before .if1 .taken), lt-ltb _ _ (c .if2 .taken))
+
+returns-2 : tie.Need-returns-2
+unfolding questionValue
+returns-2 c = simp (eq-eqb _ _ (c .before .if1 .taken), le-ltb _ _ (c .if2 .left))
+
+returns-3 : tie.Need-returns-3
+unfolding questionValue
+returns-3 c = simp (ne-eqb _ _ (c .if1 .left))
+
+pub question-value-spec : {M : Type 1} → statement M
+question-value-spec = tie.close (tie.spec (search needs) returns returns-2 returns-3)

@@ -1,0 +1,17 @@
+-- What `questions` gives is what `questionsOf` says, case by case.
+use borrow.Author.Needs.{needs}
+use borrow.Author.Tests.{eq-eqb, ne-eqb}
+use Rattle.term_positions.specs.Types.{questionsOf}
+use Rattle.term_positions.proofs.types.questions.Statement.{statement}
+use Rattle.term_positions.proofs.types.questions.Tie as tie
+
+returns : tie.Need-returns
+unfolding questionsOf
+returns c = simp (← c .sum .ensures, eq-eqb _ _ (c .before .if1 .taken))
+
+returns-2 : tie.Need-returns-2
+unfolding questionsOf
+returns-2 c = simp (ne-eqb _ _ (c .if1 .left))
+
+pub questions-spec : {M : Type 1} → statement M
+questions-spec = tie.close (tie.spec (λ c κs. search needs) returns returns-2)
