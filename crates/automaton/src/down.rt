@@ -1,5 +1,7 @@
 // From a position of a term to one of its parts: sums count the first part first, and a part that is copied for
 // each value has its positions at the value times its weight.
+use name_use::name::framed;
+use name_use::name::in_name;
 use part_rows::kind::ASSIGN;
 use part_rows::kind::CONSTANT;
 use part_rows::kind::FETCH;
@@ -10,8 +12,6 @@ use part_rows::kind::OPERATE;
 use part_rows::kind::SEQUENCE;
 use part_rows::kind::SKIP;
 use part_rows::kind::WHILE;
-use name_use::name::framed;
-use name_use::name::in_name;
 use part_rows::row::DETAIL;
 use part_rows::row::KIND;
 use term_positions::Out;
@@ -36,13 +36,9 @@ use term_positions::row::part_weight;
 use term_positions::row::sum;
 ghost use mathlib.Core.Path.{_≡_};
 ghost use Rattle.automaton.specs.walk.Down.{leavesOf, inFetch, inSeq, inWhile, condIn, inCond, operateIn};
-ghost use Rattle.automaton.specs.walk.Down.{inOperate, assignIn, inAssign, inNew, downOf};
-ghost use Rattle.name_use.specs.Name.{noMove};
-ghost use Rattle.part_rows.specs.Row.{word};
-ghost use mathlib.Core.List.{List};
-ghost use Prim.Native.Nat.{ℕ};
-use term_positions::roles::AS_IS;
+ghost use Rattle.automaton.specs.walk.Down.{inOperate, assignIn, inAssign, inNew, downBare};
 use records::read::SHORTS;
+use term_positions::roles::AS_IS;
 
 // The exit with an answer.
 pub(crate) fn leaves(kind: usize, value: usize) -> Spot
@@ -299,10 +295,10 @@ pub(crate) fn in_new(t: &[u16], at: usize, q: usize, x: usize, k: usize) -> Spot
     }
 }
 
-// Position k of the term at a place, asked the question q of value x, where it is no private variable.
+// Position k of the term at a place, asked the question q of value x. A private variable, whose value is not known here,
+// is stuck.
 pub fn down(t: &[u16], at: usize, q: usize, x: usize, k: usize) -> Spot
-    ensures { λ r. ⌜ ((s : ℕ → ℕ) → (word (now (t .entry)) at 0 ≡ 128 → ⊥)
-        → r ≡ downOf (now (t .entry)) at q x k s noMove) ⌝ }
+    ensures { λ r. ⌜ r ≡ downBare (now (t .entry)) at q x k ⌝ }
 {
     let kind = cell(t, at, KIND);
     match kind {

@@ -1,9 +1,9 @@
 // How many bytes card asks to be lent, and by which number it refuses what is lent.
 use conditions::lent::words_asked;
-use records::refusal::SPACE_TOO_SHORT;
-use records::refusal::TOO_FEW_WORDS;
 use language::Numbers;
 use records::refusal::NOT_REFUSED;
+use records::refusal::SPACE_TOO_SHORT;
+use records::refusal::TOO_FEW_WORDS;
 ghost use mathlib.Core.Path.{_≡_};
 ghost use Prim.Native.Nat.{_≤_};
 ghost use Rattle.conditions.specs.Pair.{numberOf};

@@ -12,9 +12,9 @@ use crate::tested::words_ok;
 use difference::Task;
 use difference::Verdict;
 use difference::search::first_difference;
-use search_words::word::spell;
 use live::is_marked;
 use live::mark_live;
+use search_words::word::spell;
 use silent::settle;
 
 // The requirements do not hold; no word tells the two states apart; the first that does has so many letters.

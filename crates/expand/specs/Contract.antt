@@ -168,6 +168,16 @@ pub record Ready (N : Numbers) (ns : List Name) (t marks : List ℕ) (π : ℕ �
   pub shallow : depth W ≤ greatest-depth
   pub room : made N ns [] (forms N ns whole) (makes N ns whole) W ≤ ROWS
 
+-- some term is, and the rows have their length
+pub record Readied (t marks : List ℕ) (at : ℕ) (rows : List ℕ) : Type 0 where
+  pub numbers : Numbers
+  pub names : List Name
+  pub places : ℕ → ℕ
+  pub term : Written
+  pub end : ℕ
+  pub ready : Ready numbers names t marks places term at end
+  pub long : length rows ≡ WORDS
+
 -- its expansion, and that its rows are right
 pub record Whole (N : Numbers) (ns : List Name) (W : Written) (rows : List ℕ) (r n : ℕ) : Type 0 where
   pub expands : Expands N ns (decode N ns rows) whole no-slots W 0 r n

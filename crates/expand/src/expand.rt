@@ -1,9 +1,7 @@
 // The expansion: a cycle of functions, a bound of the turns to come falling. Slots hold, by the numbers of the
 // enclosing binders, the row of a new and the row of a parameter's argument; who changes them works on a copy, one for
 // all scopes and uses of procedures on the way to a row.
-use part_rows::short_kind::NEW;
 use closing::close::NO_ROW;
-use part_rows::short_kind::PROCEDURE;
 use closing::close::close_leaf;
 use closing::close::close_row;
 use closing::close::parts_of;
@@ -21,12 +19,14 @@ use closing::words::slot_at;
 use closing::words::used_at;
 use closing::words::word_at;
 use part_rows::row::TABLE;
+use part_rows::short_kind::NEW;
+use part_rows::short_kind::PROCEDURE;
 ghost use mathlib.Core.Path.{_≡_};
 ghost use Prim.Native.Nat.{_+_, _≤_, _<_};
 ghost use lib.ListN.{length, getD, set};
 ghost use Rattle.part_rows.specs.Row.{word};
 ghost use Rattle.closing.specs.Close.{comeOf, moreOf};
-ghost use Rattle.expand.specs.Contract.{Expanding, Piece, Pieces, Closed, Entered, Recorded, Top};
+ghost use Rattle.expand.specs.Contract.{Expanding, Piece, Pieces, Closed, Entered, Recorded, Top, Readied};
 use part_rows::short_kind::ROUTINE;
 use records::limits::MOST_BYTES;
 
@@ -302,6 +302,7 @@ pub fn expand_term(
     rows: &mut [u16; TERM_WORDS],
     at: u16,
 ) -> Made
+    requires { ⌜ Readied (now t) (now marks) at (now rows) ⌝ }
     ensures { λ r. ⌜ Top (now (t .entry)) (now (marks .entry)) at (now (rows .entry)) (now (rows .exit))
         (r .row) (r .count) ⌝ }
 {

@@ -30,9 +30,9 @@ ghost use Rattle.explicit.specs.inner.Waiting.{Listening, Calling, Argum
 ghost use Rattle.explicit.specs.inner.Rows.{withEdges, past};
 ghost use Rattle.explicit.specs.inner.Moves.{valueEdge, valueEdges, blockEdges, heardEdges, questionEdges};
 ghost use Rattle.explicit.specs.inner.Moves.{askedEdges, askingOf};
-use term_positions::moves::MOVE_KINDS;
 use part_path::levels::PATH_WORDS;
 use records::limits::MOST_ARGUMENTS;
+use term_positions::moves::MOVE_KINDS;
 
 // The name itself, as an argument.
 const OWN: usize = 0;

@@ -26,10 +26,10 @@ ghost use Prim.Native.Nat.{_%_, _≤_};
 ghost use Rattle.language.specs.Number.{finites};
 ghost use Rattle.language.specs.Order.{codeAt, rank};
 ghost use Rattle.explicit.specs.inner.Moves.{letterOf, answerLimit, answerKind, limitOf, waitOf};
-use term_positions::types::COMMANDS;
-use term_positions::types::EXPRESSIONS;
 use records::limits::BYTES;
 use records::read::SHORTS;
+use term_positions::types::COMMANDS;
+use term_positions::types::EXPRESSIONS;
 
 // The rank of the value 0: a rank is the signed value plus this.
 pub const RANK_ZERO: usize = 128;

@@ -7,15 +7,13 @@ use mathlib.Core.Bool.{Bool, true, false, _&&_, not}
 use mathlib.Core.List.{List, [], _∷_, _++_, append-assoc}
 use lib.ListN.{length, getD, drop}
 use lib.Pow.{pow-pos, pow-mono}
-use lib.Dec.{eqb}
 use lib.Count.{ones, ones-le, trailingZeros}
 use lib.Bits.{bitAnd}
-use borrow.Author.Tests.{ne-eqb}
-use Rattle.language.specs.Choice.{pick}
-use Rattle.language.specs.Term.{Often, freely, once}
+use Rattle.language.specs.Term.{Often, freely, once, onces}
 use Rattle.records.specs.Kind.{shapeOf}
 use Rattle.records.specs.declared.kind.Rule.{Rule}
-use Rattle.records.specs.declared.kind.Shape.the-variants.{Part, Declare}
+use Rattle.records.specs.declared.kind.Shape.{Shape}
+use Rattle.records.specs.declared.kind.Shape.the-variants.{Part, Declare, Retire, Unknown}
 use Rattle.records.specs.declared.edition.Edition.{Edition}
 use Rattle.records.specs.declared.edition.Edition.the-variants.{Present}
 use Rattle.procedures.specs.Written.{Written, Name, declare, retire, Sheet}
@@ -27,28 +25,37 @@ use Rattle.procedures.proofs.Marking.{bits-ones, first-wanted}
 use Rattle.sheet.specs.Encoding.{encode, declareKind, encodeName, encodeNames, encodeSheet}
 use Rattle.sheet.specs.Reader.{readUnder, readSheet, accepted}
 use Rattle.judge.specs.Mark.{usesOf}
-use Rattle.sheet.specs.table.Notes.{isDeclaration, isNoted, mask, every}
-use Rattle.judge.specs.Masks.{usesBy, usesAt}
+use Rattle.sheet.specs.table.Notes.{isNoted}
+use Rattle.judge.specs.Masks.{maskAs, mask, every, usesBy, usesAt, declaredAt}
 use Rattle.sheet.proofs.Bytes.{byte-there, open-one}
 use Rattle.sheet.proofs.NameBytes.{declared-there, declared-past}
 use Rattle.sheet.proofs.CompleteNames.{kind-of}
 use Rattle.sheet.proofs.Right.{gives}
 
 -- so many records have so many bits
+bit-below : (b : Bool) (m p : ℕ) → m < p → bit b + 2 * m < 2 * p
+unfolding bit
+bit-below true m p h = omega arith
+bit-below false m p h = omega arith
+
+shape-below : (f : ℕ → Bool) (s : List ℕ) (at p : ℕ) (rest : ℕ → ℕ) → ((n : ℕ) → rest n < p) → (h : Shape) →
+    maskAs f s at rest h < 2 * p
+unfolding maskAs
+shape-below f s at p rest l (Declare body asks) = bit-below (f (getD s (at + 1) 0)) _ p (l (at + 1 + body))
+shape-below f s at p rest l (Retire body) = omega (arith, l (at + 1 + body))
+shape-below f s at p rest l (Part body parts rule) = omega (arith, l 0)
+shape-below f s at p rest l Unknown = omega (arith, l 0)
+
+doubled : (m p q : ℕ) → m < 2 * p → q ≡ p * 2 → m < q
+doubled m p q h e = omega arith
+
 pub mask-below : (f : ℕ → Bool) (left : ℕ) (s : List ℕ) (at : ℕ) → mask f left s at < 2 ^ left
-unfolding mask bit
+unfolding mask
 mask-below f zero s at = omega arith
 mask-below f (suc left) s at =
-    go (isDeclaration (getD s at 0)) (eqb (getD s at 0) 2) (f (getD s (at + 1) 0)) (mask f left s (at + 8))
-      (mask f left s (at + 2)) (2 ^ left) (2 ^ suc left) (mask-below f left s (at + 8))
-      (mask-below f left s (at + 2)) (pow-suc 2 left) (pow-pos left)
-  where
-    go : (a b c : Bool) (m n p q : ℕ) → m < p → n < p → q ≡ p * 2 → 0 < p →
-        pick a (bit c + 2 * m) (pick b (2 * n) 0) < q
-    go true b true m n p q h g e l = omega arith
-    go true b false m n p q h g e l = omega arith
-    go false true c m n p q h g e l = omega arith
-    go false false c m n p q h g e l = omega arith
+    doubled _ (2 ^ left) (2 ^ suc left)
+      (shape-below f s at (2 ^ left) (λ next. mask f left s next) (λ next. mask-below f left s next)
+        (shapeOf (getD s at 0))) (pow-suc 2 left)
 
 -- a bit more fits a word
 pub mask-fits : (f : ℕ → Bool) (left : ℕ) (s : List ℕ) (at : ℕ) {rest : ℕ} → rest ≡ mask f (left - 1) s at → left ≤ 32 →
@@ -67,88 +74,85 @@ module _ (f : ℕ → Bool) (s : List ℕ) (at : ℕ) where
   one-fewer : (left : ℕ) → (left ≡ 0 → ⊥) → left ≡ suc (left - 1)
   one-fewer left h = omega arith
 
-  mask-declared : {left kind rest id : ℕ} {d : Bool} → (left ≡ 0 → ⊥) → kind ≡ getD s at 0 →
-      d ≡ isDeclaration kind → d ≡ true → rest ≡ mask f (left - 1) s (at + 8) → id ≡ getD s (at + 1) 0 →
-      bit (f id) + 2 * rest ≡ mask f left s at
+  mask-shape : (left : ℕ) {kind : ℕ} {h g : Shape} → (left ≡ 0 → ⊥) → kind ≡ getD s at 0 → h ≡ shapeOf kind → h ≡ g →
+      maskAs f s at (λ next. mask f (left - 1) s next) g ≡ mask f left s at
   unfolding mask
-  mask-declared {left} h k g t e i =
-      rw (one-fewer left h, ap isDeclaration (sym k) ∙ (sym g ∙ t), e, i) refl
+  mask-shape left n k e d =
+      ap (maskAs f s at (λ next. mask f (left - 1) s next)) (sym d ∙ (e ∙ ap shapeOf k))
+      ∙ ap (λ (l : ℕ). mask f l s at) (sym (one-fewer left n))
 
-  pub mask-set : {left kind rest id : ℕ} {b d : Bool} → (left ≡ 0 → ⊥) → kind ≡ getD s at 0 →
-      d ≡ isDeclaration kind → d ≡ true → rest ≡ mask f (left - 1) s (at + 8) → id ≡ getD s (at + 1) 0 → b ≡ f id →
-      b ≡ true → 1 + 2 * rest ≡ mask f left s at
-  unfolding bit
-  mask-set {rest = rest} h k g z e i n t = ap (λ c. bit c + 2 * rest) (sym t ∙ n) ∙ mask-declared h k g z e i
+  mask-declared : {left kind rest id body asks : ℕ} {h : Shape} → (left ≡ 0 → ⊥) → kind ≡ getD s at 0 →
+      h ≡ shapeOf kind → h ≡ Declare body asks → rest ≡ mask f (left - 1) s (at + 1 + body) →
+      id ≡ getD s (at + 1) 0 → bit (f id) + 2 * rest ≡ mask f left s at
+  unfolding maskAs
+  mask-declared {left} n k e d r i = ap₂ (λ (j m : ℕ). bit (f j) + 2 * m) i r ∙ mask-shape left n k e d
 
-  pub mask-unset : {left kind rest id : ℕ} {b d : Bool} → (left ≡ 0 → ⊥) → kind ≡ getD s at 0 →
-      d ≡ isDeclaration kind → d ≡ true → rest ≡ mask f (left - 1) s (at + 8) → id ≡ getD s (at + 1) 0 → b ≡ f id →
-      b ≡ false → 2 * rest ≡ mask f left s at
+  pub mask-set : {left kind rest id body asks : ℕ} {b : Bool} {h : Shape} → (left ≡ 0 → ⊥) → kind ≡ getD s at 0 →
+      h ≡ shapeOf kind → h ≡ Declare body asks → rest ≡ mask f (left - 1) s (at + 1 + body) →
+      id ≡ getD s (at + 1) 0 → b ≡ f id → b ≡ true → 1 + 2 * rest ≡ mask f left s at
   unfolding bit
-  mask-unset {rest = rest} h k g y e i n t =
+  mask-set {rest = rest} n k e d r i g t = ap (λ c. bit c + 2 * rest) (sym t ∙ g) ∙ mask-declared n k e d r i
+
+  pub mask-unset : {left kind rest id body asks : ℕ} {b : Bool} {h : Shape} → (left ≡ 0 → ⊥) → kind ≡ getD s at 0 →
+      h ≡ shapeOf kind → h ≡ Declare body asks → rest ≡ mask f (left - 1) s (at + 1 + body) →
+      id ≡ getD s (at + 1) 0 → b ≡ f id → b ≡ false → 2 * rest ≡ mask f left s at
+  unfolding bit
+  mask-unset {rest = rest} n k e d r i g t =
       let z : 2 * rest ≡ bit false + 2 * rest = omega arith in
-      z ∙ (ap (λ c. bit c + 2 * rest) (sym t ∙ n) ∙ mask-declared h k g y e i)
+      z ∙ (ap (λ c. bit c + 2 * rest) (sym t ∙ g) ∙ mask-declared n k e d r i)
 
-  pub mask-retired : {left kind rest : ℕ} → (left ≡ 0 → ⊥) → kind ≡ getD s at 0 → kind ≡ 2 →
-      rest ≡ mask f (left - 1) s (at + 2) → 2 * rest ≡ mask f left s at
-  unfolding mask isDeclaration
-  mask-retired {left} h k g e = rw (one-fewer left h, sym k ∙ g, e) refl
+  pub mask-retired : {left kind rest body : ℕ} {h : Shape} → (left ≡ 0 → ⊥) → kind ≡ getD s at 0 →
+      h ≡ shapeOf kind → h ≡ Retire body → rest ≡ mask f (left - 1) s (at + 1 + body) → 2 * rest ≡ mask f left s at
+  unfolding maskAs
+  mask-retired {left} n k e d r = ap (λ (m : ℕ). 2 * m) r ∙ mask-shape left n k e d
 
-  pub mask-ended : (left : ℕ) {kind : ℕ} {d : Bool} → kind ≡ getD s at 0 → d ≡ isDeclaration kind → d ≡ false →
-      (kind ≡ 2 → ⊥) → 0 ≡ mask f left s at
-  unfolding mask
-  mask-ended left k g t h = go left
-    where
-      go : (left : ℕ) → 0 ≡ mask f left s at
-      go zero = refl
-      go (suc left) = rw (← k, sym g ∙ t, ne-eqb _ 2 h) refl
+  pub mask-part : {left kind body parts : ℕ} {rule : Rule} {h : Shape} → (left ≡ 0 → ⊥) → kind ≡ getD s at 0 →
+      h ≡ shapeOf kind → h ≡ Part body parts rule → 0 ≡ mask f left s at
+  unfolding maskAs
+  mask-part {left} n k e d = mask-shape left n k e d
+
+  pub mask-unknown : {left kind : ℕ} {h : Shape} → (left ≡ 0 → ⊥) → kind ≡ getD s at 0 → h ≡ shapeOf kind →
+      h ≡ Unknown → 0 ≡ mask f left s at
+  unfolding maskAs
+  mask-unknown {left} n k e d = mask-shape left n k e d
 
 -- the ids of declared names
 unfoldable ofIds : (ℕ → Bool) → Name → Bool
 ofIds f (declare often id ty tys) = f id
 ofIds f (retire id) = false
 
--- the place after a body
-past-body : (s : List ℕ) (at n i : ℕ) {u : List ℕ} → n ≡ 1 + i → drop (at + 1 + i) s ≡ u → drop (at + n) s ≡ u
-past-body s at n i e f =
-    let g : at + n ≡ at + 1 + i = omega arith in
-    ap (λ (j : ℕ). drop j s) g ∙ f
+-- the shapes of name records
+declare-shape : (often : Often) → shapeOf (declareKind often) ≡ Declare 7 (onces often)
+unfolding shapeOf declareKind onces
+declare-shape freely = refl
+declare-shape once = refl
 
--- the kind of a part of a term is not 3
-not-declared : (k body parts : ℕ) (rule : Rule) → shapeOf k ≡ Part body parts rule → k ≡ 3 → ⊥
+retire-shape : shapeOf 2 ≡ Retire 1
 unfolding shapeOf
-not-declared k body parts rule e t =
-    let h : Declare 7 1 ≡ Part body parts rule = rw t at e in
-    let z : _≡_ {A = ℕ} 0 1 = cc in omega arith
-
--- the kinds of declare records
-declare-is : (often : Often) → isDeclaration (declareKind often) ≡ true
-unfolding isDeclaration declareKind
-declare-is freely = refl
-declare-is once = refl
+retire-shape = refl
 
 -- the records of names that lie at a place before a term
 mask-names : (f : ℕ → Bool) (s : List ℕ) (W : Written) (ns : List Name) (left at : ℕ) → length ns ≤ left →
     drop at s ≡ encodeNames ns ++ encode W → mask f left s at ≡ bits (ofIds f) ns
-unfolding mask isDeclaration bits bit ofIds encodeNames encodeName
+unfolding mask maskAs bits bit ofIds encodeNames encodeName
 mask-names f s W [] zero at h e = refl
 mask-names f s W [] (suc left) at h e =
     let K = kind-of W in
     let b = byte-there s at (K .kind) (K .tail) (e ∙ K .bytes) in
-    rw (b .1, ne-eqb (K .kind) 1 (λ g. omega (arith, K .high)),
-      ne-eqb (K .kind) 3 (λ g. not-declared (K .kind) (K .body) (K .parts) (K .rule) (K .shape) g),
-      ne-eqb (K .kind) 2 (λ g. omega (arith, K .high))) refl
+    rw (b .1, K .shape) refl
 mask-names f s W (n ∷ ns) zero at h e = absurd (omega arith)
 mask-names f s W (declare often id ty tys ∷ ns) (suc left) at h e =
     let D = declared-there s at often id ty tys (encodeNames ns ++ encode W)
       (e ∙ append-assoc (encodeName (declare often id ty tys)) (encodeNames ns) (encode W)) in
-    rw (D .kind .1, declare-is often, D .id-byte .1)
-      (ap (λ m. bit (f id) + 2 * m) (mask-names f s W ns left (at + 8) (omega arith)
-        (past-body s at 8 7 refl (declared-past s [] at often id ty tys (encodeNames ns ++ encode W) D))))
+    rw (D .kind .1, declare-shape often, D .id-byte .1)
+      (ap (λ m. bit (f id) + 2 * m) (mask-names f s W ns left (at + 1 + 7) (omega arith)
+        (declared-past s [] at often id ty tys (encodeNames ns ++ encode W) D)))
 mask-names f s W (retire id ∷ ns) (suc left) at h e =
     let o = open-one s at 2 id (encodeNames ns ++ encode W)
       (e ∙ append-assoc (encodeName (retire id)) (encodeNames ns) (encode W)) in
     let z : 2 * bits (ofIds f) ns ≡ bit false + 2 * bits (ofIds f) ns = omega arith in
-    rw (o .0 .1) (ap (λ m. 2 * m) (mask-names f s W ns left (at + 2) (omega arith) (past-body s at 2 1 refl (o .2))) ∙ z)
+    rw (o .0 .1, retire-shape)
+      (ap (λ m. 2 * m) (mask-names f s W ns left (at + 1 + 1) (omega arith) (o .2)) ∙ z)
 
 -- the same records
 bits-same : (f g : Name → Bool) (ns : List Name) → ((n : Name) → f n ≡ g n) → bits f ns ≡ bits g ns
@@ -200,8 +204,9 @@ module _ (ed : Edition) (s : List ℕ) (S : Sheet) (ty n : ℕ) (reads : readUnd
       same (declare often id ty tys) = refl
       same (retire id) = refl
 
-  pub counted : ones (mask every 32 s 2) ≡ declaredIn S
-  unfolding declaredIn
+  -- the records that declare a name are those of the sheet
+  pub counted : declaredAt s ≡ declaredIn S
+  unfolding declaredAt declaredIn
   counted = ap ones declared-mask ∙ bits-ones isDeclared (S .names)
 
   module _ (t : List ℕ) (notes : (id : ℕ) → id < 256 → isNoted t id ≡ uses (S .names) id [] (S .term)) where

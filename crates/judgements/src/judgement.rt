@@ -135,13 +135,7 @@ fn judge_unlike(s: &[u8], place: usize, j: u8) -> Judged
 }
 
 // The id of parameter j: in no name record, no earlier parameter's, and hiding no enclosing binder.
-fn judge_parameter_id(
-    edition: Edition,
-    s: &[u8],
-    st: &[u32; 255],
-    place: usize,
-    j: u8,
-) -> Judged
+fn judge_parameter_id(edition: Edition, s: &[u8], st: &[u32; 255], place: usize, j: u8) -> Judged
     requires { ⌜ place < 65536 ⌝ }
     ensures { λ r. ⌜ r ≡ parameterId edition (now (s .entry)) (now (st .entry)) place j ⌝ }
 {

@@ -23,14 +23,14 @@ use Rattle.expand.proofs.Places.{shown-row}
 use Rattle.expand.proofs.Automaton.{rows-represent}
 use Rattle.sheet.specs.Reader.{numbersAt}
 use Rattle.tabled.specs.Tabled.{places}
-use Rattle.judge.specs.Judged.{Judged, JudgedBy}
+use Rattle.judge.specs.Judged.{Judged, JudgedBy, refusalIn}
 use Rattle.judge.specs.declared.mark.Uses.{Uses}
 use Rattle.judge.specs.declared.judge.Judgement.{Judgement}
 use Rattle.judge.specs.declared.judge.Judgement.the-variants as judged
 use Rattle.sheet.proofs.Right.{gives}
 use Rattle.weighing.specs.Stack.{marksIn}
 use Rattle.weighing.proofs.Same.{marked-agree}
-use Rattle.load.specs.Loaded.{MarksOf, Expanded, Ready, LoadedBy}
+use Rattle.load.specs.Loaded.{MarksOf, Expanded, Ready, LoadedBy, Shows}
 use Rattle.load.specs.declared.load.Loaded.the-variants.{Sheet, Refused}
 
 -- a sheet that is judged, by either rule
@@ -47,10 +47,10 @@ root-small {s = s} {u = u} J =
     omega (arith, r .before, r .within)
 
 -- one that is refused
-pub load-refused : (s u after : List ℕ) {x : Judgement} {y : Refusal} → JudgedBy Present s x u →
-    x ≡ judged.Refused y → LoadedBy s (Refused y) after
-unfolding JudgedBy LoadedBy
-load-refused s u after J e = rw e at J
+pub load-refused : (s u after : List ℕ) {x : Judgement} {y z : Refusal} → JudgedBy Present s x u →
+    x ≡ judged.Refused y → z ≡ refusalIn x → LoadedBy s (Refused z) after
+unfolding JudgedBy LoadedBy refusalIn
+load-refused s u after J e f = let j = rw e at J in rw (f, e) j
 
 module _ {s u : List ℕ} {root ty size : ℕ} {uses : Uses} (J : Judged Present s root ty size uses u) where
   abbrev S : written.Sheet
@@ -73,6 +73,14 @@ module _ {s u : List ℕ} {root ty size : ℕ} {uses : Uses} (J : Judged Present
       fine = ordered .fine-term;
       shallow = ordered .shallow;
       room = omega (arith, rows-sheet S, accepted-nodes S ordered) }
+
+  -- the table shows it
+  pub shows : {rows : List ℕ} → length rows ≡ 110592 → Shows u root rows
+  shows l = record {
+      small = root-small J;
+      readied = λ M e. record {
+        numbers = S .numbers; names = S .names; places = places; term = S .term; end = J .end; ready = ready M e;
+        long = l } }
 
   -- THEOREM: the rows to which it is expanded represent its term
   pub load-sheet : {r : ℕ} {rows after : List ℕ} → Expanded u root rows after r → length rows ≡ 110592 →

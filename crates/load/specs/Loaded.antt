@@ -9,7 +9,7 @@ use Rattle.weighing.specs.Stack.{marksIn}
 use Rattle.procedures.specs.Written as written
 use Rattle.procedures.specs.Meaning.{tyOf, termOf}
 use Rattle.nodes.specs.Rep.{DEPTH, Rep}
-use Rattle.expand.specs.Contract.{Top}
+use Rattle.expand.specs.Contract.{Readied, Top}
 use Rattle.sheet.specs.Encoding.{headingLength}
 use Rattle.sheet.specs.Reader.{numbersAt, readSheet, accepted, rejected}
 use Rattle.judge.specs.Mark.{usesOf}
@@ -20,6 +20,11 @@ use Rattle.load.specs.declared.load.Loaded.the-variants.{Sheet, Refused}
 -- the marks of the first n places of the table t
 pub record MarksOf (t marks : List ℕ) (n : ℕ) : Type 0 where
   pub each : (i : ℕ) → i < n → getD marks i 0 ≡ getD (marksIn t) i 0
+
+-- the table t shows a term from the root on that can be expanded into the rows, with the marks of its places
+pub record Shows (t : List ℕ) (root : ℕ) (rows : List ℕ) : Type 0 where
+  pub small : root < most-bytes
+  pub readied : (marks : List ℕ) → MarksOf t marks most-bytes → Readied t marks root rows
 
 -- the term whose parts the table t has from the root on becomes the row r
 pub record Expanded (t : List ℕ) (root : ℕ) (rows after : List ℕ) (r : ℕ) : Type 0 where

@@ -11,10 +11,10 @@ use records::edition::Edition;
 use records::limits::MOST_BYTES;
 use records::read::short_at;
 use records::refusal::Refusal;
-ghost use Rattle.load.specs.Loaded.{MarksOf, Expanded, LoadedBy};
+ghost use Rattle.load.specs.Loaded.{MarksOf, Expanded, LoadedBy, Shows};
 ghost use mathlib.Core.Path.{_≡_};
-ghost use Prim.Native.Nat.{_<_};
 ghost use lib.ListN.{length};
+use judge::check::refusal_of;
 
 // What loading a sheet gives: the place of its term, the row of the term, its type, the sheet's size and which names it
 // uses; or the refusal.
@@ -43,7 +43,7 @@ fn copy_marks(t: &[u16], marks: &mut [u16])
 
 // Expands the term whose parts the table has from the root on, and gives its row.
 fn expand_root(t: &[u16; TABLE], rows: &mut [u16; TERM_WORDS], root: usize) -> usize
-    requires { ⌜ root < 65536 ⌝ }
+    requires { ⌜ Shows (now t) root (now rows) ⌝ }
     ensures { λ r. ⌜ Expanded (now (t .entry)) root (now (rows .entry)) (now (rows .exit)) r ⌝ }
 {
     let mut marks = [0u16; MOST_BYTES];
@@ -59,22 +59,21 @@ pub fn load(s: &[u8], rows: &mut [u16; TERM_WORDS]) -> Loaded
 {
     let mut t = [0u16; TABLE];
     let x = judge_sheet(Edition::Present, s, &mut t);
-    match x {
-        Judgement::Refused(refusal) => Loaded::Refused(refusal),
-        Judgement::Sheet {
-            root,
-            ty,
-            size,
-            uses,
-        } => {
-            let row = expand_root(&t, rows, root);
-            Loaded::Sheet {
-                root,
-                row,
-                ty,
-                size,
-                uses,
-            }
-        }
+    let Judgement::Sheet {
+        root,
+        ty,
+        size,
+        uses,
+    } = x
+    else {
+        return Loaded::Refused(refusal_of(x));
+    };
+    let row = expand_root(&t, rows, root);
+    Loaded::Sheet {
+        root,
+        row,
+        ty,
+        size,
+        uses,
     }
 }

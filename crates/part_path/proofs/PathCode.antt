@@ -13,7 +13,7 @@ use Rattle.term_positions.specs.declared.Spot.{Spot}
 use Rattle.term_positions.specs.declared.Spot.the-variants.{Here}
 use Rattle.rise.specs.Up.{goesOf, riseOf}
 use Rattle.term_positions.specs.declared.Silent.{Silent}
-use Rattle.automaton.specs.walk.Down.{inPrivate, downOf}
+use Rattle.automaton.specs.walk.Down.{inPrivate, downBare}
 use Rattle.term_positions.specs.Row.{sumOf}
 use Rattle.part_path.specs.Path.{riseAll, storeOf, passesOf, upOf, innermostOf}
 use Rattle.part_path.proofs.PathWords.{frames-length}
@@ -22,8 +22,9 @@ use Rattle.name_use.specs.Name.{noMove}
 use Rattle.part_path.specs.Kept.{spotIn, startOf, stopOf, untilOf, childOf, Covers}
 use Rattle.part_path.specs.declared.Site.{Site}
 use Rattle.part_path.specs.States.{targetOf}
-use Rattle.term_positions.specs.declared.Out.the-variants.{Go}
+use Rattle.term_positions.specs.declared.Out.the-variants.{Go, Stuck}
 use Rattle.part_path.proofs.PathValues.{down-private}
+use Rattle.automaton.proofs.Steps.{told-other}
 
 -- the frames below the first `left`
 pub frames-less : (p : List ℕ) (left : ℕ) → 0 < left → framesOf p left ≡ frameOf p (left - 1) ∷ framesOf p (left - 1)
@@ -78,10 +79,11 @@ spot-private t root p c k part kind value base o n a b d e w h =
 
 pub spot-down : (t : List ℕ) (root : ℕ) (p : List ℕ) (c k part kind value base : ℕ) (S : Spot) → (c ≡ 0 → ⊥) →
   part ≡ fieldOf p (c - 1) 0 → kind ≡ fieldOf p (c - 1) 1 → value ≡ fieldOf p (c - 1) 2 → base ≡ fieldOf p (c - 1) 3 →
-  S ≡ downOf t part kind value (k - base) (storeOf (framesOf p c)) noMove →
-  S ≡ spotIn t root p c k noMove
+  (word t part 0 ≡ 128 → ⊥) → S ≡ downBare t part kind value (k - base) → S ≡ spotIn t root p c k noMove
 unfolding spotIn levelAt
-spot-down t root p c k part kind value base S n a b d e q = rw (ne-eqb c 0 n, ← a, ← b, ← d, ← e) q
+spot-down t root p c k part kind value base S n a b d e w q =
+    rw (ne-eqb c 0 n, ← a, ← b, ← d, ← e) (q ∙ told-other (word t part 0) t part kind value (k - base) Stuck
+      (inPrivate t part kind value (k - base) (storeOf (framesOf p c))) noMove w)
 
 -- a level that is left
 pub leaves : (p : List ℕ) (c k v : ℕ) → v ≡ fieldOf p (c - 1) 4 → k < v → Covers p c k

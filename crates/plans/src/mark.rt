@@ -1,11 +1,11 @@
 // Marks of parts: what they come down to, and which arguments a procedure uses.
-use part_rows::kind::PARAMETER;
 use crate::row::term_place;
-use part_rows::row::word_of;
 use forms::read::coefficient;
 use forms::set::least;
+use part_rows::kind::PARAMETER;
 use part_rows::row::MARKS;
 use part_rows::row::PARTS;
+use part_rows::row::word_of;
 use records::read::short_at;
 ghost use mathlib.Core.Path.{_≡_};
 ghost use Prim.Native.Nat.{_≤_, _<_};
@@ -52,14 +52,7 @@ fn through_of(t: &[u16], at: usize, count: usize, k: usize, c: usize) -> usize
 }
 
 // What the record at a place comes down to.
-pub fn come_of(
-    t: &[u16],
-    kind: usize,
-    detail: usize,
-    k: usize,
-    at: usize,
-    count: usize,
-) -> usize
+pub fn come_of(t: &[u16], kind: usize, detail: usize, k: usize, at: usize, count: usize) -> usize
     requires { ⌜ (at < 65536) × (count ≤ 4) ⌝ }
     ensures { λ r. ⌜ (r ≡ comeOf (now (t .entry)) (marksIn (now (t .entry))) kind detail k at count) × (r < 128) ⌝ }
 {

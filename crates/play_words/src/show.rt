@@ -1,9 +1,9 @@
 // The play of an entry of the search, written as records, and which sheet has it.
 use crate::Decision;
-use search_words::word::spell;
 use play::play::write_play;
 use records::refusal::NEW_SHEET;
 use records::refusal::OLD_SHEET;
+use search_words::word::spell;
 ghost use Prim.Native.Nat.{_*_, _≤_};
 ghost use lib.ListN.{length, take};
 ghost use Rattle.search_words.specs.Spelled.{Trail};

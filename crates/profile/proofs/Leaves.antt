@@ -5,6 +5,7 @@ use mathlib.Core.Path.{_≡_, refl, sym, _∙_}
 use mathlib.Core.Bool.{Bool, true, false}
 use mathlib.Core.List.{List}
 use borrow.Author.Tests.{le-leb, lt-leb, lt-ltb, le-ltb, eq-eqb, ne-eqb}
+use Rattle.records.specs.Kind.{shapeOf, bodyIn}
 use Rattle.part_rows.specs.Row.{word}
 use Rattle.profile.specs.Pass.{loudFrom, loudAt, reachAt, offendsAt}
 
@@ -41,10 +42,10 @@ pub loud-procedure : (t : List ℕ) (at kind : ℕ) → kind ≡ 28 → true ≡
 unfolding loudAt
 loud-procedure t at kind e = rw e refl
 
-pub loud-used : (t : List ℕ) (at kind from end : ℕ) (r : Bool) → kind ≡ 20 → from ≡ at + 2 → end ≡ word t at 1 →
-    r ≡ loudFrom t 4 from end → r ≡ loudAt t at kind
+pub loud-used : (t : List ℕ) (at kind body end : ℕ) (r : Bool) → kind ≡ 20 → body ≡ bodyIn (shapeOf kind) →
+    end ≡ word t at 1 → r ≡ loudFrom t 4 (at + 1 + body) end → r ≡ loudAt t at kind
 unfolding loudAt
-loud-used t at kind from end r e f g h = h ∙ rw (e, f, g) refl
+loud-used t at kind body end r e f g h = h ∙ rw (f, g, e) refl
 
 pub loud-other : (t : List ℕ) (at kind : ℕ) → (kind ≡ 24 → ⊥) → (kind ≡ 28 → ⊥) → (kind ≡ 20 → ⊥) →
     false ≡ loudAt t at kind

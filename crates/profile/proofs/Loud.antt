@@ -9,6 +9,7 @@ use lib.Dec.{eqb, ltb}
 use borrow.Author.Tests.{le-leb, lt-leb, lt-ltb, le-ltb, ne-eqb}
 use Rattle.language.specs.Choice.{pick}
 use Rattle.language.specs.declared.Numbers.{Numbers}
+use Rattle.records.specs.Kind.{shapeOf, bodyIn}
 use Rattle.part_rows.specs.Row.{word, classOf}
 use Rattle.procedures.specs.Written.{Written, skip, diverge, truth, number, call, fetch, operate, assign, sequence}
 use Rattle.procedures.specs.Written.{while, choose, new, procedure, Writtens, none, more, Name}
@@ -77,6 +78,11 @@ module _ (N : Numbers) (ns : List Name) (t : List ℕ) where
   loud-use bs ws at end retired S l e F = absurd F
   loud-use bs ws at end free S l e F = absurd F
 
+  -- the place after the bytes of a use
+  past-use : (at : ℕ) → at + 1 + bodyIn (shapeOf 20) ≡ at + 2
+  unfolding bodyIn shapeOf
+  past-use at = omega arith
+
   -- a record of the kind
   pub loud-right : (bs : List Binder) (at : ℕ) (W : Written) → Fine N ns bs W → Seat ns t bs at W →
       SeatedAll ns t (at + ownWidth W) (pieces bs W) → loudAt t at (kindOf W) ≡ loud ns bs W
@@ -85,7 +91,9 @@ module _ (N : Numbers) (ns : List Name) (t : List ℕ) where
   loud-right bs at (diverge ty) F S R = refl
   loud-right bs at (truth b) F S R = refl
   loud-right bs at (number b) F S R = refl
-  loud-right bs at (call id ws) F S R = loud-use bs ws at (word t at 1) (meaning ns bs id) R (S .few) (S .ended) (F .1)
+  loud-right bs at (call id ws) F S R =
+      ap (λ (p : ℕ). loudFrom t 4 p (word t at 1)) (past-use at)
+      ∙ loud-use bs ws at (word t at 1) (meaning ns bs id) R (S .few) (S .ended) (F .1)
   loud-right bs at (fetch v) F S R = refl
   loud-right bs at (operate op x y) F S R = refl
   loud-right bs at (assign x y) F S R = refl

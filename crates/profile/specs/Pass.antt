@@ -15,6 +15,7 @@ use Rattle.tabled.specs.Seats.{Seated}
 use Rattle.profile.specs.Offence.{offences}
 use Rattle.profile.specs.declared.offence.Offence.{Offence}
 use Rattle.profile.specs.declared.offence.Offence.the-variants.{Nothing, At}
+use Rattle.records.specs.Kind.{shapeOf, bodyIn}
 
 -- whether one of at most so many arguments, which stand from one place up to another, is no expression: by the classes
 -- of the arguments, where the definition goes by the types declared (`loudUse`)
@@ -29,7 +30,7 @@ unfoldable pub loudAt : List ℕ → ℕ → ℕ → Bool
 loudAt t at kind =
     pick (eqb kind SEQUENCE) true
     (pick (eqb kind PROCEDURE) true
-    (pick (eqb kind NAME) (loudFrom t 4 (at + 2) (word t at END)) false))
+    (pick (eqb kind NAME) (loudFrom t 4 (at + 1 + bodyIn (shapeOf kind)) (word t at END)) false))
 
 -- where the outermost expression ends that has the record at a place, or the last one before it
 unfoldable pub reachAt : List ℕ → ℕ → ℕ → ℕ

@@ -24,9 +24,6 @@ pub enum Offence {
 // The class of expressions.
 const EXPRESSIONS: usize = part_rows::class::EXPRESSIONS as usize;
 
-// The bytes of a use before its arguments.
-const USE_BYTES: usize = 2;
-
 // Whether one of at most `left` arguments, which stand from one place up to another, is no expression. The classes
 // looked at are those of the arguments; what offends is defined by the types that are declared (`loudUse`). In an
 // accepted sheet these are the same: so says `Finds`.
@@ -60,7 +57,8 @@ fn is_loud(t: &[u16], at: usize, kind: u8) -> bool
     }
     if kind == USE {
         let end = word_of(t, at, END);
-        return any_loud(t, MOST_ARGUMENTS, at + USE_BYTES, end);
+        let from = at + 1 + body_of(kind);
+        return any_loud(t, MOST_ARGUMENTS, from, end);
     }
     false
 }

@@ -23,14 +23,16 @@ use Rattle.sheet.specs.Encoding.{encode, encodeNames, encodeSheet, headingLengt
 use Rattle.sheet.specs.Reader.{accepted, rejected}
 use Rattle.records.specs.declared.edition.Edition.the-variants.{Earlier as Former}
 use Rattle.sheet.proofs.Right.{gives}
+use Rattle.judge.specs.Judged.{refusalIn}
+use Rattle.judge.specs.declared.mark.Uses.{Uses}
+use Rattle.judge.specs.declared.judge.Judgement.{Judgement}
+use Rattle.judge.specs.declared.judge.Judgement.the-variants as judged
 use Rattle.renumbering.specs.Outcome.{readEarlier, listed, written, checked, outcome, RenumberedBy, RenumberPromise}
 use Rattle.renumbering.specs.Work.{Takes, Scoped, heldIn, becomesIn, argumentsIn, arity, Lies, Rewrites, notes}
-use Rattle.renumbering.specs.Found.{Found, Wrote, PartFound, AcceptedAt, EarlierRead, Headed, Taken}
+use Rattle.renumbering.specs.Found.{Found, Wrote, PartFound, AcceptedAt, EarlierJudged, Headed, Taken}
 use Rattle.renumbering.specs.Found.{WroteSheet, Worked, Renumbers}
 use Rattle.renumbering.specs.declared.step.Step.{Step}
 use Rattle.renumbering.specs.declared.step.Step.the-variants.{Done, Full}
-use Rattle.renumbering.specs.declared.renumber.Earlier.{Earlier}
-use Rattle.renumbering.specs.declared.renumber.Earlier.the-variants as earlier
 use Rattle.renumbering.specs.declared.renumber.Renumbered.{Renumbered}
 use Rattle.renumbering.specs.declared.renumber.Renumbered.the-variants.{Changed, Refused}
 use Rattle.renumbering.proofs.Lists.{notes-listed, listed-length}
@@ -227,19 +229,23 @@ renumbers-done s b l b′ l′ out out′ list list′ root v n m x W d A h g o 
           (ap (λ (y : ℕ). drop y list) (sym k))) }
 
 -- the service
-pub accepted-of : (s : List ℕ) (y : Earlier) (root : ℕ) → EarlierRead s y → y ≡ earlier.Sheet root → AcceptedAt s root
-unfolding EarlierRead
+pub accepted-of : (s : List ℕ) (y : Judgement) (root : ℕ) {ty size : ℕ} {uses : Uses} → EarlierJudged s y →
+    y ≡ judged.Sheet root ty size uses → AcceptedAt s root
+unfolding EarlierJudged
 accepted-of s y root E e = rw e at E
 
-turned : (s : List ℕ) (y : Earlier) (x : Refusal) → EarlierRead s y → y ≡ earlier.Refused x →
+turned : (s : List ℕ) (y : Judgement) (x : Refusal) → EarlierJudged s y → y ≡ judged.Refused x →
     readEarlier s ≡ rejected (x .number) (x .place)
-unfolding EarlierRead
+unfolding EarlierJudged
 turned s y x E e = rw e at E
 
-pub service-refused : (s out list : List ℕ) (y : Earlier) (x : Refusal) {z : Cause} → EarlierRead s y →
-    y ≡ earlier.Refused x → z ≡ cause (x .number) 0 (x .place) → RenumberPromise s (Refused z) out out list list
-unfolding outcome checked RenumberedBy
-service-refused s out list y x E e f = rw (turned s y x E e) (ap Refused f, refl, refl)
+pub service-refused : (s out list : List ℕ) (y : Judgement) (x : Refusal) {v : Refusal} {z : Cause} →
+    EarlierJudged s y → y ≡ judged.Refused x → v ≡ refusalIn y → z ≡ cause (v .number) 0 (v .place) →
+    RenumberPromise s (Refused z) out out list list
+unfolding outcome checked RenumberedBy refusalIn
+service-refused s out list y x E e f g =
+    rw (turned s y x E e)
+    (ap Refused (g ∙ ap (λ (u : Refusal). cause (u .number) 0 (u .place)) (f ∙ ap refusalIn e)), refl, refl)
 
 pub service-short : (s out list : List ℕ) (root : ℕ) (r : Renumbered) → AcceptedAt s root → length out < length s →
     r ≡ Refused (cause 14 2 0) → RenumberPromise s r out out list list

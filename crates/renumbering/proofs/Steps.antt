@@ -6,6 +6,7 @@ use mathlib.Core.Bool.{Bool}
 use mathlib.Core.List.{List, [], _∷_}
 use lib.ListN.{length, getD, set}
 use Rattle.language.specs.declared.Numbers.{Numbers}
+use Rattle.records.specs.Kind.{shapeOf, bodyIn}
 use Rattle.procedures.specs.Written.{Written, skip, diverge, truth, number, call, fetch, operate, assign, sequence}
 use Rattle.procedures.specs.Written.{while, choose, new, procedure, Writtens, none, more, Name}
 use Rattle.procedures.specs.Meaning.{Binder, a-block, idOf, meant, Meaning, private, argument, routine, named}
@@ -28,6 +29,24 @@ use Rattle.renumbering.proofs.Lists.{rewrites-then, rewrites-byte}
 use Rattle.sheet.proofs.Widths.{wide, width-some}
 use Rattle.renumbering.proofs.Entries.{scoped-bound}
 use Rattle.renumbering.proofs.Finding.{found-over, found-so, found-full, found-next}
+
+-- the place after the bytes of a use, a new and a procedure
+pub past-use : (at : ℕ) {body : ℕ} → body ≡ bodyIn (shapeOf 20) → at + 1 + body ≡ at + 2
+unfolding bodyIn shapeOf
+past-use at e = omega (arith, e)
+
+pub past-new : (at : ℕ) {body : ℕ} → body ≡ bodyIn (shapeOf 27) → at + 1 + body ≡ at + 3
+unfolding bodyIn shapeOf
+past-new at e = omega (arith, e)
+
+pub past-procedure : (at : ℕ) {body : ℕ} → body ≡ bodyIn (shapeOf 28) → at + 1 + body ≡ at + 12
+unfolding bodyIn shapeOf
+past-procedure at e = omega (arith, e)
+
+pub part-there : {s scope b l k b′ l′ k′ : List ℕ} {left from at n : ℕ} {r : Step} → from ≡ at →
+    PartFound s scope b l k left from n r b′ l′ k′ → PartFound s scope b l k left at n r b′ l′ k′
+part-there {s} {scope} {b} {l} {k} {b′} {l′} {k′} {left} {n = n} {r = r} e F =
+    subst (λ (a : ℕ). PartFound s scope b l k left a n r b′ l′ k′) e F
 
 pub onward-full : (r : Step) (p : ℕ) → r ≡ Full p → Onward r
 unfolding Onward

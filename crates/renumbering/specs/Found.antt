@@ -17,12 +17,12 @@ use Rattle.procedures.specs.Renumber.{Change, Renumbering, renumbered, none-lef
 use Rattle.procedures.specs.Renumber.{renumber, renumberAll, renumberSheet, isNamed, takenAtFirst}
 use Rattle.sheet.specs.Encoding.{pairs, encode, encodes, encodeSheet, headingLength}
 use Rattle.sheet.specs.Reader.{accepted, rejected}
+use Rattle.judge.specs.declared.judge.Judgement.{Judgement}
+use Rattle.judge.specs.declared.judge.Judgement.the-variants as judged
 use Rattle.renumbering.specs.Outcome.{readEarlier, written, RenumberedBy}
 use Rattle.renumbering.specs.Work.{Takes, Scoped, Lies, Rewrites, notes}
 use Rattle.renumbering.specs.declared.step.Step.{Step}
 use Rattle.renumbering.specs.declared.step.Step.the-variants.{Done, Full}
-use Rattle.renumbering.specs.declared.renumber.Earlier.{Earlier}
-use Rattle.renumbering.specs.declared.renumber.Earlier.the-variants.{Sheet as Root, Refused as Turned}
 use Rattle.renumbering.specs.declared.renumber.Renumbered.{Renumbered}
 
 -- an answer with the changes cs after n others: its value and the bytes are as Post says, the list l has the changes,
@@ -157,9 +157,9 @@ pub record AcceptedAt (s : List ℕ) (root : ℕ) : Type 0 where
   pub reads : readEarlier s ≡ accepted sheet type size
   pub rooted : root ≡ headingLength sheet
 
-unfoldable pub EarlierRead : List ℕ → Earlier → Type 0
-EarlierRead s (Root root) = AcceptedAt s root
-EarlierRead s (Turned x) = readEarlier s ≡ rejected (x .number) (x .place)
+unfoldable pub EarlierJudged : List ℕ → Judgement → Type 0
+EarlierJudged s (judged.Sheet root ty size uses) = AcceptedAt s root
+EarlierJudged s (judged.Refused x) = readEarlier s ≡ rejected (x .number) (x .place)
 
 -- the heading: the ids of its names are taken, and the scope has their arguments
 pub record Headed (s : List ℕ) (root : ℕ) (k scope k′ scope′ : List ℕ) : Type 0 where

@@ -34,13 +34,6 @@ ghost use Rattle.renumbering.specs.Work.{note};
 ghost use Rattle.renumbering.specs.Found.{IdFound, ParametersFound, PartFound, PartsFound, CallFound, BlockFound};
 ghost use Rattle.renumbering.specs.Found.{RoutineFound};
 
-// The bytes of a use, a new and a procedure before their parts.
-const USE_BYTES: usize = 2;
-
-const NEW_BYTES: usize = 3;
-
-const PROCEDURE_BYTES: usize = 12;
-
 // The bytes of a parameter.
 const PAIR: usize = 2;
 
@@ -245,7 +238,8 @@ fn renumber_call(
     let entry = word(scope, id);
     put(bytes, at + ID, becomes(entry, id));
     let count = arguments(entry);
-    renumber_parts(s, scope, bytes, list, taken, left, at + USE_BYTES, count, n)
+    let from = at + 1 + body_of(USE);
+    renumber_parts(s, scope, bytes, list, taken, left, from, count, n)
 }
 
 // Renumbers the new at a place, and its block.
@@ -271,7 +265,8 @@ fn renumber_block(
             put(bytes, at + ID, value);
             let mut inner = *scope;
             enter(&mut inner, id, bound_entry(value, 0));
-            renumber_part(s, &inner, bytes, list, taken, left, at + NEW_BYTES, changes)
+            let from = at + 1 + body_of(NEW);
+            renumber_part(s, &inner, bytes, list, taken, left, from, changes)
         }
     }
 }
@@ -318,7 +313,7 @@ fn renumber_routine(
     else {
         return y;
     };
-    let from = at + PROCEDURE_BYTES;
+    let from = at + 1 + body_of(PROCEDURE);
     let z = renumber_part(s, &inner, bytes, list, taken, left, from, more);
     let Step::Done {
         value: next,

@@ -11,7 +11,6 @@ use records::refusal::BOTH_SHEETS;
 use records::refusal::Cause;
 use records::refusal::NO_ID_LEFT;
 use records::refusal::OLD_SHEET;
-use records::refusal::Refusal;
 use records::refusal::SPACE_TOO_SHORT;
 use records::refusal::of_sheet;
 use records::refusal::refuse;
@@ -20,7 +19,8 @@ ghost use Prim.Native.Nat.{_≤_};
 ghost use lib.ListN.{length};
 ghost use Rattle.records.specs.Refusal.{cause, both-sheets, space-too-short};
 ghost use Rattle.renumbering.specs.Outcome.{RenumberPromise};
-ghost use Rattle.renumbering.specs.Found.{AcceptedAt, EarlierRead, Renumbers};
+ghost use Rattle.renumbering.specs.Found.{AcceptedAt, Renumbers, EarlierJudged};
+use judge::check::refusal_of;
 
 // The bytes of a list space, and of a change in it.
 pub const LIST: usize = 1020;
@@ -33,27 +33,12 @@ pub enum Renumbered {
     Refused(Cause),
 }
 
-// What reading under the earlier rule gives: the place of the term, or the refusal.
-enum Earlier {
-    Sheet { root: usize },
-    Refused(Refusal),
-}
-
-// Reads a sheet under the earlier rule.
-fn read_earlier(s: &[u8]) -> Earlier
-    ensures { λ x. ⌜ EarlierRead (now (s .entry)) x ⌝ }
+// Judges a sheet by the earlier rule.
+fn judge_earlier(s: &[u8]) -> Judgement
+    ensures { λ x. ⌜ EarlierJudged (now (s .entry)) x ⌝ }
 {
     let mut t = [0u16; TABLE];
-    let x = judge_sheet(Edition::Earlier, s, &mut t);
-    match x {
-        Judgement::Refused(refusal) => Earlier::Refused(refusal),
-        Judgement::Sheet {
-            root,
-            ty: _,
-            size: _,
-            uses: _,
-        } => Earlier::Sheet { root },
-    }
+    judge_sheet(Edition::Earlier, s, &mut t)
 }
 
 // The refusal of an output or a list space that is too short.
@@ -92,17 +77,21 @@ pub fn renumber(s: &[u8], out: &mut [u8], list: &mut [u8]) -> Renumbered
     ensures { λ r. ⌜ RenumberPromise (now (s .entry)) r (now (out .entry)) (now (out .exit)) (now (list .entry))
         (now (list .exit)) ⌝ }
 {
-    let x = read_earlier(s);
-    match x {
-        Earlier::Refused(refusal) => Renumbered::Refused(of_sheet(refusal, OLD_SHEET)),
-        Earlier::Sheet { root } => {
-            if out.len() < s.len() {
-                return too_short();
-            }
-            if list.len() < LIST {
-                return too_short();
-            }
-            renumber_accepted(s, root, out, list)
-        }
+    let x = judge_earlier(s);
+    let Judgement::Sheet {
+        root,
+        ty: _,
+        size: _,
+        uses: _,
+    } = x
+    else {
+        return Renumbered::Refused(of_sheet(refusal_of(x), OLD_SHEET));
+    };
+    if out.len() < s.len() {
+        return too_short();
     }
+    if list.len() < LIST {
+        return too_short();
+    }
+    renumber_accepted(s, root, out, list)
 }

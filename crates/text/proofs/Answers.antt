@@ -4,14 +4,17 @@ use native.Mathlib.Omega.{arith}
 use mathlib.Core.Path.{_≡_, refl, sym, _∙_}
 use mathlib.Core.List.{List}
 use lib.ListN.{getD}
+use Rattle.records.specs.declared.edition.Edition.the-variants.{Present}
 use Rattle.records.specs.declared.refusal.Cause.{Cause}
 use Rattle.procedures.specs.Written.{Sheet}
 use Rattle.procedures.specs.Uses.{declaredIn}
 use Rattle.sheet.specs.Reader.{Checks, accepted, rejected, readSheet}
 use Rattle.judge.specs.Check.{checkedOf}
+use Rattle.judge.specs.Masks.{declaredAt}
 use Rattle.judge.specs.declared.mark.Uses.{Uses}
 use Rattle.judge.specs.declared.check.Checked.{Checked}
 use Rattle.judge.specs.declared.check.Checked.the-variants.{Accepted, Refused as Rejected}
+use Rattle.judge.proofs.Masking.{counted}
 use Rattle.comparer.specs.declared.Comparison.{Comparison}
 use Rattle.comparer.specs.declared.Comparison.the-variants.{Same, Apart, Refused}
 use Rattle.text.specs.Page.{Page, pushes}
@@ -43,9 +46,8 @@ pub size-found : (s : List ℕ) {x : Checked} {ty size : ℕ} {u : Uses} → x �
 size-found s d e = size-as (readSheet s) (sym d ∙ e)
 
 pub declared-found : (s : List ℕ) (n : ℕ) {x : Checked} {ty size : ℕ} {u : Uses} → x ≡ checkedOf (readSheet s) →
-    x ≡ Accepted ty size u → ((S : Sheet) (t m : ℕ) → readSheet s ≡ accepted S t m → n ≡ declaredIn S) →
-    n ≡ declaredOf (readSheet s)
-declared-found s n d e h = declared-as (readSheet s) n (sym d ∙ e) h
+    x ≡ Accepted ty size u → n ≡ declaredAt s → n ≡ declaredOf (readSheet s)
+declared-found s n d e h = declared-as (readSheet s) n (sym d ∙ e) (λ S t m r. h ∙ counted Present s S t m r)
 
 pub no-figures : (s : List ℕ) {x : Checked} {y : Cause} → x ≡ checkedOf (readSheet s) → x ≡ Rejected y →
     (0 ≡ sizeIn (readSheet s)) × (0 ≡ declaredOf (readSheet s))

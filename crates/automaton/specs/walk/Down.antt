@@ -15,7 +15,7 @@ use Rattle.part_rows.specs.PartKind.{SKIP, CONSTANT, NAME, FETCH, OPERATE, ASSI
 use Rattle.term_positions.specs.Role.{THEN, TEST, SELECT, RIGHT, ASSIGNED, BLOCK, AS-IS}
 use Rattle.part_rows.specs.PartKind.{KIND, VALUES, DETAIL}
 use Rattle.term_positions.specs.Row.{SHORTS, partOf, partWeight, partValues, sumOf, mulAddOf}
-use Rattle.name_use.specs.Name.{framedOf, inName}
+use Rattle.name_use.specs.Name.{framedOf, inName, noMove}
 
 -- the exit with an answer
 abbrev pub leavesOf : ℕ → ℕ → Spot
@@ -89,9 +89,9 @@ inPrivate t at q x k s =
     (pick (eqb q READ) (Exit VALUE (s (word t at DETAIL)) 0 0)
     (pick (eqb q WRITE) (pick (ltb x (word t at VALUES)) (Exit OK 0 (sumOf (word t at DETAIL) 1) x) Stuck) Stuck))
 
--- position k of the term of a kind
-unfoldable pub downAs : ℕ → List ℕ → ℕ → ℕ → ℕ → ℕ → (ℕ → ℕ) → Move → Spot
-downAs kind t at q x k s m =
+-- position k of the term of a kind; a private variable does what is told
+unfoldable pub downAs : ℕ → List ℕ → ℕ → ℕ → ℕ → ℕ → Out → Move → Spot
+downAs kind t at q x k told m =
     pick (eqb kind SKIP) (leavesOf DONE 0)
     (pick (eqb kind CONSTANT) (leavesOf VALUE (word t at DETAIL))
     (pick (eqb kind NAME) (inName t at q x k m)
@@ -102,8 +102,12 @@ downAs kind t at q x k s m =
     (pick (eqb kind IF) (inCond t at q x k)
     (pick (eqb kind WHILE) (inWhile t at k)
     (pick (eqb kind NEW) (inNew t at q x k)
-    (pick (eqb kind PRIVATE) (Here (inPrivate t at q x k s)) (Here Stuck)))))))))))
+    (pick (eqb kind PRIVATE) (Here told) (Here Stuck)))))))))))
 
 -- position k of the term at a place
 abbrev pub downOf : List ℕ → ℕ → ℕ → ℕ → ℕ → (ℕ → ℕ) → Move → Spot
-downOf t at q x k s m = downAs (word t at KIND) t at q x k s m
+downOf t at q x k s m = downAs (word t at KIND) t at q x k (inPrivate t at q x k s) m
+
+-- the same without the values of private variables, before a move: a private variable is stuck
+abbrev pub downBare : List ℕ → ℕ → ℕ → ℕ → ℕ → Spot
+downBare t at q x k = downAs (word t at KIND) t at q x k Stuck noMove

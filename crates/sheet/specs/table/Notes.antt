@@ -1,6 +1,6 @@
 -- The notes in a table of parts: after the rows a word for each byte, 1 once a use of the declared name with that id was
--- read; and the masks that are made of them. Only inner contracts cite it.
-use Prim.Native.Nat.{ℕ, zero, suc, _+_, _*_}
+-- read. Only inner contracts cite it.
+use Prim.Native.Nat.{ℕ, _+_}
 use mathlib.Core.Path.{_≡_}
 use mathlib.Core.Bool.{Bool, true, false}
 use mathlib.Core.List.{List}
@@ -12,7 +12,6 @@ use Rattle.heads.specs.declared.head.Record.{Record}
 use Rattle.records.specs.declared.standing.Standing.{Standing}
 use Rattle.records.specs.declared.standing.Standing.the-variants.{Free, Retired, Declared, Variable, Parameter}
 use Rattle.records.specs.declared.standing.Standing.the-variants.{Procedure}
-use Rattle.procedures.specs.Uses.{bit}
 use Rattle.weighing.specs.Stack.{all-words}
 
 -- where the notes begin: after nine words for each of 4,096 places
@@ -44,19 +43,3 @@ noted r t = pick (usesName r) (set t (notes + r .a) 1) t
 -- whether a use of the name with an id is noted
 unfoldable pub isNoted : List ℕ → ℕ → Bool
 isNoted t id = eqb (getD t (notes + id) 0) 1
-
--- whether a kind is that of a declaration
-unfoldable pub isDeclaration : ℕ → Bool
-isDeclaration kind = pick (eqb kind 1) true (eqb kind 3)
-
--- a bit for each of at most so many name records from a place on, the first lowest: set where f holds of the id that
--- the record declares; a declaration has eight bytes, a retirement, whose kind is 2, two
-unfoldable pub mask : (ℕ → Bool) → ℕ → List ℕ → ℕ → ℕ
-mask f zero s at = 0
-mask f (suc left) s at =
-    pick (isDeclaration (getD s at 0)) (bit (f (getD s (at + 1) 0)) + 2 * mask f left s (at + 8))
-    (pick (eqb (getD s at 0) 2) (2 * mask f left s (at + 2)) 0)
-
--- every id
-abbrev pub every : ℕ → Bool
-every id = true

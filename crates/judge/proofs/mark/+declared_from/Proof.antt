@@ -5,12 +5,12 @@ use borrow.Author.Needs.{needs}
 use borrow.Fn.Kinds.{In}
 use borrow.Fn.PlainCycle.{Measures, is, falls, and}
 use mathlib.Core.Path.{refl}
-use Rattle.judge.proofs.Masking.{mask-fits, mask-none, mask-set, mask-retired, mask-ended}
+use Rattle.judge.proofs.Masking.{mask-fits, mask-none, mask-set, mask-retired, mask-part, mask-unknown}
 use Rattle.judge.proofs.mark.declared_from.Reads as declared-from
 use Rattle.judge.proofs.mark.declared_from.Kinds as declared-from-kinds
 use Rattle.judge.proofs.mark.+declared_from.Lts-declared_from as declared-from-lts
-use Rattle.judge.proofs.mark.declares.Reads as declares-reads
 use Rattle.records.proofs.read.byte_at.Reads as byte-at-reads
+use Rattle.records.proofs.kind.shape_of.Reads as shape-of-reads
 use Rattle.judge.proofs.mark.+declared_from.{statement}
 use Rattle.judge.proofs.mark.+declared_from.Tie.{close}
 
@@ -26,20 +26,33 @@ declared-from-below t = and 1 declared-from-kinds.ps
     (falls 1 declared-from-kinds.ps _<_ μ-declared-from t) declared-from.Pre
 
 abbrev declared-from-calls : ℕ → declared-from-lts.Claims
-declared-from-calls t = (byte-at-reads.Asked, byte-at-reads.Learnt, declares-reads.Asked, declares-reads.Learnt,
+declared-from-calls t = (byte-at-reads.Asked, byte-at-reads.Learnt, shape-of-reads.Asked, shape-of-reads.Learnt,
     declared-from-below t, declared-from.Post)
 
 module _ (t : ℕ) where
-  declared-from-returns : declared-from-lts.Need-returns (declared-from-calls t) (declared-from-at t) declared-from.Post
+  declared-from-returns : declared-from-lts.Need-returns (declared-from-calls t)
+      (declared-from-at t) declared-from.Post
   declared-from-returns c = mask-none _ _ _ (c .if1 .taken)
 
   declared-from-byte-at-requires : declared-from-lts.Need-byte-at-requires (declared-from-calls t)
       (declared-from-at t) declared-from.Post
   declared-from-byte-at-requires c κs = search needs
 
-  declared-from-declares-requires : declared-from-lts.Need-declares-requires (declared-from-calls t)
+  declared-from-shape-of-requires : declared-from-lts.Need-shape-of-requires (declared-from-calls t)
       (declared-from-at t) declared-from.Post
-  declared-from-declares-requires c κs = search needs
+  declared-from-shape-of-requires c κs = search needs
+
+  declared-from-enum-told : declared-from-lts.Need-enum-told (declared-from-calls t)
+      (declared-from-at t) declared-from.Post
+  declared-from-enum-told c = search needs
+
+  declared-from-enum-told-2 : declared-from-lts.Need-enum-told-2 (declared-from-calls t)
+      (declared-from-at t) declared-from.Post
+  declared-from-enum-told-2 c = search needs
+
+  declared-from-enum-known-shape : declared-from-lts.Need-enum-known-shape (declared-from-calls t)
+      (declared-from-at t) declared-from.Post
+  declared-from-enum-known-shape c = search needs
 
   declared-from-sub-declared-from : declared-from-lts.Need-sub-declared-from (declared-from-calls t)
       (declared-from-at t) declared-from.Post
@@ -49,33 +62,42 @@ module _ (t : ℕ) where
       (declared-from-at t) declared-from.Post
   declared-from-add-declared-from c = search needs
 
+  declared-from-cast-declared-from : declared-from-lts.Need-cast-declared-from (declared-from-calls t)
+      (declared-from-at t) declared-from.Post
+  declared-from-cast-declared-from c = search needs
+
+  declared-from-add-declared-from-2 : declared-from-lts.Need-add-declared-from-2 (declared-from-calls t)
+      (declared-from-at t) declared-from.Post
+  declared-from-add-declared-from-2 c = search needs
+
   declared-from-declared-from-requires : declared-from-lts.Need-declared-from-requires (declared-from-calls t)
       (declared-from-at t) declared-from.Post
   declared-from-declared-from-requires c κs = search needs
 
   declared-from-mul-result : declared-from-lts.Need-mul-result (declared-from-calls t)
       (declared-from-at t) declared-from.Post
-  declared-from-mul-result c = let h = mask-fits _ _ _ _ (c .declared-from .ensures)
-      (c .before .before .before .before .before .before .pre .1 .0) in omega arith
+  declared-from-mul-result c = let h = mask-fits _ _ _ _ (c .declared-from .ensures) (c .before .before .before
+      .before .before .before .before .before .pre .1 .0) in omega arith
 
-  declared-from-add-result : declared-from-lts.Need-add-result (declared-from-calls t)
+  declared-from-enum-known-shape-2 : declared-from-lts.Need-enum-known-shape-2 (declared-from-calls t)
       (declared-from-at t) declared-from.Post
-  declared-from-add-result c = let h = mask-fits _ _ _ _ (c .declared-from .ensures)
-      (c .before .before .before .before .before .before .pre .1 .0) in omega arith
-
-  declared-from-returns-2 : declared-from-lts.Need-returns-2 (declared-from-calls t)
-      (declared-from-at t) declared-from.Post
-  declared-from-returns-2 c = mask-set _ _ _ (c .before .before .before .before .if1 .left)
-      (c .before .before .before .byte-at .ensures) (c .before .before .declares .ensures) (c .before .if2 .taken)
-      (c .declared-from .ensures) refl refl refl
+  declared-from-enum-known-shape-2 c = search needs
 
   declared-from-sub-declared-from-2 : declared-from-lts.Need-sub-declared-from-2 (declared-from-calls t)
       (declared-from-at t) declared-from.Post
   declared-from-sub-declared-from-2 c = search needs
 
-  declared-from-add-declared-from-2 : declared-from-lts.Need-add-declared-from-2 (declared-from-calls t)
+  declared-from-add-declared-from-3 : declared-from-lts.Need-add-declared-from-3 (declared-from-calls t)
       (declared-from-at t) declared-from.Post
-  declared-from-add-declared-from-2 c = search needs
+  declared-from-add-declared-from-3 c = search needs
+
+  declared-from-cast-declared-from-2 : declared-from-lts.Need-cast-declared-from-2 (declared-from-calls t)
+      (declared-from-at t) declared-from.Post
+  declared-from-cast-declared-from-2 c = search needs
+
+  declared-from-add-declared-from-4 : declared-from-lts.Need-add-declared-from-4 (declared-from-calls t)
+      (declared-from-at t) declared-from.Post
+  declared-from-add-declared-from-4 c = search needs
 
   declared-from-declared-from-requires-2 : declared-from-lts.Need-declared-from-requires-2 (declared-from-calls t)
       (declared-from-at t) declared-from.Post
@@ -83,34 +105,60 @@ module _ (t : ℕ) where
 
   declared-from-mul-result-2 : declared-from-lts.Need-mul-result-2 (declared-from-calls t)
       (declared-from-at t) declared-from.Post
-  declared-from-mul-result-2 c = let h = mask-fits _ _ _ _ (c .declared-from2 .ensures)
-      (c .before .before .before .before .before .before .before .pre .1 .0) in omega arith
+  declared-from-mul-result-2 c = let h = mask-fits _ _ _ _ (c .declared-from2 .ensures) (c .before .before .before
+      .before .before .before .before .before .pre .1 .0) in omega arith
+
+  declared-from-add-result : declared-from-lts.Need-add-result (declared-from-calls t)
+      (declared-from-at t) declared-from.Post
+  declared-from-add-result c = let h = mask-fits _ _ _ _ (c .declared-from2 .ensures) (c .before .before .before
+      .before .before .before .before .before .pre .1 .0) in omega arith
+
+  declared-from-returns-2 : declared-from-lts.Need-returns-2 (declared-from-calls t)
+      (declared-from-at t) declared-from.Post
+  declared-from-returns-2 c = mask-unknown _ _ _ (c .before .before .before .before .if1 .left) (c .before .before
+      .before .byte-at .ensures) (c .before .before .shape-of .ensures) (c .enum-told .given .1)
 
   declared-from-returns-3 : declared-from-lts.Need-returns-3 (declared-from-calls t)
       (declared-from-at t) declared-from.Post
-  declared-from-returns-3 c = mask-retired _ _ _ (c .before .before .before .before .before .if1 .left)
-      (c .before .before .before .before .byte-at .ensures) (c .before .if3 .taken) (c .declared-from2 .ensures)
+  declared-from-returns-3 c = mask-part _ _ _ (c .before .before .before .before .if1 .left) (c .before .before
+      .before .byte-at .ensures) (c .before .before .shape-of .ensures) (c .enum-told2 .given .1)
 
   declared-from-returns-4 : declared-from-lts.Need-returns-4 (declared-from-calls t)
       (declared-from-at t) declared-from.Post
-  declared-from-returns-4 c = mask-ended _ _ _ _ (c .before .before .before .byte-at .ensures)
-      (c .before .before .declares .ensures) (c .before .if2 .left) (c .if3 .left)
+  declared-from-returns-4 c = mask-retired _ _ _ (c .before .before .before .before .before .before .if1 .left) (c
+      .before .before .before .before .before .byte-at .ensures) (c .before .before .before .before .shape-of
+      .ensures) (c .before .before .shape .given .1) (c .declared-from .ensures)
+
+  declared-from-returns-5 : declared-from-lts.Need-returns-5 (declared-from-calls t)
+      (declared-from-at t) declared-from.Post
+  declared-from-returns-5 c = mask-set _ _ _ (c .before .before .before .before .before .before .if1 .left) (c
+      .before .before .before .before .before .byte-at .ensures) (c .before .before .before .before .shape-of
+      .ensures) (c .before .before .shape2 .given .1) (c .declared-from2 .ensures) refl refl refl
 
 pub +declared-from-spec : {M : Type 1} → statement M
 +declared-from-spec = close μ-declared-from λ t. declared-from-lts.spec (declared-from-calls t)
     (declared-from-at t) declared-from.Post
     (declared-from-returns t)
     (declared-from-byte-at-requires t)
-    (declared-from-declares-requires t)
+    (declared-from-shape-of-requires t)
+    (declared-from-enum-told t)
+    (declared-from-enum-told-2 t)
+    (declared-from-enum-known-shape t)
     (declared-from-sub-declared-from t)
     (declared-from-add-declared-from t)
+    (declared-from-cast-declared-from t)
+    (declared-from-add-declared-from-2 t)
     (declared-from-declared-from-requires t)
     (declared-from-mul-result t)
-    (declared-from-add-result t)
-    (declared-from-returns-2 t)
+    (declared-from-enum-known-shape-2 t)
     (declared-from-sub-declared-from-2 t)
-    (declared-from-add-declared-from-2 t)
+    (declared-from-add-declared-from-3 t)
+    (declared-from-cast-declared-from-2 t)
+    (declared-from-add-declared-from-4 t)
     (declared-from-declared-from-requires-2 t)
     (declared-from-mul-result-2 t)
+    (declared-from-add-result t)
+    (declared-from-returns-2 t)
     (declared-from-returns-3 t)
     (declared-from-returns-4 t)
+    (declared-from-returns-5 t)

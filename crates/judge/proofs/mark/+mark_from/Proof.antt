@@ -4,12 +4,13 @@ use native.Mathlib.Omega.{arith}
 use borrow.Author.Needs.{needs}
 use borrow.Fn.Kinds.{In}
 use borrow.Fn.PlainCycle.{Measures, is, falls, and}
-use Rattle.judge.proofs.Masking.{mask-fits, mask-none, mask-set, mask-unset, mask-retired, mask-ended}
+use Rattle.judge.proofs.Masking.{mask-fits, mask-none, mask-set, mask-unset, mask-retired, mask-part}
+use Rattle.judge.proofs.Masking.{mask-unknown}
 use Rattle.judge.proofs.mark.mark_from.Reads as mark-from
 use Rattle.judge.proofs.mark.mark_from.Kinds as mark-from-kinds
 use Rattle.judge.proofs.mark.+mark_from.Lts-mark_from as mark-from-lts
-use Rattle.judge.proofs.mark.declares.Reads as declares-reads
 use Rattle.records.proofs.read.byte_at.Reads as byte-at-reads
+use Rattle.records.proofs.kind.shape_of.Reads as shape-of-reads
 use Rattle.sheet.proofs.note.is_noted.Reads as is-noted-reads
 use Rattle.judge.proofs.mark.+mark_from.{statement}
 use Rattle.judge.proofs.mark.+mark_from.Tie.{close}
@@ -22,110 +23,178 @@ abbrev mark-from-at : ℕ → In 2 mark-from-kinds.ps
 mark-from-at t = and 2 mark-from-kinds.ps (is 2 mark-from-kinds.ps μ-mark-from t) mark-from.Pre
 
 abbrev mark-from-below : ℕ → In 2 mark-from-kinds.ps
-mark-from-below t = and 2 mark-from-kinds.ps (falls 2 mark-from-kinds.ps _<_ μ-mark-from t) mark-from.Pre
+mark-from-below t = and 2 mark-from-kinds.ps
+    (falls 2 mark-from-kinds.ps _<_ μ-mark-from t) mark-from.Pre
 
 abbrev mark-from-calls : ℕ → mark-from-lts.Claims
-mark-from-calls t = (byte-at-reads.Asked, byte-at-reads.Learnt, declares-reads.Asked, declares-reads.Learnt,
+mark-from-calls t = (byte-at-reads.Asked, byte-at-reads.Learnt, shape-of-reads.Asked, shape-of-reads.Learnt,
     mark-from-below t, mark-from.Post, is-noted-reads.Asked, is-noted-reads.Learnt)
 
 module _ (t : ℕ) where
-  mark-from-returns : mark-from-lts.Need-returns (mark-from-calls t) (mark-from-at t) mark-from.Post
+  mark-from-returns : mark-from-lts.Need-returns (mark-from-calls t)
+      (mark-from-at t) mark-from.Post
   mark-from-returns c = mask-none _ _ _ (c .if1 .taken)
 
-  mark-from-byte-at-requires : mark-from-lts.Need-byte-at-requires (mark-from-calls t) (mark-from-at t) mark-from.Post
+  mark-from-byte-at-requires : mark-from-lts.Need-byte-at-requires (mark-from-calls t)
+      (mark-from-at t) mark-from.Post
   mark-from-byte-at-requires c κs = search needs
 
-  mark-from-declares-requires : mark-from-lts.Need-declares-requires (mark-from-calls t) (mark-from-at t)
-      mark-from.Post
-  mark-from-declares-requires c κs = search needs
+  mark-from-shape-of-requires : mark-from-lts.Need-shape-of-requires (mark-from-calls t)
+      (mark-from-at t) mark-from.Post
+  mark-from-shape-of-requires c κs = search needs
 
-  mark-from-sub-mark-from : mark-from-lts.Need-sub-mark-from (mark-from-calls t) (mark-from-at t) mark-from.Post
+  mark-from-enum-told : mark-from-lts.Need-enum-told (mark-from-calls t)
+      (mark-from-at t) mark-from.Post
+  mark-from-enum-told c = search needs
+
+  mark-from-enum-told-2 : mark-from-lts.Need-enum-told-2 (mark-from-calls t)
+      (mark-from-at t) mark-from.Post
+  mark-from-enum-told-2 c = search needs
+
+  mark-from-enum-known-shape : mark-from-lts.Need-enum-known-shape (mark-from-calls t)
+      (mark-from-at t) mark-from.Post
+  mark-from-enum-known-shape c = search needs
+
+  mark-from-sub-mark-from : mark-from-lts.Need-sub-mark-from (mark-from-calls t)
+      (mark-from-at t) mark-from.Post
   mark-from-sub-mark-from c = search needs
 
-  mark-from-add-mark-from : mark-from-lts.Need-add-mark-from (mark-from-calls t) (mark-from-at t) mark-from.Post
+  mark-from-add-mark-from : mark-from-lts.Need-add-mark-from (mark-from-calls t)
+      (mark-from-at t) mark-from.Post
   mark-from-add-mark-from c = search needs
+
+  mark-from-cast-mark-from : mark-from-lts.Need-cast-mark-from (mark-from-calls t)
+      (mark-from-at t) mark-from.Post
+  mark-from-cast-mark-from c = search needs
+
+  mark-from-add-mark-from-2 : mark-from-lts.Need-add-mark-from-2 (mark-from-calls t)
+      (mark-from-at t) mark-from.Post
+  mark-from-add-mark-from-2 c = search needs
 
   mark-from-mark-from-requires : mark-from-lts.Need-mark-from-requires (mark-from-calls t)
       (mark-from-at t) mark-from.Post
   mark-from-mark-from-requires c κs = search needs
 
-  mark-from-add-byte-at : mark-from-lts.Need-add-byte-at (mark-from-calls t) (mark-from-at t) mark-from.Post
+  mark-from-mul-result : mark-from-lts.Need-mul-result (mark-from-calls t)
+      (mark-from-at t) mark-from.Post
+  mark-from-mul-result c = let h = mask-fits _ _ _ _ (c .mark-from .ensures) (c .before .before .before .before
+      .before .before .before .before .before .pre .1 .0) in omega arith
+
+  mark-from-enum-known-shape-2 : mark-from-lts.Need-enum-known-shape-2 (mark-from-calls t)
+      (mark-from-at t) mark-from.Post
+  mark-from-enum-known-shape-2 c = search needs
+
+  mark-from-sub-mark-from-2 : mark-from-lts.Need-sub-mark-from-2 (mark-from-calls t)
+      (mark-from-at t) mark-from.Post
+  mark-from-sub-mark-from-2 c = search needs
+
+  mark-from-add-mark-from-3 : mark-from-lts.Need-add-mark-from-3 (mark-from-calls t)
+      (mark-from-at t) mark-from.Post
+  mark-from-add-mark-from-3 c = search needs
+
+  mark-from-cast-mark-from-2 : mark-from-lts.Need-cast-mark-from-2 (mark-from-calls t)
+      (mark-from-at t) mark-from.Post
+  mark-from-cast-mark-from-2 c = search needs
+
+  mark-from-add-mark-from-4 : mark-from-lts.Need-add-mark-from-4 (mark-from-calls t)
+      (mark-from-at t) mark-from.Post
+  mark-from-add-mark-from-4 c = search needs
+
+  mark-from-mark-from-requires-2 : mark-from-lts.Need-mark-from-requires-2 (mark-from-calls t)
+      (mark-from-at t) mark-from.Post
+  mark-from-mark-from-requires-2 c κs = search needs
+
+  mark-from-add-byte-at : mark-from-lts.Need-add-byte-at (mark-from-calls t)
+      (mark-from-at t) mark-from.Post
   mark-from-add-byte-at c = search needs
 
   mark-from-byte-at-requires-2 : mark-from-lts.Need-byte-at-requires-2 (mark-from-calls t)
       (mark-from-at t) mark-from.Post
   mark-from-byte-at-requires-2 c κs = search needs
 
-  mark-from-is-noted-requires : mark-from-lts.Need-is-noted-requires (mark-from-calls t) (mark-from-at t) mark-from.Post
+  mark-from-is-noted-requires : mark-from-lts.Need-is-noted-requires (mark-from-calls t)
+      (mark-from-at t) mark-from.Post
   mark-from-is-noted-requires c κs = search needs
 
-  mark-from-mul-result : mark-from-lts.Need-mul-result (mark-from-calls t) (mark-from-at t) mark-from.Post
-  mark-from-mul-result c = let h = mask-fits _ _ _ _ (c .before .before .before .mark-from .ensures)
-      (c .before .before .before .before .before .before .before .before .before .before .pre .1 .0) in omega arith
-
-  mark-from-add-result : mark-from-lts.Need-add-result (mark-from-calls t) (mark-from-at t) mark-from.Post
-  mark-from-add-result c = let h = mask-fits _ _ _ _ (c .before .before .before .mark-from .ensures)
-      (c .before .before .before .before .before .before .before .before .before .before .pre .1 .0) in omega arith
-
-  mark-from-returns-2 : mark-from-lts.Need-returns-2 (mark-from-calls t) (mark-from-at t) mark-from.Post
-  mark-from-returns-2 c = mask-set _ _ _ (c .before .before .before .before .before .before .before .if1 .left)
-      (c .before .before .before .before .before .before .byte-at .ensures)
-      (c .before .before .before .before .before .declares .ensures) (c .before .before .before .before .if2 .taken)
-      (c .before .before .before .mark-from .ensures) (c .before .before .byte-at2 .ensures)
-      (c .before .is-noted .ensures) (c .if3 .taken)
-
-  mark-from-mul-result-2 : mark-from-lts.Need-mul-result-2 (mark-from-calls t) (mark-from-at t) mark-from.Post
-  mark-from-mul-result-2 c = let h = mask-fits _ _ _ _ (c .before .before .before .mark-from .ensures)
-      (c .before .before .before .before .before .before .before .before .before .before .pre .1 .0) in omega arith
-
-  mark-from-returns-3 : mark-from-lts.Need-returns-3 (mark-from-calls t) (mark-from-at t) mark-from.Post
-  mark-from-returns-3 c = mask-unset _ _ _ (c .before .before .before .before .before .before .before .if1 .left)
-      (c .before .before .before .before .before .before .byte-at .ensures)
-      (c .before .before .before .before .before .declares .ensures) (c .before .before .before .before .if2 .taken)
-      (c .before .before .before .mark-from .ensures) (c .before .before .byte-at2 .ensures)
-      (c .before .is-noted .ensures) (c .if3 .left)
-
-  mark-from-sub-mark-from-2 : mark-from-lts.Need-sub-mark-from-2 (mark-from-calls t) (mark-from-at t) mark-from.Post
-  mark-from-sub-mark-from-2 c = search needs
-
-  mark-from-add-mark-from-2 : mark-from-lts.Need-add-mark-from-2 (mark-from-calls t) (mark-from-at t) mark-from.Post
-  mark-from-add-mark-from-2 c = search needs
-
-  mark-from-mark-from-requires-2 : mark-from-lts.Need-mark-from-requires-2 (mark-from-calls t)
+  mark-from-mul-result-2 : mark-from-lts.Need-mul-result-2 (mark-from-calls t)
       (mark-from-at t) mark-from.Post
-  mark-from-mark-from-requires-2 c κs = search needs
+  mark-from-mul-result-2 c = let h = mask-fits _ _ _ _ (c .before .before .before .mark-from2 .ensures) (c .before
+      .before .before .before .before .before .before .before .before .before .before .before .pre .1 .0) in omega
+      arith
 
-  mark-from-mul-result-3 : mark-from-lts.Need-mul-result-3 (mark-from-calls t) (mark-from-at t) mark-from.Post
-  mark-from-mul-result-3 c = let h = mask-fits _ _ _ _ (c .mark-from2 .ensures)
-      (c .before .before .before .before .before .before .before .before .pre .1 .0) in omega arith
+  mark-from-add-result : mark-from-lts.Need-add-result (mark-from-calls t)
+      (mark-from-at t) mark-from.Post
+  mark-from-add-result c = let h = mask-fits _ _ _ _ (c .before .before .before .mark-from2 .ensures) (c .before
+      .before .before .before .before .before .before .before .before .before .before .before .pre .1 .0) in omega
+      arith
 
-  mark-from-returns-4 : mark-from-lts.Need-returns-4 (mark-from-calls t) (mark-from-at t) mark-from.Post
-  mark-from-returns-4 c = mask-retired _ _ _ (c .before .before .before .before .before .if1 .left)
-      (c .before .before .before .before .byte-at .ensures) (c .before .if4 .taken) (c .mark-from2 .ensures)
+  mark-from-returns-2 : mark-from-lts.Need-returns-2 (mark-from-calls t)
+      (mark-from-at t) mark-from.Post
+  mark-from-returns-2 c = mask-set _ _ _ (c .before .before .before .before .before .before .before .before .before
+      .if1 .left) (c .before .before .before .before .before .before .before .before .byte-at .ensures) (c .before
+      .before .before .before .before .before .before .shape-of .ensures) (c .before .before .before .before .before
+      .shape2 .given .1) (c .before .before .before .mark-from2 .ensures) (c .before .before .byte-at2 .ensures) (c
+      .before .is-noted .ensures) (c .if2 .taken)
 
-  mark-from-returns-5 : mark-from-lts.Need-returns-5 (mark-from-calls t) (mark-from-at t) mark-from.Post
-  mark-from-returns-5 c = mask-ended _ _ _ _ (c .before .before .before .byte-at .ensures)
-      (c .before .before .declares .ensures) (c .before .if2 .left) (c .if4 .left)
+  mark-from-mul-result-3 : mark-from-lts.Need-mul-result-3 (mark-from-calls t)
+      (mark-from-at t) mark-from.Post
+  mark-from-mul-result-3 c = let h = mask-fits _ _ _ _ (c .before .before .before .mark-from2 .ensures) (c .before
+      .before .before .before .before .before .before .before .before .before .before .before .pre .1 .0) in omega
+      arith
+
+  mark-from-returns-3 : mark-from-lts.Need-returns-3 (mark-from-calls t)
+      (mark-from-at t) mark-from.Post
+  mark-from-returns-3 c = mask-unknown _ _ _ (c .before .before .before .before .if1 .left) (c .before .before
+      .before .byte-at .ensures) (c .before .before .shape-of .ensures) (c .enum-told .given .1)
+
+  mark-from-returns-4 : mark-from-lts.Need-returns-4 (mark-from-calls t)
+      (mark-from-at t) mark-from.Post
+  mark-from-returns-4 c = mask-part _ _ _ (c .before .before .before .before .if1 .left) (c .before .before .before
+      .byte-at .ensures) (c .before .before .shape-of .ensures) (c .enum-told2 .given .1)
+
+  mark-from-returns-5 : mark-from-lts.Need-returns-5 (mark-from-calls t)
+      (mark-from-at t) mark-from.Post
+  mark-from-returns-5 c = mask-retired _ _ _ (c .before .before .before .before .before .before .if1 .left) (c
+      .before .before .before .before .before .byte-at .ensures) (c .before .before .before .before .shape-of
+      .ensures) (c .before .before .shape .given .1) (c .mark-from .ensures)
+
+  mark-from-returns-6 : mark-from-lts.Need-returns-6 (mark-from-calls t)
+      (mark-from-at t) mark-from.Post
+  mark-from-returns-6 c = mask-unset _ _ _ (c .before .before .before .before .before .before .before .before .before
+      .if1 .left) (c .before .before .before .before .before .before .before .before .byte-at .ensures) (c .before
+      .before .before .before .before .before .before .shape-of .ensures) (c .before .before .before .before .before
+      .shape2 .given .1) (c .before .before .before .mark-from2 .ensures) (c .before .before .byte-at2 .ensures) (c
+      .before .is-noted .ensures) (c .if2 .left)
 
 pub +mark-from-spec : {M : Type 1} → statement M
-+mark-from-spec = close μ-mark-from λ t. mark-from-lts.spec (mark-from-calls t) (mark-from-at t) mark-from.Post
++mark-from-spec = close μ-mark-from λ t. mark-from-lts.spec (mark-from-calls t)
+    (mark-from-at t) mark-from.Post
     (mark-from-returns t)
     (mark-from-byte-at-requires t)
-    (mark-from-declares-requires t)
+    (mark-from-shape-of-requires t)
+    (mark-from-enum-told t)
+    (mark-from-enum-told-2 t)
+    (mark-from-enum-known-shape t)
     (mark-from-sub-mark-from t)
     (mark-from-add-mark-from t)
+    (mark-from-cast-mark-from t)
+    (mark-from-add-mark-from-2 t)
     (mark-from-mark-from-requires t)
+    (mark-from-mul-result t)
+    (mark-from-enum-known-shape-2 t)
+    (mark-from-sub-mark-from-2 t)
+    (mark-from-add-mark-from-3 t)
+    (mark-from-cast-mark-from-2 t)
+    (mark-from-add-mark-from-4 t)
+    (mark-from-mark-from-requires-2 t)
     (mark-from-add-byte-at t)
     (mark-from-byte-at-requires-2 t)
     (mark-from-is-noted-requires t)
-    (mark-from-mul-result t)
+    (mark-from-mul-result-2 t)
     (mark-from-add-result t)
     (mark-from-returns-2 t)
-    (mark-from-mul-result-2 t)
-    (mark-from-returns-3 t)
-    (mark-from-sub-mark-from-2 t)
-    (mark-from-add-mark-from-2 t)
-    (mark-from-mark-from-requires-2 t)
     (mark-from-mul-result-3 t)
+    (mark-from-returns-3 t)
     (mark-from-returns-4 t)
     (mark-from-returns-5 t)
+    (mark-from-returns-6 t)

@@ -1,10 +1,10 @@
 -- How many bits are set for records that declare a name.
 use borrow.Author.Needs.{needs}
 use native.Mathlib.Omega.{arith}
-use mathlib.Core.Path.{ap, _∙_}
+use mathlib.Core.Path.{ap}
 use lib.Count.{ones}
-use Rattle.records.specs.declared.edition.Edition.the-variants.{Present}
-use Rattle.judge.proofs.Masking.{count-small, counted}
+use Rattle.judge.specs.Masks.{declaredAt}
+use Rattle.judge.proofs.Masking.{count-small}
 use Rattle.judge.proofs.mark.declared_count.Statement.{statement}
 use Rattle.judge.proofs.mark.declared_count.Tie as tie
 
@@ -12,7 +12,8 @@ cast-result : tie.Need-cast-result
 cast-result c = let h = count-small _ _ (c .declared-from .ensures) in record { fits = omega arith }
 
 returns : tie.Need-returns
-returns c = λ S ty n e. ap ones (c .declared-from .ensures) ∙ counted Present _ S ty n e
+unfolding declaredAt
+returns c = ap ones (c .declared-from .ensures)
 
 pub declared-count-spec : {M : Type 1} → statement M
 declared-count-spec = tie.close (tie.spec (λ c κs. search needs) cast-result returns)

@@ -45,8 +45,8 @@ returns-3 : tie.Need-returns-3
 returns-3 c = spot-down _ _ _ _ _ _ _ _ _ _ (c .before .before .before .before .before .before .before .if1
     .left) (c .before .before .before .before .before .before .field .ensures) (c .before .before .before
     .before .before .field2 .ensures) (c .before .before .before .before .field3 .ensures)
-    (c .before .before .before .field4 .ensures) (c .down .ensures _ (λ e. c
-        .before .if2 .left (c .before .before .cell .ensures ∙ e)))
+    (c .before .before .before .field4 .ensures) (λ e. c .before .if2 .left (c .before .before .cell .ensures ∙ e))
+    (c .down .ensures)
 
 pub spot-at-spec : {M : Type 1} → statement M
 spot-at-spec = tie.close (tie.spec (λ c κs. search needs) returns (search needs) field-requires field-requires-2

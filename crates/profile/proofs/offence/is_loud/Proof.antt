@@ -1,5 +1,4 @@
 use borrow.Author.Needs.{needs}
-use mathlib.Core.Path.{refl}
 use Rattle.profile.proofs.Leaves.{loud-sequence, loud-procedure, loud-used, loud-other}
 use Rattle.profile.proofs.offence.is_loud.Statement.{statement}
 use Rattle.profile.proofs.offence.is_loud.Tie as tie
@@ -11,8 +10,8 @@ returns-2 : tie.Need-returns-2
 returns-2 c = loud-procedure _ _ _ (c .if2 .taken)
 
 returns-3 : tie.Need-returns-3
-returns-3 c =
-    loud-used _ _ _ _ _ _ (c .before .before .if3 .taken) refl (c .before .word-of .ensures .0) (c .any-loud .ensures)
+returns-3 c = loud-used _ _ _ _ _ _ (c .before .before .before .if3 .taken) (c .before .body-of .ensures .0) (c
+    .before .before .word-of .ensures .0) (c .any-loud .ensures)
 
 returns-4 : tie.Need-returns-4
 returns-4 c = loud-other _ _ _ (c .before .before .if1 .left) (c .before .if2 .left) (c .if3 .left)
@@ -20,4 +19,5 @@ returns-4 c = loud-other _ _ _ (c .before .before .if1 .left) (c .before .if2 .l
 pub is-loud-spec : {M : Type 1} → statement M
 is-loud-spec =
     tie.close
-    (tie.spec returns returns-2 (λ c κs. search needs) (search needs) (λ c κs. search needs) returns-3 returns-4)
+    (tie.spec returns returns-2 (λ c κs. search needs) (search needs) (λ c κs. search needs) (search needs)
+    (λ c κs. search needs) returns-3 returns-4)

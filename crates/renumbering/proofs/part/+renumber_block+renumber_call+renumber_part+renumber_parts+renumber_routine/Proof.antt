@@ -3,8 +3,10 @@ use native.Mathlib.Omega.{arith}
 use mathlib.Core.Path.{_≡_, refl}
 use borrow.Author.Needs.{needs}
 use Rattle.renumbering.proofs.Choosing.{within-value, within-changes}
-use Rattle.renumbering.proofs.Steps.{part-deep, part-past, no-part, parts-full, parts-more, call-found, block-full}
-use Rattle.renumbering.proofs.Steps.{block-found, onward-value, onward-changes}
+use Rattle.renumbering.proofs.Steps.{part-deep, part-past, no-part, parts-full, parts-more, call-found,
+    block-full}
+use Rattle.renumbering.proofs.Steps.{block-found, onward-value, onward-changes, part-there, past-use}
+use Rattle.renumbering.proofs.Steps.{past-new, past-procedure}
 use Rattle.renumbering.proofs.Routines.{routine-full, routine-full-parameter, routine-full-body, routine-found}
 use Rattle.renumbering.proofs.Plain.{part-call, part-block, part-routine, part-plain}
 use Prim.Native.Nat.{ℕ, suc, _<_, _+_, _-_, _*_}
@@ -136,13 +138,13 @@ abbrev renumber-block-calls : ℕ → renumber-block-lts.Claims
 renumber-block-calls t =
     (byte-reads.Asked, byte-reads.Learnt, choose-id-reads.Asked, choose-id-reads.Learnt, put-reads.Asked,
     put-reads.Learnt, bound-entry-reads.Asked, bound-entry-reads.Learnt, enter-reads.Asked, enter-reads.Learnt,
-    renumber-part-below t, renumber-part.Post)
+    body-of-reads.Asked, body-of-reads.Learnt, renumber-part-below t, renumber-part.Post)
 
 abbrev renumber-call-calls : ℕ → renumber-call-lts.Claims
 renumber-call-calls t =
     (byte-reads.Asked, byte-reads.Learnt, word-reads.Asked, word-reads.Learnt, becomes-reads.Asked,
     becomes-reads.Learnt, put-reads.Asked, put-reads.Learnt, arguments-reads.Asked, arguments-reads.Learnt,
-    renumber-parts-below t, renumber-parts.Post)
+    body-of-reads.Asked, body-of-reads.Learnt, renumber-parts-below t, renumber-parts.Post)
 
 abbrev renumber-part-calls : ℕ → renumber-part-lts.Claims
 renumber-part-calls t =
@@ -159,7 +161,8 @@ abbrev renumber-routine-calls : ℕ → routine-lts.Claims
 renumber-routine-calls t =
     (byte-reads.Asked, byte-reads.Learnt, least-reads.Asked, least-reads.Learnt, choose-id-reads.Asked,
     choose-id-reads.Learnt, put-reads.Asked, put-reads.Learnt, choose-parameters-reads.Asked,
-    choose-parameters-reads.Learnt, renumber-part-below t, renumber-part.Post, bound-entry-reads.Asked,
+    choose-parameters-reads.Learnt, body-of-reads.Asked, body-of-reads.Learnt, renumber-part-below t,
+    renumber-part.Post, bound-entry-reads.Asked,
     bound-entry-reads.Learnt, enter-reads.Asked, enter-reads.Learnt)
 
 -- renumber_block
@@ -194,47 +197,54 @@ module _ (t : ℕ) where
 
   renumber-block-put-requires : renumber-block-lts.Need-put-requires (renumber-block-calls t) (renumber-block-at t)
       renumber-block.Post
-  renumber-block-put-requires c κs =
-      omega (arith, within-value _ _ _ _ _ (c .before .before .before .before .choose-id .ensures .within)
-      (c .before .before .x .given .1))
+  renumber-block-put-requires c κs = omega (arith, within-value _ _ _ _ _ (c .before .before .before .before
+      .choose-id .ensures .within) (c .before .before .x .given .1))
 
   renumber-block-bound-entry-requires : renumber-block-lts.Need-bound-entry-requires (renumber-block-calls t)
       (renumber-block-at t) renumber-block.Post
-  renumber-block-bound-entry-requires c κs =
-      (omega (arith, within-value _ _ _ _ _ (c .before .before .before .before .before .before .before .choose-id
-      .ensures .within) (c .before .before .before .before .before .x .given .1)), omega arith)
+  renumber-block-bound-entry-requires c κs = (omega (arith, within-value _ _ _ _ _ (c .before .before .before .before
+      .before .before .before .choose-id .ensures .within) (c .before .before .before .before .before .x .given .1)),
+      omega arith)
 
   renumber-block-enter-requires : renumber-block-lts.Need-enter-requires (renumber-block-calls t)
       (renumber-block-at t) renumber-block.Post
   renumber-block-enter-requires c κs = search needs
 
-  renumber-block-add-renumber-part : renumber-block-lts.Need-add-renumber-part (renumber-block-calls t)
-      (renumber-block-at t) renumber-block.Post
-  renumber-block-add-renumber-part c = search needs
+  renumber-block-add-from : renumber-block-lts.Need-add-from (renumber-block-calls t) (renumber-block-at t)
+      renumber-block.Post
+  renumber-block-add-from c = search needs
+
+  renumber-block-body-of-requires : renumber-block-lts.Need-body-of-requires (renumber-block-calls t)
+      (renumber-block-at t)
+      renumber-block.Post
+  renumber-block-body-of-requires c κs = search needs
+
+  renumber-block-add-from-2 : renumber-block-lts.Need-add-from-2 (renumber-block-calls t) (renumber-block-at t)
+      renumber-block.Post
+  renumber-block-add-from-2 c = search needs
 
   renumber-block-renumber-part-requires : renumber-block-lts.Need-renumber-part-requires (renumber-block-calls t)
       (renumber-block-at t) renumber-block.Post
-  renumber-block-renumber-part-requires c κs =
-      omega (arith, within-changes _ _ _ _ _ (c .before .before .before .before .before .before .before .before
-      .before .before .before .before .before .choose-id .ensures .within)
-      (c .before .before .before .before .before .before .before .before .before .before .before .x .given .1))
+  renumber-block-renumber-part-requires c κs = omega (arith, within-changes _ _ _ _ _ (c .before .before .before
+      .before .before .before .before .before .before .before .before .before .before .before .choose-id .ensures
+      .within) (c .before .before .before .before .before .before .before .before .before .before .before .before .x
+      .given .1))
 
   renumber-block-returns : renumber-block-lts.Need-returns (renumber-block-calls t) (renumber-block-at t)
       renumber-block.Post
-  renumber-block-returns c =
-      block-full _ _ _ _ _ _ _ _ _ _ _ _ _ _ (c .before .before .before .before .before .byte .ensures .0)
-      (c .before .before .choose-id .ensures) (c .enum-told .given .1)
+  renumber-block-returns c = block-full _ _ _ _ _ _ _ _ _ _ _ _ _ _ (c .before .before .before .before .before .byte
+      .ensures .0) (c .before .before .choose-id .ensures) (c .enum-told .given .1)
 
   renumber-block-returns-2 : renumber-block-lts.Need-returns-2 (renumber-block-calls t) (renumber-block-at t)
       renumber-block.Post
-  renumber-block-returns-2 c =
-      block-found _ _ _ _ _ _ _ _ _ _ _ _ _ _ _ _ _ _ _ _ _ _ (c .before .before .before .before .before .before
-      .before .before .before .before .before .before .before .before .before .before .before .byte .ensures .0) (c
+  renumber-block-returns-2 c = block-found _ _ _ _ _ _ _ _ _ _ _ _ _ _ _ _ _ _ _ _ _ _ (c .before .before .before
       .before .before .before .before .before .before .before .before .before .before .before .before .before .before
-      .choose-id .ensures) (c .before .before .before .before .before .before .before .before .before .before .before
-      .before .x .given .1) (c .before .before .before .before .before .before .before .before .before .put .ensures)
-      (c .before .before .before .before .before .before .bound-entry .ensures .0)
-      (c .before .before .before .before .before .enter .ensures) refl (c .renumber-part .ensures)
+      .before .byte .ensures .0) (c .before .before .before .before .before .before .before .before .before .before
+      .before .before .before .before .before .choose-id .ensures) (c .before .before .before .before .before .before
+      .before .before .before .before .before .before .before .x .given .1) (c .before .before .before .before
+      .before .before .before .before .before .before .put .ensures) (c .before .before .before .before .before
+      .before .before .bound-entry .ensures .0) (c .before .before .before .before .before .before .enter .ensures)
+      (past-new _ (c .before .before .before .before .before .body-of .ensures .0)) (c .renumber-part .ensures)
 
 -- renumber_call
 module _ (t : ℕ) where
@@ -265,21 +275,29 @@ module _ (t : ℕ) where
       (renumber-call-at t) renumber-call.Post
   renumber-call-arguments-requires c κs = search needs
 
-  renumber-call-add-renumber-parts : renumber-call-lts.Need-add-renumber-parts (renumber-call-calls t)
-      (renumber-call-at t) renumber-call.Post
-  renumber-call-add-renumber-parts c = search needs
+  renumber-call-add-from : renumber-call-lts.Need-add-from (renumber-call-calls t) (renumber-call-at t)
+      renumber-call.Post
+  renumber-call-add-from c = search needs
+
+  renumber-call-body-of-requires : renumber-call-lts.Need-body-of-requires (renumber-call-calls t) (renumber-call-at t)
+      renumber-call.Post
+  renumber-call-body-of-requires c κs = search needs
+
+  renumber-call-add-from-2 : renumber-call-lts.Need-add-from-2 (renumber-call-calls t) (renumber-call-at t)
+      renumber-call.Post
+  renumber-call-add-from-2 c = search needs
 
   renumber-call-renumber-parts-requires : renumber-call-lts.Need-renumber-parts-requires (renumber-call-calls t)
       (renumber-call-at t) renumber-call.Post
   renumber-call-renumber-parts-requires c κs = search needs
 
   renumber-call-returns : renumber-call-lts.Need-returns (renumber-call-calls t) (renumber-call-at t) renumber-call.Post
-  renumber-call-returns c =
-      call-found _ _ _ _ _ _ _ _ _ _ _ _ _ _ _ _ _ _ (c .before .before .before .before .before .before .before
-      .before .before .before .byte .ensures .0) (c .before .before .before .before .before .before .before .before
-      .word .ensures .0) (c .before .before .before .before .before .before .becomes .ensures .0) (c .before .before
-      .before .before .before .put .ensures) (c .before .before .before .before .arguments .ensures .0) refl
-      (c .renumber-parts .ensures)
+  renumber-call-returns c = call-found _ _ _ _ _ _ _ _ _ _ _ _ _ _ _ _ _ _ (c .before .before .before .before .before
+      .before .before .before .before .before .before .byte .ensures .0) (c .before .before .before .before .before
+      .before .before .before .before .word .ensures .0) (c .before .before .before .before .before .before .before
+      .becomes .ensures .0) (c .before .before .before .before .before .before .put .ensures) (c .before .before
+      .before .before .before .arguments .ensures .0) (past-use _ (c .before .before .before .before .body-of
+      .ensures .0)) (c .renumber-parts .ensures)
 
 -- renumber_part
 module _ (t : ℕ) where
@@ -465,9 +483,8 @@ module _ (t : ℕ) where
 
   renumber-routine-returns : routine-lts.Need-returns (renumber-routine-calls t) (renumber-routine-at t)
       renumber-routine.Post
-  renumber-routine-returns c =
-      routine-full _ _ _ _ _ _ _ _ _ _ _ _ _ _ (c .before .before .before .before .before .before .before .byte
-      .ensures .0) (c .before .before .choose-id .ensures) (c .enum-told .given .1)
+  renumber-routine-returns c = routine-full _ _ _ _ _ _ _ _ _ _ _ _ _ _ (c .before .before .before .before .before
+      .before .before .byte .ensures .0) (c .before .before .choose-id .ensures) (c .enum-told .given .1)
 
   renumber-routine-add-put : routine-lts.Need-add-put (renumber-routine-calls t) (renumber-routine-at t)
       renumber-routine.Post
@@ -475,9 +492,8 @@ module _ (t : ℕ) where
 
   renumber-routine-put-requires : routine-lts.Need-put-requires (renumber-routine-calls t)
       (renumber-routine-at t) renumber-routine.Post
-  renumber-routine-put-requires c κs =
-      omega (arith, within-value _ _ _ _ _ (c .before .before .before .before .choose-id .ensures .within)
-      (c .before .before .own .given .1))
+  renumber-routine-put-requires c κs = omega (arith, within-value _ _ _ _ _ (c .before .before .before .before
+      .choose-id .ensures .within) (c .before .before .own .given .1))
 
   renumber-routine-add-first : routine-lts.Need-add-first (renumber-routine-calls t) (renumber-routine-at t)
       renumber-routine.Post
@@ -485,11 +501,10 @@ module _ (t : ℕ) where
 
   renumber-routine-choose-parameters-requires : routine-lts.Need-choose-parameters-requires
       (renumber-routine-calls t) (renumber-routine-at t) renumber-routine.Post
-  renumber-routine-choose-parameters-requires c κs =
-      omega (arith, within-changes _ _ _ _ _ (c .before .before .before .before .before .before .before .before
-      .before .before .choose-id .ensures .within) (c .before .before .before .before .before .before .before .before
-      .own .given .1), c .before .before .before .before .before .before .before .before .before .before .before
-      .before .before .least .ensures)
+  renumber-routine-choose-parameters-requires c κs = omega (arith, within-changes _ _ _ _ _ (c .before .before
+      .before .before .before .before .before .before .before .before .choose-id .ensures .within) (c .before .before
+      .before .before .before .before .before .before .own .given .1), c .before .before .before .before .before
+      .before .before .before .before .before .before .before .before .least .ensures)
 
   renumber-routine-enum-known-y : routine-lts.Need-enum-known-y (renumber-routine-calls t)
       (renumber-routine-at t) renumber-routine.Post
@@ -501,40 +516,53 @@ module _ (t : ℕ) where
 
   renumber-routine-returns-2 : routine-lts.Need-returns-2 (renumber-routine-calls t) (renumber-routine-at t)
       renumber-routine.Post
-  renumber-routine-returns-2 c =
-      routine-full-parameter _ _ _ _ _ _ _ _ _ _ _ _ _ _ _ _ _ _ _ _ _ _ _ (c .before .before .before .before .before
-      .before .before .before .before .before .before .before .before .before .before .before .before .before .byte
-      .ensures .0) (c .before .before .before .before .before .before .before .before .before .before .before .before
-      .before .before .before .before .before .byte2 .ensures .0) (c .before .before .before .before .before .before
-      .before .before .before .before .before .before .before .before .before .before .least .ensures) (c .before
-      .before .before .before .before .before .before .before .before .before .before .before .before .choose-id
-      .ensures) (c .before .before .before .before .before .before .before .before .before .before .before .own
-      .given .1) (c .before .before .choose-parameters .ensures) (c .enum-told2 .given .1)
+  renumber-routine-returns-2 c = routine-full-parameter _ _ _ _ _ _ _ _ _ _ _ _ _ _ _ _ _ _ _ _ _ _ _ (c .before
+      .before .before .before .before .before .before .before .before .before .before .before .before .before .before
+      .before .before .before .byte .ensures .0) (c .before .before .before .before .before .before .before .before
+      .before .before .before .before .before .before .before .before .before .byte2 .ensures .0) (c .before .before
+      .before .before .before .before .before .before .before .before .before .before .before .before .before .before
+      .least .ensures) (c .before .before .before .before .before .before .before .before .before .before .before
+      .before .before .choose-id .ensures) (c .before .before .before .before .before .before .before .before .before
+      .before .before .own .given .1) (c .before .before .choose-parameters .ensures) (c .enum-told2 .given .1)
 
   renumber-routine-add-from : routine-lts.Need-add-from (renumber-routine-calls t) (renumber-routine-at t)
       renumber-routine.Post
-  renumber-routine-add-from c =
-      omega (arith, c .before .before .before .before .before .before .before .before .before .before .before .before
-      .before .before .before .before .before .before .before .before .before .pre .1 .2)
+  renumber-routine-add-from c = omega (arith, c .before .before .before .before .before .before .before .before
+      .before .before .before .before .before .before .before .before .before .before .before .before .before .pre .1
+      .2)
+
+  renumber-routine-body-of-requires : routine-lts.Need-body-of-requires (renumber-routine-calls t)
+      (renumber-routine-at t)
+      renumber-routine.Post
+  renumber-routine-body-of-requires c κs = search needs
+
+  renumber-routine-add-from-2 : routine-lts.Need-add-from-2 (renumber-routine-calls t) (renumber-routine-at t)
+      renumber-routine.Post
+  renumber-routine-add-from-2 c = omega (arith, c .before .before .before .before .before .before .before .before
+      .before .before .before .before .before .before .before .before .before .before .before .before .before .before
+      .pre .1 .2, c .body-of .ensures .1)
 
   renumber-routine-renumber-part-requires : routine-lts.Need-renumber-part-requires
       (renumber-routine-calls t) (renumber-routine-at t) renumber-routine.Post
-  renumber-routine-renumber-part-requires c κs =
-      omega (arith, c .before .before .before .before .before .before .before .before .before .before .before .before
-      .before .before .before .before .before .before .before .before .before .before .before .before .before .pre
-      .0, c .before .before .before .before .before .before .before .before .before .before .before .before .before
-      .before .before .before .before .before .before .before .before .before .before .before .before .pre .1 .0, c
+  renumber-routine-renumber-part-requires c κs = omega (arith, c .before .before .before .before .before .before
       .before .before .before .before .before .before .before .before .before .before .before .before .before .before
-      .before .before .before .before .before .before .before .before .before .before .before .pre .1 .1, c .before
+      .before .before .before .before .before .before .pre .0, c .before .before .before .before .before .before
       .before .before .before .before .before .before .before .before .before .before .before .before .before .before
-      .before .before .before .before .before .before .before .before .before .before .pre .1 .2, within-changes _ _
-      _ _ _ (c .before .before .before .before .before .before .before .before .before .before .before .before
-      .before .before .before .before .before .before .choose-id .ensures .within) (c .before .before .before .before
-      .before .before .before .before .before .before .before .before .before .before .before .before .own .given
-      .1), within-changes _ _ _ _ _ (c .before .before .before .before .before .before .before .choose-parameters
-      .ensures .within) (c .before .before .before .before .before .y .given .1), c .before .before .before .before
+      .before .before .before .before .before .before .pre .1 .0, c .before .before .before .before .before .before
       .before .before .before .before .before .before .before .before .before .before .before .before .before .before
-      .before .before .before .least .ensures)
+      .before .before .before .before .before .before .pre .1 .1, c .before .before .before .before .before .before
+      .before .before .before .before .before .before .before .before .before .before .before .before .before .before
+      .before .before .before .before .before .before .pre .1 .2, within-changes _ _ _ _ _ (c .before .before .before
+      .before .before .before .before .before .before .before .before .before .before .before .before .before .before
+      .before .before .choose-id .ensures .within) (c .before .before .before .before .before .before .before .before
+      .before .before .before .before .before .before .before .before .before .own .given .1), within-changes _ _ _ _
+      _ (c .before .before .before .before .before .before .before .before .choose-parameters .ensures .within) (c
+      .before .before .before .before .before .before .y .given .1), c .before .before .before .before .before
+      .before .before .before .before .before .before .before .before .before .before .before .before .before .before
+      .before .before .before .least .ensures, past-procedure (c .before .before .before .before .before .before
+      .before .before .before .before .before .before .before .before .before .before .before .before .before .before
+      .before .before .before .before .before .before .args .at) (c .before .before .before .before .body-of .ensures
+      .0))
 
   renumber-routine-enum-known-z : routine-lts.Need-enum-known-z (renumber-routine-calls t)
       (renumber-routine-at t) renumber-routine.Post
@@ -546,31 +574,32 @@ module _ (t : ℕ) where
 
   renumber-routine-returns-3 : routine-lts.Need-returns-3 (renumber-routine-calls t) (renumber-routine-at t)
       renumber-routine.Post
-  renumber-routine-returns-3 c =
-      routine-full-body _ _ _ _ _ _ _ _ _ _ _ _ _ _ _ _ _ _ _ _ _ _ _ _ _ _ _ _ _ (c .before .before .before .before
+  renumber-routine-returns-3 c = routine-full-body _ _ _ _ _ _ _ _ _ _ _ _ _ _ _ _ _ _ _ _ _ _ _ _ _ _ _ _ _ (c
       .before .before .before .before .before .before .before .before .before .before .before .before .before .before
-      .before .before .before .before .before .before .before .before .byte .ensures .0) (c .before .before .before
+      .before .before .before .before .before .before .before .before .before .before .before .before .before .byte
+      .ensures .0) (c .before .before .before .before .before .before .before .before .before .before .before .before
       .before .before .before .before .before .before .before .before .before .before .before .before .before .before
-      .before .before .before .before .before .before .before .before .byte2 .ensures .0) (c .before .before .before
+      .byte2 .ensures .0) (c .before .before .before .before .before .before .before .before .before .before .before
       .before .before .before .before .before .before .before .before .before .before .before .before .before .before
-      .before .before .before .before .before .before .before .least .ensures) (c .before .before .before .before
+      .least .ensures) (c .before .before .before .before .before .before .before .before .before .before .before
+      .before .before .before .before .before .before .before .before .before .before .before .choose-id .ensures) (c
       .before .before .before .before .before .before .before .before .before .before .before .before .before .before
-      .before .before .before .choose-id .ensures) (c .before .before .before .before .before .before .before .before
-      .before .before .before .before .before .before .before .before .before .before .before .own .given .1)
-      (c .before .before .before .before .before .before .before .before .before .before .choose-parameters .ensures)
-      (c .before .before .before .before .before .before .before .before .y .given .1)
-      (c .before .before .renumber-part .ensures) (c .enum-told3 .given .1)
+      .before .before .before .before .before .before .own .given .1) (c .before .before .before .before .before
+      .before .before .before .before .before .before .choose-parameters .ensures) (c .before .before .before .before
+      .before .before .before .before .before .y .given .1) (part-there (past-procedure _ (c .before .before .before
+      .before .before .before .before .body-of .ensures .0)) (c .before .before .renumber-part .ensures)) (c
+      .enum-told3 .given .1)
 
   renumber-routine-bound-entry-requires : routine-lts.Need-bound-entry-requires (renumber-routine-calls t)
       (renumber-routine-at t) renumber-routine.Post
-  renumber-routine-bound-entry-requires c κs =
-      (omega (arith, within-value _ _ _ _ _ (c .before .before .before .before .before .before .before .before
+  renumber-routine-bound-entry-requires c κs = (omega (arith, within-value _ _ _ _ _ (c .before .before .before
       .before .before .before .before .before .before .before .before .before .before .before .before .before .before
-      .before .before .choose-id .ensures .within) (c .before .before .before .before .before .before .before .before
+      .before .before .before .before .before .before .before .before .choose-id .ensures .within) (c .before .before
       .before .before .before .before .before .before .before .before .before .before .before .before .before .before
-      .own .given .1)), omega (arith, c .before .before .before .before .before .before .before .before .before
+      .before .before .before .before .before .before .before .own .given .1)), omega (arith, c .before .before
       .before .before .before .before .before .before .before .before .before .before .before .before .before .before
-      .before .before .before .before .least .ensures))
+      .before .before .before .before .before .before .before .before .before .before .before .before .least
+      .ensures))
 
   renumber-routine-enter-requires : routine-lts.Need-enter-requires (renumber-routine-calls t)
       (renumber-routine-at t) renumber-routine.Post
@@ -578,45 +607,46 @@ module _ (t : ℕ) where
 
   renumber-routine-renumber-part-requires-2 : routine-lts.Need-renumber-part-requires-2
       (renumber-routine-calls t) (renumber-routine-at t) renumber-routine.Post
-  renumber-routine-renumber-part-requires-2 c κs =
-      omega (arith, c .before .before .before .before .before .before .before .before .before .before .before .before
-      .before .before .before .before .before .before .before .before .before .before .before .before .before .before
-      .before .before .before .before .before .before .before .before .before .before .before .pre .0, c .before
+  renumber-routine-renumber-part-requires-2 c κs = omega (arith, c .before .before .before .before .before .before
       .before .before .before .before .before .before .before .before .before .before .before .before .before .before
       .before .before .before .before .before .before .before .before .before .before .before .before .before .before
-      .before .before .before .before .before .before .before .before .pre .1 .0, onward-value _ _ _ (c .before
-      .before .before .before .before .before .before .before .before .before .before .renumber-part .ensures
-      .onward) (c .before .before .before .before .before .before .before .before .before .z .given .1),
-      onward-changes _ _ _ (c .before .before .before .before .before .before .before .before .before .before .before
-      .renumber-part .ensures .onward)
-      (c .before .before .before .before .before .before .before .before .before .z .given .1))
+      .before .before .before .before .pre .0, c .before .before .before .before .before .before .before .before
+      .before .before .before .before .before .before .before .before .before .before .before .before .before .before
+      .before .before .before .before .before .before .before .before .before .before .before .before .before .before
+      .before .before .pre .1 .0, onward-value _ _ _ (c .before .before .before .before .before .before .before
+      .before .before .before .before .renumber-part .ensures .onward) (c .before .before .before .before .before
+      .before .before .before .before .z .given .1), onward-changes _ _ _ (c .before .before .before .before .before
+      .before .before .before .before .before .before .renumber-part .ensures .onward) (c .before .before .before
+      .before .before .before .before .before .before .z .given .1))
 
   renumber-routine-returns-4 : routine-lts.Need-returns-4 (renumber-routine-calls t) (renumber-routine-at t)
       renumber-routine.Post
-  renumber-routine-returns-4 c =
-      routine-found _ _ _ _ _ _ _ _ _ _ _ _ _ _ _ _ _ _ _ _ _ _ _ _ _ _ _ _ _ _ _ _ _ _ _ _ (c .before .before
+  renumber-routine-returns-4 c = routine-found _ _ _ _ _ _ _ _ _ _ _ _ _ _ _ _ _ _ _ _ _ _ _ _ _ _ _ _ _ _ _ _ _ _ _
+      _ (c .before .before .before .before .before .before .before .before .before .before .before .before .before
+      .before .before .before .before .before .before .before .before .before .before .before .before .before .before
+      .before .before .before .before .before .before .before .before .before .before .byte .ensures .0) (c .before
       .before .before .before .before .before .before .before .before .before .before .before .before .before .before
       .before .before .before .before .before .before .before .before .before .before .before .before .before .before
-      .before .before .before .before .before .before .byte .ensures .0) (c .before .before .before .before .before
+      .before .before .before .before .before .before .before .byte2 .ensures .0) (c .before .before .before .before
       .before .before .before .before .before .before .before .before .before .before .before .before .before .before
       .before .before .before .before .before .before .before .before .before .before .before .before .before .before
-      .before .before .byte2 .ensures .0) (c .before .before .before .before .before .before .before .before .before
+      .before .before .before .least .ensures) (c .before .before .before .before .before .before .before .before
       .before .before .before .before .before .before .before .before .before .before .before .before .before .before
-      .before .before .before .before .before .before .before .before .before .before .before .least .ensures) (c
+      .before .before .before .before .before .before .before .before .before .before .choose-id .ensures) (c .before
       .before .before .before .before .before .before .before .before .before .before .before .before .before .before
       .before .before .before .before .before .before .before .before .before .before .before .before .before .before
-      .before .before .before .choose-id .ensures) (c .before .before .before .before .before .before .before .before
+      .before .own .given .1) (c .before .before .before .before .before .before .before .before .before .before
       .before .before .before .before .before .before .before .before .before .before .before .before .before .before
-      .before .before .before .before .before .before .before .own .given .1) (c .before .before .before .before
-      .before .before .before .before .before .before .before .before .before .before .before .before .before .before
-      .before .before .before .before .before .before .before .before .put .ensures) (c .before .before .before
-      .before .before .before .before .before .before .before .before .before .before .before .before .before .before
-      .before .before .before .choose-parameters .ensures) (c .before .before .before .before .before .before .before
-      .before .before .before .before .before .before .before .before .before .before .before .y .given .1) (c
-      .before .before .before .before .before .before .before .before .before .before .before .before .renumber-part
-      .ensures) (c .before .before .before .before .before .before .before .before .before .before .z .given .1)
-      (c .before .before .before .before .before .before .bound-entry .ensures .0)
-      (c .before .before .before .before .before .enter .ensures) (c .renumber-part2 .ensures)
+      .before .before .before .put .ensures) (c .before .before .before .before .before .before .before .before
+      .before .before .before .before .before .before .before .before .before .before .before .before .before
+      .choose-parameters .ensures) (c .before .before .before .before .before .before .before .before .before .before
+      .before .before .before .before .before .before .before .before .before .y .given .1) (part-there
+      (past-procedure _ (c .before .before .before .before .before .before .before .before .before .before .before
+      .before .before .before .before .before .before .body-of .ensures .0)) (c .before .before .before .before
+      .before .before .before .before .before .before .before .before .renumber-part .ensures)) (c .before .before
+      .before .before .before .before .before .before .before .before .z .given .1) (c .before .before .before
+      .before .before .before .bound-entry .ensures .0) (c .before .before .before .before .before .enter .ensures)
+      (c .renumber-part2 .ensures)
 
 pub +renumber-block+renumber-call+renumber-part+renumber-parts+renumber-routine-spec :
     {M : Type 1} → statement M
@@ -640,7 +670,9 @@ pub +renumber-block+renumber-call+renumber-part+renumber-parts+renumber-routine-
     (renumber-block-put-requires t)
     (renumber-block-bound-entry-requires t)
     (renumber-block-enter-requires t)
-    (renumber-block-add-renumber-part t)
+    (renumber-block-add-from t)
+    (renumber-block-body-of-requires t)
+    (renumber-block-add-from-2 t)
     (renumber-block-renumber-part-requires t)
     (renumber-block-returns t)
     (renumber-block-returns-2 t))
@@ -654,7 +686,9 @@ pub +renumber-block+renumber-call+renumber-part+renumber-parts+renumber-routine-
     (renumber-call-becomes-requires t)
     (renumber-call-put-requires t)
     (renumber-call-arguments-requires t)
-    (renumber-call-add-renumber-parts t)
+    (renumber-call-add-from t)
+    (renumber-call-body-of-requires t)
+    (renumber-call-add-from-2 t)
     (renumber-call-renumber-parts-requires t)
     (renumber-call-returns t))
     (λ t. renumber-part-lts.spec (renumber-part-calls t)
@@ -711,6 +745,8 @@ pub +renumber-block+renumber-call+renumber-part+renumber-parts+renumber-routine-
     (renumber-routine-enum-told-2 t)
     (renumber-routine-returns-2 t)
     (renumber-routine-add-from t)
+    (renumber-routine-body-of-requires t)
+    (renumber-routine-add-from-2 t)
     (renumber-routine-renumber-part-requires t)
     (renumber-routine-enum-known-z t)
     (renumber-routine-enum-told-3 t)
