@@ -13,7 +13,7 @@ use Rattle.explicit.specs.inner.Rows.{closedOf}
 use Rattle.explicit.specs.inner.Sheets.{OneSheet, TwoSheets}
 use Rattle.explicit.proofs.SheetRows.{spots-fit}
 use Rattle.explicit.proofs.Filled.{one-sheet, two-sheets}
-use Rattle.build.specs.Built.{OneReady, OneBuilt, TwoReady, TwoBuilt}
+use Rattle.build.specs.inner.Built.{OneReady, OneBuilt, TwoReady, TwoBuilt}
 use Rattle.build.proofs.Room.{asked-suffices}
 
 -- the site of a sheet whose first state is o, in an automaton of n states

@@ -7,7 +7,7 @@ use part_path::Site;
 use part_path::levels::PATH_WORDS;
 use silent::settle;
 ghost use Prim.Native.Nat.{_+_};
-ghost use Rattle.build.specs.Built.{OneReady, OneBuilt, TwoReady, TwoBuilt};
+ghost use Rattle.build.specs.inner.Built.{OneReady, OneBuilt, TwoReady, TwoBuilt};
 
 // The automaton of a sheet of size `all`, with one state more, the dead one.
 fn build_one(t: &[u16], n: Numbers, root: usize, all: usize, words: &mut [u32])

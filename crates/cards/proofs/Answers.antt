@@ -24,12 +24,11 @@ use Rattle.sheet.proofs.Right.{gives}
 use Rattle.load.specs.Loaded as load
 use Rattle.load.specs.declared.load.Loaded.{Loaded}
 use Rattle.load.specs.declared.load.Loaded.the-variants as loaded
-use Rattle.build.specs.Built.{OneBuilt, OneReady}
+use Rattle.build.specs.inner.Built.{OneBuilt, OneReady}
 use Rattle.conditions.specs.Lent.{words-asked}
 use Rattle.comparer.specs.Refusals.{onRead}
-use Rattle.conditions.specs.Pair.{refusing}
+use Rattle.conditions.specs.Pair.{refusing, numberOf}
 use Rattle.comparer.specs.inner.Causes.{causeOf}
-use Rattle.conditions.specs.Pair.{numberOf}
 use Rattle.comparer.proofs.ReadSheets.{Fit, fit-ready, fit-type}
 use Rattle.play.proofs.WritingPlays.{sets-append}
 use Rattle.cards.specs.Promise.{CardOf, CardPromise, CardedBy, cardRefusal, lentRefusal, space-for}
@@ -37,6 +36,7 @@ use Rattle.cards.specs.declared.Carding.the-variants.{Card, Refused}
 use Rattle.cards.specs.inner.Drawing.{Drawable, Drawn}
 use Rattle.cards.proofs.Length.{heading-short}
 use Rattle.cards.proofs.SameCards.{heading-within}
+use Rattle.cards.proofs.Fits.{card-fits}
 
 -- a refusal that is promised
 refuses : (s ws space : List ℕ) {x q : Cause} → cardRefusal s (length ws) (length space) ≡ some x → q ≡ x
@@ -151,8 +151,8 @@ module _ {N : Numbers} {ty : ℕ} {s : List ℕ} {row all : ℕ} {t : List ℕ} 
           let b : C .size ≡ all = cc in
           ap₂ space-for (ap (λ (S : Sheet). S .numbers) a ∙ F .numbers) b
 
-      card-fits : {k : List ℕ} → CardOf s k → length k ≤ length space
-      card-fits C = omega (arith, C .fits, space-enough, same-space C)
+      fits-space : {k : List ℕ} → CardOf s k → length k ≤ length space
+      fits-space {k} C = omega (arith, card-fits s k C, space-enough, same-space C)
 
       -- the card is written: heading and type up to the place, then the bytes of the positions
       pub carded : (root place r : ℕ) (ws₁ space₁ space₂ ws′ : List ℕ) → root ≡ headingLength (F .sheet)
@@ -173,7 +173,7 @@ module _ {N : Numbers} {ty : ℕ} {s : List ℕ} {row all : ℕ} {t : List ℕ} 
                 subst (λ k. CardOf s (take k s ++ (ty ∷ D .bytes))) (sym e) (D .is) in
           let size : length card ≡ place + length (D .bytes) =
                 ap length (sym whole) ∙ length-append H (D .bytes) ∙ omega (arith, long) in
-          let fits : 0 + length card ≤ length space = omega (arith, card-fits is) in
+          let fits : 0 + length card ≤ length space = omega (arith, fits-space is) in
           let run : space₂ ≡ sets space 0 card =
                 D .written ∙ ap₂ (λ (x : List ℕ) i. sets x i (D .bytes)) w (sym long ∙ omega arith)
                   ∙ sym (sets-append H (D .bytes) space 0) ∙ ap (sets space 0) whole in

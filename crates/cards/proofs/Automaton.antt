@@ -2,16 +2,14 @@
 use mathlib.Core.Bool.{Bool, cond, false, true}
 use mathlib.Core.List.{List, _++_, _∷_}
 use mathlib.Core.Path.{_∙_, _≡_, ap, refl, subst, sym}
-use Prim.Native.Nat.{_*_, _+_, _-_, _<_, _≤_, ℕ}
+use Prim.Native.Nat.{_*_, _+_, ℕ}
 use native.Mathlib.Omega.{arith}
 use lib.Dec.{eqb}
-use lib.ListN.{getD, length, take}
+use lib.ListN.{take}
 use borrow.Author.Tests.{eq-eqb, eqb-true}
 use Rattle.language.specs.declared.Numbers.{Numbers}
-use Rattle.language.specs.Number.{numbers}
 use Rattle.language.specs.Move.{Word}
 use Rattle.language.specs.Ty.{Ty}
-use Rattle.language.specs.Weight.{size as weighed}
 use Rattle.machine.specs.Range.{TyIn}
 use Rattle.machine.specs.Sheet.{spots}
 use Rattle.dfa.specs.Graph.{rest, δ}
@@ -27,22 +25,16 @@ use Rattle.sheet.specs.Encoding.{headingLength}
 use Rattle.sheet.specs.Fine.{Accepted}
 use Rattle.sheet.specs.Reader as reader
 use Rattle.sheet.specs.Reader.{readSheet}
-use Rattle.records.specs.declared.edition.Edition.the-variants.{Present}
-use Rattle.sheet.proofs.Right.{gives}
 use Rattle.sheet.proofs.WellTyped.{accepted-typed}
-use Rattle.build.specs.Built.{OneBuilt}
-use Rattle.comparer.specs.Plays.{CompletePlay, reckoned}
+use Rattle.build.specs.inner.Built.{OneBuilt}
+use Rattle.comparer.specs.Plays.{CompletePlay}
 use Rattle.comparer.proofs.OnePlay.{play-walks, plays-walk, walk-plays}
-use Rattle.smallest.specs.Numbered.{Numbered}
-use Rattle.smallest.specs.Table.{Place, Smallest, nowhere}
+use Rattle.smallest.specs.Table.{Place, Smallest}
 use Rattle.cards.specs.Positions.{Table}
-use Rattle.cards.proofs.FromLetters.{Coded, code, letter-at, map-length, positionOf, positionsOf}
+use Rattle.cards.proofs.FromLetters.{Coded, code, letter-at, positionsOf}
 use Rattle.cards.proofs.FromLetters.{small-coded, table-of-letters}
-use Rattle.cards.proofs.Length.{allMoves}
-use Rattle.cards.proofs.Light.{fits-any}
-use Rattle.cards.proofs.Weights.{few-moves, few-positions}
 use Rattle.cards.specs.Card.{cardBytes, tableBytes}
-use Rattle.cards.specs.Promise.{CardOf, space-for}
+use Rattle.cards.specs.Promise.{CardOf}
 use Rattle.table_bytes.specs.Places.{placesBytes}
 use Rattle.cards.proofs.Tables.{few}
 use Rattle.cards.proofs.Written.{places-filed}
@@ -75,7 +67,7 @@ module _ (S : Sheet) (A : Accepted S) (n : ℕ) (ws : List ℕ)
   Led x = accepting f f (after d 0 x) ≡ true
 
   in-type : TyIn N T
-  in-type = type-in N (A .ordered .z-above) (typeOf S)
+  in-type = type-in N (A .ordered .in-order .z-above) (typeOf S)
 
   after-code : (u : Word) → after d 0 (code N u) ≡ walk d 0 (letters N u)
   after-code u = sym (walk-reversed d 0 (code N u)) ∙ ap (walk d 0) (reversed-reversed (letters N u))
@@ -96,8 +88,8 @@ module _ (S : Sheet) (A : Accepted S) (n : ℕ) (ws : List ℕ)
   coded x h =
       let e : walk d 0 (reversed x) ≡ 0 + spots T (termOf S) =
             walk-reversed d 0 x ∙ accepted f (after d 0 x) h ∙ omega (arith, at) in
-      let p = walk-plays (accepted-typed S A) (B .shows) (B .graph) (B .settled) (omega (arith, A .ordered .z-below))
-            (reversed x) e in
+      let p = walk-plays (accepted-typed S A) (B .shows) (B .graph) (B .settled)
+            (omega (arith, A .ordered .in-order .z-below)) (reversed x) e in
       let c = small-coded N (p .0) (sheet-small S (A .ordered) (p .0) (p .1 .1)) in
       subst (Coded N) (ap reversed (p .1 .0) ∙ reversed-reversed x) c
 
@@ -110,52 +102,16 @@ module _ (S : Sheet) (A : Accepted S) (n : ℕ) (ws : List ℕ)
       → tableBytes (S .numbers) (positionsOf (S .numbers) (few S A) P) ≡ placesBytes P
   bytes-of-built P M = places-filed N (few S A) P (letter-at S A Led spells reads coded P M)
 
-  -- THEOREM: the heading, the type and these bytes are the card, where they fit
+  -- THEOREM: the heading, the type and these bytes are the card
   pub card-of-built : (s : List ℕ) (ty size : ℕ) → readSheet s ≡ reader.accepted S ty size → (P : List Place)
-      → Smallest Led P → (c : List ℕ) → c ≡ take (headingLength S) s ++ (ty ∷ placesBytes P)
-      → length c ≤ space-for (S .numbers) size → CardOf s c
+      → Smallest Led P → CardOf s (take (headingLength S) s ++ (ty ∷ placesBytes P))
   unfolding cardBytes
-  card-of-built s ty size r P M c e fits = record {
+  card-of-built s ty size r P M = record {
     sheet = S;
     type = ty;
     size = size;
     reads = r;
     table = positionsOf (S .numbers) (few S A) P;
     positions = table-of-built P M;
-    bytes = e ∙ ap (λ (x : List ℕ). take (headingLength S) s ++ (ty ∷ x)) (sym (bytes-of-built P M));
-    fits = fits;
+    bytes = ap (λ (x : List ℕ). take (headingLength S) s ++ (ty ∷ x)) (sym (bytes-of-built P M));
   }
-
-  abbrev G : List ℕ
-  G = rest (5 * n) ws
-
-  -- the edges of the states stand one after the other
-  edges-up : (p : ℕ) → p < n → getD G p 0 ≤ getD G (p + 1) 0
-  edges-up p h =
-      omega (arith, B .graph .edges p h .le, B .settled .first p (omega arith), B .settled .first (p + 1) (omega arith))
-
-  -- THEOREM: where classes of states are numbered and each position has no more moves than its state has edges,
-  -- these bytes are the card, and it fits
-  pub card-of-numbered : (s : List ℕ) (ty size : ℕ) → readSheet s ≡ reader.accepted S ty size → n ≡ size + 1
-      → (own : ℕ → ℕ) (count : ℕ) (state number : ℕ → ℕ) → Numbered d n (n - 1) own 0 count state number
-      → (P : List Place) → length P ≡ count
-      → ((k : ℕ) → k < count → length (getD P k nowhere .arcs) ≤ getD G (state k + 1) 0 - getD G (state k) 0)
-      → Smallest Led P → CardOf s (take (headingLength S) s ++ (ty ∷ placesBytes P))
-  unfolding cardBytes
-  card-of-numbered s ty size r sized own count state number K P l each M =
-      let c = take (headingLength S) s ++ (ty ∷ placesBytes P) in
-      let U = positionsOf (S .numbers) (few S A) P in
-      let g = gives Present s S ty size r in
-      let z : size ≡ reckoned S = g .3 ∙ ap (λ t. weighed (tyOf (S .numbers) t) (termOf S)) (g .2) in
-      let e : c ≡ cardBytes s (headingLength S) ty (S .numbers) U =
-            ap (λ (x : List ℕ). take (headingLength S) s ++ (ty ∷ x)) (sym (bytes-of-built P M)) in
-      let a : length U ≤ reckoned S =
-            omega (arith, map-length (positionOf (S .numbers) (few S A)) P, l, z, sized,
-              few-positions d n own 0 count state number K) in
-      let m = few-moves d n own 0 count state number K (S .numbers) (few S A) P l (λ p. getD G p 0) edges-up each in
-      let b : 2 * allMoves U ≤ (1 + numbers (S .numbers)) * reckoned S =
-            omega (arith, m, B .few, B .settled .first n (omega arith)) in
-      let f = fits-any S A s ty U (table-of-built P M) a b in
-      card-of-built s ty size r P M c refl
-        (subst (λ x. length x ≤ space-for (S .numbers) size) (sym e)
-        (subst (λ x. length (cardBytes s (headingLength S) ty (S .numbers) U) ≤ space-for (S .numbers) x) (sym z) f))

@@ -3,7 +3,7 @@ use mathlib.Core.Bool.{Bool, cond, false, true}
 use mathlib.Core.List.{List, [], _++_, _∷_, append-assoc}
 use mathlib.Core.Logic.{inl, inr}
 use mathlib.Core.Path.{_∙_, _≡_, ap, ap₂, refl, sym}
-use Prim.Native.Nat.{_%_, _*_, _+_, _-_, _/_, _<_, _≤_, suc, ℕ}
+use Prim.Native.Nat.{_%_, _*_, _+_, _/_, _<_, _≤_, suc, ℕ}
 use native.Mathlib.Omega.{arith}
 use native.Mathlib.Nat.{mod-add-div'}
 use lib.ListN.{getD, length, take}
@@ -14,7 +14,10 @@ use Rattle.explicit.proofs.LetterLaws.{letter-injective}
 use Rattle.play.specs.Bytes.{firstLetter}
 use Rattle.play.proofs.WritingPlays.{record-letter}
 use Rattle.cards.specs.Positions.{Among, Arc, Position, no-position}
+use Rattle.table_bytes.specs.Kinds.{filed, moveKind}
+use Rattle.table_bytes.proofs.laws.Kinds.{kind-is, kind-least}
 use Rattle.cards.specs.Card.{arcBytes, arcsBytes, cardBytes, tableBytes}
+use Rattle.cards.proofs.Length.{four-bytes}
 use Rattle.cards.proofs.Lists.{head-same, none-some, split-same, tail-same}
 
 -- all moves have letters
@@ -61,11 +64,14 @@ module _ (N : Numbers) (few : N .z ≤ 125) where
 
   arc-one : (a b : Arc) (x y : List ℕ) → Small N (a .by) → Small N (b .by) → arcBytes N a ++ x ≡ arcBytes N b ++ y
       → (a ≡ b) × (x ≡ y)
-  unfolding arcBytes
+  unfolding arcBytes filed
   arc-one a b x y h k e =
       let r = record-of N (a .by) in
       let s = record-of N (b .by) in
-      let l : length r ≡ length s = omega (arith, head-same e, record-three (a .by) h, record-three (b .by) k) in
+      let c = kind-is (length r) (four-bytes N (a .by)) in
+      let d = kind-is (length s) (four-bytes N (b .by)) in
+      let l : length r ≡ length s =
+            omega (arith, head-same e, c, d, record-three (a .by) h, record-three (b .by) k) in
       let f : r ++ (a .to % 256 ∷ a .to / 256 ∷ x) ≡ s ++ (b .to % 256 ∷ b .to / 256 ∷ y) =
             sym (append-assoc r (a .to % 256 ∷ a .to / 256 ∷ []) x) ∙ tail-same e
             ∙ append-assoc s (b .to % 256 ∷ b .to / 256 ∷ []) y in
@@ -84,8 +90,8 @@ module _ (N : Numbers) (few : N .z ≤ 125) where
   clash (p ∷ T) n x h e = omega (arith, head-same e)
 
   clash-arc : (T : List Position) (a : Arc) (x y : List ℕ) → tableBytes N T ≡ (arcBytes N a ++ x) ++ y → ⊥
-  unfolding arcBytes
-  clash-arc T a x y e = clash T (41 + (length (record-of N (a .by)) - 3)) _ (omega arith) e
+  unfolding arcBytes filed
+  clash-arc T a x y e = clash T (moveKind (length (record-of N (a .by)))) _ (kind-least _) e
 
   arcs-one : (xs ys : List Arc) (T U : List Position) → SmallArcs N xs → SmallArcs N ys
       → arcsBytes N xs ++ tableBytes N T ≡ arcsBytes N ys ++ tableBytes N U

@@ -1,6 +1,6 @@
 -- The automaton of a sheet can be sorted and numbered in the words lent, and what is written of it is the card.
 use mathlib.Core.List.{List, _++_, _∷_}
-use mathlib.Core.Path.{_∙_, _≡_, ap, refl, subst, sym}
+use mathlib.Core.Path.{_∙_, _≡_, ap, subst, sym}
 use Prim.Native.Nat.{_*_, _+_, _-_, _<_, _≤_, ℕ}
 use native.Mathlib.Nat.{mul-le-mul-left}
 use native.Mathlib.Omega.{arith}
@@ -22,16 +22,17 @@ use Rattle.conditions.proofs.Figures.{asked-low}
 use Rattle.build.proofs.Room.{asked-suffices}
 use Rattle.comparer.proofs.FollowPlays.{built-single}
 use Rattle.class_words.specs.Places.{numberAt, stateAt}
-use Rattle.smallest.specs.Table.{Place, nowhere}
+use Rattle.smallest.specs.Table.{Place}
 use Rattle.sorting.specs.Sorted.{Sortable, Sorted}
 use Rattle.numbering.specs.Positions.{Countable, NumberedIn}
-use Rattle.numbering.specs.Tables.{placeOf, placesOf}
-use Rattle.numbering.proofs.laws.Tables.{places-at, places-length, table-smallest}
+use Rattle.numbering.specs.Tables.{placesOf}
+use Rattle.numbering.proofs.laws.Tables.{table-smallest}
 use Rattle.table_bytes.specs.InWords.{Legible, States, positionsBytes}
 use Rattle.cards.specs.Promise.{CardOf}
 use Rattle.cards.specs.inner.Drawing.{Drawable, Drawn}
-use Rattle.cards.proofs.Automaton.{card-of-numbered}
-use Rattle.cards.proofs.Joined.{arcs-few, legible, places-are, states}
+use Rattle.cards.proofs.Automaton.{card-of-built}
+use Rattle.cards.proofs.Fits.{card-fits}
+use Rattle.cards.proofs.Joined.{legible, places-are, states}
 use Rattle.cards.proofs.Length.{heading-short, space-most}
 
 module _ (s : List ℕ) (ty all place : ℕ) (ws : List ℕ) (D : Drawable s ty all place ws) where
@@ -75,13 +76,13 @@ module _ (s : List ℕ) (ty all place : ℕ) (ws : List ℕ) (D : Drawable s ty 
   -- THEOREM: the automaton can be sorted in the words lent
   pub drawn-sortable : Sortable n f ws
   drawn-sortable =
-      let S = asked-suffices (D .sheet .numbers) all (fine .ordered .z-below) (D .room) in
+      let S = asked-suffices (D .sheet .numbers) all (fine .ordered .in-order .z-below) (D .room) in
       let a = asked-low (D .sheet .numbers) all (D .room) in
       record {
         single = single;
         low = omega (arith, drawn-some);
         few = omega (arith, drawn-small);
-        edges = omega (arith, most-edges (D .sheet .numbers) (fine .ordered .z-below) n (getD G n 0) edges,
+        edges = omega (arith, most-edges (D .sheet .numbers) (fine .ordered .in-order .z-below) n (getD G n 0) edges,
           drawn-small);
         room = omega (arith, edges, S .links, a);
       }
@@ -100,17 +101,6 @@ module _ (s : List ℕ) (ty all place : ℕ) (ws : List ℕ) (D : Drawable s ty 
       abbrev Q : List Place
       Q = placesOf G n f (O .own) (numberAt n ws₂) (stateAt n ws₂) count 0
 
-      at : (k : ℕ) → k < count
-          → getD Q k nowhere ≡ placeOf G n f (O .own) (numberAt n ws₂) (stateAt n ws₂ k)
-      at k h = places-at G n f (O .own) (numberAt n ws₂) (stateAt n ws₂) count 0 k h
-          ∙ ap (λ x. placeOf G n f (O .own) (numberAt n ws₂) (stateAt n ws₂ x)) {x = 0 + k} {y = k} (omega arith)
-
-      each : (k : ℕ) → k < count
-          → length (getD Q k nowhere .arcs) ≤ getD G (stateAt n ws₂ k + 1) 0 - getD G (stateAt n ws₂ k) 0
-      each k h = subst (λ (x : Place). length (x .arcs) ≤ getD G (stateAt n ws₂ k + 1) 0 - getD G (stateAt n ws₂ k) 0)
-          (sym (at k h)) (arcs-few G n (O .own) (numberAt n ws₂)
-            (getD G (stateAt n ws₂ k + 1) 0 - getD G (stateAt n ws₂ k) 0) (getD G (stateAt n ws₂ k) 0))
-
       -- the words can be read
       pub drawn-legible : Legible n ws₂
       drawn-legible = legible G n (6 * n + 1 + 2 * getD G n 0) (O .own) count ws₂ M
@@ -124,9 +114,7 @@ module _ (s : List ℕ) (ty all place : ℕ) (ws : List ℕ) (D : Drawable s ty 
           let e = places-are G n (6 * n + 1 + 2 * getD G n 0) (O .own) count ws₂ M f count 0 (omega arith) in
           let low : f < n = omega (arith, drawn-some) in
           subst (λ (x : List ℕ). CardOf s (take (headingLength (D .sheet)) s ++ (ty ∷ x))) (sym e)
-            (card-of-numbered (D .sheet) fine n ws (D .built) f end-at s ty all (D .reads) refl (O .own) count
-              (stateAt n ws₂) (numberAt n ws₂) (M .numbered) Q
-              (places-length G n f (O .own) (numberAt n ws₂) (stateAt n ws₂) count 0) each
+            (card-of-built (D .sheet) fine n ws (D .built) f end-at s ty all (D .reads) Q
               (table-smallest G n f single low (O .own) (O .classes) count (stateAt n ws₂) (numberAt n ws₂)
                 (M .numbered)))
 
@@ -136,8 +124,8 @@ module _ (s : List ℕ) (ty all place : ℕ) (ws : List ℕ) (D : Drawable s ty 
           let h = take (headingLength (D .sheet)) s in
           let a = length-append h (ty ∷ positionsBytes ws₂ n f count 0) in
           let b = heading-short (D .sheet) fine in
-          omega (arith, drawn-card .fits, space-most (drawn-card .sheet .numbers) (drawn-card .size), a, b, D .after,
-            card-size drawn-card)
+          omega (arith, card-fits s _ drawn-card, space-most (drawn-card .sheet .numbers) (drawn-card .size), a, b,
+            D .after, card-size drawn-card)
         where
           card-size : {c : List ℕ} (C : CardOf s c) → C .size ≤ 4096
           card-size C =

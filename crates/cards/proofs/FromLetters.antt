@@ -26,7 +26,7 @@ use Rattle.comparer.proofs.Unletter.{Unletter, none, of, unletter}
 use Rattle.smallest.specs.Table as table
 use Rattle.smallest.specs.Table.{Alike, Begins, Has, Leads, Place, Rising, Smallest, nowhere}
 use Rattle.smallest.proofs.Order.{less-irrefl, less-trans}
-use Rattle.cards.specs.Positions.{Among, Arc, Beginning, FirstBeginning, InOrder, OnePosition, Position, Table}
+use Rattle.cards.specs.Positions.{Among, Arc, Ascending, Beginning, FirstBeginning, OnePosition, Position, Table}
 use Rattle.cards.specs.Positions.{no-position}
 use Rattle.cards.proofs.Order.{small-last}
 use Rattle.cards.proofs.Tables.{begin-small, few}
@@ -208,8 +208,8 @@ module _ (N : Numbers) (few : N .z ≤ 125) where
 
   -- letters that rise are moves in order
   rising-order : (b : ℕ) (xs : List table.Arc) → Rising b xs
-      → ((l j : ℕ) → Has xs l j → (m : Move) × (Small N m × (letter N m ≡ l))) → InOrder N (map arcOf xs)
-  unfolding Rising Has InOrder arcOf
+      → ((l j : ℕ) → Has xs l j → (m : Move) × (Small N m × (letter N m ≡ l))) → Ascending N (map arcOf xs)
+  unfolding Rising Has Ascending arcOf
   rising-order b [] r c = tt
   rising-order b (a ∷ []) r c = tt
   rising-order b (a ∷ (d ∷ xs)) r c =
@@ -423,7 +423,7 @@ module _ (S : Sheet) (A : Accepted S) (L : List ℕ → Type 0)
         (λ t. play-at k (low k h) .0 (B .final k (low k h) .0 (sym (end-at k) ∙ t))),
         (λ t. end-at k ∙ B .final k (low k h) .1 (play-at k (low k h) .1 t)),
       );
-      ordered = λ k h. subst (InOrder N) (sym (arcs-at k))
+      ordered = λ k h. subst (Ascending N) (sym (arcs-at k))
           (rising-order N z 0 (getD T k nowhere .arcs) (B .order k (low k h)) (letter-at k (low k h)));
       moves = λ k h m j. (
         (λ x. move-to k (low k h) m j (subst (λ y. Among y m j) (arcs-at k) x)),

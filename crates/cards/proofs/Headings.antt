@@ -2,7 +2,7 @@
 use mathlib.Core.Bool.{Bool, cond, false, true}
 use mathlib.Core.List.{List, [], _++_, _∷_, append-assoc}
 use mathlib.Core.Path.{_∙_, _≡_, ap, ap₂, refl, subst, sym}
-use Prim.Native.Nat.{_+_, _-_, _<_, _≤_, suc, ℕ}
+use Prim.Native.Nat.{_+_, _<_, _≤_, suc, ℕ}
 use native.Mathlib.Omega.{arith}
 use lib.ListN.{length, take}
 use Rattle.language.specs.Move.{Word, record-of}
@@ -13,6 +13,8 @@ use Rattle.procedures.specs.Written.{Name, Sheet, declare, retire}
 use Rattle.sheet.specs.Encoding.{declareKind, encode, encodeName, encodeNames, encodeSheet, headingLength}
 use Rattle.sheet.proofs.Right.{gives}
 use Rattle.comparer.specs.Plays.{CompletePlay}
+use Rattle.table_bytes.specs.Kinds.{filed, moveKind}
+use Rattle.table_bytes.proofs.laws.Kinds.{kind-least}
 use Rattle.cards.specs.Card.{arcBytes, arcsBytes, cardBytes, tableBytes}
 use Rattle.cards.specs.Positions.{Among, Arc, Beginning, Position, Table}
 use Rattle.cards.specs.Rules.{OtherHeading}
@@ -60,7 +62,7 @@ module _ (S : Sheet) (p : Position) (T : List Position) (B : Table S (p ∷ T)) 
 
 -- the bytes of a sheet's positions begin so
 front : (S : Sheet) (T : List Position) → Table S T → Front (tableBytes (S .numbers) T)
-unfolding tableBytes arcsBytes arcBytes
+unfolding tableBytes arcsBytes arcBytes filed
 front S [] B = bare
 front S (p ∷ T) B = by (p .end) (p .arcs) (goes-on S p T B) (moves-on S p T B)
   where
@@ -68,7 +70,7 @@ front S (p ∷ T) B = by (p .end) (p .arcs) (goes-on S p T B) (moves-on S p T B)
         → Front ((40 ∷ cond b 1 0 ∷ arcsBytes (S .numbers) xs) ++ tableBytes (S .numbers) T)
     by true xs e n = let z : _≡_ {A = ℕ} 0 1 = cc in absurd (omega arith)
     by false [] e n = absurd (n refl)
-    by false (a ∷ xs) e n = filled (41 + (length (record-of (S .numbers) (a .by)) - 3)) _ (omega arith)
+    by false (a ∷ xs) e n = filled (moveKind (length (record-of (S .numbers) (a .by)))) _ (kind-least _)
 
 kind-some : (n : Name) → (k : ℕ) × ((rest : List ℕ) × ((0 < k) × (encodeName n ≡ k ∷ rest)))
 unfolding encodeName declareKind
@@ -162,7 +164,7 @@ other-heading old new c d C D e =
           ≡ T .numbers .z ∷ T .numbers .rule ∷ (encodeNames (T .names) ++ (D .type ∷ y)) =
           ap (λ (k : List ℕ). k ++ (C .type ∷ x)) (sym a) ∙ sym (C .bytes) ∙ e ∙ D .bytes
           ∙ ap (λ (k : List ℕ). k ++ (D .type ∷ y)) b in
-    let r = names-one [] [] (S .names) (T .names) (C .type) (D .type) x y (g .1 .ordered .fine-names)
-          (h .1 .ordered .fine-names) (front S (C .table) (C .positions)) (front T (D .table) (D .positions))
+    let r = names-one [] [] (S .names) (T .names) (C .type) (D .type) x y (g .1 .ordered .in-order .fine-names)
+          (h .1 .ordered .in-order .fine-names) (front S (C .table) (C .positions)) (front T (D .table) (D .positions))
           (tail-same (tail-same f)) in
     (a ∙ same-three (head-same f) (head-same (tail-same f)) (r .0) ∙ sym b, r .1)

@@ -7,35 +7,22 @@ use Prim.Native.Nat.{_%_, _+_, _-_, _<_, _≤_, suc, zero, ℕ}
 use native.Mathlib.Decide.{ℕ-discrete}
 use native.Mathlib.Omega.{arith}
 use lib.Dec.{eqb}
-use lib.ListN.{getD, length}
+use lib.ListN.{getD}
 use borrow.Author.Tests.{eq-eqb, ne-eqb}
 use Rattle.dfa.specs.Graph.{EdgeOf, letter, target, δ}
 use Rattle.dfa.specs.Word.{accepting}
 use Rattle.dfa.proofs.laws.Edges.{edge-from, edge-step, edge-to, first-edge}
 use Rattle.class_words.specs.Packed.{Packed}
-use Rattle.class_words.specs.Places.{classAt, numberAt, stateAt}
+use Rattle.class_words.specs.Places.{classAt, firstAt, letterAt, numberAt, stateAt, targetAt}
 use Rattle.class_words.proofs.laws.Packed.{target-low}
 use Rattle.numbering.specs.Positions.{Countable, NumberedIn}
 use Rattle.numbering.specs.Tables.{arcsOf, placeOf, placesOf}
 use Rattle.table_bytes.specs.Kinds.{POSITION}
 use Rattle.table_bytes.specs.Places.{moveBytes, movesBytes, placesBytes}
-use Rattle.table_bytes.specs.InWords.{Legible, States, edgeBytes, edgesBytes, firstAt, letterAt, positionBytes}
-use Rattle.table_bytes.specs.InWords.{positionsBytes, stateBytes, targetAt}
+use Rattle.table_bytes.specs.InWords.{Legible, States, edgeBytes, edgesBytes, positionBytes}
+use Rattle.table_bytes.specs.InWords.{positionsBytes, stateBytes}
 use Rattle.table_bytes.proofs.laws.Edges.{none-bytes, some-bytes}
 use Rattle.cards.proofs.Weights.{few-positions}
-
--- no more moves than edges
-pub arcs-few : (G : List ℕ) (n : ℕ) (own number : ℕ → ℕ) (c i : ℕ) → length (arcsOf G n own number c i) ≤ c
-unfolding arcsOf
-arcs-few G n own number zero i = omega arith
-arcs-few G n own number (suc c) i = go (eqb (own (target G n i)) (own (n - 1))) (arcs-few G n own number c (suc i))
-  where
-    go : (b : Bool) → length (arcsOf G n own number c (suc i)) ≤ c
-        → length (cond b (arcsOf G n own number c (suc i))
-          (record { letter = letter G n i; to = number (own (target G n i)) - 1 } ∷ arcsOf G n own number c (suc i)))
-          ≤ suc c
-    go true h = omega arith
-    go false h = omega arith
 
 module _ (G : List ℕ) (n g : ℕ) (own : ℕ → ℕ) (count : ℕ) (ws : List ℕ) (M : NumberedIn G n g own count ws) where
   abbrev C : Countable G n g own ws

@@ -19,6 +19,7 @@ use Rattle.language.specs.Move.{Event, Move, answer, at, bytes, move, private, 
 use Rattle.procedures.specs.Written.{Name, Sheet, declare, retire}
 use Rattle.sheet.specs.Encoding.{encodeName, encodeNames, headingLength, padded}
 use Rattle.sheet.specs.Fine.{Accepted}
+use Rattle.table_bytes.specs.Kinds.{filed}
 use Rattle.cards.specs.Positions.{Arc, Position}
 use Rattle.cards.specs.Card.{arcBytes, arcsBytes, cardBytes, tableBytes}
 use Rattle.cards.specs.Promise.{space-for}
@@ -38,13 +39,13 @@ one-value N (answer done) = omega arith
 one-value N (answer ok) = omega arith
 one-value N (answer (value v)) = omega arith
 
-four-bytes : (N : Numbers) (m : Move) → length (record-of N m) ≤ 4
+pub four-bytes : (N : Numbers) (m : Move) → length (record-of N m) ≤ 4
 unfolding record-of
 four-bytes N (move (at i j) e) = omega (arith, one-value N e)
 four-bytes N (move (private i) e) = omega arith
 
 arc-length : (N : Numbers) (a : Arc) → length (arcBytes N a) ≤ 7
-unfolding arcBytes
+unfolding arcBytes filed
 arc-length N a =
     let r = record-of N (a .by) in
     omega (arith, four-bytes N (a .by), length-append r (a .to % 256 ∷ a .to / 256 ∷ []))
@@ -135,7 +136,8 @@ fits S A s ty size T h k m = by (decLt earlier-z (S .numbers .z))
     by : Dec (earlier-z < S .numbers .z)
         → length (cardBytes s (headingLength S) ty (S .numbers) T) ≤ space-for (S .numbers) size
     by (yes l) =
-        let most : 1 + numbers (S .numbers) ≤ 67 = omega (arith, numbers-within (S .numbers), A .ordered .z-below) in
+        let most : 1 + numbers (S .numbers) ≤ 67 =
+              omega (arith, numbers-within (S .numbers), A .ordered .in-order .z-below) in
         omega (arith, m, mul-le-mul-right size most, long, heading-short S A, space-more (S .numbers) size l)
     by (no l) =
         let most : 1 + numbers (S .numbers) ≤ 19 = omega (arith, numbers-within (S .numbers)) in

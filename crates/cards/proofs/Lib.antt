@@ -14,6 +14,8 @@ pub mod Headings
 pub mod EqualCards
 pub mod Weights
 pub mod Light
+pub mod Slots
+pub mod Fits
 pub mod Automaton
 pub mod Joined
 pub mod Drawing

@@ -23,7 +23,7 @@ use Rattle.procedures.specs.Written.{Sheet}
 use Rattle.sheet.specs.Encoding.{headingLength}
 use Rattle.sheet.specs.Fine.{Accepted}
 use Rattle.comparer.specs.Plays.{reckoned, wholeType}
-use Rattle.cards.specs.Positions.{Among, Arc, InOrder, Position, Table, no-position}
+use Rattle.cards.specs.Positions.{Among, Arc, Ascending, Position, Table, no-position}
 use Rattle.cards.specs.Card.{cardBytes}
 use Rattle.cards.specs.Promise.{space-for}
 use Rattle.cards.proofs.Length.{allMoves, card-length, fits, heading-short, space-least}
@@ -85,7 +85,7 @@ after-same (k ∷ b) m n u v e =
 module _ (S : Sheet) (A : Accepted S) (four : reckoned S ≡ 4) (T : List Position) (B : Table S T) where
   -- a position has at most one move
   one-move : (k : ℕ) → k < length T → (xs : List Arc) → getD T k no-position .arcs ≡ xs → length xs ≤ 1
-  unfolding Among InOrder
+  unfolding Among Ascending
   one-move k h [] e = omega arith
   one-move k h (a ∷ []) e = omega arith
   one-move k h (a ∷ (b ∷ xs)) e =
@@ -95,7 +95,7 @@ module _ (S : Sheet) (A : Accepted S) (four : reckoned S ≡ 4) (T : List Positi
       let f : a .by ≡ b .by = after-same l (a .by) (b .by) (p .0) (q .0)
             (one-play (wholeType S) (termOf S) four ((l ++ (a .by ∷ [])) ++ p .0) (p .1)
             ∙ sym (one-play (wholeType S) (termOf S) four ((l ++ (b .by ∷ [])) ++ q .0) (q .1))) in
-      let o : InOrder (S .numbers) (a ∷ (b ∷ xs)) = subst (InOrder (S .numbers)) e (B .ordered k h) in
+      let o : Ascending (S .numbers) (a ∷ (b ∷ xs)) = subst (Ascending (S .numbers)) e (B .ordered k h) in
       let s = begin-small S A (l ++ (a .by ∷ [])) p in
       let r = begin-small S A (l ++ (b .by ∷ [])) q in
       let g = letter-order (S .numbers) (few S A) (a .by) (b .by) (small-last (S .numbers) l (a .by) s)

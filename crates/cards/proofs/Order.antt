@@ -2,17 +2,19 @@
 use mathlib.Core.List.{List, [], _++_, _∷_}
 use mathlib.Core.Logic.{_↔_, inl, inr}
 use mathlib.Core.Path.{_∙_, _≡_, ap, ap₂, refl, sym}
-use Prim.Native.Nat.{_<_, _≤_, ℕ}
+use Prim.Native.Nat.{_<_, _≤_, suc, zero, ℕ}
 use native.Mathlib.Omega.{arith}
+use lib.ListN.{getD, length}
 use Rattle.language.specs.declared.Numbers.{Numbers}
-use Rattle.language.specs.Move.{Before, Move, Word}
+use Rattle.language.specs.Move.{Before, Move, Word, move, private, question}
+use Rattle.language.specs.Ty.{run}
 use Rattle.dfa.specs.Reading as reading
 use Rattle.dfa.specs.Reading.{Lex}
 use Rattle.explicit.specs.Letter.{AllSmall, Small, letter}
 use Rattle.explicit.proofs.LetterLaws.{letter-order}
 use Rattle.play.specs.Spell.{letters}
 use Rattle.comparer.proofs.Letters.{letters-before}
-use Rattle.cards.specs.Positions.{Among, Arc, InOrder}
+use Rattle.cards.specs.Positions.{Among, Arc, Ascending}
 use Rattle.cards.proofs.Bytes.{SmallArcs, same-arc, small-first, small-rest}
 
 lex-apart : (x y : List ℕ) → Lex x y → Lex y x → ⊥
@@ -40,8 +42,8 @@ unfolding AllSmall
 small-last N [] m h = h .0
 small-last N (n ∷ b) m h = small-last N b m (h .1)
 
-pub order-rest : (N : Numbers) (a : Arc) (xs : List Arc) → InOrder N (a ∷ xs) → InOrder N xs
-unfolding InOrder
+pub order-rest : (N : Numbers) (a : Arc) (xs : List Arc) → Ascending N (a ∷ xs) → Ascending N xs
+unfolding Ascending
 order-rest N a [] o = tt
 order-rest N a (b ∷ xs) o = o .1
 
@@ -52,6 +54,16 @@ among-first a xs = inl (refl, refl)
 among-later : (a : Arc) (xs : List Arc) (m : Move) (j : ℕ) → Among xs m j → Among (a ∷ xs) m j
 unfolding Among
 among-later a xs m j h = inr h
+
+-- what stands at a place is among them
+abbrev pub no-arc : Arc
+no-arc = record { by = move (private 0) (question run); to = 0 }
+
+pub among-at : (xs : List Arc) (i : ℕ) → i < length xs → Among xs (getD xs i no-arc .by) (getD xs i no-arc .to)
+among-at [] i h = absurd (omega arith)
+among-at (a ∷ xs) zero h = among-first a xs
+among-at (a ∷ xs) (suc i) h =
+    among-later a xs (getD xs i no-arc .by) (getD xs i no-arc .to) (among-at xs i (omega arith))
 
 among-none : (m : Move) (j : ℕ) → Among [] m j → ⊥
 unfolding Among
@@ -64,9 +76,9 @@ module _ (N : Numbers) (few : N .z ≤ 125) where
       letters-apart (letters N u) (letters N v) (letters-before N few u v h k a) (letters-before N few v u k h b)
 
   -- what stands after a move has a greater letter
-  later : (a : Arc) (xs : List Arc) → InOrder N (a ∷ xs) → SmallArcs N (a ∷ xs) → (m : Move) (j : ℕ) → Among xs m j
+  later : (a : Arc) (xs : List Arc) → Ascending N (a ∷ xs) → SmallArcs N (a ∷ xs) → (m : Move) (j : ℕ) → Among xs m j
       → letter N (a .by) < letter N m
-  unfolding InOrder Among
+  unfolding Ascending Among
   later a [] o s m j h = absurd h
   later a (b ∷ xs) o s m j (inl h) =
       rw (← h .0) (letter-order N few (a .by) (b .by) (small-first N a (b ∷ xs) s)
@@ -77,8 +89,18 @@ module _ (N : Numbers) (few : N .z ≤ 125) where
       let g = later b xs (o .1) t m j h in
       omega (arith, l, g)
 
+  -- so the letters rise from place to place
+  pub arc-later : (xs : List Arc) → Ascending N xs → SmallArcs N xs → (i j : ℕ) → i < j → j < length xs
+      → letter N (getD xs i no-arc .by) < letter N (getD xs j no-arc .by)
+  arc-later [] o s i j l h = absurd (omega arith)
+  arc-later (a ∷ xs) o s i zero l h = absurd (omega arith)
+  arc-later (a ∷ xs) o s zero (suc j) l h =
+      later a xs o s (getD xs j no-arc .by) (getD xs j no-arc .to) (among-at xs j (omega arith))
+  arc-later (a ∷ xs) o s (suc i) (suc j) l h =
+      arc-later xs (order-rest N a xs o) (small-rest N a xs s) i j (omega arith) (omega arith)
+
   -- a move leads to one position
-  pub among-one : (xs : List Arc) → InOrder N xs → SmallArcs N xs → (m : Move) (i j : ℕ) → Among xs m i → Among xs m j
+  pub among-one : (xs : List Arc) → Ascending N xs → SmallArcs N xs → (m : Move) (i j : ℕ) → Among xs m i → Among xs m j
       → i ≡ j
   unfolding Among
   among-one [] o s m i j h k = absurd h
@@ -91,7 +113,7 @@ module _ (N : Numbers) (few : N .z ≤ 125) where
       among-one xs (order-rest N a xs o) (small-rest N a xs s) m i j h k
 
   -- the first of two lists with the same moves
-  first-same : (a c : Arc) (xs ys : List Arc) → InOrder N (a ∷ xs) → InOrder N (c ∷ ys) → SmallArcs N (a ∷ xs)
+  first-same : (a c : Arc) (xs ys : List Arc) → Ascending N (a ∷ xs) → Ascending N (c ∷ ys) → SmallArcs N (a ∷ xs)
       → SmallArcs N (c ∷ ys) → Among (c ∷ ys) (a .by) (a .to) → Among (a ∷ xs) (c .by) (c .to) → a ≡ c
   unfolding Among
   first-same a c xs ys o p s t (inl h) k = sym (same-arc c a (h .0) (h .1))
@@ -106,7 +128,7 @@ module _ (N : Numbers) (few : N .z ≤ 125) where
   drop-first a c ys m j e l (inr h) = h
 
   -- two lists in order with the same moves are the same
-  pub arcs-same : (xs ys : List Arc) → InOrder N xs → InOrder N ys → SmallArcs N xs → SmallArcs N ys
+  pub arcs-same : (xs ys : List Arc) → Ascending N xs → Ascending N ys → SmallArcs N xs → SmallArcs N ys
       → ((m : Move) (j : ℕ) → Among xs m j ↔ Among ys m j) → xs ≡ ys
   arcs-same [] [] o p s t e = refl
   arcs-same [] (c ∷ ys) o p s t e = absurd (among-none (c .by) (c .to) (e (c .by) (c .to) .1 (among-first c ys)))

@@ -2,7 +2,7 @@
 use mathlib.Core.Bool.{Bool, cond, false, true}
 use mathlib.Core.List.{List, [], _++_, _∷_, append-assoc}
 use mathlib.Core.Path.{_∙_, _≡_, ap, ap₂, refl, subst, sym}
-use Prim.Native.Nat.{_%_, _*_, _+_, _-_, _/_, _≤_, suc, zero, ℕ}
+use Prim.Native.Nat.{_%_, _*_, _+_, _/_, _≤_, suc, zero, ℕ}
 use native.Mathlib.Nat.{mod-add-div'}
 use native.Mathlib.Omega.{arith}
 use lib.ListN.{drop, length, length-append, length-take, take}
@@ -18,6 +18,7 @@ use Rattle.records.specs.declared.edition.Edition.the-variants.{Present}
 use Rattle.sheet.specs.Encoding.{headingLength}
 use Rattle.sheet.specs.Fine.{Accepted}
 use Rattle.sheet.proofs.Right.{gives}
+use Rattle.table_bytes.specs.Kinds.{filed, moveKind}
 use Rattle.cards.specs.Card.{arcBytes, arcsBytes, cardBytes, tableBytes}
 use Rattle.cards.specs.Positions.{Arc, Position}
 use Rattle.cards.specs.Reading.{Read, arcFrom, moveFrom, moved, nothing, opened, readRecords, readTable}
@@ -94,9 +95,8 @@ module _ (N : Numbers) (few : N .z ≤ 125) where
 
   -- the bytes of a move are read as the move
   reads-move : (m : Move) (to : ℕ) (x : List ℕ) (r : Read) → Small N m → Reads x r
-      → Reads (((41 + (length (record-of N m) - 3)) ∷ (record-of N m ++ (to % 256 ∷ to / 256 ∷ []))) ++ x)
-        (moved (record { by = m; to = to }) r)
-  unfolding record-of kind valueOf bytes moveFrom eventOf
+      → Reads (filed (record-of N m) to ++ x) (moved (record { by = m; to = to }) r)
+  unfolding filed moveKind record-of kind valueOf bytes moveFrom eventOf
   reads-move (move (private i) e) to x r s R = absurd (unfold Small in s)
   reads-move (move (at i j) (question run)) to x r s R = reads-short 0 i j to x r _ refl R
   reads-move (move (at i j) (question ask)) to x r s R = reads-short 2 i j to x r _ refl R

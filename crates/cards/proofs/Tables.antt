@@ -15,7 +15,7 @@ use Rattle.procedures.specs.Written.{Sheet}
 use Rattle.sheet.specs.Fine.{Accepted}
 use Rattle.comparer.specs.Plays.{Alike, CompletePlay}
 use Rattle.comparer.proofs.PlayOrder.{before-total}
-use Rattle.cards.specs.Positions.{Beginning, FirstBeginning, InOrder, OnePosition, Position, Table}
+use Rattle.cards.specs.Positions.{Ascending, Beginning, FirstBeginning, OnePosition, Position, Table}
 use Rattle.cards.specs.Positions.{no-position}
 use Rattle.cards.specs.Smallest.{OneTable}
 use Rattle.cards.proofs.Bytes.{SmallTable, same-position}
@@ -28,7 +28,7 @@ append-nothing (m ∷ b) = ap (λ (x : Word). m ∷ x) (append-nothing b)
 -- a sheet in order
 module _ (S : Sheet) (A : Accepted S) where
   pub few : S .numbers .z ≤ 125
-  few = omega (arith, A .ordered .z-below)
+  few = omega (arith, A .ordered .in-order .z-below)
 
   pub begin-small : (b : Word) → Beginning S b → AllSmall (S .numbers) b
   begin-small b h = small-begin (S .numbers) b (h .0) (sheet-small S (A .ordered) (b ++ h .0) (h .1))
@@ -198,7 +198,7 @@ module _ (S S′ : Sheet) (n : S .numbers ≡ S′ .numbers) (e : (u : Word) →
       (λ t. e (B .leading k) .0 (B .ends k h .0 t)),
       (λ t. B .ends k h .1 (e (B .leading k) .1 t)),
     );
-    ordered = λ k h. subst (λ N. InOrder N (getD T k no-position .arcs)) n (B .ordered k h);
+    ordered = λ k h. subst (λ N. Ascending N (getD T k no-position .arcs)) n (B .ordered k h);
     moves = λ k h m j. (
       (λ x. let l = B .moves k h m j .0 x in (
         l .0,

@@ -1,21 +1,14 @@
--- A table of positions that stand for different states has no more positions than there are states, and no more moves
--- than the states have edges.
+-- Weights of different numbers below a bound, and that numbered classes are no more than the states.
 use mathlib.Core.Bool.{cond}
-use mathlib.Core.List.{List, [], _∷_}
 use mathlib.Core.Logic.{_≢_}
 use mathlib.Core.Path.{_≡_, ap, refl}
 use Prim.Native.Nat.{_+_, _-_, _<_, _≤_, suc, zero, ℕ}
 use native.Mathlib.Decide.{ℕ-discrete}
 use native.Mathlib.Omega.{arith}
 use lib.Dec.{eqb}
-use lib.ListN.{getD, length}
 use borrow.Author.Tests.{eq-eqb, ne-eqb}
-use Rattle.language.specs.declared.Numbers.{Numbers}
 use Rattle.smallest.specs.Numbered.{Numbered}
-use Rattle.smallest.specs.Table.{Place, nowhere}
 use Rattle.smallest.proofs.Pigeons.{pigeons}
-use Rattle.cards.proofs.FromLetters.{arcOf, map-length, positionOf, positionsOf}
-use Rattle.cards.proofs.Length.{allMoves}
 
 -- w 0 and so on up to w (n - 1), together
 unfoldable pub sum : (ℕ → ℕ) → ℕ → ℕ
@@ -76,29 +69,10 @@ weights (suc c) n f low one w =
             (λ e. omega (arith, one k c (omega arith) (omega arith) e, l))) in
     omega (arith, h, s, sum-except w a n (low c (omega arith)))
 
--- edges that stand one state after the other
-pub steps-sum : (g : ℕ → ℕ) (n : ℕ) → ((p : ℕ) → p < n → g p ≤ g (p + 1)) → sum (λ p. g (p + 1) - g p) n ≤ g n
-unfolding sum
-steps-sum g zero h = omega arith
-steps-sum g (suc n) h =
-    let i = steps-sum g n (λ p l. h p (omega arith)) in
-    let e : g (n + 1) ≡ g (suc n) = ap g {x = n + 1} {y = suc n} (omega arith) in
-    omega (arith, i, e, h n (omega arith))
-
-sum-first : (w : ℕ → ℕ) (n : ℕ) → sum w (suc n) ≡ w 0 + sum (λ k. w (suc k)) n
+pub sum-first : (w : ℕ → ℕ) (n : ℕ) → sum w (suc n) ≡ w 0 + sum (λ k. w (suc k)) n
 unfolding sum
 sum-first w zero = omega arith
 sum-first w (suc n) = let h = sum-first w n in omega (arith, h)
-
--- the moves of the positions of a table over letters
-pub moves-sum : (N : Numbers) (few : N .z ≤ 125) (P : List Place)
-    → allMoves (positionsOf N few P) ≡ sum (λ k. length (getD P k nowhere .arcs)) (length P)
-unfolding allMoves positionOf sum
-moves-sum N few [] = refl
-moves-sum N few (p ∷ P) =
-    let h = moves-sum N few P in
-    omega (arith, h, map-length (arcOf N few) (p .arcs),
-      sum-first (λ k. length (getD (p ∷ P) k nowhere .arcs)) (length P))
 
 -- classes that are numbered, the last state dead
 module _ (δ : ℕ → ℕ → ℕ) (n : ℕ) (cls : ℕ → ℕ) (start count : ℕ) (state number : ℕ → ℕ)
@@ -117,16 +91,3 @@ module _ (δ : ℕ → ℕ → ℕ) (n : ℕ) (cls : ℕ → ℕ) (start count :
   -- THEOREM: no more positions than states that are not dead
   pub few-positions : count ≤ n - 1
   few-positions = pigeons (n - 1) count state state-low state-one
-
-  -- THEOREM: no more moves than edges
-  pub few-moves : (N : Numbers) (few : N .z ≤ 125) (P : List Place) → length P ≡ count → (g : ℕ → ℕ)
-      → ((p : ℕ) → p < n → g p ≤ g (p + 1))
-      → ((k : ℕ) → k < count → length (getD P k nowhere .arcs) ≤ g (state k + 1) - g (state k))
-      → allMoves (positionsOf N few P) ≤ g n
-  few-moves N few P l g up each =
-      let a = moves-sum N few P in
-      let b : sum (λ k. length (getD P k nowhere .arcs)) (length P) ≡ sum (λ k. length (getD P k nowhere .arcs)) count =
-            ap (sum (λ k. length (getD P k nowhere .arcs))) l in
-      let c = sum-least (λ k. length (getD P k nowhere .arcs)) (λ k. g (state k + 1) - g (state k)) count each in
-      let d = weights count n state (M .low) state-one (λ p. g (p + 1) - g p) in
-      omega (arith, a, b, c, d, steps-sum g n up)

@@ -2,8 +2,8 @@
 use mathlib.Core.Bool.{cond}
 use mathlib.Core.List.{List, [], _++_, _∷_, map}
 use mathlib.Core.Logic.{inl, inr}
-use mathlib.Core.Path.{_∙_, _≡_, ap, ap₂, refl, sym}
-use Prim.Native.Nat.{_%_, _+_, _-_, _/_, _<_, _≤_, suc, ℕ}
+use mathlib.Core.Path.{_∙_, _≡_, ap, ap₂, refl}
+use Prim.Native.Nat.{_<_, _≤_, suc, ℕ}
 use native.Mathlib.Omega.{arith}
 use lib.ListN.{getD, length}
 use Rattle.language.specs.declared.Numbers.{Numbers}
@@ -12,19 +12,15 @@ use Rattle.explicit.specs.Letter.{Small, letter}
 use Rattle.play.proofs.WritingPlays.{record-by}
 use Rattle.smallest.specs.Table as table
 use Rattle.smallest.specs.Table.{Has, Place, nowhere}
+use Rattle.table_bytes.specs.Kinds.{filed}
 use Rattle.table_bytes.specs.Places.{moveBytes, movesBytes, placesBytes}
-use Rattle.table_bytes.proofs.laws.Moves.{move-bytes}
 use Rattle.cards.specs.Card.{arcBytes, arcsBytes, tableBytes}
 use Rattle.cards.proofs.FromLetters.{arcOf, letter-back, moveOf, positionOf, positionsOf}
 
--- a record and a position, as a card has them
-abbrev filed : List ℕ → ℕ → List ℕ
-filed r to = (41 + (length r - 3)) ∷ (r ++ (to % 256 ∷ to / 256 ∷ []))
-
 module _ (N : Numbers) (few : N .z ≤ 125) where
   move-filed : (m : Move) (to : ℕ) → Small N m → filed (record-of N m) to ≡ moveBytes (letter N m) to
-  move-filed m to s =
-      ap (λ (r : List ℕ). filed r to) (record-by N few m s) ∙ sym (move-bytes (letter N m) to)
+  unfolding moveBytes
+  move-filed m to s = ap (λ (r : List ℕ). filed r to) (record-by N few m s)
 
   -- letters that are those of moves
   abbrev pub Lettered : List table.Arc → Type 0

@@ -40,10 +40,10 @@ abbrev pub no-position : Position
 no-position = record { end = false; arcs = [] }
 
 -- the moves stand in 01's order, none twice
-unfoldable pub InOrder : Numbers → List Arc → Type 0
-InOrder N [] = Unit {0}
-InOrder N (a ∷ []) = Unit {0}
-InOrder N (a ∷ (b ∷ as′)) = Earlier N (a .by) (b .by) × InOrder N (b ∷ as′)
+unfoldable pub Ascending : Numbers → List Arc → Type 0
+Ascending N [] = Unit {0}
+Ascending N (a ∷ []) = Unit {0}
+Ascending N (a ∷ (b ∷ as′)) = Earlier N (a .by) (b .by) × Ascending N (b ∷ as′)
 
 -- the move m to position j is among the moves
 unfoldable pub Among : List Arc → Move → ℕ → Type 0
@@ -57,6 +57,6 @@ pub record Table (S : Sheet) (T : List Position) : Type 0 where
   pub rising : (j k : ℕ) → j < k → k < length T → Before (S .numbers) (leading j) (leading k)
   pub all : (b : Word) → Beginning S b → (k : ℕ) × ((k < length T) × OnePosition S b (leading k))
   pub ends : (k : ℕ) → k < length T → (getD T k no-position .end ≡ true) ↔ CompletePlay S (leading k)
-  pub ordered : (k : ℕ) → k < length T → InOrder (S .numbers) (getD T k no-position .arcs)
+  pub ordered : (k : ℕ) → k < length T → Ascending (S .numbers) (getD T k no-position .arcs)
   pub moves : (k : ℕ) → k < length T → (m : Move) (j : ℕ) → Among (getD T k no-position .arcs) m j
       ↔ ((j < length T) × (Beginning S (leading k ++ (m ∷ [])) × OnePosition S (leading k ++ (m ∷ [])) (leading j)))

@@ -2,7 +2,7 @@
 use mathlib.Core.Path.{_≡_}
 use mathlib.Core.List.{List, _++_}
 use mathlib.Core.Option.{Option, none, some}
-use Prim.Native.Nat.{_*_, _≤_, ℕ}
+use Prim.Native.Nat.{_*_, ℕ}
 use lib.Dec.{ltb}
 use lib.ListN.{drop, length}
 use Rattle.language.specs.Choice.{pick}
@@ -47,7 +47,6 @@ pub record CardOf (s : List ℕ) (c : List ℕ) : Type 0 where
   pub table : List Position
   pub positions : Table sheet table
   pub bytes : c ≡ cardBytes s (headingLength sheet) type (sheet .numbers) table
-  pub fits : length c ≤ space-for (sheet .numbers) size
 
 -- the answer to an accepted call: the card at the start of the space, the rest of it untouched, all words 0
 pub record Carded (s ws space : List ℕ) (r : Carding) (ws′ space′ : List ℕ) : Type 0 where

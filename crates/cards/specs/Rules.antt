@@ -3,7 +3,7 @@ use mathlib.Core.List.{List, [], _++_, _∷_}
 use mathlib.Core.Logic.{_↔_, _⊎_}
 use mathlib.Core.Option.{none, some}
 use mathlib.Core.Path.{_≡_}
-use Prim.Native.Nat.{_+_, _<_, ℕ}
+use Prim.Native.Nat.{_+_, _<_, _≤_, ℕ}
 use lib.ListN.{drop, getD, length, take}
 use Rattle.language.specs.Move.{Move, Word}
 use Rattle.records.specs.Refusal.{both-sheets, cause, old-sheet, headings-differ, space-too-short, too-few-words}
@@ -23,7 +23,7 @@ use Rattle.cards.specs.Card.{cardBytes}
 use Rattle.cards.specs.Reading.{readTable}
 use Rattle.cards.specs.Positions.{Among, Position, no-position}
 use Rattle.cards.specs.Smallest.{HasPlays}
-use Rattle.cards.specs.Promise.{CardOf, CardPromise, cardRefusal}
+use Rattle.cards.specs.Promise.{CardOf, CardPromise, cardRefusal, space-for}
 use Rattle.cards.specs.declared.Carding.{Carding}
 
 -- "For two sheets that compare accepts, the cards are equal bytes exactly if it says "same""
@@ -44,6 +44,10 @@ SameByCompare = (old new c d ws space : List ℕ) (r : Comparison) (ws′ space�
 -- a sheet has one card
 abbrev pub OneCard : Type 0
 OneCard = (s c d : List ℕ) → CardOf s c → CardOf s d → c ≡ d
+
+-- "Space must be 128 × S bytes, or 512 × S where Z is above 7": no card is longer
+abbrev pub CardFits : Type 0
+CardFits = (s c : List ℕ) (C : CardOf s c) → length c ≤ space-for (C .sheet .numbers) (C .size)
 
 -- what card promises allows one answer and one state of everything lent
 abbrev pub CardUnique : Type 0

@@ -3,10 +3,10 @@
 use mathlib.Core.List.{List}
 use mathlib.Core.Logic.{_≢_}
 use mathlib.Core.Path.{_≡_}
-use Prim.Native.Nat.{_%_, _*_, _+_, _-_, _/_, _<_, _≤_, ℕ}
+use Prim.Native.Nat.{_*_, _+_, _-_, _/_, _<_, _≤_, ℕ}
 use lib.ListN.{getD, length}
 use Rattle.dfa.specs.Graph.{Graph, letter, target}
-use Rattle.class_words.specs.Places.{headAt}
+use Rattle.class_words.specs.Places.{firstAt, headAt, letterAt, targetAt}
 
 -- h is 1 more than the last edge below b that leads to t, and 0 where there is none
 pub record Latest (G : List ℕ) (n t b h : ℕ) : Type 0 where
@@ -27,9 +27,9 @@ pub record Sized (G : List ℕ) (n g : ℕ) (ws : List ℕ) : Type 0 where
 pub record Packed (G : List ℕ) (n g : ℕ) (ws : List ℕ) : Type 0 where
   pub graph : Graph G n
   pub sized : Sized G n g ws
-  pub firsts : (i : ℕ) → i ≤ n → getD ws (5 * n + i) 0 ≡ getD G i 0
-  pub letters : (e : ℕ) → e < getD G n 0 → getD ws (6 * n + 1 + 2 * e) 0 ≡ letter G n e
-  pub targets : (e : ℕ) → getD G 0 0 ≤ e → e < getD G n 0 → getD ws (6 * n + 2 + 2 * e) 0 % 8192 ≡ target G n e
+  pub firsts : (i : ℕ) → i ≤ n → firstAt n ws i ≡ getD G i 0
+  pub letters : (e : ℕ) → e < getD G n 0 → letterAt n ws e ≡ letter G n e
+  pub targets : (e : ℕ) → getD G 0 0 ≤ e → e < getD G n 0 → targetAt n ws e ≡ target G n e
   pub heads : (t : ℕ) → t < n → Latest G n t (getD G n 0) (headAt g ws t)
   pub nexts : (e : ℕ) → getD G 0 0 ≤ e → e < getD G n 0
       → Latest G n (target G n e) e (getD ws (6 * n + 2 + 2 * e) 0 / 8192)

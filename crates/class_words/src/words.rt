@@ -3,6 +3,7 @@ ghost use mathlib.Core.Path.{_≡_};
 ghost use Prim.Native.Nat.{_+_, _*_, _<_, _≤_, _%_, _/_, _^_};
 ghost use lib.ListN.{length, getD, set};
 ghost use Rattle.class_words.specs.Places.{memberAt, placeAt, fromAt, toAt, headAt, touchedAt, listAt, copyAt};
+ghost use Rattle.class_words.specs.Places.{firstAt, letterAt, targetAt};
 use dfa::words::at;
 use dfa::words::put;
 
@@ -60,7 +61,7 @@ pub fn set_to(words: &mut [u32], n: usize, c: usize, v: usize)
 // The first edge of the state p; of n, the end of the edges.
 pub fn first_edge(words: &[u32], n: usize, p: usize) -> usize
     requires { ⌜ (p ≤ n) × ((n ≤ 8192) × (6 * n < length (now words))) ⌝ }
-    ensures { λ r. ⌜ r ≡ getD (now (words .entry)) (5 * n + p) 0 ⌝ }
+    ensures { λ r. ⌜ r ≡ firstAt n (now (words .entry)) p ⌝ }
 {
     at(words, 5 * n + p)
 }
@@ -68,7 +69,7 @@ pub fn first_edge(words: &[u32], n: usize, p: usize) -> usize
 // The letter of edge e.
 pub fn edge_letter(words: &[u32], n: usize, e: usize) -> usize
     requires { ⌜ (n ≤ 8192) × ((e < 262144) × (6 * n + 2 + 2 * e < length (now words))) ⌝ }
-    ensures { λ r. ⌜ r ≡ getD (now (words .entry)) (6 * n + 1 + 2 * e) 0 ⌝ }
+    ensures { λ r. ⌜ r ≡ letterAt n (now (words .entry)) e ⌝ }
 {
     at(words, 6 * n + 1 + 2 * e)
 }
@@ -76,7 +77,7 @@ pub fn edge_letter(words: &[u32], n: usize, e: usize) -> usize
 // The target of edge e.
 pub fn edge_target(words: &[u32], n: usize, e: usize) -> usize
     requires { ⌜ (n ≤ 8192) × ((e < 262144) × (6 * n + 2 + 2 * e < length (now words))) ⌝ }
-    ensures { λ r. ⌜ r ≡ getD (now (words .entry)) (6 * n + 2 + 2 * e) 0 % 8192 ⌝ }
+    ensures { λ r. ⌜ r ≡ targetAt n (now (words .entry)) e ⌝ }
 {
     at(words, 6 * n + 2 + 2 * e) % STATES
 }
@@ -147,10 +148,10 @@ pub fn set_copied(words: &mut [u32], n: usize, g: usize, i: usize, v: usize)
 
 // The state that edge e leaves: halving, between a state whose edges begin at e or before and one whose edges begin behind.
 pub fn source(words: &[u32], n: usize, e: usize) -> usize
-    requires { ⌜ (0 < n) × ((n ≤ 8192) × ((6 * n < length (now words)) × ((getD (now words) (5 * n + 0) 0 ≤ e)
-        × (e < getD (now words) (5 * n + n) 0)))) ⌝ }
-    ensures { λ r. ⌜ (r < n) × ((getD (now (words .entry)) (5 * n + r) 0 ≤ e)
-        × (e < getD (now (words .entry)) (5 * n + (r + 1)) 0)) ⌝ }
+    requires { ⌜ (0 < n) × ((n ≤ 8192) × ((6 * n < length (now words)) × ((firstAt n (now words) 0 ≤ e)
+        × (e < firstAt n (now words) n)))) ⌝ }
+    ensures { λ r. ⌜ (r < n) × ((firstAt n (now (words .entry)) r ≤ e)
+        × (e < firstAt n (now (words .entry)) (r + 1))) ⌝ }
 {
     let mut low = 0;
     let mut high = n;

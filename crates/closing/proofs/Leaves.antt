@@ -11,7 +11,7 @@ use borrow.Author.Tests.{ne-eqb}
 use Rattle.part_rows.specs.PartKind.{NAME, FETCH, OPERATE, ASSIGN, SEQUENCE, IF, WHILE, NEW, PRIVATE, KIND, DETAIL}
 use Rattle.part_rows.specs.PartKind.{ONCE}
 use Rattle.part_rows.specs.Row.{word}
-use Rattle.closing.specs.Close.{firstBits, partsOf, argumentWeight, nameWeight, plainWeight, weightOf, leafWeight}
+use Rattle.closing.specs.Close.{firstBits, partsOf, argumentWeight, nameWeight, weightOf, leafWeight, kindWeight}
 
 -- a name without a bit has no arguments
 first-none : (c : ℕ) → firstBits c ≡ 0 → c ≡ 0
@@ -27,15 +27,16 @@ first-none c h = go (ℕ-discrete c 0) (ℕ-discrete c 1) (ℕ-discrete c 2) (�
         let g : _≡_ {A = ℕ} 15 0 = rw (ne-eqb c 0 a, ne-eqb c 1 b, ne-eqb c 2 d, ne-eqb c 3 e) at h in absurd (omega arith)
 
 -- a row of another kind
-plain-leaf : (k d v a b c : ℕ) → (k ≡ NAME → ⊥) → partsOf k d ≡ 0 → min (plainWeight k v d a b c) 4097 ≡ leafWeight k d
-unfolding partsOf plainWeight leafWeight
-plain-leaf k d v a b c n h = go (ℕ-discrete k PRIVATE)
+plain-leaf : (t : List ℕ) (at k a b c d : ℕ) → (k ≡ NAME → ⊥) → partsOf k (word t at DETAIL) ≡ 0 →
+    min (kindWeight t at k a b c d) 4097 ≡ leafWeight k (word t at DETAIL)
+unfolding partsOf kindWeight leafWeight
+plain-leaf t at k a b c d n h = go (ℕ-discrete k PRIVATE)
   where
-    one : (x : Bool) → min (pick x 1 1) 4097 ≡ 1
+    one : (x : Bool) → min (pick x 1 1) 4097 ≡ pick x 1 1
     one true = refl
     one false = refl
 
-    go : Dec (k ≡ PRIVATE) → min (plainWeight k v d a b c) 4097 ≡ leafWeight k d
+    go : Dec (k ≡ PRIVATE) → min (kindWeight t at k a b c d) 4097 ≡ leafWeight k (word t at DETAIL)
     go (yes e) = rw e refl
     go (no e) =
         rw (ne-eqb k NAME n, ne-eqb k PRIVATE e,
@@ -60,13 +61,13 @@ name-none k d e h = first-none (d / 256 % 8) (rw e at h)
 
 module _ (t rows : List ℕ) (at a b c d : ℕ) (h : partsOf (word t at KIND) (word t at DETAIL) ≡ 0) where
   named : word t at KIND ≡ NAME → min (weightOf t rows at a b c d) 4097 ≡ leafWeight (word t at KIND) (word t at DETAIL)
-  unfolding weightOf leafWeight
+  unfolding weightOf kindWeight leafWeight
   named e = rw e (rw (name-leaf t at _ _ _ _ (name-none _ _ e h)) (omega arith))
 
   other : (word t at KIND ≡ NAME → ⊥) →
       min (weightOf t rows at a b c d) 4097 ≡ leafWeight (word t at KIND) (word t at DETAIL)
   unfolding weightOf
-  other e = rw (ne-eqb (word t at KIND) NAME e) (plain-leaf _ _ _ _ _ _ e h)
+  other e = plain-leaf t at (word t at KIND) _ _ _ _ e h
 
   -- THEOREM: a row without parts weighs 2 where it is a name, 3 where that asks once, 2 where it is a private variable,
   -- else 1

@@ -71,35 +71,33 @@ nameWeight t at a b c d =
     2 + word t at DETAIL / ONCE % 2
       + (argumentWeight t at 0 a + (argumentWeight t at 1 b + (argumentWeight t at 2 c + argumentWeight t at 3 d)))
 
--- the weight of a row of another kind: v are the values of its first part, d is its detail, a, b, c weigh its parts
-unfoldable pub plainWeight : ℕ → ℕ → ℕ → ℕ → ℕ → ℕ → ℕ
-plainWeight kind v d a b c =
-    -- constants; skip and diverge
-    pick (ltb kind NAME) 1
-    -- operators
-    (pick (eqb kind OPERATE) (a + v * b)
-    -- commands
-    (pick (eqb kind SEQUENCE) (a + b)
-    (pick (eqb kind WHILE) (a + b)
-    (pick (eqb kind IF) (a + (b + c))
-    -- identifiers
-    (pick (eqb kind PRIVATE) 2
-    -- variables: fetch, assign and new
-    (pick (eqb kind FETCH) a
-    (pick (eqb kind ASSIGN) (b + v * a)
-    (pick (eqb kind NEW) (d * a) 1))))))))
-
 -- the values of the first part of the part at a place
 unfoldable pub firstValues : List ℕ → ℕ → ℕ
 firstValues t at = word t (word t at PARTS) VALUES
 
+-- the weight of the row for the part of a kind at a place, where a, b, c and d weigh its parts
+unfoldable pub kindWeight : List ℕ → ℕ → ℕ → ℕ → ℕ → ℕ → ℕ → ℕ
+kindWeight t at kind a b c d =
+    -- constants; skip and diverge
+    pick (ltb kind NAME) 1
+    -- operators
+    (pick (eqb kind OPERATE) (a + firstValues t at * b)
+    -- commands
+    (pick (eqb kind SEQUENCE) (a + b)
+    (pick (eqb kind WHILE) (a + b)
+    (pick (eqb kind IF) (a + (b + c))
+    -- identifiers, with application
+    (pick (eqb kind NAME) (nameWeight t at a b c d)
+    (pick (eqb kind PRIVATE) 2
+    -- variables: fetch, assign and new
+    (pick (eqb kind FETCH) a
+    (pick (eqb kind ASSIGN) (b + firstValues t at * a)
+    (pick (eqb kind NEW) (word t at DETAIL * a) 1)))))))))
+
 -- the weight of the row for the part at a place
 unfoldable pub weightOf : List ℕ → List ℕ → ℕ → ℕ → ℕ → ℕ → ℕ → ℕ
 weightOf t rows at a b c d =
-    pick (eqb (word t at KIND) NAME)
-    (nameWeight t at (word rows a WEIGHT) (word rows b WEIGHT) (word rows c WEIGHT) (word rows d WEIGHT))
-    (plainWeight (word t at KIND) (firstValues t at) (word t at DETAIL) (word rows a WEIGHT) (word rows b WEIGHT)
-      (word rows c WEIGHT))
+    kindWeight t at (word t at KIND) (word rows a WEIGHT) (word rows b WEIGHT) (word rows c WEIGHT) (word rows d WEIGHT)
 
 -- its detail
 unfoldable pub detailOf : List ℕ → List ℕ → ℕ → ℕ
@@ -124,7 +122,11 @@ fourAt rows at a b c d = set (set (set (set rows at a) (at + 1) b) (at + 2) c) (
 
 -- the weight of a row without parts, where its detail is given
 unfoldable pub leafWeight : ℕ → ℕ → ℕ
-leafWeight kind d = pick (eqb kind NAME) (2 + d / ONCE % 2) (pick (eqb kind PRIVATE) 2 1)
+leafWeight kind d =
+    -- constants; skip and diverge
+    pick (ltb kind NAME) 1
+    -- identifiers
+    (pick (eqb kind NAME) (2 + d / ONCE % 2) (pick (eqb kind PRIVATE) 2 1))
 
 -- the rows with the row n for the part at a place
 unfoldable pub closedRow : List ℕ → List ℕ → List ℕ → ℕ → ℕ → ℕ → ℕ → ℕ → ℕ → List ℕ

@@ -19,9 +19,8 @@ ghost use Prim.Native.Nat.{_+_, _*_, _<_, min};
 ghost use lib.ListN.{length, getD, set};
 ghost use Rattle.records.specs.Limits.{held-at};
 ghost use Rattle.part_rows.specs.Row.{word};
-ghost use Rattle.closing.specs.Close.{partsOf, staysOf, argumentWeight, nameWeight, plainWeight, firstValues};
-ghost use Rattle.closing.specs.Close.{weightOf, detailOf, headPut, partsPut, closedRow, fiveAt, fourAt};
-ghost use Rattle.closing.specs.Close.{leafWeight};
+ghost use Rattle.closing.specs.Close.{partsOf, staysOf, argumentWeight, nameWeight, firstValues, weightOf};
+ghost use Rattle.closing.specs.Close.{detailOf, headPut, partsPut, closedRow, fiveAt, fourAt, leafWeight};
 ghost use Rattle.part_rows.specs.PartKind.{KIND, DETAIL};
 ghost use Rattle.closing.specs.Rows.{ROWS};
 use part_rows::class::answers_by;
@@ -37,6 +36,7 @@ use part_rows::short_kind::PROCEDURE;
 use part_rows::short_kind::ROUTINE;
 use part_rows::short_kind::SEQUENCE;
 use part_rows::short_kind::WHILE;
+ghost use Rattle.closing.specs.Close.{kindWeight};
 
 // What stands in a slot, or for a part, where there is no row.
 pub const NO_ROW: u16 = 12288;
@@ -122,10 +122,17 @@ fn name_weight(t: &[u16], at: u16, a: u16, b: u16, c: u16, d: u16) -> u32
     )
 }
 
-// The weight of a row of another kind: v are the values of its first part, d is its detail, a, b, c weigh its parts. In
-// the order in which document 001 defines the plays: constants, operators, commands, identifiers, then variables.
-fn plain_weight(kind: u16, v: u16, d: u16, a: u16, b: u16, c: u16) -> u32
-    ensures { λ r. ⌜ r ≡ min (plainWeight kind v d a b c) held-at ⌝ }
+// The values of the first part of the part at a place.
+fn first_values(t: &[u16], at: u16) -> u16
+    ensures { λ r. ⌜ r ≡ firstValues (now (t .entry)) at ⌝ }
+{
+    word_at(t, word_at(t, at, PARTS), VALUES)
+}
+
+// The weight of the row for the part of a kind at a place, where a, b, c and d weigh its parts. In the order in which
+// document 001 defines the plays: constants, operators, commands, identifiers, then variables; 1 for no kind of a row.
+fn kind_weight(t: &[u16], at: u16, kind: u16, a: u16, b: u16, c: u16, d: u16) -> u32
+    ensures { λ r. ⌜ r ≡ min (kindWeight (now (t .entry)) at kind a b c d) held-at ⌝ }
 {
     // constants (definition 13); skip and diverge
     if kind < NAME {
@@ -133,7 +140,7 @@ fn plain_weight(kind: u16, v: u16, d: u16, a: u16, b: u16, c: u16) -> u32
     }
     // operators (definition 14)
     if kind == OPERATE {
-        return sat_add(a as u32, sat_mul(v as u32, b as u32));
+        return sat_add(a as u32, sat_mul(first_values(t, at) as u32, b as u32));
     }
     // commands (definition 15)
     if kind == SEQUENCE {
@@ -145,7 +152,10 @@ fn plain_weight(kind: u16, v: u16, d: u16, a: u16, b: u16, c: u16) -> u32
     if kind == IF {
         return sat_add(a as u32, sat_add(b as u32, c as u32));
     }
-    // identifiers (definition 18)
+    // identifiers (definition 18), with application (definition 22)
+    if kind == NAME {
+        return name_weight(t, at, a, b, c, d);
+    }
     if kind == PRIVATE {
         return 2;
     }
@@ -154,20 +164,12 @@ fn plain_weight(kind: u16, v: u16, d: u16, a: u16, b: u16, c: u16) -> u32
         return sat_add(a as u32, 0);
     }
     if kind == ASSIGN {
-        return sat_add(b as u32, sat_mul(v as u32, a as u32));
+        return sat_add(b as u32, sat_mul(first_values(t, at) as u32, a as u32));
     }
     if kind == NEW {
-        return sat_mul(d as u32, a as u32);
+        return sat_mul(word_at(t, at, DETAIL) as u32, a as u32);
     }
-    // no kind of a row that is weighed here
     1
-}
-
-// The values of the first part of the part at a place.
-fn first_values(t: &[u16], at: u16) -> u16
-    ensures { λ r. ⌜ r ≡ firstValues (now (t .entry)) at ⌝ }
-{
-    word_at(t, word_at(t, at, PARTS), VALUES)
 }
 
 // The weight of the row for the part at a place whose parts are the rows a, b, c and d, held at 4,097.
@@ -178,18 +180,8 @@ fn weight_of(t: &[u16], rows: &[u16], at: u16, a: u16, b: u16, c: u16, d: u16) -
     let first = word_at(rows, a, WEIGHT);
     let second = word_at(rows, b, WEIGHT);
     let third = word_at(rows, c, WEIGHT);
-    if kind == NAME {
-        let fourth = word_at(rows, d, WEIGHT);
-        return name_weight(t, at, first, second, third, fourth) as u16;
-    }
-    plain_weight(
-        kind,
-        first_values(t, at),
-        word_at(t, at, DETAIL),
-        first,
-        second,
-        third,
-    ) as u16
+    let fourth = word_at(rows, d, WEIGHT);
+    kind_weight(t, at, kind, first, second, third, fourth) as u16
 }
 
 // The detail of the row for the part at a place.
@@ -317,6 +309,11 @@ pub fn close_row(
 fn leaf_weight(kind: u16, detail: u16) -> u16
     ensures { λ r. ⌜ r ≡ leafWeight kind detail ⌝ }
 {
+    // constants (definition 13); skip and diverge
+    if kind < NAME {
+        return 1;
+    }
+    // identifiers (definition 18)
     if kind == NAME {
         return own_of(detail);
     }

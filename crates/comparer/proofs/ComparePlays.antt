@@ -25,18 +25,14 @@ use Rattle.sheet.specs.Reader.{numbersAt, readSheet, rejected}
 use Rattle.load.specs.Loaded as load
 use Rattle.load.specs.declared.load.Loaded.{Loaded}
 use Rattle.load.specs.declared.load.Loaded.the-variants as loaded
-use Rattle.comparer.specs.Plays.{Alike, Only}
-use Rattle.conditions.specs.Pair.{refusing, sameFirst, matching, pairRefusal}
-use Rattle.comparer.specs.Refusals.{onRead}
-use Rattle.comparer.specs.Refusals.{compareRefusal}
-use Rattle.comparer.specs.Plays.{reckoned}
+use Rattle.comparer.specs.Plays.{Alike, Only, reckoned}
+use Rattle.conditions.specs.Pair.{refusing, sameFirst, matching, pairRefusal, numberOf}
+use Rattle.comparer.specs.Refusals.{onRead, compareRefusal}
 use Rattle.comparer.specs.Look.{Found, nothing, first, FoundIn, decisionOf, spaceAfter, wholeDepth}
 use Rattle.conditions.specs.Lent.{words-asked}
-use Rattle.build.specs.Built.{TwoReady, TwoBuilt}
-use Rattle.comparer.specs.inner.Deciding.{Deciding, OnlyTerm, Verdicts, alike, differ}
-use Rattle.comparer.specs.inner.Deciding.{ExaminedBy, ExaminePromise}
+use Rattle.build.specs.inner.Built.{TwoReady, TwoBuilt}
+use Rattle.comparer.specs.inner.Deciding.{Deciding, OnlyTerm, Verdicts, alike, differ, ExaminedBy, ExaminePromise}
 use Rattle.comparer.specs.inner.Causes.{causeOf}
-use Rattle.conditions.specs.Pair.{numberOf}
 use Rattle.judge.specs.Mark.{usesOf}
 use Rattle.judge.specs.declared.mark.Uses.{Uses}
 use Rattle.play_words.specs.declared.Decision.{Decision}

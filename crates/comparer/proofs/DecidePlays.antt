@@ -27,7 +27,7 @@ use Rattle.dfa.proofs.laws.Reading.{reversed-length, reversed-reversed, walk-re
 use Rattle.silent.proofs.laws.Settled.{settled-graph}
 use Rattle.explicit.specs.Explicit.{Explicit}
 use Rattle.explicit.specs.Letter.{AllSmall}
-use Rattle.build.specs.Built.{TwoBuilt}
+use Rattle.build.specs.inner.Built.{TwoBuilt}
 use Rattle.conditions.proofs.Figures.{asked-low}
 use Rattle.comparer.specs.inner.Deciding.{Deciding, OnlyTerm, Verdicts, alike, differ}
 use Rattle.play_words.specs.Shown.{Shown}

@@ -35,7 +35,7 @@ use Rattle.play_words.specs.declared.walk.Reach.{Reach}
 use Rattle.play.specs.declared.play.Parsed.{Parsed}
 use Rattle.play.specs.declared.play.Parsed.the-variants.{Moves, Bad}
 use Rattle.conditions.specs.Lent.{words-asked}
-use Rattle.build.specs.Built.{OneReady, OneBuilt}
+use Rattle.build.specs.inner.Built.{OneReady, OneBuilt}
 use Rattle.build.proofs.Room.{asked-suffices}
 use Rattle.explicit.proofs.Filled.{most-edges}
 use Rattle.play.specs.Bytes.{counted}

@@ -29,7 +29,7 @@ use Rattle.sheet.specs.Fine.{Accepted}
 use Rattle.sheet.proofs.WellTyped.{accepted-typed}
 use Rattle.comparer.specs.Plays.{CompletePlay}
 use Rattle.comparer.specs.Promise.{Begins, Greatest, NoPlay, Counted}
-use Rattle.build.specs.Built.{OneBuilt}
+use Rattle.build.specs.inner.Built.{OneBuilt}
 use Rattle.play.specs.Bytes.{firstLetter}
 use Rattle.play.specs.Spell.{letters}
 use Rattle.play_words.specs.Walk.{stateAfter, Longest}
@@ -92,10 +92,10 @@ module _ (S : Sheet) (A : Accepted S) (n : ℕ) (ws : List ℕ)
 
   -- its numbers and its type are in range, and every move of its plays has a letter
   few : N .z ≤ 125
-  few = omega (arith, A .ordered .z-below)
+  few = omega (arith, A .ordered .in-order .z-below)
 
   in-type : TyIn N T
-  in-type = type-in N (A .ordered .z-above) (typeOf S)
+  in-type = type-in N (A .ordered .in-order .z-above) (typeOf S)
 
   small : (u : Word) → CompletePlay S u → AllSmall N u
   small = plays-small N (accepted-typed S A) in-type (sheet-range S (A .ordered))

@@ -27,7 +27,7 @@ use Rattle.comparer.specs.declared.Looking.{Looking}
 use Rattle.comparer.specs.declared.Looking.the-variants as looking
 use Rattle.comparer.specs.declared.Examined.{Examined}
 use Rattle.comparer.specs.declared.Examined.the-variants.{Known, Refused}
-use Rattle.comparer.proofs.Demands.{accepted-order, differs}
+use Rattle.comparer.proofs.Demands.{differs}
 use Rattle.comparer.proofs.Exactly.{not-alike}
 use Rattle.comparer.proofs.Unique.{held-accepted, held-comparable}
 
@@ -36,7 +36,7 @@ module _ (S T : Sheet) (A : Accepted S) (B : Accepted T) (c : Comparable S T) wh
   -- THEOREM: where no play of at most S + T - 1 moves tells them apart, none does
   pub all-alike : ((u : Word) → length u ≤ wholeDepth S T → Alike S T u) → (u : Word) → Alike S T u
   all-alike h =
-      differs S T (accepted-order S A) (accepted-order T B) c .1 (λ which u l o. not-alike which S T u o (h u l))
+      differs S T (A .ordered .in-order) (B .ordered .in-order) c .1 (λ which u l o. not-alike which S T u o (h u l))
 
   -- THEOREM: the first play of exactly one has at most S + T - 1 moves
   pub first-short : (which : ℕ) (play : Word) → FirstPlay S T which play → length play ≤ wholeDepth S T

@@ -74,10 +74,10 @@ module _ (S : Sheet) (A : Accepted S) (s t : List ℕ) (row all ty : ℕ) (h : r
       Rep N t 6144 row [] [] (termOf S) (tyOf N ty) → Fit N ty s row all t
   fits {N} e f g r = record
     { sheet = S; reads = h; numbers = e; types = f
-    ; z-above = rw (← e) (A .ordered .z-above)
-    ; z-below = rw (← e) (A .ordered .z-below)
+    ; z-above = rw (← e) (A .ordered .in-order .z-above)
+    ; z-below = rw (← e) (A .ordered .in-order .z-below)
     ; typed = rw (← e, ← f) (accepted-typed S A)
-    ; type-in = rw (← e) (type-in (S .numbers) (A .ordered .z-above) ty)
+    ; type-in = rw (← e) (type-in (S .numbers) (A .ordered .in-order .z-above) ty)
     ; term-in = rw (← e) (sheet-range S (A .ordered))
     ; sized = g
     ; some = omega (arith, g, spots-size (tyOf N ty) (termOf S))

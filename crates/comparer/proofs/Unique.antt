@@ -112,7 +112,7 @@ module _ (S T : Sheet) (A : Accepted S) (B : Accepted T) (e : S .numbers ≡ T .
   -- there is one first play
   pub one-first : (which other : ℕ) (u v : Word) → FirstPlay S T which u → FirstPlay S T other v → u ≡ v
   one-first which other u v f g =
-      by (before-total (S .numbers) (omega (arith, A .ordered .z-below)) u v (only-small which u (f .only))
+      by (before-total (S .numbers) (omega (arith, A .ordered .in-order .z-below)) u v (only-small which u (f .only))
         (only-small other v (g .only)))
     where
       by : Before (S .numbers) u v ⊎ ((u ≡ v) ⊎ Before (S .numbers) v u) → u ≡ v

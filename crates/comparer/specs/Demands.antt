@@ -2,17 +2,16 @@
 -- (2), and the length rules (3), for all bytes and for all sheets in order. SHEETS 8.
 use mathlib.Core.Path.{_≡_}
 use mathlib.Core.Logic.{_↔_, _⊎_}
-use mathlib.Core.List.{List, [], map}
+use mathlib.Core.List.{List, map}
 use mathlib.Core.Option.{none, some}
-use Prim.Native.Nat.{ℕ, _+_, _-_, _≤_, _<_}
+use Prim.Native.Nat.{ℕ, _+_, _-_, _≤_}
 use lib.ListN.{length, take}
 use Rattle.language.specs.Move.{Word, record-of, records}
 use Rattle.records.specs.declared.edition.Edition.the-variants.{Present}
 use Rattle.records.specs.declared.refusal.Cause.{Cause}
 use Rattle.procedures.specs.Written.{Sheet}
 use Rattle.procedures.specs.Meaning.{typeOf}
-use Rattle.records.specs.Limits.{greatest-z}
-use Rattle.procedures.specs.Fine.{Fine, FineNames}
+use Rattle.procedures.specs.Fine.{InOrder}
 use Rattle.sheet.specs.Fine.{Accepted}
 use Rattle.sheet.specs.Reader.{readSheet, rejected}
 use Rattle.play.specs.Records.{moves, parse}
@@ -92,15 +91,8 @@ abbrev pub RecordsOfMoves : Type 0
 RecordsOfMoves = (S : Sheet) (u : Word) → Accepted S → CompletePlay S u →
   parse 0 (records (S .numbers) u) ≡ moves (map (record-of (S .numbers)) u)
 
--- Demand 3 speaks of more sheets than check accepts: of all that are in order but for the limits on bytes, records, depth
--- and size, by either edition, whatever the byte of the overflow rule. Each has a reckoned size
-pub record InOrder (S : Sheet) : Type 0 where
-  pub z-above : 0 < S .numbers .z
-  pub z-below : S .numbers .z ≤ greatest-z
-  pub fine-names : FineNames [] (S .names)
-  pub fine-term : Fine (S .numbers) (S .names) [] (S .term)
-
--- Demand 3. The ranges, the rules and the result types are equal, as they are where headings and result types are
+-- Demand 3 speaks of more sheets than check accepts: of all that are `InOrder`. The ranges, the rules and the result
+-- types are equal, as they are where headings and result types are
 pub record Comparable (S T : Sheet) : Type 0 where
   pub numbers : S .numbers ≡ T .numbers
   pub types : typeOf S ≡ typeOf T

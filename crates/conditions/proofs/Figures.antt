@@ -9,7 +9,8 @@ use Rattle.language.specs.Number.{numbers}
 use Rattle.language.proofs.NumberLaws.{numbers-within}
 use Rattle.records.specs.Limits.{earlier-z, greatest-z}
 use Rattle.conditions.specs.Lent.{words-a-state, words-asked}
-use Rattle.conditions.specs.Figure.{OldFigure, NewFigure, Enough}
+use Rattle.conditions.specs.Figure.{OldFigure, NewFigure}
+use Rattle.conditions.specs.inner.Enough.{Enough}
 
 -- the words for each state
 few-words : (N : Numbers) → N .z ≤ earlier-z → words-a-state N ≡ 32

@@ -2,9 +2,8 @@
 use mathlib.Core.Path.{_≡_}
 use Prim.Native.Nat.{ℕ, _+_, _*_, _≤_, _<_}
 use Rattle.language.specs.declared.Numbers.{Numbers}
-use Rattle.language.specs.Number.{numbers}
-use Rattle.records.specs.Limits.{earlier-z, greatest-z}
-use Rattle.conditions.specs.Lent.{words-a-state, words-asked}
+use Rattle.records.specs.Limits.{earlier-z}
+use Rattle.conditions.specs.Lent.{words-asked}
 
 -- "up to 7 the old figure stands"
 abbrev pub OldFigure : Type 0
@@ -13,9 +12,3 @@ OldFigure = (N : Numbers) (n : ℕ) → N .z ≤ earlier-z → words-asked N n �
 -- "Where Z is above 7, working words are 128 for each position counted"
 abbrev pub NewFigure : Type 0
 NewFigure = (N : Numbers) (n : ℕ) → earlier-z < N .z → words-asked N n ≡ 128 * (n + 1)
-
--- the words that are asked for each state suffice for K numbers, whatever the range and the rule: 8 + K are enough for
--- the graph, and half of 10 + 3 K with the lists of edges by target
-abbrev pub Enough : Type 0
-Enough = (N : Numbers) → N .z ≤ greatest-z →
-  (8 + numbers N ≤ words-a-state N) × (10 + 3 * numbers N ≤ 2 * words-a-state N)

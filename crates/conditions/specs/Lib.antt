@@ -1,3 +1,4 @@
 pub mod Lent
 pub mod Figure
 pub mod Pair
+pub mod inner

@@ -91,8 +91,10 @@ module _ (S : Sheet) (A : WellFormed S) (u : List ℕ) (r m : ℕ)
 
   unfoldable covers : RowTyped N (S .names) u r (typeOf S) × Covered N (S .names) u 0 m
   unfolding typeOf binders TypedIn Blocks meaning IsParameter
-  covers = cover N (S .names) u (λ i ty often tys e. few-types [] (S .names) (A .fine-names) i ty often tys e .1) x lo
-      (A .fine-term) tt (five-types [] (S .names) (A .fine-names)) tt (λ s z l. absurd z) few
+  covers =
+      cover N (S .names) u
+        (λ i ty often tys e. few-types [] (S .names) (A .in-order .fine-names) i ty often tys e .1) x lo
+        (A .in-order .fine-term) tt (five-types [] (S .names) (A .in-order .fine-names)) tt (λ s z l. absurd z) few
 
   all : AllWorded N u (firstOf m R)
   all i y e =

@@ -19,7 +19,7 @@ use Rattle.part_rows.specs.PartKind.{PRIVATE, KIND, DETAIL, PARTS, WEIGHT}
 use Rattle.part_rows.specs.Row.{word}
 use Rattle.procedures.proofs.Tests.{by-test}
 use Rattle.closing.specs.Rows.{partsFrom, namedRow, rowOf, decode}
-use Rattle.closing.specs.Close.{bitOf, firstBits, nameWeight, plainWeight, firstValues, weightOf}
+use Rattle.closing.specs.Close.{bitOf, firstBits, nameWeight, firstValues, weightOf, kindWeight}
 use Rattle.expand.proofs.Frames.{lower-part}
 
 not-named : (k : ℕ) (c : Binder) (often : Often) (ty : ℕ) (tys : List ℕ) → meant k c ≡ named often ty tys → ⊥
@@ -153,53 +153,53 @@ module _ (N : Numbers) (ns : List Name) (T : List ℕ) (n : ℕ) where
 -- the weights of rows by kind, and their details
 module _ (t B : List ℕ) (at a b c d : ℕ) where
   pub weight-one : word t at KIND ≡ SKIP → weightOf t B at a b c d ≡ 1
-  unfolding weightOf plainWeight
+  unfolding weightOf kindWeight
   weight-one k = rw k
 
   pub weight-diverge : word t at KIND ≡ DIVERGE → weightOf t B at a b c d ≡ 1
-  unfolding weightOf plainWeight
+  unfolding weightOf kindWeight
   weight-diverge k = rw k
 
   pub weight-constant : word t at KIND ≡ CONSTANT → weightOf t B at a b c d ≡ 1
-  unfolding weightOf plainWeight
+  unfolding weightOf kindWeight
   weight-constant k = rw k
 
   pub weight-private : word t at KIND ≡ PRIVATE → weightOf t B at a b c d ≡ 2
-  unfolding weightOf plainWeight
+  unfolding weightOf kindWeight
   weight-private k = rw k
 
   pub weight-fetch : word t at KIND ≡ FETCH → weightOf t B at a b c d ≡ word B a WEIGHT
-  unfolding weightOf plainWeight
+  unfolding weightOf kindWeight
   weight-fetch k = rw k
 
   pub weight-operate : word t at KIND ≡ OPERATE →
       weightOf t B at a b c d ≡ word B a WEIGHT + firstValues t at * word B b WEIGHT
-  unfolding weightOf plainWeight
+  unfolding weightOf kindWeight
   weight-operate k = rw k
 
   pub weight-assign : word t at KIND ≡ ASSIGN →
       weightOf t B at a b c d ≡ word B b WEIGHT + firstValues t at * word B a WEIGHT
-  unfolding weightOf plainWeight
+  unfolding weightOf kindWeight
   weight-assign k = rw k
 
   pub weight-sequence : word t at KIND ≡ SEQUENCE → weightOf t B at a b c d ≡ word B a WEIGHT + word B b WEIGHT
-  unfolding weightOf plainWeight
+  unfolding weightOf kindWeight
   weight-sequence k = rw k
 
   pub weight-while : word t at KIND ≡ WHILE → weightOf t B at a b c d ≡ word B a WEIGHT + word B b WEIGHT
-  unfolding weightOf plainWeight
+  unfolding weightOf kindWeight
   weight-while k = rw k
 
   pub weight-if : word t at KIND ≡ IF →
       weightOf t B at a b c d ≡ word B a WEIGHT + (word B b WEIGHT + word B c WEIGHT)
-  unfolding weightOf plainWeight
+  unfolding weightOf kindWeight
   weight-if k = rw k
 
   pub weight-new : word t at KIND ≡ NEW → weightOf t B at a b c d ≡ word t at DETAIL * word B a WEIGHT
-  unfolding weightOf plainWeight
+  unfolding weightOf kindWeight
   weight-new k = rw k
 
   pub weight-name : word t at KIND ≡ NAME →
       weightOf t B at a b c d ≡ nameWeight t at (word B a WEIGHT) (word B b WEIGHT) (word B c WEIGHT) (word B d WEIGHT)
-  unfolding weightOf
+  unfolding weightOf kindWeight
   weight-name k = rw k

@@ -176,7 +176,7 @@ pub record Readied (t marks : List ℕ) (at : ℕ) (rows : List ℕ) : Type 0 wh
   pub term : Written
   pub end : ℕ
   pub ready : Ready numbers names t marks places term at end
-  pub long : length rows ≡ WORDS
+  pub long : length rows ≡ TERM-WORDS
 
 -- its expansion, and that its rows are right
 pub record Whole (N : Numbers) (ns : List Name) (W : Written) (rows : List ℕ) (r n : ℕ) : Type 0 where

@@ -22,7 +22,7 @@ use Rattle.procedures.specs.Meaning.{Binder, a-block, a-parameter, a-procedure,
 use Rattle.procedures.specs.Meaning.{named, retired, free, declared, idOf, meant, meaning, inside, after, tyOf}
 use Rattle.procedures.specs.Meaning.{byMeaning, Terms, no-terms, with-level, with-body, with-passed, resolve}
 use Rattle.procedures.specs.Meaning.{resolveArgs, resolved, some-value, typed, termOf, typeOf}
-use Rattle.procedures.specs.Fine.{FineUse, Fine, FineArgs, FineNames, WellFormed}
+use Rattle.procedures.specs.Fine.{FineUse, Fine, FineArgs, FineNames, WellFormed, InOrder}
 use Rattle.procedures.proofs.Numbering.{beyond-all}
 use Rattle.procedures.proofs.WellTyped.{accepted-typed}
 use Rattle.machine.specs.Range.{TyIn, InRange, InRangeArgs}
@@ -181,20 +181,20 @@ module _ (N : Numbers) (above : 0 < N .z) (ns : List Name) (f : (id : ℕ) → F
     resolved-in (more w ws) bs ρ n (ty ∷ tys) (suc j) e h = resolved-in ws bs ρ n tys j e (h .2)
 
 -- THEOREM: the term of a sheet in order is in range, whatever its size
-pub order-range : (S : Sheet) → 0 < S .numbers .z → FineNames [] (S .names) → Fine (S .numbers) (S .names) [] (S .term) →
-    InRange (S .numbers) (termOf S)
+pub order-range : (S : Sheet) → InOrder S → InRange (S .numbers) (termOf S)
 unfolding termOf
-order-range S z ns h =
-    term-in (S .numbers) z (S .names) (few-declared [] (S .names) ns) (S .term) [] no-terms 0
-      (nothing-in (S .numbers)) h
+order-range S A =
+    term-in (S .numbers) (A .z-above) (S .names) (few-declared [] (S .names) (A .fine-names)) (S .term) [] no-terms 0
+      (nothing-in (S .numbers)) (A .fine-term)
 
 -- so is that of an accepted sheet
 pub sheet-range : (S : Sheet) → WellFormed S → InRange (S .numbers) (termOf S)
-sheet-range S A = order-range S (A .z-above) (A .fine-names) (A .fine-term)
+sheet-range S A = order-range S (A .in-order)
 
 -- THEOREM: every move of a complete play of an accepted sheet has a letter
 pub sheet-small : (S : Sheet) → WellFormed S → (u : Word) → Complete (tyOf (S .numbers) (typeOf S)) (termOf S) u →
     AllSmall (S .numbers) u
 sheet-small S A u c =
     complete-small (S .numbers) (tyOf (S .numbers) (typeOf S)) (termOf S)
-      (type-in (S .numbers) (A .z-above) (typeOf S)) (sheet-range S A) (scoped-of (termOf S) (accepted-typed S A)) u c
+      (type-in (S .numbers) (A .in-order .z-above) (typeOf S)) (sheet-range S A)
+      (scoped-of (termOf S) (accepted-typed S A)) u c

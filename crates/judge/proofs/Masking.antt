@@ -193,7 +193,7 @@ module _ (ed : Edition) (s : List ℕ) (S : Sheet) (ty n : ℕ) (reads : readUnd
   few = gives ed s S ty n reads .1 .ordered .few-names
 
   named : FineNames [] (S .names)
-  named = gives ed s S ty n reads .1 .ordered .fine-names
+  named = gives ed s S ty n reads .1 .ordered .in-order .fine-names
 
   declared-mask : mask every 32 s 2 ≡ bits isDeclared (S .names)
   unfolding ofIds isDeclared

@@ -14,7 +14,7 @@ use Rattle.procedures.specs.Marks.{Marked}
 use Rattle.sheet.specs.Encoding.{headingLength}
 use Rattle.sheet.specs.Reader.{numbersAt, readUnder, accepted, rejected}
 use Rattle.judge.specs.Mark.{usesOf}
-use Rattle.tabled.specs.Seats.{Seated}
+use Rattle.tabled.specs.inner.Seats.{Seated}
 use Rattle.tabled.specs.Tabled.{places}
 use Rattle.weighing.specs.Stack.{marksIn}
 use Rattle.judge.specs.declared.mark.Uses.{Uses}

@@ -70,7 +70,7 @@ module _ {s u : List ℕ} {root ty size : ℕ} {uses : Uses} (J : Judged Present
       marked = subst (λ N. Marked N (S .names) u M whole root (S .term)) (sym (J .numbered))
         (marked-agree (numbersAt s) (S .names) u u (marksIn u) M (J .shown) (λ p i h g l. refl)
           (λ p h g. e .each p (omega (arith, shown-row (numbersAt s) (S .names) u (J .shown) .1 .within))) (J .marked));
-      fine = ordered .fine-term;
+      fine = ordered .in-order .fine-term;
       shallow = ordered .shallow;
       room = omega (arith, rows-sheet S, accepted-nodes S ordered) }
 

@@ -35,7 +35,7 @@ use Rattle.sheet.proofs.CompleteNames.{RestRead, complete-names}
 use Rattle.sheet.proofs.Whole as opening
 use Rattle.one_part.specs.Part.{partSheet}
 use Rattle.one_part.specs.Rules.{PartRefused}
-use Rattle.one_part.proofs.Sheets.{InOrder, part-in-order}
+use Rattle.one_part.proofs.Sheets.{Nearly, part-in-order}
 
 -- more than n names were read; refused by 9
 unfoldable More : ℕ → Answer Whole → Type 0
@@ -116,7 +116,7 @@ unfolding Nine Bounded closed bind
 bounded-nine s (got x ty end) h = absurd h
 bounded-nine s (refused k p) h = inr h
 
-module _ (P : Sheet) (O : InOrder P) where
+module _ (P : Sheet) (O : Nearly P) where
   abbrev bytes : List ℕ
   bytes = encodeSheet P
 
@@ -129,14 +129,16 @@ module _ (P : Sheet) (O : InOrder P) where
   names-read l n h =
       let e : 2 + length (encodeNames (P .names) ++ encode (P .term)) ≡ length bytes = omega arith in
       subst (λ x. RestRead bytes (names n) (P .names) (P .term) (typed (P .names) [] (P .term)) x) e
-        (complete-names Present (P .numbers) bytes (λ k. 0) (P .names) (P .term) (O .fine-term) (λ i. O .apart)
+        (complete-names Present (P .numbers) bytes (λ k. 0) (P .names) (P .term) (O .in-order .fine-term)
+          (λ i. O .apart)
           (O .shallow) (P .names) n [] nothing 2 (matches-nothing bytes (λ k. 0) l) (extends-first (P .names))
-          (O .fine-names) h refl)
+          (O .in-order .fine-names) h refl)
 
   whole-opened : length bytes ≤ most-bytes → wholeOf Present bytes ≡ closed bytes (names most-names)
   unfolding encodeSheet
   whole-opened l =
-      opening.opened Present bytes l (omega arith) (λ e. omega (arith, O .z-above)) (O .z-below) (omega arith)
+      opening.opened Present bytes l (omega arith) (λ e. omega (arith, O .in-order .z-above)) (O .in-order .z-below)
+        (omega arith)
         (O .rule-below)
 
   closed-names : length bytes ≤ most-bytes → Dec (length (P .names) ≤ most-names) →

@@ -12,19 +12,18 @@ use Rattle.language.specs.Term.{freely}
 use Rattle.procedures.specs.Written.{Written, Name, declare, retire, Sheet}
 use Rattle.procedures.specs.Meaning.{Binder, a-block, a-parameter, a-procedure, Meaning, private, argument, routine}
 use Rattle.procedures.specs.Meaning.{named, retired, free, declared, idOf, meaning}
-use Rattle.procedures.specs.Fine.{depth, depths, FineUse, Fine, FineArgs, AllTypes, FineNames}
+use Rattle.procedures.specs.Fine.{depth, depths, FineUse, Fine, FineArgs, AllTypes, FineNames, InOrder}
 use Rattle.procedures.specs.Hiding.{isHeld, Unheld, Apart, AllApart}
-use Rattle.records.specs.Limits.{greatest-z, greatest-rule, greatest-depth}
+use Rattle.records.specs.Limits.{greatest-rule, greatest-depth}
 use Rattle.sheet.specs.Fine.{Accepted}
 use Rattle.one_part.specs.Around.{Around, whole, in-call, in-fetch, in-left, in-right, in-target, in-source}
-use Rattle.one_part.specs.Around.{in-first, in-second, in-test, in-round, in-if, in-then, in-else, in-new}
-use Rattle.one_part.specs.Around.{Among, in-this, in-later, filled, allFilled, enclosing, allEnclosing}
+use Rattle.one_part.specs.Around.{in-first, in-second, in-test, in-round, in-if, in-then, in-else, in-new, Among}
+use Rattle.one_part.specs.Around.{in-this, in-later, filled, allFilled, enclosing, allEnclosing}
 use Rattle.one_part.specs.Part.{DeclaredAs, as-name, same-name, same-retired, same-free, PartOf, declaring}
 use Rattle.one_part.specs.Part.{partSheet, Lists, first, later}
 use Rattle.one_part.specs.Rules.{AnyOrder, PartAccepted}
 use Rattle.one_part.proofs.Filling.{all-some}
-use Rattle.one_part.proofs.Records.{idIn, News, declared-past, free-none, lists-either}
-use Rattle.one_part.proofs.Records.{no-record, any-order}
+use Rattle.one_part.proofs.Records.{idIn, News, declared-past, free-none, lists-either, no-record, any-order}
 use Rattle.one_part.proofs.Own.{or-false, Pair, now-named, both-named, both-retired, both-free, Scopes, own-fine}
 use Rattle.one_part.proofs.Own.{own-apart}
 
@@ -199,45 +198,45 @@ of-sheet : (S : Sheet) (C : Around) (m : Written) → Accepted S → S .term ≡
     AtPart (S .numbers) (S .names) (enclosing C []) m
 unfolding Ordered
 of-sheet S C m A e =
-    at-part (S .numbers) (S .names) m C [] tt (rw e at A .apart refl) (rw e at A .ordered .fine-term)
+    at-part (S .numbers) (S .names) m C [] tt (rw e at A .apart refl) (rw e at A .ordered .in-order .fine-term)
 
 -- THEOREM: the records of names may stand in any order
 pub part-any-order : AnyOrder
 unfolding partSheet
 part-any-order S P C m A e B numbers term h = record {
     numbers = rw numbers;
-    names = any-order (S .names) (P .names) (enclosing C []) (A .ordered .fine-names) (B .ordered .fine-names)
+    names = any-order (S .names) (P .names) (enclosing C []) (A .ordered .in-order .fine-names)
+      (B .ordered .in-order .fine-names)
       (ordered-news (S .names) (enclosing C []) (of-sheet S C m A e .ordered)) h;
     term = term }
 
 -- a sheet in order but for its length, its number of names and its size
-pub record InOrder (P : Sheet) : Type 0 where
-  pub z-above : 0 < P .numbers .z
-  pub z-below : P .numbers .z ≤ greatest-z
+pub record Nearly (P : Sheet) : Type 0 where
+  pub in-order : InOrder P
   pub rule-below : P .numbers .rule ≤ greatest-rule
-  pub fine-names : FineNames [] (P .names)
-  pub fine-term : Fine (P .numbers) (P .names) [] (P .term)
   pub shallow : depth (P .term) ≤ greatest-depth
   pub apart : Apart [] (P .term)
 
 pub part-in-order : (S : Sheet) (C : Around) (m : Written) → Accepted S → S .term ≡ filled C m →
-    InOrder (partSheet S C m) × PartOf S C m (partSheet S C m)
+    Nearly (partSheet S C m) × PartOf S C m (partSheet S C m)
 unfolding partSheet
 part-in-order S C m A e =
     let bs = enclosing C [] in
     let ns′ = S .names ++ declaring bs in
     let x = of-sheet S C m A e in
-    let f = fine-append (S .names) (declaring bs) [] (A .ordered .fine-names)
+    let f = fine-append (S .names) (declaring bs) [] (A .ordered .in-order .fine-names)
         (fine-declaring (S .names) bs (x .ordered)) in
-    let names = any-order (S .names) ns′ bs (A .ordered .fine-names) f (ordered-news (S .names) bs (x .ordered))
+    let names = any-order (S .names) ns′ bs (A .ordered .in-order .fine-names) f
+        (ordered-news (S .names) bs (x .ordered))
         (λ n. (λ l. l, λ l. l)) in
     let s = first-scopes (S .numbers) (S .names) ns′ bs names in
     (record {
-      z-above = A .ordered .z-above;
-      z-below = A .ordered .z-below;
+      in-order = record {
+        z-above = A .ordered .in-order .z-above;
+        z-below = A .ordered .in-order .z-below;
+        fine-names = f;
+        fine-term = own-fine (S .numbers) (S .names) ns′ m bs [] s (x .apart) (x .in-order) };
       rule-below = A .ordered .rule-below;
-      fine-names = f;
-      fine-term = own-fine (S .numbers) (S .names) ns′ m bs [] s (x .apart) (x .in-order);
       shallow = omega (arith, deep C m, A .ordered .shallow, ap depth e);
       apart = own-apart (S .numbers) (S .names) ns′ m bs [] s (x .apart) },
      record { numbers = refl; names = names; term = refl })
@@ -248,12 +247,9 @@ part-accepted S C m A e short few small =
     let (O, p) = part-in-order S C m A e in
     (record {
       ordered = record {
-        z-above = O .z-above;
-        z-below = O .z-below;
+        in-order = O .in-order;
         rule-below = O .rule-below;
         few-names = few;
-        fine-names = O .fine-names;
-        fine-term = O .fine-term;
         shallow = O .shallow;
         small = small };
       short = short;

@@ -96,7 +96,7 @@ module _ (s : List ℕ) (S : Sheet) (C : Around) (m : Written) (h : Holds s S) w
   sheet-read n e =
       let O = held-accepted h .ordered in
       ap (read (S .names) n greatest-depth []) (sym (append-nil (encode (filled C hole))))
-      ∙ gap (S .names) n (S .numbers) m greatest-depth C [] (rw e at O .fine-term) (rw e at O .shallow) []
+      ∙ gap (S .names) n (S .numbers) m greatest-depth C [] (rw e at O .in-order .fine-term) (rw e at O .shallow) []
 
 -- THEOREM: the bytes tell that two sheets differ in one part only
 pub bytes-tell : BytesTell
@@ -109,7 +109,8 @@ bytes-tell old new S T C D m n h h′ x st st′ =
     let q = sheet-read new T D n h′ n (st′ .term) in
     let (e, f) = same-names (S .names) (T .names) [] [] (encode (filled C hole)) (encode (filled D hole))
         (no-names (S .names) n greatest-depth [] p) (no-names (T .names) n greatest-depth [] q)
-        (held-accepted h .ordered .fine-names) (held-accepted h′ .ordered .fine-names) (ap (drop 2) g) in
+        (held-accepted h .ordered .in-order .fine-names) (held-accepted h′ .ordered .in-order .fine-names)
+        (ap (drop 2) g) in
     let o : found (filled D n) [] ≡ found (filled C n) [] =
         sym q ∙ ap₂ (λ (ns : List Name) (l : List ℕ). read ns n greatest-depth [] l) (sym e) (sym f) ∙ p in
     record {

@@ -45,8 +45,8 @@ accepted-as : (W : Written) → Fine (record { z = 1; rule = 0 }) [] [] W → Ap
 unfolding FineNames
 accepted-as W f a shallow small short = record {
     ordered = record {
-      z-above = omega arith; z-below = omega arith; rule-below = omega arith; few-names = omega arith; fine-names = tt;
-      fine-term = f; shallow = shallow; small = small };
+      in-order = record { z-above = omega arith; z-below = omega arith; fine-names = tt; fine-term = f };
+      rule-below = omega arith; few-names = omega arith; shallow = shallow; small = small };
     short = short;
     apart = λ e. a }
 

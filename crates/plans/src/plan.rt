@@ -85,17 +85,19 @@ pub fn start(t: &mut [u16], row: usize, kind: usize, detail: usize, k: usize)
     requires { ⌜ (row < 65536) × (k < 65536) ⌝ }
     ensures { λ r. ⌜ now (t .exit) ≡ started kind detail k row (now (t .entry)) ⌝ }
 {
-    if kind == ROUTINE {
-        let from = term_form(t, detail);
-        set_lower(t, row, from, k);
+    // constants, operators, commands, names and variables
+    if kind < PARAMETER {
+        set_constant(t, row, own_of(kind, detail));
         return;
     }
+    // parameters, then uses of procedures
     if kind == PARAMETER {
         let s = least(detail, LAST_PARAMETER);
         set_unit(t, row, s);
         return;
     }
-    set_constant(t, row, own_of(kind, detail));
+    let from = term_form(t, detail);
+    set_lower(t, row, from, k);
 }
 
 // By what the form of part j, which is at a place, is multiplied.

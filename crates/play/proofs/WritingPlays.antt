@@ -2,11 +2,11 @@
 use Prim.Native.Nat.{ℕ, suc, _+_, _*_, _/_, _%_, _≤_, _<_}
 use native.Mathlib.Omega.{arith}
 use native.Mathlib.Nat.{add-zero}
-use mathlib.Core.Path.{_≡_, refl, sym, _∙_}
+use mathlib.Core.Path.{_≡_, refl, sym, ap, ap₂, _∙_}
 use mathlib.Core.List.{List, [], _∷_, _++_}
 use lib.Dec.{ltb}
 use lib.ListN.{length, getD, drop, set, length-append}
-use lib.Seq.{sets, length-sets, sets-eq}
+use lib.Seq.{sets, sets-eq}
 use borrow.Author.Tests.{lt-ltb, le-ltb, ltb-true, ltb-false}
 use Rattle.language.specs.declared.Numbers.{Numbers}
 use Rattle.language.specs.Choice.{pick}
@@ -23,7 +23,7 @@ use Rattle.explicit.specs.Letter.{Values, Small}
 use Rattle.explicit.proofs.LetterLaws.{ranked-byte}
 use Rattle.explicit.specs.Letter.{AllSmall}
 use Rattle.play.specs.Records.{Given, moves, bad, preceded, parse}
-use Rattle.play.specs.Bytes.{letterFrom, firstLetter, withRecord, afterRecord, withRecords}
+use Rattle.play.specs.Bytes.{letterFrom, firstLetter, recordBy, recordsBy}
 use Rattle.play.specs.Spell.{letters}
 
 -- the records that there are: bytes of a kind, an id, an argument and, in kinds 5 and 6, a value
@@ -110,12 +110,11 @@ pub good-moves : (s : List ℕ) → ((i : ℕ) → getD s i 0 < 256) → (rs : L
 unfolding GoodGiven
 good-moves s h rs e = rw e at (good-parse 0 s h)
 
--- the record of a letter, as the code writes it
-unfoldable pub recordBy : ℕ → List ℕ
-recordBy l =
-    pick (ltb (l / 16777216) 5)
-    ((l / 16777216 % 256) ∷ (l / 65536 % 256) ∷ (l / 256 % 256) ∷ [])
-    ((l / 16777216 % 256) ∷ (l / 65536 % 256) ∷ (l / 256 % 256) ∷ ((l % 256 + 128) % 256) ∷ [])
+-- the record of a letter has three bytes or four
+pub record-width : (l : ℕ) → (3 ≤ length (recordBy l)) × (length (recordBy l) ≤ 4)
+unfolding recordBy
+record-width l =
+    by-test (ltb (l / 16777216) 5) (λ t. rw t (omega arith, omega arith)) (λ t. rw t (omega arith, omega arith))
 
 -- its bytes, where it is one of three bytes
 by-short : (k i j l : ℕ) → k < 5 → i < 256 → j < 256 → l ≡ k * 16777216 + i * 65536 + j * 256 + 0 →
@@ -209,24 +208,6 @@ module _ (N : Numbers) (few : N .z ≤ 125) where
   pub record-again : {r : List ℕ} → Record r → (m : Move) → Small N m → firstLetter r ≡ letter N m → r ≡ record-of N m
   record-again g m h e = same-record g (record-good m h) (e ∙ sym (record-letter m h))
 
--- one record, as a run of stores
-pub with-record : (s : List ℕ) (from l : ℕ) → withRecord s from l ≡ sets s from (recordBy l)
-unfolding withRecord recordBy
-with-record s from l =
-    let a : from + 1 ≡ suc from = omega arith in
-    let b : from + 2 ≡ suc (suc from) = omega arith in
-    let c : from + 3 ≡ suc (suc (suc from)) = omega arith in
-    by-test (ltb (l / 16777216) 5) (λ t. rw (t, a, b)) (λ t. rw (t, a, b, c))
-
--- the space keeps its length
-pub record-length : (s : List ℕ) (from l : ℕ) → length (withRecord s from l) ≡ length s
-record-length s from l = rw (with-record s from l) (length-sets s from (recordBy l))
-
--- the place after a record
-pub after-record : (from l : ℕ) → afterRecord from l ≡ from + length (recordBy l)
-unfolding afterRecord recordBy
-after-record from l = by-test (ltb (l / 16777216) 5) (λ t. rw t) (λ t. rw t)
-
 -- one run of stores after another
 pub sets-append : (xs ys s : List ℕ) (i : ℕ) → sets s i (xs ++ ys) ≡ sets (sets s i xs) (i + length xs) ys
 sets-append [] ys s i = rw (add-zero i)
@@ -240,16 +221,11 @@ record-short (short k i j hk hi hj) = omega arith
 record-short (long k i j v gk hk hi hj hv) = omega arith
 
 module _ (N : Numbers) (few : N .z ≤ 125) where
-  -- a play's records, as a run of stores
-  written : (u : Word) → AllSmall N u → (s : List ℕ) (from : ℕ) →
-      withRecords s from (letters N u) ≡ sets s from (records N u)
-  unfolding withRecords letters records AllSmall
-  written [] h s from = refl
-  written (m ∷ u) h s from =
-      let l = letter N m in
-      let e = record-by N (omega arith) m (h .0) in
-      written u (h .1) (withRecord s from l) (afterRecord from l) ∙
-        rw (with-record s from l, after-record from l, ← e) (sym (sets-append (record-of N m) (records N u) s from))
+  -- a play's records are those of its letters
+  written : (u : Word) → AllSmall N u → recordsBy (letters N u) ≡ records N u
+  unfolding recordsBy letters records AllSmall
+  written [] h = refl
+  written (m ∷ u) h = ap₂ (λ x y. x ++ y) (sym (record-by N few m (h .0))) (written u (h .1))
 
   -- its records have at most four bytes each
   records-short : (u : Word) → AllSmall N u → length (records N u) ≤ 4 * length u
@@ -261,8 +237,8 @@ module _ (N : Numbers) (few : N .z ≤ 125) where
 
   -- THEOREM: the letters of a play are written as its records, at the start of the space
   pub records-written : (u : Word) → AllSmall N u → (space : List ℕ) → 4 * length u ≤ length space →
-      withRecords space 0 (letters N u) ≡ records N u ++ drop (length (records N u)) space
+      sets space 0 (recordsBy (letters N u)) ≡ records N u ++ drop (length (records N u)) space
   records-written u h space room =
       let e : 0 + length (records N u) ≡ length (records N u) = omega arith in
       let l : 0 + length (records N u) ≤ length space = omega (arith, records-short u h) in
-      written u h space 0 ∙ rw e at (sets-eq (records N u) space 0 l)
+      ap (sets space 0) (written u h) ∙ rw e at (sets-eq (records N u) space 0 l)

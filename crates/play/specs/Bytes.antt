@@ -1,7 +1,7 @@
 -- What the code computes on the records of plays, case by case.
 use Prim.Native.Nat.{ℕ, zero, suc, _+_, _*_, _/_, _%_}
-use mathlib.Core.List.{List, [], _∷_}
-use lib.ListN.{length, getD, set}
+use mathlib.Core.List.{List, [], _∷_, _++_}
+use lib.ListN.{length, getD}
 use lib.Dec.{ltb}
 use Rattle.language.specs.Choice.{pick}
 use Rattle.records.specs.Limits.{bytes}
@@ -30,18 +30,15 @@ letterFrom kind id arg value =
 unfoldable pub firstLetter : List ℕ → ℕ
 firstLetter s = letterFrom (getD s 0 0) (getD s 1 0) (getD s 2 0) (getD s 3 0)
 
--- the record of a letter, written from a place on; bytes past the end are left out
-unfoldable pub withRecord : List ℕ → ℕ → ℕ → List ℕ
-withRecord s at l =
-    let three = set (set (set s at (l / KIND-UNIT % bytes)) (at + 1) (l / ID-UNIT % bytes)) (at + 2)
-      (l / ARGUMENT-UNIT % bytes) in
-    pick (ltb (l / KIND-UNIT) valued) three (set three (at + 3) ((l % bytes + RANK-ZERO) % bytes))
-
--- the place after it
-unfoldable pub afterRecord : ℕ → ℕ → ℕ
-afterRecord at l = at + width (l / KIND-UNIT)
+-- the record of a letter
+unfoldable pub recordBy : ℕ → List ℕ
+recordBy l =
+    pick (ltb (l / KIND-UNIT) valued)
+    ((l / KIND-UNIT % bytes) ∷ (l / ID-UNIT % bytes) ∷ (l / ARGUMENT-UNIT % bytes) ∷ [])
+    ((l / KIND-UNIT % bytes) ∷ (l / ID-UNIT % bytes) ∷ (l / ARGUMENT-UNIT % bytes) ∷ ((l % bytes + RANK-ZERO) % bytes)
+      ∷ [])
 
 -- the records of letters, one after the other
-unfoldable pub withRecords : List ℕ → ℕ → List ℕ → List ℕ
-withRecords s at [] = s
-withRecords s at (l ∷ ls) = withRecords (withRecord s at l) (afterRecord at l) ls
+unfoldable pub recordsBy : List ℕ → List ℕ
+recordsBy [] = []
+recordsBy (l ∷ ls) = recordBy l ++ recordsBy ls

@@ -1,6 +1,6 @@
 // The records of a play, and the letters of their moves.
-use automaton::moves::MOVE_KINDS;
-use automaton::moves::VALUE;
+use term_positions::moves::MOVE_KINDS;
+use term_positions::moves::VALUE;
 use explicit::letters::ARGUMENT_UNIT;
 use explicit::letters::ID_UNIT;
 use explicit::letters::KIND_UNIT;
@@ -11,9 +11,9 @@ use records::store::put_byte;
 ghost use mathlib.Core.Path.{_≡_};
 ghost use Prim.Native.Nat.{_+_, _≤_, _%_};
 ghost use lib.ListN.{length, set, take, drop};
+ghost use lib.Seq.{sets};
 ghost use Rattle.play.specs.Records.{parse};
-ghost use Rattle.play.specs.Bytes.{widthOf, counted, letterFrom, firstLetter, withRecord, afterRecord};
-ghost use Rattle.play.specs.Bytes.{withRecords};
+ghost use Rattle.play.specs.Bytes.{widthOf, counted, letterFrom, firstLetter, recordBy, recordsBy};
 
 // Bytes of a record without a value, and of one with a value.
 pub const BARE_BYTES: usize = 3;
@@ -88,8 +88,8 @@ pub fn put(s: &mut [u8], i: usize, v: usize)
 // Writes the record of a letter from a place on: the place after it.
 pub fn write_record(s: &mut [u8], at: usize, l: usize) -> usize
     requires { ⌜ at ≤ 4294967297 ⌝ }
-    ensures returned { λ r. ⌜ r ≡ afterRecord at l ⌝ }
-    ensures written { λ r. ⌜ now (s .exit) ≡ withRecord (now (s .entry)) at l ⌝ }
+    ensures returned { λ r. ⌜ r ≡ at + length (recordBy l) ⌝ }
+    ensures written { λ r. ⌜ now (s .exit) ≡ sets (now (s .entry)) at (recordBy l) ⌝ }
 {
     put(s, at, l / KIND_UNIT);
     put(s, at + 1, l / ID_UNIT);
@@ -104,7 +104,8 @@ pub fn write_record(s: &mut [u8], at: usize, l: usize) -> usize
 // Writes the records of the letters in the words from base on, len of them, from the start.
 pub fn write_play(words: &[u32], base: usize, len: usize, s: &mut [u8])
     requires { ⌜ (len ≤ 8193) × (base + len ≤ length (now words)) ⌝ }
-    ensures { λ r. ⌜ now (s .exit) ≡ withRecords (now (s .entry)) 0 (take len (drop base (now (words .entry)))) ⌝ }
+    ensures { λ r. ⌜ now (s .exit)
+        ≡ sets (now (s .entry)) 0 (recordsBy (take len (drop base (now (words .entry))))) ⌝ }
 {
     let mut at = 0;
     let mut i = 0;

@@ -14,9 +14,10 @@ use Rattle.dfa.proofs.laws.Reading.{reversed-length, reversed-reversed}
 use Rattle.search_words.proofs.Spell.{written-take, spelled-length}
 use Rattle.dfa.proofs.laws.Rest.{rest-is, rest-length}
 use Rattle.search_words.proofs.Trace.{trail-spelled}
-use Rattle.play.specs.Bytes.{withRecords}
 use Rattle.play_words.specs.Shown.{Shown}
 use Rattle.play_words.specs.declared.Decision.the-variants.{Apart}
+use lib.Seq.{sets}
+use Rattle.play.specs.Bytes.{recordsBy}
 
 module _ (n k r : ℕ) (ws ws′ : List ℕ) (t : Trail n (take (5 * n) ws) k) (s : Spelling n k ws ws′ r) where
   -- the word has fewer letters than there are states
@@ -39,7 +40,7 @@ module _ (n k r : ℕ) (ws ws′ : List ℕ) (t : Trail n (take (5 * n) ws) k) (
         ap (λ v. take r v) (sym (rest-is (5 * n) ws′)) ∙ ap (λ j. take j out) (x .0) ∙ written-take u out fits (x .1)
 
     module _ (last f : ℕ) (space space′ : List ℕ) (read : last ≡ getD ws (n + 4 * k) 0)
-        (put : space′ ≡ withRecords space 0 (take r (drop (5 * n) ws′))) where
+        (put : space′ ≡ sets space 0 (recordsBy (take r (drop (5 * n) ws′)))) where
       -- the play is shown
       shown : (which : ℕ) → pick (eqb (getD ws (n + 4 * k) 0) f) 0 1 ≡ which →
           Shown n k f ws space (Apart which r) space′
@@ -49,7 +50,7 @@ module _ (n k r : ℕ) (ws ws′ : List ℕ) (t : Trail n (take (5 * n) ws) k) (
             { letters = reversed (w .0)
             ; spelled = subst (λ v. Spelled n (take (5 * n) ws) k v) (sym (reversed-reversed (w .0))) (w .1)
             ; answer = rw (e, reversed-length (w .0), s .word (w .0) (w .1) .0)
-            ; written = put ∙ ap (λ v. withRecords space 0 v) (letters-stand (w .0) (w .1)) }
+            ; written = put ∙ ap (λ v. sets space 0 (recordsBy v)) (letters-stand (w .0) (w .1)) }
 
       -- as a play of the old sheet, where it ends at f
       pub shown-old : last ≡ f → Shown n k f ws space (Apart 0 r) space′

@@ -4,10 +4,11 @@ use mathlib.Core.List.{List}
 use Prim.Native.Nat.{ℕ, _+_, _*_}
 use lib.ListN.{length, getD, take}
 use lib.Dec.{eqb}
+use lib.Seq.{sets}
 use Rattle.language.specs.Choice.{pick}
 use Rattle.dfa.specs.Reading.{reversed}
 use Rattle.search_words.specs.Spelled.{Spelled}
-use Rattle.play.specs.Bytes.{withRecords}
+use Rattle.play.specs.Bytes.{recordsBy}
 use Rattle.play_words.specs.declared.Decision.{Decision}
 use Rattle.play_words.specs.declared.Decision.the-variants.{Apart}
 
@@ -16,4 +17,4 @@ pub record Shown (n k f : ℕ) (ws space : List ℕ) (r : Decision) (space′ : 
   pub letters : List ℕ
   pub spelled : Spelled n (take (5 * n) ws) k (reversed letters)
   pub answer : r ≡ Apart (pick (eqb (getD ws (n + 4 * k) 0) f) 0 1) (length letters)
-  pub written : space′ ≡ withRecords space 0 letters
+  pub written : space′ ≡ sets space 0 (recordsBy letters)

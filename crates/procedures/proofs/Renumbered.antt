@@ -113,8 +113,9 @@ like-accepted S W h g A =
     let e = like-sheet S W h in
     let d : depth (S .term) ≡ depth W = like-depth h in
     record {
-      z-above = A .z-above; z-below = A .z-below; rule-below = A .rule-below; few-names = A .few-names;
-      fine-names = A .fine-names;
-      fine-term = like-fine (S .numbers) (S .names) h (A .fine-term) g;
+      in-order = record {
+        z-above = A .in-order .z-above; z-below = A .in-order .z-below; fine-names = A .in-order .fine-names;
+        fine-term = like-fine (S .numbers) (S .names) h (A .in-order .fine-term) g };
+      rule-below = A .rule-below; few-names = A .few-names;
       shallow = omega (arith, A .shallow);
       small = rw (e .0, e .1) at (A .small) }

@@ -99,7 +99,7 @@ module _ (S : Sheet) (A : WellFormed S) where
   sheet-known : Known (S .names) (takenAtFirst S) (S .term)
   unfolding takenAtFirst meaning
   sheet-known =
-      known (S .numbers) (S .names) (takenAtFirst S) (S .term) [] (A .fine-term)
+      known (S .numbers) (S .names) (takenAtFirst S) (S .term) [] (A .in-order .fine-term)
         (λ j e. or-right (isNamed (S .names) j) (isBound (S .term) j) e)
         (λ j g. by-test (isNamed (S .names) j) (λ t. or-left (isNamed (S .names) j) (isBound (S .term) j) t)
           (λ t. absurd (g (unnamed-free (S .names) j t))))

@@ -124,7 +124,7 @@ module _ (N : Numbers) (ns : List Name) (z : 0 < N .z) where
 
 pub accepted-valued : (S : Sheet) → WellFormed S → Valued (termOf S)
 unfolding termOf
-accepted-valued S A = valued (S .numbers) (S .names) (A .z-above) (S .term) [] no-terms 0 valued-nothing
+accepted-valued S A = valued (S .numbers) (S .names) (A .in-order .z-above) (S .term) [] no-terms 0 valued-nothing
 
 -- THEOREM: the term of an accepted sheet has at most 12,288 nodes and 6,144 levels
 pub accepted-light : (S : Sheet) → WellFormed S → weight (termOf S) ≤ 4094

@@ -15,13 +15,13 @@ use Rattle.language.specs.Typing.{one-more}
 use Rattle.language.specs.declared.Numbers.{Numbers}
 use Rattle.parts.specs.Rule.{values, operandType, resultType}
 use Rattle.procedures.specs.Written.{Written, Writtens, none, more, skip, diverge, truth, number, call, fetch}
-use Rattle.procedures.specs.Written.{operate, assign, sequence, while, choose, new, procedure, Parameter}
-use Rattle.procedures.specs.Written.{Name, declare, retire, Sheet}
+use Rattle.procedures.specs.Written.{operate, assign, sequence, while, choose, new, procedure, Parameter, Name}
+use Rattle.procedures.specs.Written.{declare, retire, Sheet}
 use Rattle.procedures.specs.Meaning.{Binder, a-block, a-parameter, a-procedure, Meaning, private, argument}
 use Rattle.procedures.specs.Meaning.{routine, named, retired, free, declared, meant, meaning, inside, typesOf}
 use Rattle.procedures.specs.Meaning.{after, tyOf, useType, typed, byMeaning, Terms, no-terms, with-level}
 use Rattle.procedures.specs.Meaning.{with-body, with-passed, resolve, resolveArgs, resolved, termOf, typeOf}
-use Rattle.procedures.specs.Fine.{FineUse, FineParameters, Fine, FineArgs, FineNames, WellFormed}
+use Rattle.procedures.specs.Fine.{FineUse, FineParameters, Fine, FineArgs, FineNames, WellFormed, InOrder}
 use Rattle.procedures.proofs.Tests.{by-test}
 use Rattle.procedures.proofs.Types.{ty-expression, ty-variable, values-up, operands-type, results-type}
 use Rattle.procedures.proofs.Types.{result-below}
@@ -339,10 +339,14 @@ module _ (N : Numbers) (ns : List Name) where
         (λ u d. rw (f .1) at (well-typed w bs ρ u (rights-same ρ v u bs d r) (f .0)),
             well-passed ws bs ρ v tys r (f .2))
 
--- THEOREM: the term of an accepted sheet is well typed
-pub accepted-typed : (S : Sheet) → WellFormed S → Typed [] (termOf S) (tyOf (S .numbers) (typeOf S))
+-- THEOREM: the term of a sheet in order is well typed
+pub order-typed : (S : Sheet) → InOrder S → Typed [] (termOf S) (tyOf (S .numbers) (typeOf S))
 unfolding termOf typeOf meaning
-accepted-typed S A =
+order-typed S A =
     well-typed (S .numbers) (S .names) (S .term) [] no-terms []
       (λ id. right-declared (S .numbers) no-terms [] (S .names) id (fine-known [] (S .names) (A .fine-names)))
         (A .fine-term)
+
+-- so is that of an accepted sheet
+pub accepted-typed : (S : Sheet) → WellFormed S → Typed [] (termOf S) (tyOf (S .numbers) (typeOf S))
+accepted-typed S A = order-typed S (A .in-order)

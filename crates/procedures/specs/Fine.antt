@@ -8,8 +8,8 @@ use lib.ListN.{length}
 use Rattle.language.specs.Number.{inRange}
 use Rattle.language.specs.Weight.{size}
 use Rattle.language.specs.declared.Numbers.{Numbers}
-use Rattle.records.specs.Limits.{greatest-z, greatest-rule, most-names, greatest-depth, greatest-size, bytes, ids, types}
-use Rattle.records.specs.Limits.{counts, truths, operators, data-types}
+use Rattle.records.specs.Limits.{greatest-z, greatest-rule, most-names, greatest-depth, greatest-size, bytes, ids}
+use Rattle.records.specs.Limits.{types, counts, truths, operators, data-types}
 use Rattle.parts.specs.Types as a-type
 use Rattle.parts.specs.Rule.{operandType}
 use Rattle.procedures.specs.Written.{Written, skip, diverge, truth, number, call, fetch, operate, assign}
@@ -110,14 +110,19 @@ FineNames earlier (declare often id ty tys ∷ ns) =
 FineNames earlier (retire id ∷ ns) =
     (id < ids) × (declared earlier id ≡ free) × FineNames (retire id ∷ earlier) ns
 
--- A sheet in order, by the earlier rule. The bound on the length of its bytes is left to the crate that has the
--- encoding.
-pub record WellFormed (S : Sheet) : Type 0 where
+-- A sheet in order but for the limits on bytes, records, depth and size, by either edition, whatever the byte of the
+-- overflow rule. Each has a reckoned size: demand 3 speaks of these.
+pub record InOrder (S : Sheet) : Type 0 where
   pub z-above : 0 < S .numbers .z
   pub z-below : S .numbers .z ≤ greatest-z
-  pub rule-below : S .numbers .rule ≤ greatest-rule
-  pub few-names : length (S .names) ≤ most-names
   pub fine-names : FineNames [] (S .names)
   pub fine-term : Fine (S .numbers) (S .names) [] (S .term)
+
+-- A sheet in order and within the limits, by the earlier rule. The bound on the length of its bytes is left to the crate
+-- that has the encoding.
+pub record WellFormed (S : Sheet) : Type 0 where
+  pub in-order : InOrder S
+  pub rule-below : S .numbers .rule ≤ greatest-rule
+  pub few-names : length (S .names) ≤ most-names
   pub shallow : depth (S .term) ≤ greatest-depth
   pub small : size (tyOf (S .numbers) (typeOf S)) (termOf S) ≤ greatest-size

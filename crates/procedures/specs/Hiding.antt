@@ -72,7 +72,7 @@ hidingParameters bs at [] = []
 hidingParameters bs at (p ∷ ps) = hidingId bs at (p .id) ++ hidingParameters bs (2 + at) ps
 
 -- the binders that hide others, in the order of their id bytes, of a term whose kind byte is at a place: the first is
--- where "16 at the id byte" is due
+-- where "16 at the id byte" is due (sheet/specs/Agreement, HiddenRefused)
 unfoldable mutual
   pub hiding : List Binder → ℕ → Written → List Hiding
   hiding bs at skip = []

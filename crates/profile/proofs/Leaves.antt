@@ -7,7 +7,7 @@ use mathlib.Core.List.{List}
 use borrow.Author.Tests.{le-leb, lt-leb, lt-ltb, le-ltb, eq-eqb, ne-eqb}
 use Rattle.records.specs.Kind.{shapeOf, bodyIn}
 use Rattle.part_rows.specs.Row.{word}
-use Rattle.profile.specs.Pass.{loudFrom, loudAt, reachAt, offendsAt}
+use Rattle.profile.specs.inner.Pass.{loudFrom, loudAt, reachAt, offendsAt}
 
 pub any-none : (t : List ℕ) (left at end : ℕ) → left ≡ 0 → false ≡ loudFrom t left at end
 unfolding loudFrom

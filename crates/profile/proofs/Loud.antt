@@ -17,11 +17,10 @@ use Rattle.procedures.specs.Meaning.{Binder, Meaning, private, argument, routin
 use Rattle.procedures.specs.Fine.{Fine, FineUse, FineArgs}
 use Rattle.procedures.specs.Width.{width, widths}
 use Rattle.procedures.specs.Pieces.{piece, each, pieces, ownWidth}
-use Rattle.tabled.specs.Seats.{Seat, seated, SeatedAll}
-use Rattle.tabled.specs.Seats.{seated-more}
+use Rattle.tabled.specs.inner.Seats.{Seat, seated, SeatedAll, seated-more}
 use Rattle.sheet.proofs.Widths.{width-some}
 use Rattle.profile.specs.Offence.{isExpression, anyLoud, loudUse, loud, within}
-use Rattle.profile.specs.Pass.{loudFrom, loudAt, reachAt}
+use Rattle.profile.specs.inner.Pass.{loudFrom, loudAt, reachAt}
 use Rattle.profile.proofs.Pieces.{kindOf}
 
 -- the class of a type says whether it is that of an expression

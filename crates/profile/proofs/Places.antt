@@ -21,7 +21,8 @@ use Rattle.procedures.proofs.Renumbering.{renumber-rule}
 use Rattle.procedures.specs.Pieces.{ownWidth}
 use Rattle.profile.specs.Offence.{isExpression, loudUse, loud, within, hit, recordAnd, offending, allOffending}
 use Rattle.profile.specs.Offence.{offences}
-use Rattle.profile.specs.Quiet.{Rising, PlacesRise, IdsAside, RenumberKeeps}
+use Rattle.profile.specs.Places.{Rising, PlacesRise}
+use Rattle.profile.specs.Ids.{IdsAside, RenumberKeeps}
 use Rattle.profile.proofs.Pieces.{own-some}
 
 rising-none : (low high : ℕ) → low ≤ high → Rising low high []

@@ -18,7 +18,7 @@ use Rattle.judge.specs.declared.judge.Judgement.the-variants.{Sheet, Refused}
 use Rattle.judge.specs.declared.check.Checked.{Checked}
 use Rattle.judge.specs.declared.check.Checked.the-variants.{Accepted, Refused as Turned}
 use Rattle.profile.specs.Offence.{offences}
-use Rattle.profile.specs.Pass.{firstOf, Finds}
+use Rattle.profile.specs.inner.Pass.{firstOf, Finds}
 use Rattle.profile.specs.Profile.{heldTo, profiledOf}
 use Rattle.profile.specs.declared.offence.Offence.{Offence}
 use Rattle.profile.specs.declared.offence.Offence.the-variants.{Nothing, At}

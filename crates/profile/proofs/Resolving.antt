@@ -24,7 +24,8 @@ use Rattle.procedures.specs.Width.{width}
 use Rattle.procedures.specs.Pieces.{ownWidth}
 use Rattle.profile.specs.Offence.{isExpression, anyLoud, loudUse, loud, within, hit, recordAnd, offending}
 use Rattle.profile.specs.Offence.{allOffending, offences, InProfile}
-use Rattle.profile.specs.Quiet.{QuietPlays, Blocks, QuietParts}
+use Rattle.profile.specs.Quiet.{QuietPlays}
+use Rattle.profile.specs.Parts.{Blocks, QuietParts}
 use Rattle.profile.proofs.Insides.{same-inside}
 use Rattle.profile.proofs.Moves.{IsExpression, an-expression, Still, StillArgs, asked, still-plays}
 use Rattle.profile.proofs.Moves.{still-complete}
@@ -223,5 +224,6 @@ pub quiet-plays : QuietPlays
 unfolding QuietPlays InProfile offences termOf typeOf
 quiet-plays S A e P u p =
     still-complete _ _ (expression-type (S .numbers) (typeOf S) e)
-      (still-part (S .numbers) (S .names) [] no-terms (no-binders (S .names)) (S .term) false _ 0 (A .fine-term) e P)
+      (still-part (S .numbers) (S .names) [] no-terms (no-binders (S .names)) (S .term) false _ 0
+        (A .in-order .fine-term) e P)
       u p

@@ -19,7 +19,8 @@ use Rattle.judge.specs.declared.check.Checked.the-variants.{Accepted, Refused}
 use Rattle.judge.proofs.Places.{check-refused}
 use Rattle.sheet.proofs.Widths.{wide, wide-heading}
 use Rattle.profile.specs.Offence.{isExpression, offences, InProfile}
-use Rattle.profile.specs.Quiet.{QuietPlays, Rising, PlacesRise}
+use Rattle.profile.specs.Quiet.{QuietPlays}
+use Rattle.profile.specs.Places.{Rising, PlacesRise}
 use Rattle.profile.specs.Profile.{heldTo, profiledOf}
 use Rattle.profile.specs.Service.{Passed, PassedRule, AsCheck, Offended, RefusedRule, WellRefused, ProfileNumbers}
 use Rattle.profile.proofs.Resolving.{quiet-plays}

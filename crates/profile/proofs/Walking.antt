@@ -20,9 +20,9 @@ use Rattle.sheet.specs.Reader.{readSheet, accepted}
 use Rattle.sheet.proofs.Right.{gives}
 use Rattle.sheet.proofs.Widths.{wide, wide-heading, width-some}
 use Rattle.procedures.specs.Pieces.{Piece, pieces, ownWidth}
-use Rattle.tabled.specs.Seats.{Seated, seated, SeatedAll, seated-more}
+use Rattle.tabled.specs.inner.Seats.{Seated, seated, SeatedAll, seated-more}
 use Rattle.profile.specs.Offence.{loud, within, hit, offending, offences}
-use Rattle.profile.specs.Pass.{loudAt, reachAt, offendsAt, firstOf, Finds}
+use Rattle.profile.specs.inner.Pass.{loudAt, reachAt, offendsAt, firstOf, Finds}
 use Rattle.profile.specs.declared.offence.Offence.the-variants.{Nothing, At}
 use Rattle.profile.proofs.Pieces.{Item, item, items, bytesOf, offs, total, offs-open, headOf, kindOf, bytes-open}
 use Rattle.profile.proofs.Pieces.{head-long, own-body, head-kind, width-open, FinePieces, fine-open}
@@ -155,7 +155,7 @@ walk-first S s t root ty n e r Z =
     let b : encode (S .term) ++ [] ≡ encode (S .term) = append-nil (encode (S .term)) in
     record {
       pending = record { around = []; term = S .term; inner = false } ∷ [];
-      ready = one-more (g .1 .ordered .fine-term) Z (outer (omega arith)) no-more;
+      ready = one-more (g .1 .ordered .in-order .fine-term) Z (outer (omega arith)) no-more;
       lies = ap₂ (λ (x : ℕ) (y : List ℕ). drop x y) h (g .0) ∙ drop-append-seam H (encode (S .term)) ∙ sym b;
       ends = omega (arith, h, ap length b, ap length (g .0), length-append (encodeNames (S .names)) (encode (S .term)));
       all = ap (λ (k : ℕ). offending (S .names) [] false k (S .term)) (sym (r ∙ wide-heading S))

@@ -1,6 +1,9 @@
 pub mod Offence
 pub mod Inside
 pub mod Quiet
-pub mod Pass
+pub mod Parts
+pub mod Places
+pub mod Ids
+pub mod inner
 pub mod Profile
 pub mod Service

@@ -13,7 +13,7 @@ use records::read::byte_at;
 ghost use mathlib.Core.Path.{_≡_};
 ghost use Prim.Native.Nat.{_≤_, _<_};
 ghost use lib.ListN.{length};
-ghost use Rattle.profile.specs.Pass.{loudFrom, loudAt, reachAt, offendsAt, Finds};
+ghost use Rattle.profile.specs.inner.Pass.{loudFrom, loudAt, reachAt, offendsAt, Finds};
 
 // What the pass finds: no record that offends, or the place of the first.
 pub enum Offence {

@@ -307,7 +307,7 @@ bound-first S s k root ty n e r T =
     let b : encode (S .term) ++ [] ≡ encode (S .term) = append-nil (encode (S .term)) in
     record {
       pending = more (S .term) none;
-      fine = one-more [] (g .1 .ordered .fine-term) no-more;
+      fine = one-more [] (g .1 .ordered .in-order .fine-term) no-more;
       lies = ap₂ (λ (x : ℕ) (y : List ℕ). drop x y) h (g .0) ∙ drop-append-seam H (encode (S .term)) ∙ sym b;
       ends = omega (arith, h, ap length b, ap length (g .0), length-append (encodeNames (S .names)) (encode (S .term)));
       taken = isNamed (S .names);

@@ -93,7 +93,8 @@ module _ (S : Sheet) (s : List ℕ) (root ty n : ℕ) (e : readEarlier s ≡ acc
   term-found b l scope k b₁ b′ l′ k′ x C T c P =
       let F : Found (Wrote root (S .term) b₁) (renumber [] (λ id. id) (takenAtFirst S) root (S .term)) 0 l x b′ l′ k′ =
         P .does (S .numbers) (S .names) [] (λ id. id) (takenAtFirst S) (S .term) (record {
-          fine = gives Former s S ty n e .1 .ordered .fine-term; deep = gives Former s S ty n e .1 .ordered .shallow;
+          fine = gives Former s S ty n e .1 .ordered .in-order .fine-term;
+          deep = gives Former s S ty n e .1 .ordered .shallow;
           lies = term-lies; short = omega (arith, long, short); scoped = C; takes = T }) in
       let F′ : Found (Wrote root (S .term) b₁) (renumber [] (λ id. id) (takenAtFirst S) (headingWidth S) (S .term)) 0
           l x b′

@@ -202,7 +202,7 @@ unfolding encodeSheet headingLength isNamed declared orElse
 name-first S s root ty n k scope e r T C =
     let g = gives Earlier s S ty n e in
     record {
-      earlier = []; rest = S .names; fine = g .1 .ordered .fine-names;
+      earlier = []; rest = S .names; fine = g .1 .ordered .in-order .fine-names;
       lies = record { rest = encode (S .term); here = ap (λ (x : List ℕ). drop 2 x) (g .0) };
       ends = sym r;
       takes = takes-same k (λ id. false) (isNamed []) (λ j. refl) T;

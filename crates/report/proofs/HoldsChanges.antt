@@ -1,14 +1,11 @@
--- The buffer of the program renumber holds every text that it can print: there are at most 254 changes, of 14 bytes each,
--- after one line.
+-- The buffer of the program renumber holds every text that it can print: there are at most 254 changes, of 14 bytes
+-- each, after one line.
 use Prim.Native.Nat.{ℕ, _≤_, _<_}
 use native.Mathlib.Omega.{arith}
 use mathlib.Core.Path.{_≡_, refl, ap, _∙_}
-use mathlib.Core.Logic.{_⊎_, inl, inr}
-use mathlib.Core.List.{List, _++_}
-use lib.ListN.{length, getD, drop, List·getD-append}
+use mathlib.Core.Logic.{inl, inr}
+use lib.ListN.{length, drop, List·getD-append}
 use lib.Seq.{take-append-seam}
-use Rattle.records.specs.declared.refusal.Cause.{Cause}
-use Rattle.records.specs.declared.edition.Edition.the-variants.{Earlier}
 use Rattle.judge.specs.Check.{NumberOf}
 use Rattle.renumbering.specs.Outcome.{Outcome, done, refused, outcome, listed, RenumberedBy}
 use Rattle.renumbering.specs.Service.{WrittenRule, AcceptedRule, RenumberNumber, RenumberNumbers}

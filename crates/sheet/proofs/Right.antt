@@ -101,9 +101,8 @@ module _
   here-accepted : size (tyOf (numbersAt s) ty) (termOf here) ≤ 4096 → AcceptedUnder ed here
   here-accepted h = record {
       ordered = record {
-        z-above = R .z-above; z-below = R .z-below; rule-below = R .rule-below;
-        few-names = l; fine-names = f;
-        fine-term = P .fine; shallow = P .shallow;
+        in-order = record { z-above = R .z-above; z-below = R .z-below; fine-names = f; fine-term = P .fine };
+        rule-below = R .rule-below; few-names = l; shallow = P .shallow;
         small = subst (λ (x : ℕ). size (tyOf (numbersAt s) x) (termOf here) ≤ 4096) here-type h };
       short = subst (λ (x : List ℕ). length x ≤ 4096) here-bytes (R .short);
       apart = P .apart }
@@ -167,9 +166,10 @@ module _ (ed : Edition) (S : Sheet) (A : AcceptedUnder ed S) (s : List ℕ) (b :
   read-names : RestRead s (namesOf ed 32 (S .numbers) s nothing 2) (S .names) (S .term) (typeOf S) (length s)
   unfolding typeOf
   read-names =
-      rw read-length (complete-names ed (S .numbers) s places (S .names) (S .term) (A .ordered .fine-term) (A .apart)
+      rw read-length (complete-names ed (S .numbers) s places (S .names) (S .term)
+        (A .ordered .in-order .fine-term) (A .apart)
         (A .ordered .shallow) (S .names) 32 [] nothing 2 (matches-nothing s places read-short)
-        (extends-first (S .names)) (A .ordered .fine-names) (A .ordered .few-names) read-rest)
+        (extends-first (S .names)) (A .ordered .in-order .fine-names) (A .ordered .few-names) read-rest)
 
   abbrev wholeRead : Whole
   wholeRead = whole (S .names) (read-names .root) (read-names .tree)
@@ -185,8 +185,8 @@ module _ (ed : Edition) (S : Sheet) (A : AcceptedUnder ed S) (s : List ℕ) (b :
       let O = A .ordered in
       rw
         (read-first, read-second, le-ltb 4096 (length s) read-short,
-        lt-leb (length s) 0 (omega arith), ne-eqb (S .numbers .z) 0 (λ e. omega (arith, O .z-above)),
-        le-ltb greatest-z (S .numbers .z) (O .z-below), lt-leb (length s) 1 l,
+        lt-leb (length s) 0 (omega arith), ne-eqb (S .numbers .z) 0 (λ e. omega (arith, O .in-order .z-above)),
+        le-ltb greatest-z (S .numbers .z) (O .in-order .z-below), lt-leb (length s) 1 l,
         le-ltb greatest-rule (S .numbers .rule) (O .rule-below), R .reads,
         le-ltb (length s) (length s) (omega arith)) refl
 

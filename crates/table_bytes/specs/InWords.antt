@@ -3,20 +3,10 @@ use mathlib.Core.Bool.{cond}
 use mathlib.Core.List.{List, [], _++_, _∷_}
 use Prim.Native.Nat.{_%_, _*_, _+_, _-_, _<_, _≤_, suc, zero, ℕ}
 use lib.Dec.{eqb}
-use lib.ListN.{getD, length}
-use Rattle.class_words.specs.Places.{classAt, numberAt, stateAt}
+use lib.ListN.{length}
+use Rattle.class_words.specs.Places.{classAt, firstAt, letterAt, numberAt, stateAt, targetAt}
 use Rattle.table_bytes.specs.Kinds.{POSITION}
 use Rattle.table_bytes.specs.Places.{moveBytes}
-
--- the first edge of the state p, the letter and the target of edge e
-abbrev pub firstAt : ℕ → List ℕ → ℕ → ℕ
-firstAt n ws p = getD ws (5 * n + p) 0
-
-abbrev pub letterAt : ℕ → List ℕ → ℕ → ℕ
-letterAt n ws e = getD ws (6 * n + 1 + 2 * e) 0
-
-abbrev pub targetAt : ℕ → List ℕ → ℕ → ℕ
-targetAt n ws e = getD ws (6 * n + 2 + 2 * e) 0 % 8192
 
 -- the bytes of the move by edge e to a class c: none where it is the dead one
 unfoldable pub towards : List ℕ → ℕ → ℕ → ℕ → List ℕ

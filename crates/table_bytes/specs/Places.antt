@@ -1,19 +1,14 @@
 -- The bytes of positions whose moves are letters, as the code writes them: no numbers are needed. Document 02 [12].
 use mathlib.Core.Bool.{cond}
 use mathlib.Core.List.{List, [], _++_, _∷_}
-use Prim.Native.Nat.{_%_, _+_, _/_, ℕ}
-use lib.Dec.{ltb}
-use Rattle.language.specs.Choice.{pick}
+use Prim.Native.Nat.{ℕ}
+use Rattle.play.specs.Bytes.{recordBy}
 use Rattle.smallest.specs.Table.{Arc, Place}
-use Rattle.table_bytes.specs.Kinds.{MOVE, POSITION}
+use Rattle.table_bytes.specs.Kinds.{POSITION, filed}
 
--- the letter of a move and a position: kind 41, or kind 42 with the value
+-- the letter of a move and a position
 unfoldable pub moveBytes : ℕ → ℕ → List ℕ
-moveBytes l to =
-    pick (ltb (l / 16777216) 5)
-    (MOVE ∷ (l / 16777216 % 256) ∷ (l / 65536 % 256) ∷ (l / 256 % 256) ∷ (to % 256) ∷ (to / 256) ∷ [])
-    ((MOVE + 1) ∷ (l / 16777216 % 256) ∷ (l / 65536 % 256) ∷ (l / 256 % 256) ∷ ((l % 256 + 128) % 256) ∷ (to % 256)
-      ∷ (to / 256) ∷ [])
+moveBytes l to = filed (recordBy l) to
 
 unfoldable pub movesBytes : List Arc → List ℕ
 movesBytes [] = []

@@ -2,7 +2,7 @@
 use class_words::words::edge_letter;
 use class_words::words::edge_target;
 use dfa::words::at;
-use play::play::BARE_BYTES;
+use play::play::VALUED_BYTES;
 use play::play::put;
 use play::play::write_record;
 use records::limits::BYTES;
@@ -13,12 +13,23 @@ ghost use lib.Seq.{sets};
 ghost use Rattle.class_words.specs.Places.{numberAt};
 ghost use Rattle.table_bytes.specs.Places.{moveBytes};
 ghost use Rattle.table_bytes.specs.InWords.{Edge, edgeBytes};
+ghost use Rattle.table_bytes.specs.Kinds.{moveKind};
 
-// The kind of a move without a value; 1 more is that of a move with a value.
+// The kind of a move without a value.
 const MOVE: usize = 41;
 
-// Bytes of a kind and of a record without a value.
-const BARE: usize = 1 + BARE_BYTES;
+// The kind of a move with a value.
+const VALUED_MOVE: usize = 42;
+
+// The kind of a move whose own record has so many bytes.
+fn move_kind(width: usize) -> usize
+    ensures { λ r. ⌜ r ≡ moveKind width ⌝ }
+{
+    if width < VALUED_BYTES {
+        return MOVE;
+    }
+    VALUED_MOVE
+}
 
 // Writes the move of a letter to a position, from a place on: the place after it.
 fn write_move(s: &mut [u8], place: usize, l: usize, to: usize) -> usize
@@ -27,7 +38,7 @@ fn write_move(s: &mut [u8], place: usize, l: usize, to: usize) -> usize
     ensures written { λ r. ⌜ now (s .exit) ≡ sets (now (s .entry)) place (moveBytes l (to % 65536)) ⌝ }
 {
     let end = write_record(s, place + 1, l);
-    put(s, place, MOVE + (end - place - BARE));
+    put(s, place, move_kind(end - place - 1));
     put(s, end, to);
     put(s, end + 1, to / BYTES);
     end + 2

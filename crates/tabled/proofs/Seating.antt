@@ -1,4 +1,4 @@
--- The table that a reader leaves has the rows of the records at the places of their kind bytes (specs/Seats).
+-- The table that a reader leaves has the rows of the records at the places of their kind bytes (specs/inner/Seats).
 use Prim.Native.Nat.{ℕ, _+_, _≤_}
 use native.Mathlib.Omega.{arith}
 use mathlib.Core.Path.{_≡_, refl, sym, ap, _∙_, subst}
@@ -18,8 +18,8 @@ use Rattle.sheet.proofs.Parsed.{Parsed, p-skip, p-diverge, p-truth, p-number, p
 use Rattle.sheet.proofs.Parsed.{p-use, p-name, p-fetch, p-operate, p-assign, p-sequence, p-if, p-while, p-new}
 use Rattle.sheet.proofs.Parsed.{p-procedure, p-none, p-more}
 use Rattle.procedures.specs.Pieces.{Piece, piece, each, pieces, ownWidth}
-use Rattle.tabled.specs.Seats.{Seat, Seated, seated, SeatedAll, seated-none}
-use Rattle.tabled.specs.Seats.{seated-more}
+use Rattle.tabled.specs.inner.Seats.{Seat, Seated, seated, SeatedAll, seated-none}
+use Rattle.tabled.specs.inner.Seats.{seated-more}
 use Rattle.tabled.proofs.Rows.{Holds}
 use Rattle.tabled.proofs.Spans.{placed}
 use Rattle.tabled.proofs.Stored.{Stored, StoredParts, stores, own, parts, head, tail}

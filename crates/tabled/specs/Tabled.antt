@@ -24,7 +24,7 @@ use Rattle.procedures.specs.Uses.{uses}
 use Rattle.sheet.specs.Encoding.{headingLength}
 use Rattle.sheet.specs.Reader.{numbersAt, readUnder, accepted, rejected}
 use Rattle.sheet.specs.table.Notes.{isNoted}
-use Rattle.tabled.specs.Seats.{Seated}
+use Rattle.tabled.specs.inner.Seats.{Seated}
 use Rattle.sheet.specs.declared.names.Reading.{Reading}
 use Rattle.sheet.specs.declared.names.Reading.the-variants.{Sheet, Refused}
 

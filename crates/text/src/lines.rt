@@ -23,7 +23,7 @@ ghost use Rattle.text.specs.Text.{sheetsText, apartText, signedDigits, v
 ghost use Rattle.text.specs.Text.{firstWidth, movesText};
 
 // The first kind of move that has a value.
-const VALUE: u8 = automaton::moves::VALUE as u8;
+const VALUE: u8 = term_positions::moves::VALUE as u8;
 
 // The first byte that stands for a number below 0, in two's complement.
 const NEGATIVE: u8 = 128;

@@ -116,10 +116,10 @@ from-started kind detail k row t =
     let x : List ℕ = lowerForm row (termForm t detail) k t in
     let y : List ℕ = unitForm row (min detail 127) t in
     let z : List ℕ = constantForm row (ownOf kind detail) t in
-    from-pick forms-from t x (pick (eqb kind PARAMETER) y z) (eqb kind ROUTINE)
-      (from-lower row (termForm t detail) k t)
-      (from-pick forms-from t y z (eqb kind PARAMETER) (from-unit row (min detail 127) t)
-        (from-constant row (ownOf kind detail) t))
+    from-pick forms-from t z (pick (eqb kind PARAMETER) y x) (ltb kind PARAMETER)
+      (from-constant row (ownOf kind detail) t)
+      (from-pick forms-from t y x (eqb kind PARAMETER) (from-unit row (min detail 127) t)
+        (from-lower row (termForm t detail) k t))
 
 pub from-part : (kind detail k at first row j : ℕ) (t : List ℕ) →
     From forms-from t (partAdded kind detail k at first row j t)

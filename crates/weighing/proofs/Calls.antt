@@ -125,8 +125,8 @@ module _ (N : Numbers) (ns : List Name) (t : List ℕ) where
           jobs = name-jobs ws tys 0 from (word t at DETAIL) (only (useWeight often))
             (formOf N ns (binders Γ) (forms N ns Γ) (call id ws)) s f
             (same-path _ _ (sym (call-named (binders Γ) (forms N ns Γ) id ty often tys ws e)));
-          begun = λ row g l. begun-plain t NAME (word t at DETAIL) k row (useWeight often) long l (λ x. omega arith)
-            (λ x. omega arith) (omega (arith, onces-below often));
+          begun = λ row g l. begun-plain t NAME (word t at DETAIL) k row (useWeight often) long l (omega arith)
+            (omega (arith, onces-below often));
           forming = λ x. x;
           coming = λ x. sym (come-named (binders Γ) (downs ns Γ) id ty often tys ws e);
           marking = λ t′ M x y. (x, y) }

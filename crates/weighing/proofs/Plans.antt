@@ -4,19 +4,18 @@ use native.Mathlib.Omega.{arith}
 use mathlib.Core.List.{List}
 use mathlib.Core.Path.{_≡_, refl, sym, ap, _∙_}
 use lib.ListN.{length, getD}
-use borrow.Author.Tests.{ne-eqb}
 use Rattle.language.specs.Typing.{operands}
 use Rattle.language.specs.declared.Numbers.{Numbers}
 use Rattle.parts.specs.Rule.{values}
-use Rattle.procedures.specs.Written.{Written, skip, diverge, truth, number, call, fetch, operate, assign}
-use Rattle.procedures.specs.Written.{sequence, while, choose, new, Writtens, none, more, Name}
+use Rattle.procedures.specs.Written.{Written, skip, diverge, truth, number, call, fetch, operate, assign, sequence}
+use Rattle.procedures.specs.Written.{while, choose, new, Writtens, none, more, Name}
 use Rattle.procedures.specs.Meaning.{meaning, private, argument, typed, byMeaning}
 use Rattle.procedures.specs.Form.{Form, only, unit, plus, times, formOf}
 use Rattle.procedures.specs.Come.{come}
 use Rattle.procedures.specs.Held.{held, SameForm}
 use Rattle.procedures.specs.Context.{Context, in-block, binders, forms, downs}
-use Rattle.part_rows.specs.PartKind.{SKIP, DIVERGE, CONSTANT, FETCH, OPERATE, ASSIGN, SEQUENCE, IF, WHILE, NEW}
-use Rattle.part_rows.specs.PartKind.{PRIVATE, PARAMETER, ROUTINE, VALUES, DETAIL, PARTS}
+use Rattle.part_rows.specs.PartKind.{SKIP, DIVERGE, CONSTANT, FETCH, OPERATE, ASSIGN, SEQUENCE, IF, WHILE, NEW, PRIVATE}
+use Rattle.part_rows.specs.PartKind.{PARAMETER, ROUTINE, VALUES, DETAIL, PARTS}
 use Rattle.part_rows.specs.Row.{word}
 use Rattle.procedures.specs.Table.{Shown}
 use Rattle.procedures.specs.Marks.{Marked, MarkedArgs}
@@ -30,6 +29,7 @@ use Rattle.weighing.proofs.Sums.{once-before, third-once}
 use Rattle.weighing.proofs.Places.{places, values-of}
 use Rattle.weighing.proofs.Kept.{Agrees, Shaped, word-agrees}
 use Rattle.weighing.proofs.FormLaws.{constant-formed, constant-only, unit-formed, unit-only}
+use borrow.Author.Tests.{lt-ltb}
 
 module _ (N : Numbers) (ns : List Name) (t : List ℕ) where
   -- Parts j, j + 1, .. of the record `at`, which stand in Γ from one place up to another: with them the form g becomes
@@ -63,11 +63,11 @@ module _ (N : Numbers) (ns : List Name) (t : List ℕ) where
       MarkedArgs N ns t′ M inner at 0 parts → Marked N ns t′ M Γ at W
 
 -- the form of a record that is no use of a parameter or of a procedure, without its parts
-pub begun-plain : (t : List ℕ) (kind detail k row c : ℕ) → length t ≡ 58313 → row < 100 → (kind ≡ ROUTINE → ⊥) →
-    (kind ≡ PARAMETER → ⊥) → ownOf kind detail ≡ c → Shaped t (started kind detail k row t) row (only c)
+pub begun-plain : (t : List ℕ) (kind detail k row c : ℕ) → length t ≡ 58313 → row < 100 → kind < PARAMETER →
+    ownOf kind detail ≡ c → Shaped t (started kind detail k row t) row (only c)
 unfolding started
-begun-plain t kind detail k row c l b u q o =
-    rw (ne-eqb kind ROUTINE u, ne-eqb kind PARAMETER q) (record {
+begun-plain t kind detail k row c l b u o =
+    rw (lt-ltb kind PARAMETER u) (record {
       shows = constant-formed t row (ownOf kind detail) c l b (ap held o);
       only = constant-only t row (ownOf kind detail) l b })
 
@@ -87,15 +87,15 @@ module _ (N : Numbers) (ns : List Name) (t : List ℕ) (h k : ℕ) (Γ : Context
   -- records without parts
   leaf : (kind c : ℕ) (W : Written) → partsOf kind (word t at DETAIL) ≡ 0 → partsIn W ≡ 0 →
       ownOf kind (word t at DETAIL) ≡ c →
-      (kind ≡ ROUTINE → ⊥) → (kind ≡ PARAMETER → ⊥) → formOf N ns (binders Γ) (forms N ns Γ) W ≡ only c →
+      kind < PARAMETER → formOf N ns (binders Γ) (forms N ns Γ) W ≡ only c →
       come ns (binders Γ) (downs ns Γ) W ≡ 0 → comeOf t (marksIn t) kind (word t at DETAIL) k at 0 ≡ 0 →
       ((t′ M : List ℕ) → getD M at 0 ≡ come ns (binders Γ) (downs ns Γ) W → Marked N ns t′ M Γ at W) →
       at < end → PlanOf W kind
   unfolding many Formed
-  leaf kind c W p p′ o u q f z y m b = record {
+  leaf kind c W p p′ o u f z y m b = record {
       inner = Γ; from = end; first = only c; parts = none; counted = p; parted = p′; four = omega arith; after = b;
       jobs = no-more {j = 0} (same-path (only c) (formOf N ns (binders Γ) (forms N ns Γ) W) (sym f));
-      begun = λ row g l. begun-plain t kind (word t at DETAIL) k row c long l u q o;
+      begun = λ row g l. begun-plain t kind (word t at DETAIL) k row c long l u o;
       forming = λ x. tt;
       coming = λ a. y ∙ sym z;
       marking = λ t′ M e a. m t′ M e }
@@ -103,27 +103,27 @@ module _ (N : Numbers) (ns : List Name) (t : List ℕ) (h k : ℕ) (Γ : Context
   pub plan-skip : at < end → PlanOf skip SKIP
   unfolding partsOf partsIn ownOf formOf come comeOf Marked
   plan-skip b =
-      leaf SKIP 1 skip refl refl refl (λ e. omega arith) (λ e. omega arith) refl refl refl (λ t′ M e. e) b
+      leaf SKIP 1 skip refl refl refl (omega arith) refl refl refl (λ t′ M e. e) b
 
   pub plan-diverge : (ty : ℕ) → at < end → PlanOf (diverge ty) DIVERGE
   unfolding partsOf partsIn ownOf formOf come comeOf Marked
   plan-diverge ty b =
-      leaf DIVERGE 1 (diverge ty) refl refl refl (λ e. omega arith) (λ e. omega arith) refl refl refl (λ t′ M e. e) b
+      leaf DIVERGE 1 (diverge ty) refl refl refl (omega arith) refl refl refl (λ t′ M e. e) b
 
   pub plan-truth : (v : ℕ) → at < end → PlanOf (truth v) CONSTANT
   unfolding partsOf partsIn ownOf formOf come comeOf Marked
   plan-truth v b =
-      leaf CONSTANT 1 (truth v) refl refl refl (λ e. omega arith) (λ e. omega arith) refl refl refl (λ t′ M e. e) b
+      leaf CONSTANT 1 (truth v) refl refl refl (omega arith) refl refl refl (λ t′ M e. e) b
 
   pub plan-number : (v : ℕ) → at < end → PlanOf (number v) CONSTANT
   unfolding partsOf partsIn ownOf formOf come comeOf Marked
   plan-number v b =
-      leaf CONSTANT 1 (number v) refl refl refl (λ e. omega arith) (λ e. omega arith) refl refl refl (λ t′ M e. e) b
+      leaf CONSTANT 1 (number v) refl refl refl (omega arith) refl refl refl (λ t′ M e. e) b
 
   pub plan-private : (id s d : ℕ) → meaning ns (binders Γ) id ≡ private s d → at < end → PlanOf (call id none) PRIVATE
   unfolding partsOf partsIn many ownOf formOf come comeOf Marked MarkedArgs byMeaning
   plan-private id s d e b =
-      leaf PRIVATE 2 (call id none) refl refl refl (λ e. omega arith) (λ e. omega arith) (rw e) (rw e) refl
+      leaf PRIVATE 2 (call id none) refl refl refl (omega arith) (rw e) (rw e) refl
         (λ t′ M x. (x, tt)) b
 
   pub plan-parameter : (id s ty : ℕ) → length (binders Γ) ≤ 124 → meaning ns (binders Γ) id ≡ argument s ty →
@@ -150,8 +150,7 @@ module _ (N : Numbers) (ns : List Name) (t : List ℕ) (h k : ℕ) (Γ : Context
       after = b;
       jobs = one-more {j = 0} 1 0 p s (λ t′ A. refl) (λ t′ A. refl)
         (first-once (formOf N ns (binders Γ) (forms N ns Γ) x)) (no-more {j = 1} (same-itself _));
-      begun = λ row g l. begun-plain t FETCH (word t at DETAIL) k row 0 long l (λ e. omega arith) (λ e. omega arith)
-        refl;
+      begun = λ row g l. begun-plain t FETCH (word t at DETAIL) k row 0 long l (omega arith) refl;
       forming = λ m. m;
       coming = λ m. refl;
       marking = λ t′ M e m. (e, m .0) }
@@ -159,7 +158,7 @@ module _ (N : Numbers) (ns : List Name) (t : List ℕ) (h k : ℕ) (Γ : Context
   -- two parts, each counted once
   pair : (kind a b : ℕ) (W x y : Written) → partsOf kind (word t at DETAIL) ≡ 2 → partsIn W ≡ 2 →
       ownOf kind (word t at DETAIL) ≡ 0 →
-      (kind ≡ ROUTINE → ⊥) → (kind ≡ PARAMETER → ⊥) →
+      kind < PARAMETER →
       formOf N ns (binders Γ) (forms N ns Γ) W
         ≡ plus (formOf N ns (binders Γ) (forms N ns Γ) x) (formOf N ns (binders Γ) (forms N ns Γ) y) →
       come ns (binders Γ) (downs ns Γ) W ≡ 0 → comeOf t (marksIn t) kind (word t at DETAIL) k at 2 ≡ 0 →
@@ -171,7 +170,7 @@ module _ (N : Numbers) (ns : List Name) (t : List ℕ) (h k : ℕ) (Γ : Context
       word t at PARTS ≡ a → word t at (PARTS + 1) ≡ b → at < a → Shown N ns t Γ π a b x → Shown N ns t Γ π b end y →
       PlanOf W kind
   unfolding MarkedArgs many
-  pair kind a b W x y c c′ o u q f z i m l one none′ p p′ g s s′ = record {
+  pair kind a b W x y c c′ o u f z i m l one none′ p p′ g s s′ = record {
       inner = Γ; from = a; first = only 0; parts = more x (more y none); counted = c; parted = c′; four = omega arith;
       after = g;
       jobs = one-more {j = 0} 1 0 p s (λ t′ A. ap held (one t′ a 0)) (λ t′ A. none′ t′ a)
@@ -179,7 +178,7 @@ module _ (N : Numbers) (ns : List Name) (t : List ℕ) (h k : ℕ) (Γ : Context
         (one-more {j = 1} 1 0 p′ s′ (λ t′ A. ap held (one t′ b 1)) (λ t′ A. none′ t′ b)
           (then-once (formOf N ns (binders Γ) (forms N ns Γ) x) (formOf N ns (binders Γ) (forms N ns Γ) y))
           (no-more {j = 2} (same-path _ _ (sym f))));
-      begun = λ row d v. begun-plain t kind (word t at DETAIL) k row 0 long v u q o;
+      begun = λ row d v. begun-plain t kind (word t at DETAIL) k row 0 long v u o;
       forming = l;
       coming = λ e. i ∙ sym z;
       marking = λ t′ M e r. m t′ M e (r .0) (r .1 .0) }
@@ -188,14 +187,14 @@ module _ (N : Numbers) (ns : List Name) (t : List ℕ) (h k : ℕ) (Γ : Context
       Shown N ns t Γ π a b x → Shown N ns t Γ π b end y → PlanOf (sequence x y) SEQUENCE
   unfolding partsOf partsIn ownOf formOf come comeOf Marked PartsFormed factorOf extraOf
   plan-sequence a b x y =
-      pair SEQUENCE a b (sequence x y) x y refl refl refl (λ e. omega arith) (λ e. omega arith) refl refl refl
+      pair SEQUENCE a b (sequence x y) x y refl refl refl (omega arith) refl refl refl
         (λ t′ M e m m′. (e, m, m′)) (λ m. m) (λ t′ i j. refl) (λ t′ i. refl)
 
   pub plan-while : (a b : ℕ) (x y : Written) → word t at PARTS ≡ a → word t at (PARTS + 1) ≡ b → at < a →
       Shown N ns t Γ π a b x → Shown N ns t Γ π b end y → PlanOf (while x y) WHILE
   unfolding partsOf partsIn ownOf formOf come comeOf Marked PartsFormed factorOf extraOf
   plan-while a b x y =
-      pair WHILE a b (while x y) x y refl refl refl (λ e. omega arith) (λ e. omega arith) refl refl refl
+      pair WHILE a b (while x y) x y refl refl refl (omega arith) refl refl refl
         (λ t′ M e m m′. (e, m, m′)) (λ m. m) (λ t′ i j. refl) (λ t′ i. refl)
 
   pub plan-choose : (a b c : ℕ) (q x y : Written) → word t at PARTS ≡ a → word t at (PARTS + 1) ≡ b →
@@ -211,8 +210,7 @@ module _ (N : Numbers) (ns : List Name) (t : List ℕ) (h k : ℕ) (Γ : Context
           (one-more {j = 1} 1 0 p′ s′ (λ t′ A. refl) (λ t′ A. refl) (then-once (φ q) (φ x))
             (one-more {j = 2} 1 0 p″ s″ (λ t′ A. refl) (λ t′ A. refl) (third-once (φ q) (φ x) (φ y))
               (no-more {j = 3} (same-itself _))));
-        begun = λ row d l. begun-plain t IF (word t at DETAIL) k row 0 long l (λ e. omega arith) (λ e. omega arith)
-          refl;
+        begun = λ row d l. begun-plain t IF (word t at DETAIL) k row 0 long l (omega arith) refl;
         forming = λ m. m;
         coming = λ m. refl;
         marking = λ t′ M e m. (e, m .0, m .1 .0, m .1 .1 .0) }
@@ -235,8 +233,7 @@ module _ (N : Numbers) (ns : List Name) (t : List ℕ) (h k : ℕ) (Γ : Context
         jobs = one-more {j = 0} 1 0 p s (λ t′ A. refl) (λ t′ A. refl) (first-once (φ x))
           (one-more {j = 1} c 0 p′ s′ (λ t′ A. ap held (e t′ A)) (λ t′ A. refl) (then-times (φ x) c (φ y))
             (no-more {j = 2} (same-itself _)));
-        begun = λ row d i. begun-plain t OPERATE (word t at DETAIL) k row 0 long i (λ e. omega arith)
-          (λ e. omega arith) refl;
+        begun = λ row d i. begun-plain t OPERATE (word t at DETAIL) k row 0 long i (omega arith) refl;
         forming = λ m. m;
         coming = λ m. refl;
         marking = λ t′ M e m. (e, m .0, m .1 .0) }
@@ -256,8 +253,7 @@ module _ (N : Numbers) (ns : List Name) (t : List ℕ) (h k : ℕ) (Γ : Context
         jobs = one-more {j = 0} c 0 p s (λ t′ A. ap held (e t′ A)) (λ t′ A. refl) (first-times c (φ x))
           (one-more {j = 1} 1 0 p′ s′ (λ t′ A. refl) (λ t′ A. refl) (once-before (times c (φ x)) (φ y))
             (no-more {j = 2} (same-itself _)));
-        begun = λ row d i. begun-plain t ASSIGN (word t at DETAIL) k row 0 long i (λ e. omega arith)
-          (λ e. omega arith) refl;
+        begun = λ row d i. begun-plain t ASSIGN (word t at DETAIL) k row 0 long i (omega arith) refl;
         forming = λ m. m;
         coming = λ m. refl;
         marking = λ t′ M e m. (e, m .0, m .1 .0) }
@@ -272,7 +268,7 @@ module _ (N : Numbers) (ns : List Name) (t : List ℕ) (h k : ℕ) (Γ : Context
       jobs = one-more {j = 0} (values N d) 0 p s (λ t′ A. ap held v) (λ t′ A. refl)
         (first-times (values N d) (formOf N ns (binders (in-block id d Γ)) (forms N ns Γ) x))
         (no-more {j = 1} (same-itself _));
-      begun = λ row i l. begun-plain t NEW (word t at DETAIL) k row 0 long l (λ e. omega arith) (λ e. omega arith) refl;
+      begun = λ row i l. begun-plain t NEW (word t at DETAIL) k row 0 long l (omega arith) refl;
       forming = λ m. m;
       coming = λ m. refl;
       marking = λ t′ M e m. (e, m .0) }

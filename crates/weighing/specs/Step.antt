@@ -3,21 +3,23 @@
 use Prim.Native.Nat.{ℕ, zero, suc, _+_, _*_, _-_, min}
 use mathlib.Core.List.{List}
 use lib.ListN.{set}
-use lib.Dec.{eqb}
+use lib.Dec.{eqb, ltb}
 use Rattle.language.specs.Choice.{pick}
 use Rattle.part_rows.specs.PartKind.{KIND, DETAIL, PARTS, PROCEDURE, PARAMETER, ROUTINE}
 use Rattle.procedures.specs.Marks.{COMES}
 use Rattle.part_rows.specs.Row.{word}
-use Rattle.weighing.specs.Stack.{marks-from, slots-from, height-at, most-forms, marksIn, heightOf}
-use Rattle.weighing.specs.Stack.{constantForm, unitForm, lowerForm, addedForm}
+use Rattle.weighing.specs.Stack.{marks-from, slots-from, height-at, most-forms, marksIn, heightOf, constantForm}
+use Rattle.weighing.specs.Stack.{unitForm, lowerForm, addedForm}
 use Rattle.weighing.specs.Shows.{most-parameters, last-parameter}
 use Rattle.weighing.specs.Plan.{partsOf, ownOf, termForm, factorOf, extraOf, comeAt, comeOf, usedOf}
 
 -- a form becomes that of a record without its parts
 unfoldable pub started : ℕ → ℕ → ℕ → ℕ → List ℕ → List ℕ
 started kind detail k row t =
-    pick (eqb kind ROUTINE) (lowerForm row (termForm t detail) k t)
-    (pick (eqb kind PARAMETER) (unitForm row (min detail last-parameter) t) (constantForm row (ownOf kind detail) t))
+    -- what has a weight of its own: constants, operators, commands, names and variables
+    pick (ltb kind PARAMETER) (constantForm row (ownOf kind detail) t)
+    -- parameters, then uses of procedures
+    (pick (eqb kind PARAMETER) (unitForm row (min detail last-parameter) t) (lowerForm row (termForm t detail) k t))
 
 -- part j of the record `at`, whose form is `first + j`, is added to a form
 unfoldable pub partAdded : ℕ → ℕ → ℕ → ℕ → ℕ → ℕ → ℕ → List ℕ → List ℕ

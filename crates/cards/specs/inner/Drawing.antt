@@ -8,7 +8,7 @@ use Rattle.procedures.specs.Meaning.{termOf, tyOf, typeOf}
 use Rattle.procedures.specs.Written.{Sheet}
 use Rattle.sheet.specs.Encoding.{headingLength}
 use Rattle.sheet.specs.Reader.{accepted, readSheet}
-use Rattle.build.specs.Built.{OneBuilt}
+use Rattle.build.specs.inner.Built.{OneBuilt}
 use Rattle.conditions.specs.Lent.{words-asked}
 use Rattle.cards.specs.Promise.{CardOf}
 

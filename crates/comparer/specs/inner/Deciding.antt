@@ -15,7 +15,7 @@ use Rattle.language.specs.Weight.{size}
 use Rattle.machine.specs.Range.{TyIn, InRange}
 use Rattle.records.specs.Limits.{greatest-z, greatest-size}
 use Rattle.conditions.specs.Lent.{words-asked, bytes-asked}
-use Rattle.build.specs.Built.{TwoBuilt}
+use Rattle.build.specs.inner.Built.{TwoBuilt}
 use Rattle.judge.specs.declared.mark.Uses.{Uses}
 use Rattle.judge.specs.Mark.{usesOf}
 use Rattle.records.specs.declared.refusal.Cause.{Cause}
@@ -27,6 +27,8 @@ use Rattle.play_words.specs.declared.Decision.{Decision}
 use Rattle.play_words.specs.declared.Decision.the-variants.{Same, Apart}
 use Rattle.comparer.specs.declared.Comparison.{Comparison}
 use Rattle.comparer.specs.declared.Comparison.the-variants as compared
+use lib.Seq.{sets}
+use Rattle.play.specs.Bytes.{recordsBy}
 
 -- two terms of one type, of sizes `all` and `more`, in range, their automata in the words, and room for the play
 pub record Deciding (ws space : List ℕ) (all more : ℕ) : Type 0 where

@@ -7,9 +7,9 @@ use native.Mathlib.Omega.{arith}
 use lib.ListN.{length}
 use lib.Seq.{sets}
 use borrow.Author.Tests.{eq-eqb, ne-eqb}
-use Rattle.class_words.specs.Places.{classAt, numberAt}
+use Rattle.class_words.specs.Places.{classAt, firstAt, letterAt, numberAt, targetAt}
 use Rattle.table_bytes.specs.Places.{moveBytes}
-use Rattle.table_bytes.specs.InWords.{Edge, Legible, edgeBytes, firstAt, letterAt, targetAt, towards}
+use Rattle.table_bytes.specs.InWords.{Edge, Legible, edgeBytes, towards}
 
 -- an edge to the dead class has no bytes
 pub none-bytes : (ws : List ℕ) (n e : ℕ) → classAt ws (targetAt n ws e) ≡ classAt ws (n - 1) → edgeBytes ws n e ≡ []

@@ -9,7 +9,8 @@ use lib.Dec.{eqb}
 use lib.ListN.{length, length-append, set}
 use lib.Seq.{sets}
 use Rattle.class_words.specs.Places.{stateAt}
-use Rattle.table_bytes.specs.InWords.{Edge, Legible, edgeBytes, edgesBytes, firstAt, positionBytes}
+use Rattle.class_words.specs.Places.{firstAt}
+use Rattle.table_bytes.specs.InWords.{Edge, Legible, edgeBytes, edgesBytes, positionBytes}
 use Rattle.table_bytes.specs.InWords.{positionsBytes, stateBytes}
 use Rattle.table_bytes.specs.inner.Laying.{Laying, Edging, Placing}
 use Rattle.table_bytes.proofs.laws.Edges.{legible-edge}

@@ -4,7 +4,8 @@ use mathlib.Core.Path.{_≡_}
 use Prim.Native.Nat.{_+_, _-_, _≤_, ℕ}
 use lib.ListN.{length}
 use lib.Seq.{sets}
-use Rattle.table_bytes.specs.InWords.{edgesBytes, firstAt, positionsBytes, stateBytes}
+use Rattle.class_words.specs.Places.{firstAt}
+use Rattle.table_bytes.specs.InWords.{edgesBytes, positionsBytes, stateBytes}
 
 -- of the bytes `all`, to be written into the space from the place `from` on, `left` are still to be written, from i on
 pub record Laying (all space : List ℕ) (from : ℕ) (left s : List ℕ) (i : ℕ) : Type 0 where

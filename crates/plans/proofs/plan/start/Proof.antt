@@ -1,12 +1,12 @@
--- A use, a parameter, or another record.
+-- A record with a weight of its own, a parameter, or a use of a procedure.
 use borrow.Author.Needs.{needs}
 use Rattle.plans.proofs.Steps.{start-use, start-parameter, start-plain}
 use Rattle.plans.proofs.plan.start.Statement.{statement}
 use Rattle.plans.proofs.plan.start.Tie as tie
 
 returns : tie.Need-returns
-returns c = start-use _ _ _ _ _ _ _ (c .before .before .before .before .before .before .if1 .taken) (c .before .before
-    .before .before .term-form .ensures .0) (c .before .before .set-lower .ensures)
+returns c = start-plain _ _ _ _ _ _ _ (c .before .before .before .before .before .if1 .taken) (c .before .before
+    .before .own-of .ensures) (c .before .before .set-constant .ensures)
 
 returns-2 : tie.Need-returns-2
 returns-2 c = start-parameter _ _ _ _ _ _ _ (c .before .before .before .before .before .before .if1 .left) (c .before
@@ -14,9 +14,9 @@ returns-2 c = start-parameter _ _ _ _ _ _ _ (c .before .before .before .before .
     .before .set-unit .ensures)
 
 returns-3 : tie.Need-returns-3
-returns-3 c = start-plain _ _ _ _ _ _ _ (c .before .before .before .before .before .before .if1 .left) (c .before
-    .before .before .before .before .if2 .left) (c .before .before .before .own-of .ensures) (c .before .before
-    .set-constant .ensures)
+returns-3 c = start-use _ _ _ _ _ _ _ (c .before .before .before .before .before .before .before .if1 .left) (c
+    .before .before .before .before .before .before .if2 .left) (c .before .before .before .before .term-form
+    .ensures .0) (c .before .before .set-lower .ensures)
 
 pub start-spec : {M : Type 1} → statement M
 start-spec =

@@ -1,4 +1,4 @@
--- What `write_play` leaves is what `withRecords` says.
+-- What `write_play` leaves is the records of the letters.
 use borrow.Author.Needs.{needs}
 use native.Mathlib.Omega.{arith}
 use Prim.Native.Nat.{_+_, _-_}

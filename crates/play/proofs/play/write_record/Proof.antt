@@ -1,4 +1,4 @@
--- What `write_record` gives is what `afterRecord` says, and what it leaves what `withRecord` says.
+-- `write_record` gives the place after a record, and leaves its bytes.
 use borrow.Author.Needs.{needs}
 use Rattle.play.proofs.Written.{put-three, put-four}
 use Rattle.play.proofs.play.write_record.Statement.{statement}

@@ -8,37 +8,34 @@ use Rattle.table_bytes.proofs.arc.write_move.Tie as tie
 write-record-requires : tie.Need-write-record-requires
 write-record-requires c κs = omega (arith, c .before .before .pre)
 
-sub-put : tie.Need-sub-put
-sub-put c = let w = record-end _ _ _ (c .before .before .before .write-record .ensures .0) in omega (arith, w .0)
+sub-move-kind : tie.Need-sub-move-kind
+sub-move-kind c = let w = record-end _ _ _ (c .before .before .before .write-record .ensures .0) in omega (arith, w .0)
 
-sub-put-2 : tie.Need-sub-put-2
-sub-put-2 c = let w = record-end _ _ _ (c .before .before .before .write-record .ensures .0) in omega (arith, w .0)
+sub-move-kind-2 : tie.Need-sub-move-kind-2
+sub-move-kind-2 c =
+    let w = record-end _ _ _ (c .before .before .before .write-record .ensures .0) in
+    omega (arith, w .0)
 
 add-put : tie.Need-add-put
 add-put c =
-    let w = record-end _ _ _ (c .before .before .before .write-record .ensures .0) in
-    omega (arith, w .1, c .before .before .before .before .before .before .pre)
-
-add-put-2 : tie.Need-add-put-2
-add-put-2 c =
-    let before = c .before .before .before .before .before .before .before .before .before .before .before in
+    let before = c .before .before .before .before .before .before .before .before .before .before .before .before in
     let w = record-end _ _ _ (before .write-record .ensures .0) in
     omega (arith, w .1, before .before .before .before .pre)
 
 add-result : tie.Need-add-result
 add-result c =
     let before = c .before .before .before .before .before .before .before .before .before .before .before .before in
-    let w = record-end _ _ _ (before .before .before .write-record .ensures .0) in
-    omega (arith, w .1, before .before .before .before .before .before .pre)
+    let w = record-end _ _ _ (before .before .before .before .write-record .ensures .0) in
+    omega (arith, w .1, before .before .before .before .before .before .before .pre)
 
 returns : tie.Need-returns
 returns c =
     let before = c .before .before .before .before .before .before .before .before .before .before in
-    let w = before .before .before .before .before .write-record .ensures in
-    move-done _ _ _ _ _ _ _ _ _ (w .0) (w .1) (before .put .ensures)
+    let w = before .before .before .before .before .before .write-record .ensures in
+    move-done _ _ _ _ _ _ _ _ _ _ (w .0) (w .1) (before .before .move-kind .ensures) (before .put .ensures)
     (c .before .before .before .before .before .before .put2 .ensures) (c .before .before .put3 .ensures)
 
 pub write-move-spec : {M : Type 1} → statement M
 write-move-spec =
-    tie.close (tie.spec (search needs) write-record-requires sub-put sub-put-2 add-put (λ c κs. search needs)
-    (λ c κs. search needs) add-put-2 (λ c κs. search needs) add-result (search needs) returns)
+    tie.close (tie.spec (search needs) write-record-requires sub-move-kind sub-move-kind-2 (λ c κs. search needs)
+    (λ c κs. search needs) (λ c κs. search needs) add-put (λ c κs. search needs) add-result (search needs) returns)

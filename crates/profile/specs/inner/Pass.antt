@@ -11,7 +11,7 @@ use Rattle.part_rows.specs.PartKind.{NAME, SEQUENCE, PROCEDURE, END, CLASS}
 use Rattle.procedures.specs.Written.{Sheet}
 use Rattle.sheet.specs.Encoding.{headingLength}
 use Rattle.sheet.specs.Reader.{readSheet, accepted}
-use Rattle.tabled.specs.Seats.{Seated}
+use Rattle.tabled.specs.inner.Seats.{Seated}
 use Rattle.profile.specs.Offence.{offences}
 use Rattle.profile.specs.declared.offence.Offence.{Offence}
 use Rattle.profile.specs.declared.offence.Offence.the-variants.{Nothing, At}

@@ -1,0 +1,2 @@
+-- What only theorems about the words asked cite.
+pub mod Enough
