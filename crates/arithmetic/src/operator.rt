@@ -18,15 +18,15 @@ use language::operator::TIMES;
 ghost use mathlib.Core.Path.{_≡_};
 ghost use mathlib.Core.Bool.{true, false};
 ghost use mathlib.Core.Option.{none, some};
-ghost use Prim.Native.Nat.{_≤_, _<_};
+ghost use Prim.Native.Nat.{_<_};
 ghost use lib.Dec.{eqb};
-ghost use lib.IntN.{pos, natAbs, _+ℤ_, _-ℤ_, _*ℤ_};
-ghost use lib.Signed.{ltZ, remZ};
+ghost use lib.IntN.{_+ℤ_, _-ℤ_, _*ℤ_};
+ghost use lib.Signed.{ltZ};
 ghost use Rattle.language.specs.Choice.{pick};
-ghost use Rattle.language.specs.Number.{special, modulo, code, signed};
+ghost use Rattle.language.specs.Number.{special, code, signed};
 ghost use Rattle.language.specs.Tables.{entry};
 ghost use Rattle.language.specs.Operator.{infinityBy, beyond, fit, fitSome, remainder, truth, scaled, byClasses};
-ghost use Rattle.language.specs.Operator.{settled, compared, plusOf, minusOf, timesOf, remainderOf};
+ghost use Rattle.language.specs.Operator.{compared, plusOf, minusOf, timesOf, remainderOf};
 ghost use Rattle.language.specs.Operator.{lessOf, equalOf, operate, outcome};
 
 // What an operator gives by the classes of its operands: a row is that of the left one, a column that of the right one,
@@ -98,7 +98,7 @@ fn beyond(n: Numbers, v: i64) -> Outcome
 }
 
 // A result as the overflow rule takes it.
-pub(crate) fn fit(n: Numbers, v: i64) -> Outcome
+fn fit(n: Numbers, v: i64) -> Outcome
     ensures { λ r. ⌜ r ≡ outcome (fit n v) ⌝ }
 {
     if (n.z as u64) < number::absolute(v) {

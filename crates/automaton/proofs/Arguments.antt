@@ -5,7 +5,6 @@ use mathlib.Core.Bool.{false}
 use mathlib.Core.List.{List, _∷_}
 use Prim.Native.Nat.{ℕ, zero, suc, _+_, _*_, _-_, _<_}
 use native.Mathlib.Omega.{arith}
-use lib.ListN.{length}
 use lib.Dec.{eqb, ltb}
 use borrow.Author.Tests.{lt-ltb, lt-leb, le-leb, ne-eqb}
 use Rattle.language.specs.Choice.{pick}
@@ -97,7 +96,7 @@ module _ (t : List ℕ) (node j : ℕ) (T : Ty) (M : Term) (pw : partWeight t no
       rw (questions-of _ _ T ty few-questions, pw,
         mul-add-small (questions T) (weight M) 0 few-questions low-weight (omega arith)) (omega arith)
 
-  pub answers-here : answersOf (partClass t node j) (partValues t node j) ≡ answers T
+  answers-here : answersOf (partClass t node j) (partValues t node j) ≡ answers T
   answers-here = answers-of _ _ T ty (omega arith)
 
   pub found : (q : QuestionOf T) (p : Position M) (base after : ℕ) → base < 65536 →

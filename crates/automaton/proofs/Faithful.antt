@@ -1,14 +1,14 @@
 -- The step at a number shows the machine's step at the position with that number.
-use mathlib.Core.Path.{_≡_, refl, sym, _∙_, ap, subst}
+use mathlib.Core.Path.{_≡_, refl, _∙_, ap, subst}
 use mathlib.Core.Logic.{inl, inr}
-use mathlib.Core.List.{List, [], _∷_}
+use mathlib.Core.List.{List, []}
 use Prim.Native.Nat.{ℕ, suc, _+_, _*_, _-_, _≤_, _<_}
 use native.Mathlib.Omega.{arith}
 use native.Mathlib.Nat.{mod-eq-of-lt}
 use borrow.Author.Tests.{lt-ltb, le-ltb, ne-eqb}
 use Rattle.language.specs.Ty.{Ty, command, expression, variable, Question, run, ask, read, write, questions, answers}
 use Rattle.language.specs.Term.{Term, skip, diverge, const, private, name, fetch, operate, assign, seq, while, cond}
-use Rattle.language.specs.Term.{new, Often, onces, Args, no-args, arg}
+use Rattle.language.specs.Term.{new, onces, Args, no-args, arg}
 use Rattle.language.specs.Typing.{operands}
 use Rattle.language.specs.Weight.{weight, weightArgs}
 use Rattle.language.specs.declared.Numbers.{Numbers}

@@ -17,7 +17,7 @@ use Rattle.language.specs.Term.{new, Often, onces, Args, no-args, arg}
 use Rattle.language.specs.Weight.{useWeight, weight, weightArgs}
 use Rattle.language.proofs.AskOnceLaws.{onces-below}
 use Rattle.language.specs.declared.Numbers.{Numbers}
-use Rattle.machine.specs.Action.{Next, to, out, dead, calling, who, FitsAt, mapNext, Action, go}
+use Rattle.machine.specs.Action.{Next, to, out, dead, calling, who, FitsAt, mapNext}
 use Rattle.machine.specs.Decide.{when, answers?, fits-at?, hears?}
 use Rattle.machine.specs.Edge.{received, edge-hear}
 use Rattle.machine.specs.Position.{Context, Store, types, start, within, reply, PositionArgs, entry}
@@ -216,7 +216,7 @@ module _ (K : Numbers) (t : List ℕ) (left node i : ℕ) (rs : List ℕ) (n : C
       cases (no y) (refuses f (inl l)) = rw (le-leb (count args) j l) refl
       cases (no y) (refuses f (inr (l, e))) = rw (lt-leb (count args) j l, e) refl
 
-  pub listen-shows : (i′ j : ℕ) (e : Event) →
+  listen-shows : (i′ j : ℕ) (e : Event) →
     ShowsNext n Use vs (edge-hear (calling i (types args) T q) (listen i o T args n q σ) (move (at i′ j) e))
     (listenOf t node (kindQ q) (valueQ q) (nameCount t node) (moveOf (move (at i′ j) e)))
   unfolding edge-hear received hears? listenOf hearAnswer hearQuestion moveOf listen who when

@@ -8,7 +8,6 @@ use Rattle.language.specs.Term.{Term}
 use Rattle.language.specs.Weight.{weight}
 use Rattle.language.specs.declared.Numbers.{Numbers}
 use Rattle.machine.specs.Position.{entry}
-use Rattle.machine.specs.Numbered.{values}
 use Rattle.machine.specs.Numbering.{numbered}
 use Rattle.part_rows.specs.Row.{word}
 use Rattle.nodes.specs.Rep.{Represented, Rep, r-skip, r-diverge, r-const, r-private, r-name, r-fetch, r-operate}

@@ -1,14 +1,9 @@
 -- One step of the recursion, as the code takes it.
-use Prim.Native.Nat.{ℕ, zero, suc, _-_}
+use Prim.Native.Nat.{ℕ}
 use mathlib.Core.Path.{_≡_, refl}
 use mathlib.Core.List.{List}
-use native.Mathlib.Numerals.{sub-one}
-use Rattle.language.specs.declared.Numbers.{Numbers}
 use Rattle.term_positions.specs.declared.Move.{Move}
-use Rattle.automaton.specs.walk.Store.{storeIn}
-use Rattle.automaton.specs.walk.Down.{downOf, downAs}
-use Rattle.rise.specs.Up.{riseOf}
-use Rattle.automaton.specs.walk.Step.{onSpot, stepAt}
+use Rattle.automaton.specs.walk.Down.{downAs}
 use mathlib.Core.Bool.{Bool, true, false}
 use lib.Dec.{eqb}
 use borrow.Author.Tests.{ne-eqb}
@@ -16,15 +11,6 @@ use Rattle.automaton.specs.declared.Out.{Out}
 use Rattle.automaton.specs.declared.Out.the-variants.{Stuck}
 use Rattle.automaton.specs.declared.Spot.{Spot}
 use Rattle.automaton.specs.declared.Spot.the-variants.{Here}
-
-pub at-step : (t : List ℕ) (N : Numbers) (left at q x k : ℕ) (s : ℕ → ℕ) (m : Move) → (left ≡ 0 → ⊥) →
-  stepAt t N left at q x k s m ≡
-  onSpot (downOf t at q x k s m)
-  (λ part kind value inner f. riseOf N f
-    (stepAt t N (left - 1) part kind value inner (storeIn s f) m))
-unfolding stepAt
-at-step t N zero at q x k s m e = absurd (e refl)
-at-step t N (suc left) at q x k s m e = simp sub-one
 
 -- a term of another kind, a private variable included, is stuck where nothing is told
 either-way : (b : Bool) (d : Spot) → d ≡ pick b d d

@@ -59,7 +59,7 @@ block-row own = here
 block-row (outer a) = there (block-row a)
 
 -- reading and writing a private variable
-pub read-at : {S A : Type 0} (s : ℕ → ℕ) {rs : List ℕ} {n : Context} {i m r : ℕ} → Block rs n i m r → (σ : Store n) →
+read-at : {S A : Type 0} (s : ℕ → ℕ) {rs : List ℕ} {n : Context} {i m r : ℕ} → Block rs n i m r → (σ : Store n) →
   HeldStore s (held rs n σ) → (k : Store n → Answer → Next S A) → access n i σ read k ≡ k σ (value (s r))
 unfolding access askVariable HeldStore held
 read-at s own σ h k = ap (λ (v : ℕ). k σ (value v)) (sym (h .0))
@@ -76,7 +76,7 @@ unfolding when
 when-none m x f h (yes y) = absurd (omega arith)
 when-none m x f h (no n) = refl
 
-pub write-at : {S A : Type 0} {rs : List ℕ} {n : Context} {i m r : ℕ} → Block rs n i m r → Blocks rs n → (x : ℕ) →
+write-at : {S A : Type 0} {rs : List ℕ} {n : Context} {i m r : ℕ} → Block rs n i m r → Blocks rs n → (x : ℕ) →
   x < m → (σ : Store n) → (k : Store n → Answer → Next S A) →
   (τ : Store n) × (access n i σ (write x) k ≡ k τ ok) × (stored n τ ≡ updated (held rs n σ) (suc r) x)
 unfolding access askVariable stored held updated Fresh
@@ -90,20 +90,20 @@ write-at (outer {r = r} {k = k₁} {i = i} {l = l} {rs = rs} {n = n} a) (inside 
       rw (ne-eqb (suc r) (suc l) (λ e. f i (subst (λ (j : ℕ). Scope rs i j) (omega arith) (block-row a))))
       (ap (λ (z : List ℕ). σ .0 .0 ∷ z) (w .2)))
 
-pub write-not : {S A : Type 0} {rs : List ℕ} {n : Context} {i m r : ℕ} → Block rs n i m r → (x : ℕ) → m ≤ x → (σ :
+write-not : {S A : Type 0} {rs : List ℕ} {n : Context} {i m r : ℕ} → Block rs n i m r → (x : ℕ) → m ≤ x → (σ :
     Store n) →
   (k : Store n → Answer → Next S A) → access n i σ (write x) k ≡ dead
 unfolding access askVariable
 write-not (own {m = m} {n = n}) x b σ k = when-none m x (λ h. k ((x, h), σ .1) ok) b (decLt x m)
 write-not (outer a) x b σ k = write-not a x b (σ .1) (λ τ. k (σ .0, τ))
 
-pub no-run : {S A : Type 0} {rs : List ℕ} {n : Context} {i m r : ℕ} → Block rs n i m r → (σ : Store n) →
+no-run : {S A : Type 0} {rs : List ℕ} {n : Context} {i m r : ℕ} → Block rs n i m r → (σ : Store n) →
   (k : Store n → Answer → Next S A) → access n i σ run k ≡ dead
 unfolding access askVariable
 no-run own σ k = refl
 no-run (outer a) σ k = no-run a (σ .1) (λ τ. k (σ .0, τ))
 
-pub no-ask : {S A : Type 0} {rs : List ℕ} {n : Context} {i m r : ℕ} → Block rs n i m r → (σ : Store n) →
+no-ask : {S A : Type 0} {rs : List ℕ} {n : Context} {i m r : ℕ} → Block rs n i m r → (σ : Store n) →
   (k : Store n → Answer → Next S A) → access n i σ ask k ≡ dead
 unfolding access askVariable
 no-ask own σ k = refl

@@ -28,7 +28,7 @@ use Rattle.term_positions.specs.declared.Out.the-variants.{Go, Say}
 use Rattle.term_positions.specs.declared.Spot.the-variants.{Here, Inside}
 use Rattle.term_positions.specs.Row.{nameId, nameCount, nameSpent, sumOf, mulAddOf}
 use Rattle.automaton.specs.walk.Store.{withValue, storeIn}
-use Rattle.name_use.specs.Name.{framedOf, innerOf, againOf, saidOf, argSpots, replyOf, inArgs, atWait}
+use Rattle.name_use.specs.Name.{framedOf, innerOf, saidOf, argSpots, replyOf, inArgs, atWait}
 use Rattle.name_use.specs.Name.{atSpent, inName}
 use Rattle.automaton.specs.walk.Down.{operateIn, assignIn, inPrivate, downAs, downOf}
 use Rattle.rise.specs.Up.{riseOf}

@@ -41,7 +41,7 @@ use records::read::SHORTS;
 use term_positions::roles::AS_IS;
 
 // The exit with an answer.
-pub(crate) fn leaves(kind: usize, value: usize) -> Spot
+fn leaves(kind: usize, value: usize) -> Spot
     ensures { λ r. ⌜ r ≡ leavesOf kind value ⌝ }
 {
     let out = Out::Exit {
@@ -54,7 +54,7 @@ pub(crate) fn leaves(kind: usize, value: usize) -> Spot
 }
 
 // Position k of a fetch: its variable is read.
-pub(crate) fn in_fetch(t: &[u16], at: usize, k: usize) -> Spot
+fn in_fetch(t: &[u16], at: usize, k: usize) -> Spot
     ensures { λ r. ⌜ r ≡ inFetch (now (t .entry)) at k ⌝ }
 {
     let part = part_at(t, at, 0);
@@ -69,7 +69,7 @@ pub(crate) fn in_fetch(t: &[u16], at: usize, k: usize) -> Spot
 }
 
 // Position k of a sequence.
-pub(crate) fn in_seq(t: &[u16], at: usize, q: usize, x: usize, k: usize) -> Spot
+fn in_seq(t: &[u16], at: usize, q: usize, x: usize, k: usize) -> Spot
     ensures { λ r. ⌜ r ≡ inSeq (now (t .entry)) at q x k ⌝ }
 {
     let w = part_weight(t, at, 0);
@@ -96,7 +96,7 @@ pub(crate) fn in_seq(t: &[u16], at: usize, q: usize, x: usize, k: usize) -> Spot
 }
 
 // Position k of a loop.
-pub(crate) fn in_while(t: &[u16], at: usize, k: usize) -> Spot
+fn in_while(t: &[u16], at: usize, k: usize) -> Spot
     ensures { λ r. ⌜ r ≡ inWhile (now (t .entry)) at k ⌝ }
 {
     let w = part_weight(t, at, 0);
@@ -123,16 +123,7 @@ pub(crate) fn in_while(t: &[u16], at: usize, k: usize) -> Spot
 }
 
 // Position k of a choice: the test b weighs w, and the first branch m weighs v.
-pub(crate) fn cond_in(
-    b: usize,
-    m: usize,
-    n: usize,
-    w: usize,
-    v: usize,
-    q: usize,
-    x: usize,
-    k: usize,
-) -> Spot
+fn cond_in(b: usize, m: usize, n: usize, w: usize, v: usize, q: usize, x: usize, k: usize) -> Spot
     ensures { λ r. ⌜ r ≡ condIn b m n w v q x k ⌝ }
 {
     if k < w {
@@ -166,7 +157,7 @@ pub(crate) fn cond_in(
 }
 
 // Position k of the choice at a place.
-pub(crate) fn in_cond(t: &[u16], at: usize, q: usize, x: usize, k: usize) -> Spot
+fn in_cond(t: &[u16], at: usize, q: usize, x: usize, k: usize) -> Spot
     ensures { λ r. ⌜ r ≡ inCond (now (t .entry)) at q x k ⌝ }
 {
     let w = part_weight(t, at, 0);
@@ -184,15 +175,7 @@ pub(crate) fn in_cond(t: &[u16], at: usize, q: usize, x: usize, k: usize) -> Spo
 }
 
 // Position k of an operation: the left operand weighs w, and the right one v for each of the m values of the left.
-pub(crate) fn operate_in(
-    left: usize,
-    right: usize,
-    w: usize,
-    v: usize,
-    op: usize,
-    m: usize,
-    k: usize,
-) -> Spot
+fn operate_in(left: usize, right: usize, w: usize, v: usize, op: usize, m: usize, k: usize) -> Spot
     ensures { λ r. ⌜ r ≡ operateIn left right w v op m k ⌝ }
 {
     if k < w {
@@ -220,7 +203,7 @@ pub(crate) fn operate_in(
 }
 
 // Position k of the operation at a place.
-pub(crate) fn in_operate(t: &[u16], at: usize, k: usize) -> Spot
+fn in_operate(t: &[u16], at: usize, k: usize) -> Spot
     ensures { λ r. ⌜ r ≡ inOperate (now (t .entry)) at k ⌝ }
 {
     let w = part_weight(t, at, 0);
@@ -238,7 +221,7 @@ pub(crate) fn in_operate(t: &[u16], at: usize, k: usize) -> Spot
 }
 
 // Position k of an assignment: the expression e weighs w, and the variable v for each of its m values.
-pub(crate) fn assign_in(var: usize, e: usize, w: usize, v: usize, m: usize, k: usize) -> Spot
+fn assign_in(var: usize, e: usize, w: usize, v: usize, m: usize, k: usize) -> Spot
     ensures { λ r. ⌜ r ≡ assignIn var e w v m k ⌝ }
 {
     if k < w {
@@ -266,7 +249,7 @@ pub(crate) fn assign_in(var: usize, e: usize, w: usize, v: usize, m: usize, k: u
 }
 
 // Position k of the assignment at a place.
-pub(crate) fn in_assign(t: &[u16], at: usize, k: usize) -> Spot
+fn in_assign(t: &[u16], at: usize, k: usize) -> Spot
     ensures { λ r. ⌜ r ≡ inAssign (now (t .entry)) at k ⌝ }
 {
     let w = part_weight(t, at, 1);
@@ -276,7 +259,7 @@ pub(crate) fn in_assign(t: &[u16], at: usize, k: usize) -> Spot
 }
 
 // Position k of a block.
-pub(crate) fn in_new(t: &[u16], at: usize, q: usize, x: usize, k: usize) -> Spot
+fn in_new(t: &[u16], at: usize, q: usize, x: usize, k: usize) -> Spot
     ensures { λ r. ⌜ r ≡ inNew (now (t .entry)) at q x k ⌝ }
 {
     let w = part_weight(t, at, 0);

@@ -112,7 +112,7 @@ module _ {N : Numbers} {ty : ℕ} {s : List ℕ} {row all : ℕ} {t : List ℕ} 
       pub words-enough : words-asked N all ≤ length ws
       words-enough = ltb-false (length ws) (words-asked N all) (passed .0)
 
-      pub space-enough : space-for N all ≤ length space
+      space-enough : space-for N all ≤ length space
       space-enough = ltb-false (length space) (space-for N all) (passed .1)
 
       goes-through : cardRefusal s (length ws) (length space) ≡ none

@@ -94,11 +94,11 @@ module _ (S : Sheet) (A : Accepted S) (n : ℕ) (ws : List ℕ)
       subst (Coded N) (ap reversed (p .1 .0) ∙ reversed-reversed x) c
 
   -- THEOREM: the smallest table of the automaton is the table of the sheet's positions
-  pub table-of-built : (P : List Place) → Smallest Led P → Table S (positionsOf (S .numbers) (few S A) P)
+  table-of-built : (P : List Place) → Smallest Led P → Table S (positionsOf (S .numbers) (few S A) P)
   table-of-built P M = table-of-letters S A Led spells reads coded P M
 
   -- THEOREM: its bytes by letters are those of the sheet's positions
-  pub bytes-of-built : (P : List Place) → Smallest Led P
+  bytes-of-built : (P : List Place) → Smallest Led P
       → tableBytes (S .numbers) (positionsOf (S .numbers) (few S A) P) ≡ placesBytes P
   bytes-of-built P M = places-filed N (few S A) P (letter-at S A Led spells reads coded P M)
 

@@ -58,7 +58,7 @@ module _ (N : Numbers) (few : N .z ≤ 125) where
   record-three (move (private i) e) h = absurd h
 
   -- different moves have different records
-  pub record-one : (m n : Move) → Small N m → Small N n → record-of N m ≡ record-of N n → m ≡ n
+  record-one : (m n : Move) → Small N m → Small N n → record-of N m ≡ record-of N n → m ≡ n
   record-one m n h k e =
       letter-injective N few m n h k (sym (record-letter N few m h) ∙ ap firstLetter e ∙ record-letter N few n k)
 
@@ -110,7 +110,7 @@ module _ (N : Numbers) (few : N .z ≤ 125) where
       (ap₂ (λ c cs. c ∷ cs) (p .0) (q .0), q .1)
 
   -- THEOREM: the bytes determine the table
-  pub bytes-table : (T U : List Position) → SmallTable N T → SmallTable N U → tableBytes N T ≡ tableBytes N U → T ≡ U
+  bytes-table : (T U : List Position) → SmallTable N T → SmallTable N U → tableBytes N T ≡ tableBytes N U → T ≡ U
   unfolding tableBytes
   bytes-table [] [] s t e = refl
   bytes-table [] (q ∷ U) s t e = absurd (none-some e)

@@ -109,7 +109,7 @@ module _ (s : List ℕ) (ty all place : ℕ) (ws : List ℕ) (D : Drawable s ty 
       drawn-states = states G n (6 * n + 1 + 2 * getD G n 0) (O .own) count ws₂ M
 
       -- THEOREM: the heading, the type and the bytes of the positions are the card
-      pub drawn-card : CardOf s (take (headingLength (D .sheet)) s ++ (ty ∷ positionsBytes ws₂ n f count 0))
+      drawn-card : CardOf s (take (headingLength (D .sheet)) s ++ (ty ∷ positionsBytes ws₂ n f count 0))
       drawn-card =
           let e = places-are G n (6 * n + 1 + 2 * getD G n 0) (O .own) count ws₂ M f count 0 (omega arith) in
           let low : f < n = omega (arith, drawn-some) in

@@ -40,7 +40,7 @@ unfoldable pub Coded : Numbers → List ℕ → Type 0
 Coded N [] = Unit {0}
 Coded N (l ∷ x) = ((m : Move) × (Small N m × (letter N m ≡ l))) × Coded N x
 
-pub code-append : (N : Numbers) (b u : Word) → code N (b ++ u) ≡ code N u ++ code N b
+code-append : (N : Numbers) (b u : Word) → code N (b ++ u) ≡ code N u ++ code N b
 unfolding letters
 code-append N [] u = sym (nothing (code N u))
   where
@@ -50,11 +50,11 @@ code-append N [] u = sym (nothing (code N u))
 code-append N (m ∷ b) u =
     ap (λ x. x ++ (letter N m ∷ [])) (code-append N b u) ∙ append-assoc (code N u) (code N b) (letter N m ∷ [])
 
-pub code-last : (N : Numbers) (b : Word) (m : Move) → code N (b ++ (m ∷ [])) ≡ letter N m ∷ code N b
+code-last : (N : Numbers) (b : Word) (m : Move) → code N (b ++ (m ∷ [])) ≡ letter N m ∷ code N b
 unfolding letters
 code-last N b m = code-append N b (m ∷ [])
 
-pub coded-append : (N : Numbers) (v x : List ℕ) → Coded N (v ++ x) → Coded N v × Coded N x
+coded-append : (N : Numbers) (v x : List ℕ) → Coded N (v ++ x) → Coded N v × Coded N x
 unfolding Coded
 coded-append N [] x h = (tt, h)
 coded-append N (l ∷ v) x h = let r = coded-append N v x (h .1) in ((h .0, r .0), r .1)
@@ -115,7 +115,7 @@ before-less x y (inl h) = less-long (reversed x) (reversed y) (omega (arith, rev
 before-less x y (inr h) = lex-less x y (h .0) (h .1)
 
 -- lists through a function
-pub map-length : {X Y : Type 0} (f : X → Y) (xs : List X) → length (map f xs) ≡ length xs
+map-length : {X Y : Type 0} (f : X → Y) (xs : List X) → length (map f xs) ≡ length xs
 map-length f [] = refl
 map-length f (x ∷ xs) = ap suc (map-length f xs)
 
@@ -138,7 +138,7 @@ module _ (N : Numbers) (few : N .z ≤ 125) where
   found-again (of n s e) m h f = letter-injective N few n m s h (e ∙ sym f)
   found-again (none g) m h f = absurd (g m h f)
 
-  pub move-again : (m : Move) → Small N m → moveOf (letter N m) ≡ m
+  move-again : (m : Move) → Small N m → moveOf (letter N m) ≡ m
   unfolding moveOf
   move-again m h = found-again (unletter N few (letter N m)) m h refl
 
@@ -153,7 +153,7 @@ module _ (N : Numbers) (few : N .z ≤ 125) where
       let f : moveOf l ≡ m = ap moveOf (sym e) ∙ move-again m s in
       (ap (letter N) f ∙ e, subst (Small N) (sym f) s)
 
-  pub coded-back : (x : List ℕ) → Coded N x → code N (wordOf x) ≡ x
+  coded-back : (x : List ℕ) → Coded N x → code N (wordOf x) ≡ x
   unfolding Coded wordOf letters
   coded-back [] h = refl
   coded-back (l ∷ x) h =
@@ -164,7 +164,7 @@ module _ (N : Numbers) (few : N .z ≤ 125) where
   join-small [] u h k = k
   join-small (m ∷ b) u h k = (h .0, join-small b u (h .1) k)
 
-  pub coded-small : (x : List ℕ) → Coded N x → AllSmall N (wordOf x)
+  coded-small : (x : List ℕ) → Coded N x → AllSmall N (wordOf x)
   unfolding Coded wordOf AllSmall
   coded-small [] h = tt
   coded-small (l ∷ x) h = join-small (wordOf x) (moveOf l ∷ []) (coded-small x (h .1)) (letter-back l (h .0) .1, tt)

@@ -58,7 +58,7 @@ arcs-length N (a ∷ xs) =
     omega (arith, h, arc-length N a, length-append (arcBytes N a) (arcsBytes N xs))
 
 -- two bytes for each position, seven for each move
-pub table-length : (N : Numbers) (T : List Position) → length (tableBytes N T) ≤ 2 * length T + 7 * allMoves T
+table-length : (N : Numbers) (T : List Position) → length (tableBytes N T) ≤ 2 * length T + 7 * allMoves T
 unfolding tableBytes allMoves
 table-length N [] = omega arith
 table-length N (p ∷ T) =

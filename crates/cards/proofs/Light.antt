@@ -111,7 +111,7 @@ module _ (S : Sheet) (A : Accepted S) (four : reckoned S ≡ 4) (T : List Positi
       omega (arith, i, h 0 (omega arith))
 
   -- THEOREM: no more moves than positions
-  pub light-few : allMoves T ≤ length T
+  light-few : allMoves T ≤ length T
   light-few = light-moves T (λ k h. one-move k h (getD T k no-position .arcs) refl)
 
 no-moves : (U : List Position) → length U ≤ 0 → allMoves U ≤ 0
@@ -120,7 +120,7 @@ no-moves [] h = omega arith
 no-moves (p ∷ U) h = absurd (omega arith)
 
 -- no size is below 4 where there is a play
-pub size-least : (T : Ty) (M : Term) → (u : Word) → Complete T M u → 4 ≤ size T M
+size-least : (T : Ty) (M : Term) → (u : Word) → Complete T M u → 4 ≤ size T M
 unfolding size questions answers
 size-least T M u (q, a, w, to-run, p, e) = omega (arith, positive M)
 size-least T M u (q, a, w, to-ask l, p, e) = omega (arith, positive M, l)

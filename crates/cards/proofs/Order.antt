@@ -42,7 +42,7 @@ unfolding AllSmall
 small-last N [] m h = h .0
 small-last N (n ∷ b) m h = small-last N b m (h .1)
 
-pub order-rest : (N : Numbers) (a : Arc) (xs : List Arc) → Ascending N (a ∷ xs) → Ascending N xs
+order-rest : (N : Numbers) (a : Arc) (xs : List Arc) → Ascending N (a ∷ xs) → Ascending N xs
 unfolding Ascending
 order-rest N a [] o = tt
 order-rest N a (b ∷ xs) o = o .1

@@ -48,11 +48,11 @@ module _ (S : Sheet) (T : List Position) (B : Table S T) where
       rw (g .0) at (g .1)
 
   -- there are positions where there is a play
-  pub some-position : (u : Word) → CompletePlay S u → 0 < length T
+  some-position : (u : Word) → CompletePlay S u → 0 < length T
   some-position u c = let f = B .all [] (u, c) in omega (arith, f .1 .0)
 
   -- what completes the first beginning of a position leads from it to the end
-  pub goes-of : (u : Word) (k : ℕ) → k < length T → CompletePlay S (B .leading k ++ u)
+  goes-of : (u : Word) (k : ℕ) → k < length T → CompletePlay S (B .leading k ++ u)
       → (j : ℕ) × (Goes T k u j × (getD T j no-position .end ≡ true))
   goes-of [] k h c = (k, (here, B .ends k h .1 (subst (CompletePlay S) (append-nothing (B .leading k)) c)))
   goes-of (m ∷ u) k h c =
@@ -64,7 +64,7 @@ module _ (S : Sheet) (T : List Position) (B : Table S T) where
       (r .0, (on (f .1 .0) (B .moves k h m (f .0) .1 (f .1 .0, (b, f .1 .1))) (r .1 .0), r .1 .1))
 
   -- and what leads to the end completes it
-  pub goes-back : {k j : ℕ} {u : Word} → k < length T → Goes T k u j → getD T j no-position .end ≡ true
+  goes-back : {k j : ℕ} {u : Word} → k < length T → Goes T k u j → getD T j no-position .end ≡ true
       → CompletePlay S (B .leading k ++ u)
   goes-back {k} h here t = subst (CompletePlay S) (sym (append-nothing (B .leading k))) (B .ends k h .0 t)
   goes-back {k} h (on {i = i} {m = m} {u = u} l a g) t =
@@ -73,7 +73,7 @@ module _ (S : Sheet) (T : List Position) (B : Table S T) where
       subst (CompletePlay S) (append-assoc (B .leading k) (m ∷ []) u) (q u .1 c)
 
   -- THEOREM: a table has exactly the complete plays
-  pub plays-in : (u : Word) → CompletePlay S u ↔ PlayIn T u
+  plays-in : (u : Word) → CompletePlay S u ↔ PlayIn T u
   plays-in u = (
     (λ c.
       let h = some-position u c in

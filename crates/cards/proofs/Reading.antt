@@ -130,7 +130,7 @@ module _ (N : Numbers) (few : N .z ≤ 125) where
       (reads-arcs (p .arcs) (tableBytes N T) T (s 0 (omega arith)) q)
 
   -- THEOREM: a table is read back from its bytes
-  pub read-back : (T : List Position) → SmallTable N T → readTable N (tableBytes N T) ≡ T
+  read-back : (T : List Position) → SmallTable N T → readTable N (tableBytes N T) ≡ T
   unfolding readTable
   read-back T s = ap (λ (r : Read). r .positions) (reads-table T s (length (tableBytes N T)) (omega arith))
 

@@ -145,7 +145,7 @@ module _ (old new : List ℕ) (C : (c : List ℕ) × CardOf old c) (D : (d : Lis
     )
 
 -- THEOREM: for two sheets that compare accepts, the cards are equal bytes exactly if the complete plays are the same
-pub same-cards : SameCards
+same-cards : SameCards
 same-cards old new c d words space C D h =
     same-exactly old new (c, C) (d, D) (matches old new (c, C) (d, D) words space h)
 
@@ -187,7 +187,7 @@ same-by-compare old new c d ws space r ws′ space′ C D p h =
     )
 
 -- THEOREM: a sheet has one card
-pub one-card : OneCard
+one-card : OneCard
 one-card s c d C D =
     let e : C .sheet ≡ D .sheet = one-sheet (held s s (c, C) (d, D)) (held′ s s (c, C) (d, D)) in
     let t : C .type ≡ D .type = one-type (sym (C .reads) ∙ D .reads) in

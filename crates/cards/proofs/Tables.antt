@@ -33,7 +33,7 @@ module _ (S : Sheet) (A : Accepted S) where
   pub begin-small : (b : Word) → Beginning S b → AllSmall (S .numbers) b
   begin-small b h = small-begin (S .numbers) b (h .0) (sheet-small S (A .ordered) (b ++ h .0) (h .1))
 
-  pub one-sym : (b c : Word) → OnePosition S b c → OnePosition S c b
+  one-sym : (b c : Word) → OnePosition S b c → OnePosition S c b
   one-sym b c h u = (h u .1, h u .0)
 
   -- a position has one first beginning
@@ -53,11 +53,11 @@ module _ (S : Sheet) (A : Accepted S) where
         let b = B .moves k h m j .0 a .1 .0 in
         small-last (S .numbers) (B .leading k) m (begin-small (B .leading k ++ (m ∷ [])) b)
 
-    pub leading-small : (k : ℕ) → k < length T → AllSmall (S .numbers) (B .leading k)
+    leading-small : (k : ℕ) → k < length T → AllSmall (S .numbers) (B .leading k)
     leading-small k h = begin-small (B .leading k) (B .first k h .begins)
 
     -- the first beginnings tell the positions apart
-    pub leading-less : (k j : ℕ) → k < length T → j < length T
+    leading-less : (k j : ℕ) → k < length T → j < length T
         → Before (S .numbers) (B .leading k) (B .leading j) → k < j
     leading-less k j a b l = go (decLt k j) (ℕ-discrete k j)
       where
@@ -184,7 +184,7 @@ module _ (S S′ : Sheet) (n : S .numbers ≡ S′ .numbers) (e : (u : Word) →
   begin-from b h = (h .0, e (b ++ h .0) .1 (h .1))
 
   -- have the same table
-  pub table-of : (T : List Position) → Table S T → Table S′ T
+  table-of : (T : List Position) → Table S T → Table S′ T
   table-of T B = record {
     leading = B .leading;
     first = λ k h. record {

@@ -2,7 +2,7 @@
 use records::refusal::Cause;
 
 // How many bytes card asks to be lent.
-pub mod lent;
+mod lent;
 // The service card.
 pub mod card;
 

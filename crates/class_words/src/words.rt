@@ -1,6 +1,6 @@
 // The words of states, classes and edges, read and stored.
 ghost use mathlib.Core.Path.{_≡_};
-ghost use Prim.Native.Nat.{_+_, _*_, _<_, _≤_, _%_, _/_, _^_};
+ghost use Prim.Native.Nat.{_+_, _*_, _<_, _≤_, _%_, _/_};
 ghost use lib.ListN.{length, getD, set};
 ghost use Rattle.class_words.specs.Places.{memberAt, placeAt, fromAt, toAt, headAt, touchedAt, listAt, copyAt};
 ghost use Rattle.class_words.specs.Places.{firstAt, letterAt, targetAt};
@@ -19,7 +19,7 @@ pub fn member(words: &[u32], n: usize, i: usize) -> usize
 }
 
 // The place of the state p.
-pub fn place(words: &[u32], n: usize, p: usize) -> usize
+pub(crate) fn place(words: &[u32], n: usize, p: usize) -> usize
     requires { ⌜ (p < n) × ((n ≤ 8192) × (5 * n ≤ length (now words))) ⌝ }
     ensures { λ r. ⌜ r ≡ placeAt n (now (words .entry)) p ⌝ }
 {
@@ -83,7 +83,7 @@ pub fn edge_target(words: &[u32], n: usize, e: usize) -> usize
 }
 
 // What follows edge e in the list of its target.
-pub fn edge_next(words: &[u32], n: usize, e: usize) -> usize
+pub(crate) fn edge_next(words: &[u32], n: usize, e: usize) -> usize
     requires { ⌜ (n ≤ 8192) × ((e < 262144) × (6 * n + 2 + 2 * e < length (now words))) ⌝ }
     ensures { λ r. ⌜ r ≡ getD (now (words .entry)) (6 * n + 2 + 2 * e) 0 / 8192 ⌝ }
 {
@@ -115,7 +115,7 @@ pub fn copied(words: &[u32], n: usize, g: usize, i: usize) -> usize
 }
 
 // The head of the list of edges that lead to the state t.
-pub fn head(words: &[u32], n: usize, g: usize, t: usize) -> usize
+pub(crate) fn head(words: &[u32], n: usize, g: usize, t: usize) -> usize
     requires { ⌜ (t < n) × ((n ≤ 8192) × ((g ≤ 600000) × (g + 4 * n ≤ length (now words)))) ⌝ }
     ensures { λ r. ⌜ r ≡ headAt g (now (words .entry)) t ⌝ }
 {
@@ -131,7 +131,7 @@ pub fn set_touched(words: &mut [u32], n: usize, g: usize, i: usize, v: usize)
 }
 
 // The touched class number i is v.
-pub fn set_listed(words: &mut [u32], n: usize, g: usize, i: usize, v: usize)
+pub(crate) fn set_listed(words: &mut [u32], n: usize, g: usize, i: usize, v: usize)
     requires { ⌜ (i < n) × ((v ≤ n) × ((n ≤ 8192) × ((g ≤ 600000) × (g + 4 * n ≤ length (now words))))) ⌝ }
     ensures { λ r. ⌜ now (words .exit) ≡ set (now (words .entry)) (g + 2 * n + i) v ⌝ }
 {
@@ -139,7 +139,7 @@ pub fn set_listed(words: &mut [u32], n: usize, g: usize, i: usize, v: usize)
 }
 
 // The state number i of the copy is v.
-pub fn set_copied(words: &mut [u32], n: usize, g: usize, i: usize, v: usize)
+pub(crate) fn set_copied(words: &mut [u32], n: usize, g: usize, i: usize, v: usize)
     requires { ⌜ (i < n) × ((v ≤ n) × ((n ≤ 8192) × ((g ≤ 600000) × (g + 4 * n ≤ length (now words))))) ⌝ }
     ensures { λ r. ⌜ now (words .exit) ≡ set (now (words .entry)) (g + 3 * n + i) v ⌝ }
 {
@@ -147,7 +147,7 @@ pub fn set_copied(words: &mut [u32], n: usize, g: usize, i: usize, v: usize)
 }
 
 // The state that edge e leaves: halving, between a state whose edges begin at e or before and one whose edges begin behind.
-pub fn source(words: &[u32], n: usize, e: usize) -> usize
+pub(crate) fn source(words: &[u32], n: usize, e: usize) -> usize
     requires { ⌜ (0 < n) × ((n ≤ 8192) × ((6 * n < length (now words)) × ((firstAt n (now words) 0 ≤ e)
         × (e < firstAt n (now words) n)))) ⌝ }
     ensures { λ r. ⌜ (r < n) × ((firstAt n (now (words .entry)) r ≤ e)

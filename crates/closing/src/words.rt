@@ -2,7 +2,7 @@
 use part_rows::row::put;
 use records::read::short_at;
 ghost use mathlib.Core.Path.{_≡_};
-ghost use Prim.Native.Nat.{_+_, _%_, _/_, _<_};
+ghost use Prim.Native.Nat.{_+_, _%_, _/_};
 ghost use lib.ListN.{getD, set};
 ghost use Rattle.part_rows.specs.Row.{cell, word};
 ghost use Rattle.part_rows.specs.PartKind.{ONCE};
@@ -13,11 +13,11 @@ use part_rows::row::ROW_WORDS;
 // number of values of its data, a detail by its kind, and its parts.
 pub const KIND: u16 = part_rows::row::KIND as u16;
 
-pub const WEIGHT: u16 = part_rows::row::WEIGHT as u16;
+pub(crate) const WEIGHT: u16 = part_rows::row::WEIGHT as u16;
 
-pub const CLASS: u16 = part_rows::row::CLASS as u16;
+pub(crate) const CLASS: u16 = part_rows::row::CLASS as u16;
 
-pub const VALUES: u16 = part_rows::row::VALUES as u16;
+pub(crate) const VALUES: u16 = part_rows::row::VALUES as u16;
 
 pub const DETAIL: u16 = part_rows::row::DETAIL as u16;
 
@@ -59,7 +59,7 @@ pub(crate) fn put_word(t: &mut [u16], r: u16, i: u16, v: u16)
 }
 
 // The mark at a place.
-pub(crate) fn mark_at(marks: &[u16], at: u16) -> u16
+fn mark_at(marks: &[u16], at: u16) -> u16
     ensures { λ x. ⌜ x ≡ getD (now (marks .entry)) at 0 ⌝ }
 {
     short_at(marks, at as usize)

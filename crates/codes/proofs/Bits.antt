@@ -38,13 +38,13 @@ abs-neg (pos zero) = refl
 abs-neg (pos (suc n)) = refl
 abs-neg (negsuc n) = refl
 
-pub abs-sum : (x y : ℤ) → natAbs (x +ℤ y) ≤ natAbs x + natAbs y
+abs-sum : (x y : ℤ) → natAbs (x +ℤ y) ≤ natAbs x + natAbs y
 abs-sum (pos a) (pos b) = omega arith
 abs-sum (pos a) (negsuc b) = abs-sub a (suc b)
 abs-sum (negsuc a) (pos b) = omega (arith, abs-sub b (suc a))
 abs-sum (negsuc a) (negsuc b) = omega arith
 
-pub abs-difference : (x y : ℤ) → natAbs (x -ℤ y) ≤ natAbs x + natAbs y
+abs-difference : (x y : ℤ) → natAbs (x -ℤ y) ≤ natAbs x + natAbs y
 abs-difference x y = omega (arith, abs-sum x (negℤ y), abs-neg y)
 
 abs-product : (x y : ℤ) → natAbs (x *ℤ y) ≡ natAbs x * natAbs y

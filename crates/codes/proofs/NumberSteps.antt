@@ -10,7 +10,7 @@ use borrow.Author.Tests.{ltb-true, lt-ltb, le-ltb, le-leb, lt-leb, eq-eqb, ne-eq
 use mir.Syntax.{w64}
 use mir.Val.{toZ}
 use Rattle.language.specs.declared.Numbers.{Numbers}
-use Rattle.language.specs.Number.{finites, numbers, modulo, code, signed, fromByte, inRange}
+use Rattle.language.specs.Number.{finites, modulo, code, signed, fromByte, inRange}
 use Rattle.codes.proofs.Bits.{nat-back}
 
 pub modulo-below-0 : (v : ℤ) (n : ℕ) {m : ℕ} → m ≡ mag v → ltZ v (pos 0) ≡ true → n - 1 - m % n ≡ modulo v n

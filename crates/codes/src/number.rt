@@ -16,11 +16,11 @@ const BYTES: u16 = 256;
 
 // The overflow rules, by their numbers in a sheet: a result outside -Z to Z has no play; a multiple of 2Z + 1 is added
 // or taken away; it becomes an infinity.
-pub const NO_PLAY: u8 = 0;
+const NO_PLAY: u8 = 0;
 
 const TURNING: u8 = 1;
 
-pub const INFINITIES: u8 = 2;
+const INFINITIES: u8 = 2;
 
 // How many more values rule 2 has: minus infinity, infinity, not-a-number.
 const EXTRAS: u16 = 3;
@@ -28,11 +28,11 @@ const EXTRAS: u16 = 3;
 // The classes of values.
 const FINITE: usize = 0;
 
-pub const MINUS_INFINITY: usize = 1;
+const MINUS_INFINITY: usize = 1;
 
-pub const INFINITY: usize = 2;
+const INFINITY: usize = 2;
 
-pub const NOT_A_NUMBER: usize = 3;
+const NOT_A_NUMBER: usize = 3;
 
 // The numbers that stand for the values that are none.
 const LOWEST: i64 = -127;
@@ -70,7 +70,7 @@ pub fn first_number(n: Numbers) -> usize
 }
 
 // The class of the value with a code.
-pub fn class_of(n: Numbers, c: u16) -> usize
+fn class_of(n: Numbers, c: u16) -> usize
     ensures { λ r. ⌜ r ≡ classOf n c ⌝ }
 {
     let f = finites(n);
@@ -87,7 +87,7 @@ pub fn class_of(n: Numbers, c: u16) -> usize
 }
 
 // The code of the value of a class that is not finite.
-pub fn special(n: Numbers, k: u8) -> u16
+fn special(n: Numbers, k: u8) -> u16
     ensures { λ r. ⌜ r ≡ special n k ⌝ }
 {
     2 * (n.z as u16) + (k as u16)
@@ -111,7 +111,7 @@ fn magnitude(v: i64) -> u64
 }
 
 // The distance from 0.
-pub fn absolute(v: i64) -> u64
+fn absolute(v: i64) -> u64
     ensures { λ r. ⌜ r ≡ natAbs v ⌝ }
 {
     if v < 0 {
@@ -133,14 +133,14 @@ fn modulo(v: i64, n: u16) -> u16
 }
 
 // The code of a number.
-pub fn code(n: Numbers, v: i64) -> u16
+fn code(n: Numbers, v: i64) -> u16
     ensures { λ r. ⌜ r ≡ code n v ⌝ }
 {
     modulo(v, finites(n))
 }
 
 // The number that has a code.
-pub fn signed(n: Numbers, c: u16) -> i64
+fn signed(n: Numbers, c: u16) -> i64
     ensures { λ r. ⌜ r ≡ signed n c ⌝ }
 {
     if c <= n.z as u16 {

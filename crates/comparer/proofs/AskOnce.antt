@@ -16,7 +16,7 @@ unfolding withKinds
 same-type κ S = ap (tyOf (S .numbers)) (kinds-type κ S)
 
 -- THEOREM: the complete plays of a sheet with names of kind 3
-pub kinds-play : KindsPlay
+kinds-play : KindsPlay
 kinds-play κ S u =
     rw (same-type κ S, kinds-term κ S, same-type all-freely S, kinds-term all-freely S)
       (sparing-plays κ (wholeType S) (termOf S) u)

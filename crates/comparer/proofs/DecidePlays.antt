@@ -42,7 +42,7 @@ abbrev pub task : ℕ → ℕ → ℕ → Task
 task all more most = record { n = all + more + 1; p = 0; q = all; f = all - 1; g = all + more - 1; most = most }
 
 -- the word of an entry is its only one
-pub spelled-unique : {n : ℕ} {ws : List ℕ} {k : ℕ} {x y : List ℕ} → Spelled n ws k x → Spelled n ws k y → x ≡ y
+spelled-unique : {n : ℕ} {ws : List ℕ} {k : ℕ} {x y : List ℕ} → Spelled n ws k x → Spelled n ws k y → x ≡ y
 spelled-unique none none = refl
 spelled-unique none (longer k h l s) = absurd (omega arith)
 spelled-unique (longer k h l s) none = absurd (omega arith)
@@ -78,7 +78,7 @@ module _ (ws space : List ℕ) (all more : ℕ) (D : Deciding ws space all more)
   all-is = sym (D .sized) ∙ sym (spots-size T M)
 
   -- the same of the second
-  pub more-is : more ≡ spots T M′ + 1
+  more-is : more ≡ spots T M′ + 1
   more-is = sym (D .other-sized) ∙ sym (spots-size T M′)
 
   -- what first_difference asks for

@@ -3,16 +3,13 @@
 use Prim.Native.Nat.{ℕ, zero, suc}
 use native.Mathlib.Omega.{arith}
 use mathlib.Core.Path.{_≡_, refl, sym, ap, _∙_}
-use mathlib.Core.Logic.{_↔_, _⊎_, inl, inr}
+use mathlib.Core.Logic.{_⊎_, inl, inr}
 use mathlib.Core.List.{List, [], _∷_, _++_}
-use mathlib.Core.Option.{Option, none}
 use lib.ListN.{length, take}
 use Rattle.language.specs.Move.{Word, records}
 use Rattle.procedures.specs.Written.{Sheet}
-use Rattle.comparer.specs.Plays.{Alike, Only, FirstPlay}
-use Rattle.comparer.specs.Refusals.{compareRefusal}
-use Rattle.comparer.specs.Promise.{SamePlays, ApartPlays, Decided, same, apart, Compared, ComparedBy}
-use Rattle.comparer.specs.Promise.{ComparePromise}
+use Rattle.comparer.specs.Plays.{Alike, Only}
+use Rattle.comparer.specs.Promise.{Decided, same, apart, Compared, ComparedBy}
 use Rattle.comparer.specs.Demands.{Shown, Exact, ExactAnswer}
 use Rattle.judge.specs.Mark.{usesOf}
 use Rattle.comparer.specs.declared.Comparison.{Comparison}

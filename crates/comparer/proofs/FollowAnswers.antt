@@ -1,8 +1,8 @@
 -- The answers of follow, case by case: what the calls on the way leave is what it promises.
-use mathlib.Core.Path.{_≡_, refl, sym, ap, ap₂, subst, _∙_}
-use mathlib.Core.Option.{Option, none, some}
+use mathlib.Core.Path.{_≡_, refl, sym, ap, subst, _∙_}
+use mathlib.Core.Option.{none, some}
 use mathlib.Core.List.{List}
-use Prim.Native.Nat.{ℕ, _+_, _*_, _-_, _≤_, _<_, min}
+use Prim.Native.Nat.{ℕ, _+_, _*_, _-_, _≤_, _<_}
 use native.Mathlib.Omega.{arith}
 use native.Mathlib.Nat.{mul-le-mul-left}
 use lib.Dec.{eqb, ltb}
@@ -29,7 +29,6 @@ use Rattle.play.specs.Records.{Given, moves, bad, parse}
 use Rattle.conditions.specs.Pair.{refusing}
 use Rattle.comparer.specs.Refusals.{onRead, onGiven, followRefusal}
 use Rattle.comparer.specs.Promise.{FollowedBy, FollowPromise}
-use Rattle.comparer.specs.declared.Following.{Following}
 use Rattle.comparer.specs.declared.Following.the-variants.{Follows, Refused}
 use Rattle.play_words.specs.declared.walk.Reach.{Reach}
 use Rattle.play.specs.declared.play.Parsed.{Parsed}

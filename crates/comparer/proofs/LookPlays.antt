@@ -3,7 +3,7 @@ use mathlib.Core.Path.{_≡_, refl, sym, ap, _∙_}
 use mathlib.Core.Logic.{inl}
 use mathlib.Core.List.{List}
 use mathlib.Core.Option.{Option, none, some}
-use Prim.Native.Nat.{ℕ, _+_, _-_, _≤_, _<_}
+use Prim.Native.Nat.{ℕ, _≤_, _<_}
 use native.Mathlib.Decide.{decLt}
 use native.Mathlib.Omega.{arith}
 use lib.ListN.{length}
@@ -39,7 +39,7 @@ module _ (S T : Sheet) (A : Accepted S) (B : Accepted T) (c : Comparable S T) wh
       differs S T (A .ordered .in-order) (B .ordered .in-order) c .1 (λ which u l o. not-alike which S T u o (h u l))
 
   -- THEOREM: the first play of exactly one has at most S + T - 1 moves
-  pub first-short : (which : ℕ) (play : Word) → FirstPlay S T which play → length play ≤ wholeDepth S T
+  first-short : (which : ℕ) (play : Word) → FirstPlay S T which play → length play ≤ wholeDepth S T
   first-short which play f = go (decLt (wholeDepth S T) (length play))
     where
       go : Dec (wholeDepth S T < length play) → length play ≤ wholeDepth S T
@@ -48,7 +48,7 @@ module _ (S T : Sheet) (A : Accepted S) (B : Accepted T) (c : Comparable S T) wh
         (all-alike (λ u k. f .earlier u (inl (omega arith))) play))
 
   -- what is found within S + T - 1 moves or more is what compare answers
-  pub decided-whole : (limit : ℕ) → wholeDepth S T ≤ limit → (f : Found) → FoundIn limit S T f →
+  decided-whole : (limit : ℕ) → wholeDepth S T ≤ limit → (f : Found) → FoundIn limit S T f →
       {space space′ : List ℕ} {r : Comparison} → space′ ≡ spaceAfter (S .numbers) f space →
       r ≡ answerOf (decisionOf f) (usesOf S) (usesOf T) → Decided S T space r space′
   unfolding FoundIn spaceAfter answerOf decisionOf

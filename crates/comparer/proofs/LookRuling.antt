@@ -3,7 +3,7 @@ use mathlib.Core.Path.{_≡_, refl, sym, ap, _∙_}
 use mathlib.Core.Logic.{_⊎_, inl, inr}
 use mathlib.Core.List.{List}
 use mathlib.Core.Option.{Option, none, some}
-use Prim.Native.Nat.{ℕ, _+_, _-_, _≤_, _<_}
+use Prim.Native.Nat.{ℕ, _≤_, _<_}
 use native.Mathlib.Decide.{decLt}
 use native.Mathlib.Omega.{arith}
 use lib.ListN.{length}
@@ -24,7 +24,6 @@ use Rattle.comparer.specs.LookRules.{Open}
 use Rattle.comparer.specs.LookRules.{LookCompare, LookLarger, LookWhole, LookUnique}
 use Rattle.comparer.specs.Demands.{Comparable}
 use Rattle.comparer.specs.declared.Comparison.{Comparison}
-use Rattle.comparer.specs.declared.Comparison.the-variants as compared
 use Rattle.comparer.specs.declared.Looking.{Looking}
 use Rattle.comparer.specs.declared.Looking.the-variants.{Same, SoFar}
 use Rattle.comparer.proofs.Exactly.{not-alike}

@@ -2,14 +2,14 @@
 use Prim.Native.Nat.{ℕ, _+_}
 use mathlib.Core.Path.{_≡_, refl, ap}
 use mathlib.Core.Bool.{true, false}
-use mathlib.Core.List.{List, [], _∷_, _++_, map}
+use mathlib.Core.List.{List, [], _∷_, map}
 use lib.Dec.{ltb}
 use Rattle.language.specs.declared.Numbers.{Numbers}
 use Rattle.language.specs.Ty.{run, ask, read, write, done, ok, value}
 use Rattle.language.specs.Move.{Word, question, answer, at, private, move, valueOf, kind, bytes, record-of, records}
 use Rattle.explicit.specs.Letter.{Small, AllSmall}
 use Rattle.explicit.proofs.Ranges.{sheet-small}
-use Rattle.play.specs.Records.{Given, moves, bad, preceded, parse}
+use Rattle.play.specs.Records.{moves, preceded, parse}
 use Rattle.comparer.specs.Demands.{RecordsOfMoves}
 
 -- a record of three bytes, and what follows it

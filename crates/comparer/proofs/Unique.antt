@@ -9,7 +9,6 @@ use native.Mathlib.Omega.{arith}
 use native.Mathlib.Decide.{decLt}
 use lib.ListN.{length}
 use lib.Dec.{ltb}
-use Rattle.language.specs.declared.Numbers.{Numbers}
 use Rattle.language.specs.Choice.{pick}
 use Rattle.language.specs.Move.{Word, Before}
 use Rattle.explicit.specs.Letter.{AllSmall}
@@ -19,7 +18,7 @@ use Rattle.sheet.specs.Fine.{Accepted}
 use Rattle.sheet.specs.Encoding.{headingLength}
 use Rattle.sheet.specs.Reader.{Answer, got, refused, Whole, whole, sizeIn, numbersAt, wholeOf, sheetIn, checks, written}
 use Rattle.records.specs.declared.edition.Edition.the-variants.{Present}
-use Rattle.sheet.specs.Reader.{Checks, accepted, rejected, readSheet, readUnder}
+use Rattle.sheet.specs.Reader.{accepted, rejected, readSheet, readUnder}
 use Rattle.records.specs.Refusal.{too-large}
 use Rattle.sheet.proofs.Right.{gives}
 use Rattle.records.specs.declared.refusal.Cause.{Cause}
@@ -27,7 +26,7 @@ use Rattle.comparer.specs.Plays.{Alike, Only, FirstPlay}
 use Rattle.play.specs.Records.{moves}
 use Rattle.conditions.specs.Pair.{matching, pairRefusal}
 use Rattle.comparer.specs.Refusals.{onRead, followRefusal, compareRefusal}
-use Rattle.comparer.specs.Promise.{Holds, Begins, Greatest, NoPlay, Counted, FollowedBy}
+use Rattle.comparer.specs.Promise.{Holds, Greatest, NoPlay, Counted, FollowedBy}
 use Rattle.comparer.specs.Promise.{Decided, same, apart, ComparedBy}
 use Rattle.comparer.specs.Demands.{Comparable, FollowUnique, CompareUnique}
 use Rattle.comparer.specs.declared.Comparison.{Comparison}
@@ -92,7 +91,7 @@ module _ (S T : Sheet) (A : Accepted S) (B : Accepted T) (e : S .numbers ≡ T .
   only-small (suc (suc k)) u h = absurd h
 
   -- a play of exactly one of them tells them apart
-  pub only-differ : (which : ℕ) (u : Word) → Only which S T u → Alike S T u → ⊥
+  only-differ : (which : ℕ) (u : Word) → Only which S T u → Alike S T u → ⊥
   unfolding Only
   only-differ zero u h a = h .1 (a .0 (h .0))
   only-differ (suc zero) u h a = h .1 (a .1 (h .0))
@@ -121,7 +120,7 @@ module _ (S T : Sheet) (A : Accepted S) (B : Accepted T) (e : S .numbers ≡ T .
       by (inr (inr b)) = absurd (only-differ other v (g .only) (f .earlier v b))
 
   -- THEOREM: there is one decision
-  pub one-decision : {space : List ℕ} {r r₂ : Comparison} {space₁ space₂ : List ℕ} → Decided S T space r space₁ →
+  one-decision : {space : List ℕ} {r r₂ : Comparison} {space₁ space₂ : List ℕ} → Decided S T space r space₁ →
       Decided S T space r₂ space₂ → (r ≡ r₂) × (space₁ ≡ space₂)
   one-decision (same h) (same k) = (h .answer ∙ sym (k .answer), h .space-kept ∙ sym (k .space-kept))
   one-decision (same h) (apart k) =

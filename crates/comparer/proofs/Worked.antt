@@ -107,7 +107,7 @@ module _ (S T : Sheet) (A : Accepted S) (B : Accepted T) where
   decided-so (apart which k) e = found-play which k _ e
 
 -- THEOREM: a row that is checked holds
-pub checked-row : (r : TableRow) → rowChecked r ≡ true → Worked r
+checked-row : (r : TableRow) → rowChecked r ≡ true → Worked r
 unfolding rowChecked rowRead
 checked-row r e = by (readSheet (r .old)) (readSheet (r .new)) refl refl e
   where

@@ -1,6 +1,5 @@
 -- The complete plays of sheets, and what tells two sheets apart. Document 01, "Plays", "Move records and their order".
 -- SHEETS 4.5 and 6.3.
-use mathlib.Core.Path.{_≡_}
 use mathlib.Core.Logic.{_↔_}
 use Prim.Native.Nat.{ℕ, zero, suc}
 use Rattle.language.specs.Move.{Word, Before}

@@ -2,11 +2,11 @@
 use mathlib.Core.Path.{_≡_}
 use mathlib.Core.Logic.{_↔_, _⊎_}
 use mathlib.Core.Bool.{Bool, true}
-use mathlib.Core.List.{List, [], _∷_, _++_, map}
+use mathlib.Core.List.{List, _++_, map}
 use mathlib.Core.Option.{Option, none, some}
 use Prim.Native.Nat.{ℕ, _+_, _-_, _≤_, _<_}
 use lib.ListN.{length, take, drop, replicate}
-use Rattle.language.specs.Move.{Word, Before, record-of, records}
+use Rattle.language.specs.Move.{Word, record-of, records}
 use Rattle.records.specs.declared.refusal.Cause.{Cause}
 use Rattle.procedures.specs.Written.{Sheet}
 use Rattle.sheet.specs.Reader.{readSheet, accepted}

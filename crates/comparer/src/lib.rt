@@ -8,7 +8,7 @@ pub mod causes;
 // The service follow.
 pub mod follow;
 // What compare and look share.
-pub mod examine;
+mod examine;
 // The service compare.
 pub mod compare;
 // The service look.

@@ -7,7 +7,7 @@ use borrow.Author.Tests.{lt-ltb, le-ltb}
 use Rattle.language.specs.declared.Numbers.{Numbers}
 use Rattle.language.specs.Number.{numbers}
 use Rattle.language.proofs.NumberLaws.{numbers-within}
-use Rattle.records.specs.Limits.{earlier-z, greatest-z}
+use Rattle.records.specs.Limits.{earlier-z}
 use Rattle.conditions.specs.Lent.{words-a-state, words-asked}
 use Rattle.conditions.specs.Figure.{OldFigure, NewFigure}
 use Rattle.conditions.specs.inner.Enough.{Enough}

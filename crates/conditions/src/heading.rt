@@ -4,7 +4,7 @@ ghost use mathlib.Core.Path.{_≡_};
 ghost use Rattle.conditions.specs.Pair.{sameFirst, matching};
 
 // Whether the first n bytes are the same.
-pub(crate) fn same_first(a: &[u8], b: &[u8], n: usize) -> bool
+fn same_first(a: &[u8], b: &[u8], n: usize) -> bool
     ensures { λ r. ⌜ r ≡ sameFirst n (now (a .entry)) (now (b .entry)) ⌝ }
 {
     let mut i = n;

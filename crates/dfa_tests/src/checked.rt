@@ -18,14 +18,14 @@ use search_words::word::spell;
 use silent::settle;
 
 // The requirements do not hold; no word tells the two states apart; the first that does has so many letters.
-pub enum Answer {
+pub(crate) enum Answer {
     Invalid,
     Equivalent,
     Distinguished(usize),
 }
 
 // The first word that exactly one of the two states accepts, its first letter first from word 5 n on.
-pub fn compare_checked(words: &mut [u32], t: Task) -> Answer
+pub(crate) fn compare_checked(words: &mut [u32], t: Task) -> Answer
     ensures { λ r. ⌜ Answered (rest (5 * t .n) (now (words .entry))) t (rest (5 * t .n) (now (words .exit))) r ⌝ }
 {
     let n = t.n;
@@ -51,7 +51,7 @@ pub fn compare_checked(words: &mut [u32], t: Task) -> Answer
 }
 
 // Every edge is led to where its target settles; false where the requirements do not hold.
-pub fn settle_checked(words: &mut [u32], n: usize) -> bool
+pub(crate) fn settle_checked(words: &mut [u32], n: usize) -> bool
     ensures { λ r. ⌜ (r ≡ true
         → Settling n (now (words .entry)) (rest (5 * n) (now (words .entry))) (rest (5 * n) (now (words .exit)))) ⌝ }
 {
@@ -69,14 +69,14 @@ pub fn settle_checked(words: &mut [u32], n: usize) -> bool
 }
 
 // The requirements do not hold; the state accepts some word; it accepts none.
-pub enum Life {
+pub(crate) enum Life {
     Invalid,
     Live,
     Dead,
 }
 
 // Whether the state p accepts some word, where f alone accepts.
-pub fn live_checked(words: &mut [u32], n: usize, p: usize, f: usize) -> Life
+pub(crate) fn live_checked(words: &mut [u32], n: usize, p: usize, f: usize) -> Life
     ensures { λ r. ⌜ Lives (rest (5 * n) (now (words .entry))) n f p r ⌝ }
 {
     if !live_ok(words, n, f) {

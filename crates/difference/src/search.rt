@@ -130,7 +130,7 @@ fn alike_at(words: &[u32], n: usize, k: usize, f: usize, g: usize) -> bool
 }
 
 // What a level gives: the entry whose states differ; or where there is none, the number of entries that there are then.
-pub enum Level {
+enum Level {
     Apart(usize),
     Alike(usize),
 }

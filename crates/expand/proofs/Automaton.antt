@@ -13,11 +13,11 @@ use Rattle.language.specs.Ty.{Ty}
 use Rattle.language.specs.declared.Numbers.{Numbers}
 use Rattle.language.specs.Term.{Often}
 use Rattle.procedures.specs.Written.{Name, declare, retire, Sheet}
-use Rattle.procedures.specs.Meaning.{Meaning, named, declared, useType, meaning, tyOf, termOf, typeOf}
+use Rattle.procedures.specs.Meaning.{named, declared, useType, meaning, tyOf, termOf, typeOf}
 use Rattle.procedures.specs.Fine.{FineNames, WellFormed}
 use Rattle.procedures.specs.Occurs.{IsParameter}
 use Rattle.procedures.specs.Context.{whole, binders}
-use Rattle.procedures.specs.Shared.{Row, Rep, Fresh}
+use Rattle.procedures.specs.Shared.{Row, Rep}
 use Rattle.procedures.specs.Expand.{no-slots, Expands, Expansion}
 use Rattle.procedures.specs.Rules.{RowsRepresent, FewRows}
 use Rattle.procedures.proofs.Expanding.{expands-sheet}
@@ -28,7 +28,7 @@ use Rattle.closing.specs.Rows.{decode}
 use Rattle.expand.specs.Local.{Local}
 use Rattle.expand.specs.Words.{Worded, AllWorded, no-block}
 use Rattle.expand.proofs.Bridge.{bridge}
-use Rattle.expand.proofs.Covering.{RowTyped, TypedIn, Five, Blocks, Covered, cover, typed-row}
+use Rattle.expand.proofs.Covering.{RowTyped, TypedIn, Blocks, Covered, cover, typed-row}
 
 by-test : {P : Type 0} (t : Bool) → (t ≡ true → P) → (t ≡ false → P) → P
 by-test true f g = f refl

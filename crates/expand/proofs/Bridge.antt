@@ -1,17 +1,17 @@
 -- Shared rows in words represent a term as the automaton reads them.
-use Prim.Native.Nat.{ℕ, zero, suc, _+_, _*_, _≤_, _<_, max, min}
+use Prim.Native.Nat.{ℕ, zero, suc, _+_, _*_, _≤_, _<_}
 use native.Mathlib.Omega.{arith}
 use mathlib.Core.Path.{_≡_, refl, sym, ap, ap₂, _∙_, subst}
 use mathlib.Core.Option.{Option, some}
 use mathlib.Core.Bool.{Bool, true, false}
-use mathlib.Core.List.{List, [], _∷_}
+use mathlib.Core.List.{List, _∷_}
 use Rattle.language.specs.Choice.{pick}
 use Rattle.language.specs.Number.{numbers, finites}
 use Rattle.language.specs.Operators.{takesNumbers}
 use Rattle.language.specs.Ty.{Ty, command, expression, variable, questions, answers}
 use Rattle.language.specs.Term as t
 use Rattle.language.specs.Term.{Term, Args, Operation}
-use Rattle.language.specs.Typing.{Scope, here, there, operands, results}
+use Rattle.language.specs.Typing.{Scope, here, there, operands}
 use Rattle.language.specs.Weight.{weight, weightArgs}
 use Rattle.language.specs.declared.Numbers.{Numbers}
 use Rattle.language.specs.Term.{Often, onces}
@@ -19,7 +19,7 @@ use Rattle.language.specs.Weight.{useWeight}
 use Rattle.procedures.specs.Held.{held}
 use Rattle.procedures.specs.Nodes.{deep, deepArgs}
 use Rattle.procedures.specs.Shared as s
-use Rattle.procedures.specs.Shared.{Parts, no-part, part, Row, Rep, Reps, rep-skip, rep-diverge, rep-const, rep-private}
+use Rattle.procedures.specs.Shared.{Parts, Row, Rep, Reps, rep-skip, rep-diverge, rep-const, rep-private}
 use Rattle.procedures.specs.Shared.{rep-name, rep-fetch, rep-operate, rep-assign, rep-seq, rep-while, rep-cond, rep-new}
 use Rattle.procedures.specs.Shared.{rep-none, rep-part, Fresh}
 use Rattle.nodes.specs.Rep as n
@@ -28,7 +28,7 @@ use Rattle.nodes.specs.Rep.{TyRow, count, r-skip, r-diverge, r-const, r-private
 use Rattle.nodes.specs.Rep.{r-assign, r-seq, r-cond, r-while, r-new, RepArgs, r-none, r-arg}
 use Rattle.expand.specs.Words.{counted, argumentWeights, Arguments, RowWords, Worded, of-skip, of-diverge, of-const}
 use Rattle.expand.specs.Words.{of-private, of-name, of-fetch, of-operate, of-assign, of-seq, of-cond, of-while}
-use Rattle.expand.specs.Words.{of-new, AllWorded, Valued, no-block, a-block}
+use Rattle.expand.specs.Words.{of-new, AllWorded, Valued, a-block}
 
 -- a row has one type
 ty-unique : (u : List ℕ) (r : ℕ) (S T : Ty) → TyRow u r S → TyRow u r T → S ≡ T

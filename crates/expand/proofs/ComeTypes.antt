@@ -5,22 +5,20 @@ use mathlib.Core.Path.{_≡_, refl, sym, ap, _∙_}
 use mathlib.Core.Bool.{Bool, true, false}
 use mathlib.Core.List.{List, [], _∷_}
 use lib.ListN.{length, getD}
-use lib.Dec.{eqb, ltb}
+use lib.Dec.{ltb}
 use borrow.Author.Tests.{eq-eqb, ne-eqb, ltb-true, ltb-false}
-use Rattle.language.specs.Choice.{pick}
 use Rattle.language.specs.declared.Numbers.{Numbers}
 use Rattle.procedures.specs.Environment.{beyond}
 use Rattle.procedures.specs.Written.{Written, skip, diverge, truth, number, call, fetch, operate, assign, sequence}
 use Rattle.procedures.specs.Written.{while, choose, new, procedure, Parameter, Writtens, none, more, Name}
 use Rattle.procedures.specs.Meaning.{Binder, a-block, a-parameter, a-procedure, Meaning, private, argument, routine, named}
-use Rattle.procedures.specs.Meaning.{retired, free, declared, meant, meaning, inside, typesOf, after, typed, useType}
+use Rattle.procedures.specs.Meaning.{retired, free, meant, meaning, inside, typesOf, after, typed, useType}
 use Rattle.procedures.specs.Meaning.{byMeaning}
 use Rattle.procedures.specs.Fine.{FineUse, Fine, FineArgs}
 use Rattle.procedures.specs.Come.{come, comes, through}
 use Rattle.procedures.specs.Context.{Context, whole, in-block, in-procedure, in-scope, binders, downs, Sees, sees-it}
 use Rattle.procedures.specs.Context.{from-block, from-procedure, from-scope}
-use Rattle.procedures.proofs.Numbering.{Below, below, beyond-below, beyond-at, all-declared, one-more-binder}
-use Rattle.procedures.proofs.Contexts.{all-inside}
+use Rattle.procedures.proofs.Numbering.{Below, beyond-below, beyond-at, all-declared, one-more-binder}
 use Rattle.expand.specs.Types.{typeAt}
 
 by-test : {P : Type 0} (t : Bool) → (t ≡ true → P) → (t ≡ false → P) → P

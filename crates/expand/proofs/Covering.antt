@@ -1,11 +1,11 @@
 -- Every row that an expansion makes is so in words: its parts' rows have the types that it asks for. Document 02 [1].
-use Prim.Native.Nat.{ℕ, zero, suc, _+_, _-_, _*_, _%_, _≤_, _<_, min}
+use Prim.Native.Nat.{ℕ, zero, suc, _+_, _-_, _*_, _≤_, _<_}
 use native.Mathlib.Omega.{arith}
 use native.Mathlib.Decide.{decLe}
 use native.Mathlib.Numerals.{add-one}
 use mathlib.Core.Path.{_≡_, refl, sym, ap, _∙_, subst}
 use mathlib.Core.Logic.{_⊎_, inl, inr}
-use mathlib.Core.Option.{Option, none, some}
+use mathlib.Core.Option.{Option, some}
 use mathlib.Core.List.{List, [], _∷_}
 use lib.ListN.{length, getD}
 use borrow.Author.Tests.{lt-ltb, le-ltb, ne-eqb}
@@ -16,11 +16,11 @@ use Rattle.language.specs.Term.{Operation, Often, onces}
 use Rattle.language.specs.Typing.{operands, results}
 use Rattle.language.specs.declared.Numbers.{Numbers}
 use Rattle.language.specs.Weight.{useWeight}
-use Rattle.parts.specs.Rule.{values, operandType, resultType}
+use Rattle.parts.specs.Rule.{values, operandType}
 use Rattle.part_rows.specs.Row.{classOf, word}
 use Rattle.procedures.specs.Environment.{beyond}
 use Rattle.procedures.specs.Written.{Written, skip, diverge, truth, number, call, fetch, operate, assign, sequence}
-use Rattle.procedures.specs.Written.{while, choose, new, procedure, Parameter, Writtens, more, Name}
+use Rattle.procedures.specs.Written.{while, choose, new, Parameter, Writtens, Name}
 use Rattle.procedures.specs.Meaning.{Binder, a-block, a-parameter, a-procedure, Meaning, private, argument, routine}
 use Rattle.procedures.specs.Meaning.{named, retired, free, declared, meant, meaning, inside, typesOf, after, typed}
 use Rattle.procedures.specs.Meaning.{tyOf, useType, some-value, byMeaning}
@@ -46,10 +46,10 @@ use Rattle.procedures.proofs.Making.{grows, grows-args, grows-passes}
 use Rattle.procedures.proofs.ComeUsed.{Uses, come-used}
 use Rattle.procedures.proofs.WellTyped.{typed-below}
 use Rattle.procedures.proofs.Types.{Class, class, a-command, an-expression, a-variable, ty-expression, ty-variable}
-use Rattle.procedures.proofs.Types.{ty-command, ty-truth, ty-number, values-up, operands-type, operands-values}
+use Rattle.procedures.proofs.Types.{ty-command, ty-truth, ty-number, values-up, operands-type}
 use Rattle.procedures.proofs.Types.{results-type}
 use Rattle.nodes.specs.Rep.{TyRow}
-use Rattle.closing.specs.Rows.{decode, rowOf, partsFrom, rowWeight, partsWeight}
+use Rattle.closing.specs.Rows.{decode, partsFrom, rowWeight, partsWeight}
 use Rattle.expand.specs.Local.{Right, Local, LocalArgs, LocalPasses}
 use Rattle.expand.specs.Types.{typeAt}
 use Rattle.expand.specs.Words as w

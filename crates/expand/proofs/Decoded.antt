@@ -1,13 +1,12 @@
 -- What the words of a row are, from what it is.
 use Prim.Native.Nat.{ℕ, _%_}
 use native.Mathlib.Omega.{arith}
-use mathlib.Core.Path.{_≡_, refl, sym, subst}
+use mathlib.Core.Path.{_≡_, refl, subst}
 use mathlib.Core.Bool.{Bool, true, false}
-use mathlib.Core.Option.{Option, none, some}
+use mathlib.Core.Option.{none, some}
 use mathlib.Core.List.{List}
 use lib.Dec.{eqb}
 use borrow.Author.Tests.{eqb-true}
-use Rattle.language.specs.Choice.{pick}
 use Rattle.language.specs.Ty.{Ty}
 use Rattle.language.specs.Term.{Operation}
 use Rattle.language.specs.Typing.{operands}

@@ -85,7 +85,7 @@ pub weight-between : (n m a : ℕ) (A B : List ℕ) → n ≤ a → a < m → Be
 unfolding Between word cell
 weight-between n m a A B p q f = f (9 * a + 1) (omega arith) (omega arith)
 
-pub word-between : (n m a i : ℕ) (A B : List ℕ) → i < 9 → n ≤ a → a < m → Between n m A B → word B a i ≡ word A a i
+word-between : (n m a i : ℕ) (A B : List ℕ) → i < 9 → n ≤ a → a < m → Between n m A B → word B a i ≡ word A a i
 unfolding Between word cell
 word-between n m a i A B l p q f = f (9 * a + i) (omega arith) (omega arith)
 

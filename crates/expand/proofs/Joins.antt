@@ -91,7 +91,7 @@ pub no-parts : (t : List ℕ) (at kind detail w : ℕ) → kind ≡ word t at KI
 no-parts t at kind detail w k e f z = rw (← k, ← e) (sym f ∙ z)
 
 -- a use
-pub use-made : (t marks slots : List ℕ) (level left at : ℕ) (rows between after : List ℕ)
+use-made : (t marks slots : List ℕ) (level left at : ℕ) (rows between after : List ℕ)
     (n a b c d i r m detail p k l body used more : ℕ) (inner : List ℕ) →
     detail ≡ word t at DETAIL → p ≡ detail % 4096 → k ≡ word t p DETAIL → body ≡ word t p PARTS →
     used ≡ usedOf (getD marks p 0) → l ≡ detail / 4096 → more ≡ moreOf k l →

@@ -27,7 +27,6 @@ use Rattle.expand.specs.Local.{Local, LocalArgs}
 use Rattle.closing.specs.Close.{firstBits, partsOf, argumentWeight, nameWeight, detailOf}
 use Rattle.expand.specs.Contract.{turns, Expanded, Pieces, Closed}
 use Rattle.expand.proofs.Places.{shown-row}
-use Rattle.expand.proofs.Frames.{upper-part}
 use Rattle.expand.proofs.Running.{Site, Passed, rowsOf, many, Good}
 use Rattle.expand.proofs.Decoding.{name-declared, row-name, weight-name}
 use Rattle.expand.proofs.Closing.{sumMade, Got, Wrote, close, starts, right}

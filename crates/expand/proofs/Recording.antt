@@ -17,7 +17,7 @@ use Rattle.procedures.specs.Context.{Context, binders}
 use Rattle.procedures.specs.Shared as s
 use Rattle.procedures.specs.Expand.{Slots, operation, of-skip, of-diverge, of-truth, of-number, of-private, of-fetch}
 use Rattle.procedures.specs.Expand.{of-operate, of-assign, of-sequence, of-choose, of-while}
-use Rattle.part_rows.specs.PartKind.{SKIP, DIVERGE, CONSTANT, FETCH, OPERATE, ASSIGN, SEQUENCE, IF, WHILE, NEW, PRIVATE}
+use Rattle.part_rows.specs.PartKind.{SKIP, DIVERGE, CONSTANT, FETCH, OPERATE, ASSIGN, SEQUENCE, IF, WHILE, PRIVATE}
 use Rattle.part_rows.specs.PartKind.{KIND, DETAIL, PARTS, WEIGHT}
 use Rattle.part_rows.specs.Row.{word}
 use Rattle.procedures.specs.Table.{PartRow, Shown, shown-none, shown-more, Few}
@@ -138,10 +138,6 @@ module _ (N : Numbers) (ns : List Name) (t marks slots : List ℕ) (Γ : Context
   detail-operate : word t at KIND ≡ OPERATE → detailOf t slots at ≡ word t at DETAIL
   unfolding detailOf
   detail-operate k = rw k
-
-  detail-new : word t at KIND ≡ NEW → detailOf t slots at ≡ word t at DETAIL
-  unfolding detailOf
-  detail-new k = rw k
 
   -- the values of the first part
   first-of : (x : Written) (a b : ℕ) → word t at PARTS ≡ a → Shown N ns t Γ π a b x →

@@ -47,7 +47,7 @@ pub passed-more : (Γ : Context) (ε : Slots) (n m : ℕ) → n ≤ m → Passed
 passed-more Γ ε n m l f s p = within-more n m (ε .passed s) l (f s p)
 
 -- and weigh the same where their rows stay
-pub weighs-stay : (Γ : Context) (ε : Slots) (n : ℕ) (A B : List ℕ) → Passed Γ ε n → Below n A B → length A ≡ TERM-WORDS →
+weighs-stay : (Γ : Context) (ε : Slots) (n : ℕ) (A B : List ℕ) → Passed Γ ε n → Below n A B → length A ≡ TERM-WORDS →
     length B ≡ TERM-WORDS → Weighs Γ ε A B
 unfolding Weighs
 weighs-stay Γ ε n A B f g p q = (q, λ s i. weight-stays n (ε .passed s) A B (f s i) g p q)

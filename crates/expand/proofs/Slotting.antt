@@ -64,7 +64,7 @@ shows-parameter slots ε (a-parameter id ty ∷ bs) s h (inr p) = shows-paramete
 shows-parameter slots ε (a-procedure id ty tys ∷ bs) s h p = shows-parameter slots ε bs s h p
 
 -- slots that are the same below the number of the binders
-pub shows-same : (slots inner : List ℕ) (ε δ : Slots) (bs : List Binder) →
+shows-same : (slots inner : List ℕ) (ε δ : Slots) (bs : List Binder) →
     ((s : ℕ) → s < length bs → getD inner s 0 ≡ getD slots s 0) → ((s : ℕ) → s < length bs → δ .block s ≡ ε .block s) →
     ((s : ℕ) → s < length bs → δ .passed s ≡ ε .passed s) → Shows slots ε bs → Shows inner δ bs
 unfolding Shows

@@ -56,7 +56,7 @@ bit-next : (x y j : ℕ) → x < 2 → bitOf (x + 2 * y) (suc j) ≡ bitOf y j
 unfolding bitOf
 bit-next x y j h = rw (upper-part 2 x y h)
 
-pub bit-used : (u : ℕ → ℕ) (i : ℕ) → i < 4 → bitOf (bits u) i ≡ sign (u i)
+bit-used : (u : ℕ → ℕ) (i : ℕ) → i < 4 → bitOf (bits u) i ≡ sign (u i)
 unfolding bits
 bit-used u i h = rw nested (go i h)
   where
@@ -96,7 +96,7 @@ weighs-length : (Γ : Context) (ε : Slots) (rows T : List ℕ) → Weighs Γ ε
 unfolding Weighs
 weighs-length Γ ε rows T w = w .0
 
-pub some-depth : (W : Written) → 0 < depth W
+some-depth : (W : Written) → 0 < depth W
 unfolding depth
 some-depth w.skip = omega arith
 some-depth (w.diverge ty) = omega arith

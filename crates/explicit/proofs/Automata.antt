@@ -107,7 +107,7 @@ module _ {ws : List ℕ} {n : ℕ} {row : ℕ → StateRow} (A : Automaton ws n 
   silent-of p h = rw (A .shown .silents p h) (A .fine p h .silent-state)
 
   -- THEOREM: a letter leads where the row of the state leads
-  pub leads-of : (p x : ℕ) → p < n → δ (rest (5 * n) ws) n p x ≡ lookup (n - 1) (row p .edges) x
+  leads-of : (p x : ℕ) → p < n → δ (rest (5 * n) ws) n p x ≡ lookup (n - 1) (row p .edges) x
   leads-of p x h =
       let e : edgesBelow row p + length (row p .edges) - edgesBelow row p ≡ length (row p .edges) = omega arith in
       rw (first-of p (omega arith), next-of p h, e)

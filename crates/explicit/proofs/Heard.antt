@@ -188,7 +188,7 @@ nameWait t s node q c =
     record { state = s; id = nameId t node; at = node; kind = kindQ q; value = valueQ q; count = c }
 
 module _ (t : List ℕ) (s node : ℕ) (q : Question) (c : ℕ) where
-  pub wait-at : waitOf t s node (kindQ q) (valueQ q) c ≡ nameWait t s node q c
+  wait-at : waitOf t s node (kindQ q) (valueQ q) c ≡ nameWait t s node q c
   unfolding waitOf
   wait-at = rw (not-seven q) refl
 

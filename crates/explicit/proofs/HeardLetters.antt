@@ -20,7 +20,7 @@ use Rattle.explicit.specs.inner.Moves.{letterOf, limitOf, edgeBy, valueE
 use Rattle.explicit.specs.inner.Moves.{heardEdges}
 use Rattle.explicit.proofs.EdgeLists.{Climbs, climbs-from, climbs-to}
 use Rattle.explicit.proofs.EdgeLists.{climbs-append}
-use Rattle.explicit.proofs.Heard.{limit-one, kinds}
+use Rattle.explicit.proofs.Heard.{limit-one}
 use Rattle.explicit.proofs.HeardEdges.{candidate}
 
 module _ (t : List ℕ) (N : Numbers) (s : Site) (wait : Wait) where

@@ -2,7 +2,7 @@
 use mathlib.Core.Path.{_≡_, refl, sym, ap, _∙_}
 use mathlib.Core.Logic.{_↔_}
 use mathlib.Core.List.{List, []}
-use Prim.Native.Nat.{ℕ, zero, suc, _+_}
+use Prim.Native.Nat.{ℕ, _+_}
 use native.Mathlib.Omega.{arith}
 use Rattle.language.specs.declared.Numbers.{Numbers}
 use Rattle.language.specs.Ty.{Ty}
@@ -10,9 +10,9 @@ use Rattle.language.specs.Term.{Term}
 use Rattle.language.specs.Typing.{Typed}
 use Rattle.language.specs.Move.{Word}
 use Rattle.language.specs.Play.{Complete}
-use Rattle.machine.specs.Action.{Next, to, out, dead, Action, hear, mapAction}
+use Rattle.machine.specs.Action.{to, mapAction}
 use Rattle.machine.specs.Numbered.{single, iso, sum, sum-code}
-use Rattle.machine.specs.Settle.{Index, settle, run}
+use Rattle.machine.specs.Settle.{run}
 use Rattle.machine.specs.Sheet.{start, sheet, spots, numbered-sheet, numbered-spots, index, numbered-step, steps}
 use Rattle.machine.specs.Sheet.{begin}
 use Rattle.machine.proofs.EdgeLaws.{Visible}

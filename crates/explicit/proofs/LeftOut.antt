@@ -9,13 +9,12 @@ use Rattle.language.specs.Move.{question, answer, at, private, Move, move}
 use Rattle.explicit.specs.Letter.{letter, Small}
 use Rattle.machine.specs.Action.{Next, dead, Heard, asked, answered, opened, Listen, who, heard, Hears}
 use Rattle.machine.specs.Decide.{when, hears?}
-use Rattle.machine.specs.Edge.{received, edge-hear, edge}
+use Rattle.machine.specs.Edge.{received, edge-hear}
 use Rattle.automaton.specs.walk.Shows.{moveOf}
 use Rattle.automaton.proofs.Sums.{when-no}
 use Rattle.explicit.specs.declared.Wait.{Wait}
 use Rattle.part_path.specs.declared.Site.{Site}
 use Rattle.explicit.specs.inner.Moves.{letterOf, edgeBy, heardEdges}
-use Rattle.explicit.specs.inner.Acts.{waits, leads}
 use Rattle.language.specs.Order.{codeAt}
 use Rattle.language.proofs.OrderLaws.{code-at-each}
 use Rattle.explicit.proofs.Codes.{letter-of}

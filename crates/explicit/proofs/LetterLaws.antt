@@ -2,11 +2,11 @@
 use Prim.Native.Nat.{ℕ, _+_, _*_, _≤_, _<_}
 use native.Mathlib.Omega.{arith}
 use mathlib.Core.Path.{_≡_, refl, sym, _∙_}
-use mathlib.Core.Logic.{_⊎_, inl, inr}
+use mathlib.Core.Logic.{inl, inr}
 use mathlib.Core.List.{List, [], _∷_}
 use Rattle.language.specs.declared.Numbers.{Numbers}
-use Rattle.language.specs.Ty.{Question, run, ask, read, write, Answer, done, ok, value}
-use Rattle.language.specs.Move.{Event, question, answer, Place, at, private, Move, move, kind, valueOf}
+use Rattle.language.specs.Ty.{run, ask, read, write, done, ok, value}
+use Rattle.language.specs.Move.{Event, question, answer, at, private, Move, move, kind, valueOf}
 use Rattle.language.specs.Move.{ByValue, Earlier}
 use Rattle.language.proofs.OrderLaws.{rank-small, rank-order, unrank}
 use Rattle.explicit.specs.Letter.{ranked, letter, eventOf, Values, Small}

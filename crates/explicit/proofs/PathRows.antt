@@ -1,9 +1,7 @@
 -- The row of a state at which the path has arrived.
 use mathlib.Core.Path.{_≡_, refl, sym, _∙_, ap}
-use mathlib.Core.Bool.{true, false}
-use mathlib.Core.List.{List, [], _∷_}
+use mathlib.Core.List.{List, []}
 use Prim.Native.Nat.{ℕ, _-_}
-use Rattle.language.specs.Choice.{pick}
 use Rattle.language.specs.declared.Numbers.{Numbers}
 use Rattle.term_positions.specs.declared.Move.{Move}
 use Rattle.term_positions.specs.declared.Frame.{Frame}
@@ -13,7 +11,7 @@ use Rattle.term_positions.specs.Row.{sumOf}
 use Rattle.part_path.specs.declared.Site.{Site}
 use Rattle.explicit.specs.declared.Wait.{Wait}
 use Rattle.part_path.specs.Path.{riseAll, Owned}
-use Rattle.part_path.specs.Levels.{framesOf, Sound}
+use Rattle.part_path.specs.Levels.{framesOf}
 use Rattle.part_path.specs.Kept.{Arrived}
 use Rattle.explicit.specs.inner.Rows.{withEdge, withEdges, past, withHead}
 use Rattle.explicit.specs.inner.Moves.{letterOf, waitOf, visibleOf, silentOf, edgesOf, heardEdges}

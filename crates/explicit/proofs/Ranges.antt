@@ -1,9 +1,9 @@
 -- The term of an accepted sheet has ids, arguments and data in range, so that every move of its complete plays has a
 -- letter.
-use mathlib.Core.Path.{_≡_, refl, sym, ap, _∙_}
+use mathlib.Core.Path.{_≡_}
 use mathlib.Core.Bool.{Bool, true, false}
 use mathlib.Core.List.{List, [], _∷_}
-use Prim.Native.Nat.{ℕ, zero, suc, _+_, _-_, _*_, _≤_, _<_}
+use Prim.Native.Nat.{ℕ, zero, suc, _+_, _-_, _≤_, _<_}
 use native.Mathlib.Omega.{arith}
 use lib.ListN.{length}
 use lib.Dec.{eqb}
@@ -11,7 +11,7 @@ use Rattle.language.specs.Choice.{pick}
 use Rattle.language.specs.declared.Numbers.{Numbers}
 use Rattle.language.specs.Number.{numbers}
 use Rattle.language.proofs.NumberLaws.{finites-are, finites-within}
-use Rattle.language.specs.Ty.{Ty, command, expression, variable}
+use Rattle.language.specs.Ty.{command, expression, variable}
 use Rattle.language.specs.Move.{Word}
 use Rattle.language.specs.Play.{Complete}
 use Rattle.language.specs.Term as t

@@ -59,7 +59,7 @@ module _ {N : Numbers} {t : List ℕ} (s : Site) {T : Ty} {M : Term} (R : Ready 
   row-few k l (no h) = absurd (h l)
 
   -- THEOREM: the first c rows have at most as many edges as the degrees of their states
-  pub rows-few : (c : ℕ) → c ≤ spots T M → edgesBelow (rowOf t N s) c ≤ total (degreeAt T M) c
+  rows-few : (c : ℕ) → c ≤ spots T M → edgesBelow (rowOf t N s) c ≤ total (degreeAt T M) c
   unfolding edgesBelow total degreeAt
   rows-few zero h = omega arith
   rows-few (suc c) h =

@@ -4,7 +4,7 @@ use mathlib.Core.Logic.{_⊎_, inl, inr}
 use Prim.Native.Nat.{ℕ, _+_, _-_, _≤_, _<_}
 use native.Mathlib.Omega.{arith}
 use Rattle.language.specs.declared.Numbers.{Numbers}
-use Rattle.language.specs.Move.{Move, move}
+use Rattle.language.specs.Move.{Move}
 use Rattle.explicit.specs.Letter.{letter, Small}
 use Rattle.explicit.proofs.LetterLaws.{letter-injective}
 use Rattle.machine.specs.Action.{Next, to, out, dead}

@@ -1,17 +1,17 @@
 -- Every move of a complete play has a letter, where the ids, the arguments and the data of the term are in range.
-use mathlib.Core.Path.{_≡_, refl, ap}
+use mathlib.Core.Path.{_≡_, refl}
 use mathlib.Core.Logic.{inl, inr}
-use mathlib.Core.List.{List, [], _∷_, _++_}
+use mathlib.Core.List.{[], _∷_, _++_}
 use Prim.Native.Nat.{ℕ, zero, suc, _+_, _<_}
 use native.Mathlib.Omega.{arith}
 use Rattle.language.specs.declared.Numbers.{Numbers}
 use Rattle.language.specs.Ty.{Ty, Question, run, ask, read, write, Answer, done, ok, value}
 use Rattle.language.specs.Ty.{Answers, to-run, to-ask, to-read, to-write}
-use Rattle.language.specs.Move.{Event, question, answer, at, private, Move, move, Word, valueOf}
+use Rattle.language.specs.Move.{question, answer, at, private, move, Word, valueOf}
 use Rattle.language.specs.Term as t
 use Rattle.language.specs.Term.{Term, skip, diverge, const, name, fetch, operate, assign, seq, while, cond, new}
 use Rattle.language.specs.Term.{Often, freely, once, Args, no-args, arg}
-use Rattle.language.specs.Play.{Cat, Star, end, more, none, one, hide, AsOften, Use, Plays, PlaysArg, whole, Complete}
+use Rattle.language.specs.Play.{Cat, Star, end, more, none, one, hide, AsOften, Use, Plays, PlaysArg, Complete}
 use Rattle.explicit.specs.Letter.{Values, Small, AllSmall}
 use Rattle.machine.specs.Range.{TyIn, InRange, InRangeArgs}
 use Rattle.machine.proofs.Block.{Tidy, clear, seen, used}

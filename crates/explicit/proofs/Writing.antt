@@ -26,7 +26,7 @@ unfolding past
 past-append e [] ys = refl
 past-append e (x ∷ xs) ys = past-append (sumOf e 1) xs ys
 
-pub past-plus : (e : ℕ) (xs : List Edge) → e + length xs < 4294967296 → past e xs ≡ e + length xs
+past-plus : (e : ℕ) (xs : List Edge) → e + length xs < 4294967296 → past e xs ≡ e + length xs
 unfolding past
 past-plus e [] h = omega arith
 past-plus e (x ∷ xs) h = rw (sum-small e 1 (omega arith)) (past-plus (e + 1) xs (omega arith) ∙ omega arith)
@@ -39,14 +39,14 @@ edge-length : (ws : List ℕ) (n e l t : ℕ) → length (withEdge ws n e l t) �
 unfolding withEdge
 edge-length ws n e l t = two-length ws (edgeAt n e) (sumOf (edgeAt n e) 1) (l % 4294967296) (t % 4294967296)
 
-pub edges-length : (ws : List ℕ) (n e : ℕ) (xs : List Edge) → length (withEdges ws n e xs) ≡ length ws
+edges-length : (ws : List ℕ) (n e : ℕ) (xs : List Edge) → length (withEdges ws n e xs) ≡ length ws
 unfolding withEdges
 edges-length ws n e [] = refl
 edges-length ws n e (x ∷ xs) =
     edges-length (withEdge ws n e (x .letter) (x .target)) n (sumOf e 1) xs ∙
       edge-length ws n e (x .letter) (x .target)
 
-pub head-length : (ws : List ℕ) (n p e s : ℕ) → length (withHead ws n p e s) ≡ length ws
+head-length : (ws : List ℕ) (n p e s : ℕ) → length (withHead ws n p e s) ≡ length ws
 unfolding withHead
 head-length ws n p e s = two-length ws p (mulAddOf 5 n p) (s % 4294967296) (e % 4294967296)
 
@@ -78,7 +78,7 @@ two-second : (ws : List ℕ) (i j a b : ℕ) → j < length ws → getD (set (se
 two-second ws i j a b h = getD-set-same (set ws i a) j b 0 (omega (arith, length-set ws i a))
 
 -- an edge is two words, and a head is two words
-pub edge-at : (n e : ℕ) → n ≤ 8193 → 6 * n + 1 + 2 * e < 4294967296 → edgeAt n e ≡ 6 * n + 1 + 2 * e
+edge-at : (n e : ℕ) → n ≤ 8193 → 6 * n + 1 + 2 * e < 4294967296 → edgeAt n e ≡ 6 * n + 1 + 2 * e
 unfolding edgeAt
 edge-at n e f h =
     rw (mul-add-small 6 n 1 (omega arith) (omega arith) (omega arith), sum-small e e (omega arith))
@@ -99,7 +99,7 @@ unfolding withHead
 head-is ws n p e s f h = rw (mul-add-small 5 n p (omega arith) (omega arith) (omega arith))
 
 -- the words that edges from edge e on leave: those before them, and those after them
-pub edges-other : (ws : List ℕ) (n e : ℕ) (xs : List Edge) → n ≤ 8193 →
+edges-other : (ws : List ℕ) (n e : ℕ) (xs : List Edge) → n ≤ 8193 →
     6 * n + 1 + 2 * (e + length xs) < 4294967296 → (j : ℕ) →
     ((6 * n + 1 + 2 * e ≤ j) → j < 6 * n + 1 + 2 * (e + length xs) → ⊥) →
     getD (withEdges ws n e xs) j 0 ≡ getD ws j 0
@@ -114,7 +114,7 @@ edges-other ws n e (x ∷ xs) f s j out =
           (λ q. out (omega arith) (omega arith)) (λ q. out (omega arith) (omega arith)))
 
 -- the words of a row: its head, and its edges
-pub row-other : (ws : List ℕ) (n o k e : ℕ) (r : StateRow) → n ≤ 8193 → o + k < n →
+row-other : (ws : List ℕ) (n o k e : ℕ) (r : StateRow) → n ≤ 8193 → o + k < n →
     6 * n + 1 + 2 * (e + length (r .edges)) < 4294967296 → (j : ℕ) → j ≢ o + k → j ≢ 5 * n + (o + k) →
     ((6 * n + 1 + 2 * e ≤ j) → j < 6 * n + 1 + 2 * (e + length (r .edges)) → ⊥) →
     getD (withRow ws n o k e r) j 0 ≡ getD ws j 0
@@ -218,7 +218,7 @@ pub edges-up : (row : ℕ → StateRow) (p q : ℕ) → p ≤ q → edgesBelow r
 edges-up row p q h = edges-more row p (q - p) q (omega arith)
 
 -- rows are shown on where their words stay
-pub shown-on : (ws vs : List ℕ) (n c : ℕ) (row : ℕ → StateRow) →
+shown-on : (ws vs : List ℕ) (n c : ℕ) (row : ℕ → StateRow) →
     ((j : ℕ) → j < c → getD vs j 0 ≡ getD ws j 0) →
     ((j : ℕ) → 5 * n ≤ j → j < 5 * n + c → getD vs j 0 ≡ getD ws j 0) →
     ((j : ℕ) → 6 * n + 1 ≤ j → j < 6 * n + 1 + 2 * edgesBelow row c → getD vs j 0 ≡ getD ws j 0) →
@@ -322,7 +322,7 @@ all-edges n row some dead =
 module _ (ws : List ℕ) (n : ℕ) (row : ℕ → StateRow) (some : 0 < n) (dead : row (n - 1) ≡ noEdges)
     (R : Room ws n (edgesBelow row (n - 1))) where
   -- THEOREM: closing shows the row of the dead state too
-  pub closed-shown : ShownRows ws n (n - 1) row → ShownRows (closedOf ws n (edgesBelow row (n - 1))) n n row
+  closed-shown : ShownRows ws n (n - 1) row → ShownRows (closedOf ws n (edgesBelow row (n - 1))) n n row
   closed-shown S =
       let e = edgesBelow row (n - 1) in
       let vs = withRow ws n 0 (n - 1) e noEdges in
@@ -339,7 +339,7 @@ module _ (ws : List ℕ) (n : ℕ) (row : ℕ → StateRow) (some : 0 < n) (dead
           (λ j a h. stays j (λ z. omega arith)) (λ j a h. stays j (λ z. omega arith)) T′)
 
   -- THEOREM: closing writes the end of the edges
-  pub closed-last : getD (closedOf ws n (edgesBelow row (n - 1))) (6 * n) 0 ≡ edgesBelow row n
+  closed-last : getD (closedOf ws n (edgesBelow row (n - 1))) (6 * n) 0 ≡ edgesBelow row n
   closed-last =
       let e = edgesBelow row (n - 1) in
       let small : e % 4294967296 ≡ e = mod-eq-of-lt (omega (arith, R .small)) in

@@ -1,7 +1,6 @@
 -- A move as one number, so that the order of numbers is document 01's order of moves ("Move records and their order").
 -- Automata read these letters. SHEETS 6.2.
 use Prim.Native.Nat.{ℕ, _+_, _*_, _<_}
-use mathlib.Core.Bool.{Bool}
 use mathlib.Core.List.{List, [], _∷_}
 use lib.Dec.{eqb}
 use Rattle.language.specs.declared.Numbers.{Numbers}

@@ -78,7 +78,7 @@ pub(crate) fn code_at(n: Numbers, r: usize) -> usize
 }
 
 // The rank of a value.
-pub(crate) fn rank_of(n: Numbers, value: usize) -> usize
+fn rank_of(n: Numbers, value: usize) -> usize
     ensures { λ r. ⌜ r ≡ rank n (value % 65536) ⌝ }
 {
     let z = n.z as usize;
@@ -117,7 +117,7 @@ pub(crate) fn letter_of(n: Numbers, m: Move) -> usize
 
 // How many values the answers of a kind to the question q of value x have at a type: none where the type has no such
 // question or the question no such answers, and one where they carry no value.
-pub(crate) fn answer_limit(class: usize, values: usize, q: usize, x: usize, kind: usize) -> usize
+fn answer_limit(class: usize, values: usize, q: usize, x: usize, kind: usize) -> usize
     ensures { λ r. ⌜ r ≡ answerLimit class values q x kind ⌝ }
 {
     if class == COMMANDS {
@@ -166,7 +166,7 @@ pub(crate) fn answer_kind(class: usize, q: usize) -> usize
 }
 
 // The same for the moves of a kind at an argument of the one a state waits for; argument 0 is the name itself.
-pub fn limit(t: &[u16], e: Wait, kind: usize, arg: usize) -> usize
+pub(crate) fn limit(t: &[u16], e: Wait, kind: usize, arg: usize) -> usize
     ensures { λ r. ⌜ r ≡ limitOf (now (t .entry)) e kind arg ⌝ }
 {
     let at = e.at;

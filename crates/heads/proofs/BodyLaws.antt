@@ -28,7 +28,7 @@ use Rattle.heads.proofs.ByteLaws.{bad-good, good-same, byte-good}
 
 module _ (s : List ℕ) (b r : Record) where
   -- one byte below a limit
-  pub limited-body :
+  limited-body :
       (limit : ℕ) → limited s b limit ≡ Good r →
       (b .place + 1 < length s) × (getD s (b .place + 1) 0 < limit) × (r ≡ withBody b (getD s (b .place + 1) 0) 0)
   unfolding limited
@@ -37,7 +37,7 @@ module _ (s : List ℕ) (b r : Record) where
       (g .0, g .1, sym (good-same (g .2)))
 
   -- a number
-  pub constant-body :
+  constant-body :
       (N : Numbers) → constant s N b ≡ Good r →
       (b .place + 1 < length s) × (getD s (b .place + 1) 0 < 256) × (inRange N (getD s (b .place + 1) 0) ≡ true)
       × (r ≡ withBody b (getD s (b .place + 1) 0) 0)
@@ -48,7 +48,7 @@ module _ (s : List ℕ) (b r : Record) where
       (g .0, g .1, t .0, sym (good-same (t .1)))
 
   -- an id and its standing
-  pub use-body :
+  use-body :
       (st : List ℕ) (id c : ℕ) → id ≡ getD s (b .place + 1) 0 → c ≡ getD st id 0 → useOf s st b ≡ Good r →
       (b .place + 1 < length s) × (id < 255) × (c ≡ 0 → ⊥) × (c ≡ 1 → ⊥) × (r ≡ used s b id c)
   unfolding useOf
@@ -70,7 +70,7 @@ module _ (s : List ℕ) (b r : Record) where
       (g .0, rw e (g .1), eqb-false d 0 (p .0), sym (good-same (p .1)))
 
   -- a new: its id, whose standing is c, and its data
-  pub new-body :
+  new-body :
       (ed : Edition) (st : List ℕ) (id d c : ℕ) →
       id ≡ getD s (b .place + 1) 0 → d ≡ getD s (b .place + 2) 0 → c ≡ getD st id 0 → newOf ed s st b ≡ Good r →
       (b .place + 2 < length s) × (id < 255) × (0 < d) × (d ≤ 2) × (isNamed (standingOf c) ≡ false)
@@ -85,7 +85,7 @@ module _ (s : List ℕ) (b r : Record) where
       (q .0, rw e (g .1), omega arith, omega arith, p .0, a .0, q .3)
 
   -- a procedure: its id and how many parameters it has
-  pub procedure-body :
+  procedure-body :
       (ed : Edition) (st : List ℕ) → procedureHead ed s st b ≡ Good r →
       (procedureOf ed s st (b .place) ≡ Fine)
       × (r ≡ withBody b (getD s (b .place + 1) 0) (getD s (b .place + 3) 0))

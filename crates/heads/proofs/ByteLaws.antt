@@ -1,12 +1,12 @@
 -- A byte that is below its limit.
 use Prim.Native.Nat.{ℕ, _<_}
 use native.Mathlib.Omega.{arith}
-use mathlib.Core.Path.{_≡_, refl, sym}
+use mathlib.Core.Path.{_≡_, refl}
 use mathlib.Core.Bool.{Bool, true, false}
 use mathlib.Core.List.{List}
 use lib.ListN.{length, getD}
 use lib.Dec.{leb}
-use borrow.Author.Tests.{leb-false, lt-leb}
+use borrow.Author.Tests.{leb-false}
 use Rattle.language.specs.Choice.{pick}
 use Rattle.heads.specs.Head.{byteOf, onByte}
 use Rattle.records.specs.Refusal.{refusal}
@@ -15,32 +15,12 @@ use Rattle.heads.specs.declared.head.Record.{Record}
 use Rattle.heads.specs.declared.head.Head.{Head}
 use Rattle.heads.specs.declared.head.Head.the-variants.{Good, Refused}
 use Rattle.heads.specs.declared.head.Byte.the-variants.{Is, Refused as Unread}
-use Rattle.judgements.proofs.Tests.{pick-false}
 
 pub bad-good : {x : Refusal} {r : Record} → Refused x ≡ Good r → ⊥
 bad-good h = let z : _≡_ {A = ℕ} 0 1 = cc in omega arith
 
-pub not-is : {x : Refusal} {b : ℕ} → Unread x ≡ Is b → ⊥
-not-is h = let z : _≡_ {A = ℕ} 0 1 = cc in omega arith
-
 pub good-same : {r r′ : Record} → Good r ≡ Good r′ → r ≡ r′
 good-same h = cc
-
--- a byte that is accepted stands in the list, below the limit
-pub byte-in :
-    (s : List ℕ) (at limit : ℕ) {b : ℕ} → byteOf s at limit ≡ Is b →
-    (at < length s) × (b < limit) × (b ≡ getD s at 0)
-unfolding byteOf
-byte-in s at limit {b} h =
-    let o = pick-false (leb (length s) at) not-is h in
-    let i = pick-false (leb limit (getD s at 0)) not-is (o .1) in
-    let e : getD s at 0 ≡ b = cc (i .1) in
-    (leb-false (length s) at (o .0), omega (arith, leb-false limit (getD s at 0) (i .0)), sym e)
-
-pub byte-is :
-    (s : List ℕ) (at limit : ℕ) → at < length s → getD s at 0 < limit → byteOf s at limit ≡ Is (getD s at 0)
-unfolding byteOf
-byte-is s at limit h l = rw (lt-leb (length s) at h, lt-leb limit (getD s at 0) l)
 
 -- what is made of an accepted byte
 pub byte-good :
@@ -55,9 +35,3 @@ byte-good s at limit k r = go (leb (length s) at) (leb limit (getD s at 0)) refl
     go true u e f h = absurd (bad-good h)
     go false true e f h = absurd (bad-good h)
     go false false e f h = (leb-false (length s) at e, leb-false limit (getD s at 0) f, h)
-
-pub byte-made :
-    (s : List ℕ) (at limit : ℕ) (k : ℕ → Head) → at < length s → getD s at 0 < limit →
-    onByte (byteOf s at limit) k ≡ k (getD s at 0)
-unfolding onByte
-byte-made s at limit k h l = rw (byte-is s at limit h l)

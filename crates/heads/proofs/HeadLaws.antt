@@ -84,7 +84,7 @@ module _
   unfolding blank
   rule-same = kept .rule
 
-  pub opened-as : (R : Rule) → r .rule ≡ R → Opened ed R s st N left at r
+  opened-as : (R : Rule) → r .rule ≡ R → Opened ed R s st N left at r
   opened-as R e = rw (sym rule-same ∙ e) at (found .opened)
 
 -- an accepted part: its place, kind and depth, and the place after its body

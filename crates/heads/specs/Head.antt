@@ -1,8 +1,7 @@
 -- The kind byte and the body of a part of a term, or their refusal. Document 01, "Three services": "bytes left to right, each
 -- byte judged before the next is looked for. At one byte range comes first, then depth or the count of records, then 4, 5 or 6".
 -- SHEETS 2.4 and 9.2.
-use Prim.Native.Nat.{ℕ, _+_, _-_}
-use mathlib.Core.Bool.{Bool, true, false}
+use Prim.Native.Nat.{ℕ, _+_}
 use mathlib.Core.List.{List}
 use lib.ListN.{length, getD}
 use lib.Dec.{eqb, leb}

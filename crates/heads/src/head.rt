@@ -27,7 +27,7 @@ use records::standing::is_named;
 ghost use mathlib.Core.Path.{_≡_};
 ghost use mathlib.Core.List.{List};
 ghost use Prim.Native.Nat.{ℕ, _+_, _≤_, _<_};
-ghost use lib.ListN.{getD, length};
+ghost use lib.ListN.{length};
 ghost use Rattle.language.specs.declared.Numbers.{Numbers};
 ghost use Rattle.records.specs.declared.edition.Edition.{Edition};
 ghost use Rattle.heads.specs.Head.{byteOf, withBody, limited, constant, used, useOf, dataByte, newOf, bodyOf};
@@ -74,7 +74,7 @@ pub enum Byte {
 }
 
 // The byte at `at`, which must be below `limit`.
-pub(crate) fn byte_below(s: &[u8], at: usize, limit: u16) -> Byte
+fn byte_below(s: &[u8], at: usize, limit: u16) -> Byte
     ensures { λ r. ⌜ r ≡ byteOf (now (s .entry)) at limit ⌝ }
 {
     if s.len() <= at {
@@ -88,7 +88,7 @@ pub(crate) fn byte_below(s: &[u8], at: usize, limit: u16) -> Byte
 }
 
 // The same record with other body bytes.
-pub(crate) fn with_body(r: Record, a: u8, b: u32) -> Record
+fn with_body(r: Record, a: u8, b: u32) -> Record
     ensures { λ x. ⌜ x ≡ withBody r a b ⌝ }
 {
     let rule = r.rule;
@@ -104,7 +104,7 @@ pub(crate) fn with_body(r: Record, a: u8, b: u32) -> Record
 }
 
 // A body of one byte, which must be below `limit`.
-pub(crate) fn limited_body(s: &[u8], r: Record, limit: u16) -> Head
+fn limited_body(s: &[u8], r: Record, limit: u16) -> Head
     requires { ⌜ r .place < 65536 ⌝ }
     ensures { λ x. ⌜ x ≡ limited (now (s .entry)) r limit ⌝ }
 {
@@ -119,7 +119,7 @@ pub(crate) fn limited_body(s: &[u8], r: Record, limit: u16) -> Head
 }
 
 // A number from -Z to Z.
-pub(crate) fn constant_body(s: &[u8], n: Numbers, r: Record) -> Head
+fn constant_body(s: &[u8], n: Numbers, r: Record) -> Head
     requires { ⌜ r .place < 65536 ⌝ }
     ensures { λ x. ⌜ x ≡ constant (now (s .entry)) n r ⌝ }
 {
@@ -139,7 +139,7 @@ pub(crate) fn constant_body(s: &[u8], n: Numbers, r: Record) -> Head
 }
 
 // A use of an id whose standing is `c`, neither free nor retired.
-pub(crate) fn used_record(s: &[u8], r: Record, id: u8, c: u32) -> Record
+fn used_record(s: &[u8], r: Record, id: u8, c: u32) -> Record
     ensures { λ x. ⌜ x ≡ used (now (s .entry)) r id c ⌝ }
 {
     let rule = r.rule;
@@ -156,7 +156,7 @@ pub(crate) fn used_record(s: &[u8], r: Record, id: u8, c: u32) -> Record
 }
 
 // A use: refused where the id is free or retired.
-pub(crate) fn use_body(s: &[u8], st: &[u32; 255], r: Record) -> Head
+fn use_body(s: &[u8], st: &[u32; 255], r: Record) -> Head
     requires { ⌜ r .place < 65536 ⌝ }
     ensures { λ x. ⌜ x ≡ useOf (now (s .entry)) (now (st .entry)) r ⌝ }
 {
@@ -180,7 +180,7 @@ pub(crate) fn use_body(s: &[u8], st: &[u32; 255], r: Record) -> Head
 }
 
 // The data of a new on an id.
-pub(crate) fn data_body(s: &[u8], r: Record, id: u8) -> Head
+fn data_body(s: &[u8], r: Record, id: u8) -> Head
     requires { ⌜ r .place < 65536 ⌝ }
     ensures { λ x. ⌜ x ≡ dataByte (now (s .entry)) r id ⌝ }
 {
@@ -200,7 +200,7 @@ pub(crate) fn data_body(s: &[u8], r: Record, id: u8) -> Head
 }
 
 // A new: refused where the id is declared or retired, or held by an enclosing binder.
-pub(crate) fn new_body(edition: Edition, s: &[u8], st: &[u32; 255], r: Record) -> Head
+fn new_body(edition: Edition, s: &[u8], st: &[u32; 255], r: Record) -> Head
     requires { ⌜ r .place < 65536 ⌝ }
     ensures { λ x. ⌜ x ≡ newOf edition (now (s .entry)) (now (st .entry)) r ⌝ }
 {
@@ -222,7 +222,7 @@ pub(crate) fn new_body(edition: Edition, s: &[u8], st: &[u32; 255], r: Record) -
 }
 
 // A procedure: its id and how many parameters it has.
-pub(crate) fn procedure_body(edition: Edition, s: &[u8], st: &[u32; 255], r: Record) -> Head
+fn procedure_body(edition: Edition, s: &[u8], st: &[u32; 255], r: Record) -> Head
     requires { ⌜ r .place < 65536 ⌝ }
     ensures { λ x. ⌜ x ≡ procedureHead edition (now (s .entry)) (now (st .entry)) r ⌝ }
 {
@@ -240,14 +240,7 @@ pub(crate) fn procedure_body(edition: Edition, s: &[u8], st: &[u32; 255], r: Rec
 }
 
 // The body of a record, by its rule.
-pub(crate) fn body_at(
-    edition: Edition,
-    rule: Rule,
-    s: &[u8],
-    st: &[u32; 255],
-    n: Numbers,
-    r: Record,
-) -> Head
+fn body_at(edition: Edition, rule: Rule, s: &[u8], st: &[u32; 255], n: Numbers, r: Record) -> Head
     requires { ⌜ r .place < 65536 ⌝ }
     ensures { λ x. ⌜ x ≡ bodyOf edition rule (now (s .entry)) (now (st .entry)) n r ⌝ }
 {
@@ -269,7 +262,7 @@ pub(crate) fn body_at(
 }
 
 // A record of which only the kind byte has been read.
-pub(crate) fn blank_record(at: usize, kind: u8, body: u8, parts: u8, rule: Rule) -> Record
+fn blank_record(at: usize, kind: u8, body: u8, parts: u8, rule: Rule) -> Record
     requires { ⌜ at < 65536 ⌝ }
     ensures { λ x. ⌜ x ≡ blank at kind body parts rule ⌝ }
 {

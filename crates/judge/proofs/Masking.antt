@@ -3,27 +3,24 @@ use Prim.Native.Nat.{ℕ, zero, suc, _+_, _-_, _*_, _^_, _≤_, _<_}
 use native.Mathlib.Omega.{arith}
 use native.Mathlib.Nat.{pow-suc}
 use mathlib.Core.Path.{_≡_, refl, sym, ap, ap₂, _∙_, subst}
-use mathlib.Core.Bool.{Bool, true, false, _&&_, not}
+use mathlib.Core.Bool.{Bool, true, false}
 use mathlib.Core.List.{List, [], _∷_, _++_, append-assoc}
 use lib.ListN.{length, getD, drop}
-use lib.Pow.{pow-pos, pow-mono}
-use lib.Count.{ones, ones-le, trailingZeros}
-use lib.Bits.{bitAnd}
+use lib.Pow.{pow-mono}
+use lib.Count.{ones, ones-le}
 use Rattle.language.specs.Term.{Often, freely, once, onces}
 use Rattle.records.specs.Kind.{shapeOf}
 use Rattle.records.specs.declared.kind.Rule.{Rule}
 use Rattle.records.specs.declared.kind.Shape.{Shape}
 use Rattle.records.specs.declared.kind.Shape.the-variants.{Part, Declare, Retire, Unknown}
 use Rattle.records.specs.declared.edition.Edition.{Edition}
-use Rattle.records.specs.declared.edition.Edition.the-variants.{Present}
 use Rattle.procedures.specs.Written.{Written, Name, declare, retire, Sheet}
 use Rattle.procedures.specs.Fine.{FineNames}
-use Rattle.procedures.specs.Uses.{uses, isDeclared, isUsed, bit, bits, count, firstFrom, markOf, usedOf, unusedOf}
+use Rattle.procedures.specs.Uses.{uses, isDeclared, isUsed, bit, bits, markOf, usedOf, unusedOf}
 use Rattle.procedures.specs.Uses.{declaredIn}
-use Rattle.procedures.proofs.Tests.{by-test}
 use Rattle.procedures.proofs.Marking.{bits-ones, first-wanted}
 use Rattle.sheet.specs.Encoding.{encode, declareKind, encodeName, encodeNames, encodeSheet}
-use Rattle.sheet.specs.Reader.{readUnder, readSheet, accepted}
+use Rattle.sheet.specs.Reader.{readUnder, accepted}
 use Rattle.judge.specs.Mark.{usesOf}
 use Rattle.sheet.specs.table.Notes.{isNoted}
 use Rattle.judge.specs.Masks.{maskAs, mask, every, usesBy, usesAt, declaredAt}
@@ -49,7 +46,7 @@ shape-below f s at p rest l Unknown = omega (arith, l 0)
 doubled : (m p q : ℕ) → m < 2 * p → q ≡ p * 2 → m < q
 doubled m p q h e = omega arith
 
-pub mask-below : (f : ℕ → Bool) (left : ℕ) (s : List ℕ) (at : ℕ) → mask f left s at < 2 ^ left
+mask-below : (f : ℕ → Bool) (left : ℕ) (s : List ℕ) (at : ℕ) → mask f left s at < 2 ^ left
 unfolding mask
 mask-below f zero s at = omega arith
 mask-below f (suc left) s at =

@@ -11,7 +11,6 @@ use records::refusal::refuse;
 use sheet::names::Reading;
 use sheet::reading::numbers_of;
 use sheet::reading::read_sheet;
-ghost use mathlib.Core.Path.{_≡_};
 ghost use Rattle.sheet.specs.table.Notes.{Blank};
 ghost use Rattle.judge.specs.Judged.{JudgedBy};
 use records::limits::GREATEST_SIZE;

@@ -1,7 +1,7 @@
 -- A judgement that is good, part by part.
 use Prim.Native.Nat.{ℕ, zero, suc, _+_, _-_, _*_, _≤_, _<_}
 use native.Mathlib.Omega.{arith}
-use mathlib.Core.Path.{_≡_, refl, sym, ap, _∙_}
+use mathlib.Core.Path.{_≡_, refl, sym, _∙_}
 use mathlib.Core.Bool.{Bool, true, false}
 use mathlib.Core.List.{List}
 use lib.ListN.{length, getD}
@@ -16,18 +16,18 @@ use Rattle.judgements.specs.declared.judgement.Judged.{Judged}
 use Rattle.judgements.specs.declared.judgement.Judged.the-variants.{Good, Refused}
 use Rattle.judgements.proofs.Tests.{pick-false, pick-true}
 
-pub not-good : {x : Refusal} → Refused x ≡ Good → ⊥
+not-good : {x : Refusal} → Refused x ≡ Good → ⊥
 not-good h = let z : _≡_ {A = ℕ} 0 1 = cc in omega arith
 
 -- both judgements are good
-pub both-good : (x y : Judged) → andThen x y ≡ Good → (x ≡ Good) × (y ≡ Good)
+both-good : (x y : Judged) → andThen x y ≡ Good → (x ≡ Good) × (y ≡ Good)
 unfolding andThen
 both-good Good y h = (refl, h)
 both-good (Refused x) y h = absurd (not-good h)
 
 module _ (s : List ℕ) (at : ℕ) where
   -- a byte below a limit
-  pub below-good : (limit : ℕ) → below s at limit ≡ Good → (at < length s) × (getD s at 0 < limit)
+  below-good : (limit : ℕ) → below s at limit ≡ Good → (at < length s) × (getD s at 0 < limit)
   unfolding below
   below-good limit h =
       let o = pick-false (leb (length s) at) not-good h in
@@ -35,7 +35,7 @@ module _ (s : List ℕ) (at : ℕ) where
       (leb-false (length s) at (o .0), leb-false limit (getD s at 0) (i .0))
 
   -- a byte of something that is not there
-  pub unused-good : unused s at ≡ Good → (at < length s) × (getD s at 0 ≡ 255)
+  unused-good : unused s at ≡ Good → (at < length s) × (getD s at 0 ≡ 255)
   unfolding unused
   unused-good h =
       let o = pick-false (leb (length s) at) not-good h in
@@ -43,7 +43,7 @@ module _ (s : List ℕ) (at : ℕ) where
       (leb-false (length s) at (o .0), eqb-true (getD s at 0) 255 (i .0))
 
 -- the id and the type of a pair that is good stand in the list
-pub pair-inside :
+pair-inside :
     (ed : Edition) (s st : List ℕ) (place j : ℕ) → pair ed s st place j ≡ Good → place + 5 + 2 * j < length s
 unfolding pair
 pair-inside ed s st place j h = go (ltb j (getD s (place + 3) 0)) h

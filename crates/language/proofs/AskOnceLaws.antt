@@ -1,19 +1,19 @@
 -- Names that ask freely and once: weights and plays by computation, and that the plays of a term are those with every
 -- name asking freely in which each call keeps to its kind.
-use Prim.Native.Nat.{ℕ, zero, suc, _+_, _<_}
+use Prim.Native.Nat.{ℕ, zero, suc, _<_}
 use native.Mathlib.Omega.{arith}
 use mathlib.Core.Path.{_≡_, refl, sym, _∙_, subst}
-use mathlib.Core.Logic.{_↔_, _⊎_, inl, inr}
+use mathlib.Core.Logic.{_⊎_, inl, inr}
 use mathlib.Core.Option.{some}
 use mathlib.Core.List.{List, [], _∷_, _++_, append-assoc, append-nil}
-use Rattle.language.specs.Ty.{Ty, Question, run, ask, read, write, Answer, done, ok, value, Answers}
-use Rattle.language.specs.Move.{question, answer, at, private, Move, move, Word}
+use Rattle.language.specs.Ty.{Question, run, ask, read, write, Answer, done, ok, value, Answers}
+use Rattle.language.specs.Move.{question, answer, at, private, move, Word}
 use Rattle.language.specs.Term as t
 use Rattle.language.specs.Term.{Term, skip, diverge, const, name, fetch, operate, assign, seq, while, cond, new}
 use Rattle.language.specs.Term.{Often, freely, once, onces, Args, no-args, arg, apply}
 use Rattle.language.specs.Play.{Val, Cat, Star, end, more, AtMostOne, none, one, AsOften, kept, hide, Stable}
 use Rattle.language.specs.Play.{VarPair, Use, Plays, PlaysArg, whole}
-use Rattle.language.specs.Weight.{weight, weightArgs}
+use Rattle.language.specs.Weight.{weight}
 use Rattle.language.specs.AskOnce.{FreelyPlays, FreelyWeighs, OnceWeighs, BareAlike, OnceWithin, put, around}
 use Rattle.language.specs.AskOnce.{Sparing, asking, askingArgs, all-freely, SparingPlays}
 
@@ -43,7 +43,7 @@ one-star none = end
 one-star {L} (one {u = u} x) = subst (λ w. Star L w) (append-nil u) (more x end)
 
 -- THEOREM: every play of a use by a name that asks once is one by a name that asks freely
-pub once-within : OnceWithin
+once-within : OnceWithin
 unfolding Plays AsOften
 once-within i T args q a u (h, v, x, e) = (h, v, one-star x, e)
 

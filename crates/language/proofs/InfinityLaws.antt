@@ -12,7 +12,7 @@ use lib.Signed.{ltZ}
 use borrow.Author.Tests.{eq-eqb, ne-eqb, lt-ltb, le-ltb, lt-leb, ltb-true, ltb-false}
 use Rattle.language.specs.declared.Numbers.{Numbers}
 use Rattle.language.specs.Choice.{pick}
-use Rattle.language.specs.Number.{infinities, finites, extras, numbers, finite, minus-infinity, infinity}
+use Rattle.language.specs.Number.{finites, extras, numbers, finite, minus-infinity, infinity}
 use Rattle.language.specs.Number.{not-a-number, classOf, special, code, signed, inRange}
 use Rattle.language.specs.Tables as tables
 use Rattle.language.specs.Tables.{entry, sums, differences, products, remainders}
@@ -101,7 +101,7 @@ module _ (N : Numbers) where
   class-zero = finite-class N 0 (omega (arith, finites-are N))
 
   -- THEOREM: the operators on two numbers
-  pub finite-pairs : FinitePairs N
+  finite-pairs : FinitePairs N
   unfolding operate plusOf minusOf timesOf remainderOf equalOf lessOf settled compared scaled
   finite-pairs = record {
     exact = exact;
@@ -180,7 +180,7 @@ module _ (N : Numbers) where
   of-positive m h = rw (ne-eqb m 0 (λ e. omega arith), le-ltb m 0 (omega arith))
 
   -- THEOREM: what gives not-a-number
-  pub no-number : NoNumber N
+  no-number : NoNumber N
   unfolding operate plusOf minusOf timesOf remainderOf settled
   no-number = record {
     left = left;

@@ -13,7 +13,7 @@ use borrow.Author.Tests.{eq-eqb, ne-eqb}
 use Rattle.language.specs.declared.Numbers.{Numbers}
 use Rattle.language.specs.Choice.{pick}
 use Rattle.language.specs.Number.{finites, extras, numbers, minus-infinity, infinity, not-a-number, special}
-use Rattle.language.specs.Number.{modulo, code, signed, fromByte, toByte, inRange}
+use Rattle.language.specs.Number.{modulo, code, signed}
 
 -- a difference below 0
 pub minus-below : (a b : ℕ) → a < b → pos a -ℤ pos b ≡ negsuc (b - suc a)
@@ -209,49 +209,3 @@ module _ (N : Numbers) where
           ap (λ (x : ℤ). x +ℤ q *ℤ n) (sym (-ℤ-+ℤ-cancel a n))
           ∙ +ℤ-assoc (a -ℤ n) n (q *ℤ n)
           ∙ ap (λ (x : ℤ). (a -ℤ n) +ℤ x) (+ℤ-comm n (q *ℤ n) ∙ sym (sucℤ-*ℤ q n))
-
--- a number is found again by its byte, and a byte by its number
-pub byte-number : (v : ℤ) → natAbs v ≤ 127 → fromByte (toByte v) ≡ v
-unfolding fromByte toByte
-byte-number (pos a) h = rw (modulo-pos a 256 (omega arith), lt-ltb a 128 (omega arith))
-byte-number (negsuc a) h =
-    rw (modulo-neg a 256 (omega arith), le-ltb (256 - suc a) 128 (omega arith)) (minus-back a 256 (omega arith))
-
-pub number-byte : (b : ℕ) → b < 256 → toByte (fromByte b) ≡ b
-unfolding fromByte toByte
-number-byte b h =
-    by-test (ltb b 128) (λ t. rw t (modulo-pos b 256 h)) (λ t. rw t (modulo-back b 256 h))
-
-abs-low : (b : ℕ) → b < 128 → natAbs (fromByte b) ≡ b
-unfolding fromByte
-abs-low b h = rw (lt-ltb b 128 h)
-
-abs-high : (b : ℕ) → b < 256 → 128 ≤ b → natAbs (fromByte b) ≡ 256 - b
-unfolding fromByte
-abs-high b h k = rw (le-ltb b 128 k, minus-below b 256 h) (omega arith)
-
--- the test of a byte says whether its number is from -Z to Z
-module _ (N : Numbers) (b : ℕ) (h : b < 256) (k : N .z ≤ 127) where
-  pub in-range : inRange N b ≡ leb (natAbs (fromByte b)) (N .z)
-  unfolding inRange
-  in-range = by-test (leb b (N .z)) low (λ t. by-test (ltb b 128) (between t) (high t))
-    where
-      low : leb b (N .z) ≡ true → inRange N b ≡ leb (natAbs (fromByte b)) (N .z)
-      low t = rw (t, abs-low b (omega (arith, leb-true b (N .z) t))) (sym t)
-
-      between : leb b (N .z) ≡ false → ltb b 128 ≡ true → inRange N b ≡ leb (natAbs (fromByte b)) (N .z)
-      between t u =
-          rw (t, abs-low b (ltb-true b 128 u), lt-leb (256 - N .z) b (omega (arith, ltb-true b 128 u))) (sym t)
-
-      high : leb b (N .z) ≡ false → ltb b 128 ≡ false → inRange N b ≡ leb (natAbs (fromByte b)) (N .z)
-      high t u =
-          rw (t, abs-high b h (ltb-false b 128 u))
-          (by-test (leb (256 - N .z) b)
-          (λ w. w ∙ sym (le-leb (256 - b) (N .z) (omega (arith, leb-true (256 - N .z) b w))))
-          (λ w. w ∙ sym (lt-leb (256 - b) (N .z) (omega (arith, leb-false (256 - N .z) b w)))))
-
-  pub in-range-within : inRange N b ≡ true → natAbs (fromByte b) ≤ N .z
-  in-range-within t = leb-true (natAbs (fromByte b)) (N .z) (sym in-range ∙ t)
-
-  pub within-in-range : natAbs (fromByte b) ≤ N .z → inRange N b ≡ true
-  within-in-range l = in-range ∙ le-leb (natAbs (fromByte b)) (N .z) l

@@ -106,7 +106,7 @@ module _ (N : Numbers) where
     finite-pair : x < finites N → y < finites N → Pair x y
     any-pair : N .rule ≡ infinities → Pair x y
 
-  pub pair-of : (x y : ℕ) → x < numbers N → y < numbers N → Pair x y
+  pair-of : (x y : ℕ) → x < numbers N → y < numbers N → Pair x y
   unfolding numbers extras
   pair-of x y h k =
       by-test (eqb (N .rule) 2) (λ t. any-pair (eqb-true (N .rule) 2 t)) (λ t.
@@ -161,7 +161,7 @@ module _ (N : Numbers) where
         between : (op ≡ 0 → ⊥) → (op ≡ 1 → ⊥) → (op ≡ 2 → ⊥) → (op ≡ 3 → ⊥) → ⊥
         between a b c d = omega arith
 
-  pub operate-truth : (op x y : ℕ) {r : ℕ} → equal ≤ op → operate N op x y ≡ some r → r < 2
+  operate-truth : (op x y : ℕ) {r : ℕ} → equal ≤ op → operate N op x y ≡ some r → r < 2
   unfolding operate
   operate-truth op x y h =
       rw (not-this 0 (omega arith), not-this 1 (omega arith), not-this 2 (omega arith), not-this 3 (omega arith))

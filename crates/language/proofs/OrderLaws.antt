@@ -6,7 +6,7 @@ use native.Mathlib.Decide.{decLt, ℕ-discrete}
 use mathlib.Core.Path.{_≡_, refl, sym, ap, _∙_}
 use mathlib.Core.Bool.{Bool, true, false}
 use lib.Dec.{T, eqb, leb, ltb, ltb→lt, lt→ltb}
-use lib.IntN.{ℤ, pos, negsuc, _-ℤ_}
+use lib.IntN.{pos, negsuc, _-ℤ_}
 use lib.Signed.{ltZ, _<ℤ_}
 use borrow.Author.Tests.{lt-ltb, le-ltb, le-leb, lt-leb, eq-eqb, ne-eqb}
 use Rattle.language.specs.declared.Numbers.{Numbers}
@@ -242,7 +242,7 @@ module _ (N : Numbers) where
             ne-eqb r (finites N) (λ d. omega (arith, all, numbers-are N, first-small N)))
 
   -- at different places stand different values
-  pub code-at-injective : (r s : ℕ) → r < numbers N → s < numbers N → codeAt N r ≡ codeAt N s → r ≡ s
+  code-at-injective : (r s : ℕ) → r < numbers N → s < numbers N → codeAt N r ≡ codeAt N s → r ≡ s
   code-at-injective r s h k e = sym (place-again r h) ∙ ap placeOf e ∙ place-again s k
 
   -- how many of the first r values have codes below c

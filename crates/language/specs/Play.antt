@@ -3,10 +3,10 @@
 use mathlib.Core.Path.{_≡_}
 use mathlib.Core.Logic.{_⊎_}
 use mathlib.Core.List.{List, [], _∷_, _++_}
-use mathlib.Core.Option.{Option, some}
+use mathlib.Core.Option.{some}
 use Prim.Native.Nat.{ℕ, zero, suc, _<_}
 use Rattle.language.specs.Ty.{Ty, Question, run, ask, read, write, Answer, done, ok, value, Answers}
-use Rattle.language.specs.Move.{Event, question, answer, Place, at, private, Move, move, Word}
+use Rattle.language.specs.Move.{Event, question, answer, Place, at, private, move, Word}
 use Rattle.language.specs.Term as t
 use Rattle.language.specs.Term.{Term, skip, diverge, const, name, fetch, operate, assign, seq, while, cond, new}
 use Rattle.language.specs.Term.{Often, freely, once, Args, no-args, arg, apply}

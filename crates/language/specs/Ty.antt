@@ -1,7 +1,5 @@
 -- Types, their questions and answers. Document 001, definition 9; document 01, "Plays". SHEETS 3.1 and 4.1.
 use Prim.Native.Nat.{ℕ, _+_, _<_}
-use Rattle.language.specs.declared.Numbers.{Numbers}
-use Rattle.language.specs.Number.{numbers}
 
 -- a command, an expression or a variable; its data has m values, with the codes below m
 pub data Ty : Type 0 where

@@ -1,6 +1,6 @@
 -- Which terms are well scoped and well typed. Document 001, figure 1; document 01, "The sheet, byte by byte".
 -- SHEETS 3.2.
-use mathlib.Core.List.{List, [], _∷_}
+use mathlib.Core.List.{List, _∷_}
 use Prim.Native.Nat.{ℕ, suc, _<_}
 use Rattle.language.specs.Choice.{pick}
 use Rattle.language.specs.Number.{numbers}

@@ -17,7 +17,7 @@ pub const AND: u8 = 6;
 
 pub const OR: u8 = 7;
 
-pub const EQUAL_TRUTHS: u8 = 8;
+const EQUAL_TRUTHS: u8 = 8;
 
 // The code of a result, or no play.
 pub enum Outcome {

@@ -1,17 +1,16 @@
 -- What loading a sheet leaves, from what judging and expanding it leave.
-use Prim.Native.Nat.{ℕ, _≤_, _<_}
+use Prim.Native.Nat.{ℕ, _<_}
 use native.Mathlib.Omega.{arith}
-use mathlib.Core.Path.{_≡_, refl, sym, ap, ap₂, _∙_, subst, subst₂}
+use mathlib.Core.Path.{_≡_, refl, sym, subst, subst₂}
 use mathlib.Core.List.{List, []}
 use lib.ListN.{length}
-use Rattle.language.specs.declared.Numbers.{Numbers}
 use Rattle.records.specs.declared.edition.Edition.{Edition}
 use Rattle.records.specs.declared.edition.Edition.the-variants.{Present}
 use Rattle.records.specs.declared.refusal.Refusal.{Refusal}
 use Rattle.procedures.specs.Written as written
 use Rattle.procedures.specs.Meaning.{tyOf, termOf, typeOf}
 use Rattle.procedures.specs.Fine.{WellFormed}
-use Rattle.procedures.specs.Made.{made, madeSheet}
+use Rattle.procedures.specs.Made.{madeSheet}
 use Rattle.procedures.specs.Context.{whole, forms, makes}
 use Rattle.procedures.specs.Table.{Shown}
 use Rattle.procedures.specs.Marks.{Marked}
@@ -40,7 +39,7 @@ unfolding JudgedBy
 judged-of ed s u J e = rw e at J
 
 -- its term stands within 4,096 places
-pub root-small : {ed : Edition} {s u : List ℕ} {root ty size : ℕ} {uses : Uses} → Judged ed s root ty size uses u →
+root-small : {ed : Edition} {s u : List ℕ} {root ty size : ℕ} {uses : Uses} → Judged ed s root ty size uses u →
     root < 4096
 root-small {s = s} {u = u} J =
     let r = shown-row (numbersAt s) (J .sheet .names) u (J .shown) .1 in

@@ -12,13 +12,13 @@ use Rattle.language.specs.Ty.{Ty, command, expression, variable, Question, run,
 use Rattle.language.specs.Ty.{questions, answers}
 use Rattle.language.specs.Term.{Term, skip, diverge, const, private, name, fetch, operate, assign, seq}
 use Rattle.language.specs.Term.{while, cond, new, Often, freely, once, onces, Args, no-args, arg}
-use Rattle.language.specs.Typing.{Typed, a-private, a-name, a-fetch, an-operate, an-assign, a-seq, a-while, a-cond}
-use Rattle.language.specs.Typing.{a-new, TypedArgs, no-more, one-more}
+use Rattle.language.specs.Typing.{Typed, a-name, a-fetch, an-operate, an-assign, a-seq, a-while, a-cond}
+use Rattle.language.specs.Typing.{a-new, TypedArgs, one-more}
 use Rattle.language.specs.Weight.{weight, weightArgs}
 use Rattle.machine.specs.Action.{Next, Action, go, say, hear, mapAction, AnswersAt}
 use Rattle.machine.specs.Position.{Context, Store, Reply, types, Spent, AtName, start, wait, spent, within}
 use Rattle.machine.specs.Position.{reply, QuestionOf, Position, PositionArgs}
-use Rattle.machine.specs.Step.{again, closes, step, stepArgs}
+use Rattle.machine.specs.Step.{closes, step, stepArgs}
 use Rattle.machine.specs.Numbered.{Numbered, single, sum, product}
 use Rattle.machine.specs.Numbering.{replies, numbered-replies, numbered-questions, numbered-answers}
 use Rattle.machine.specs.Numbering.{numbered-spent, numbered-name, positions, numbered-use, numbered}

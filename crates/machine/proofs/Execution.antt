@@ -61,7 +61,7 @@ After-map (go n) w f r = f n w r
 After-map (say m n) w f r = Reads-map m w (f n) r
 After-map (hear l k) w f r = (r .0, r .1, Reads-map _ w (f (k (r .0) (r .1))) (r .2))
 
-pub After-pull : {X S A : Type 0} (o : Action S A) (w : Word) (Q : X → Next S A → Rest) →
+After-pull : {X S A : Type 0} (o : Action S A) (w : Word) (Q : X → Next S A → Rest) →
   After o w (λ n v. (x : X) × Q x n v) → (x : X) × After o w (Q x)
 unfolding After
 After-pull (go n) w Q r = r
@@ -70,7 +70,7 @@ After-pull (hear l k) w Q r =
     let p = Reads-pull _ w (λ x. Q x (k (r .0) (r .1))) (r .2) in
     (p .0, (r .0, r .1, p .1))
 
-pub Case-map : {S A : Type 0} (n : Next S A) {F F′ : S → Type 0} {G G′ : A → Type 0} →
+Case-map : {S A : Type 0} (n : Next S A) {F F′ : S → Type 0} {G G′ : A → Type 0} →
   ((s : S) → F s → F′ s) → ((a : A) → G a → G′ a) → Case n F G → Case n F′ G′
 unfolding Case
 Case-map (to s) f g c = f s c
@@ -85,7 +85,7 @@ module _ {S A : Type 0} (step : S → Action S A) where
   Runs-map zero s w f e = e
   Runs-map (suc k) s w f e = After-map (step s) w (λ n v. Case-map n (λ x. Runs-map k x v f) (λ a. f a v)) e
 
-  pub Exec-map : (k : ℕ) (n : Next S A) (w : Word) {P Q : A → Rest} → ((a : A) (v : Word) → P a v → Q a v) →
+  Exec-map : (k : ℕ) (n : Next S A) (w : Word) {P Q : A → Rest} → ((a : A) (v : Word) → P a v → Q a v) →
     Exec step k n w P → Exec step k n w Q
   unfolding Exec
   Exec-map k n w f e = Case-map n (λ x. Runs-map k x w f) (λ a. f a w) e

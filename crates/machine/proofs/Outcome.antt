@@ -16,15 +16,10 @@ use Rattle.machine.specs.Decide.{when}
 use Rattle.machine.specs.Step.{onDone, onOk, onValue, onTruth, onSome}
 
 -- the transition of a decision that says yes, and of one that says no
-pub when-yes : {X S A : Type 0} → IsProp X → (d : Dec X) (f : X → Next S A) (x : X) → when d f ≡ f x
+when-yes : {X S A : Type 0} → IsProp X → (d : Dec X) (f : X → Next S A) (x : X) → when d f ≡ f x
 unfolding when
 when-yes h (yes y) f x = rw (h y x)
 when-yes h (no n) f x = absurd (n x)
-
-pub when-no : {X S A : Type 0} (d : Dec X) (f : X → Next S A) → (X → ⊥) → when d f ≡ dead
-unfolding when
-when-no (yes y) f n = absurd (n y)
-when-no (no m) f n = refl
 
 module _ {S A : Type 0} (F : Next S A → Type 0) (nowhere : F dead → ⊥) where
   -- a decision

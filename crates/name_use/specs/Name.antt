@@ -1,6 +1,6 @@
 -- Names: their positions are the question to them, the wait for their moves, of a name that asks once the wait for its
 -- answer alone, the positions of their arguments, a copy for each question, and the replies of their arguments.
-use Prim.Native.Nat.{ℕ, zero, suc, _+_, _-_, _/_, _%_}
+use Prim.Native.Nat.{ℕ, zero, suc, _-_, _/_, _%_}
 use mathlib.Core.List.{List}
 use lib.Dec.{eqb, ltb, leb}
 use Rattle.language.specs.Choice.{pick}

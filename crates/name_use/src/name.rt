@@ -42,21 +42,21 @@ const WAIT: usize = 1;
 const INNER: usize = 2;
 
 // Where the arguments of a name begin.
-pub(crate) fn inner(t: &[u16], at: usize) -> usize
+fn inner(t: &[u16], at: usize) -> usize
     ensures { λ r. ⌜ r ≡ innerOf (now (t .entry)) at ⌝ }
 {
     sum(INNER, name_spent(t, at))
 }
 
 // Where a name waits after the answer of an argument.
-pub(crate) fn after(t: &[u16], at: usize) -> usize
+fn after(t: &[u16], at: usize) -> usize
     ensures { λ r. ⌜ r ≡ againOf (now (t .entry)) at ⌝ }
 {
     sum(WAIT, name_spent(t, at))
 }
 
 // A move is said, and the name waits at a position.
-pub fn said(kind: usize, id: usize, arg: usize, value: usize, next: usize) -> Out
+fn said(kind: usize, id: usize, arg: usize, value: usize, next: usize) -> Out
     ensures { λ r. ⌜ r ≡ saidOf kind id arg value next ⌝ }
 {
     let said = Move {
@@ -83,7 +83,7 @@ pub fn framed(role: usize, base: usize, a: usize, b: usize, c: usize, d: usize) 
 }
 
 // How many positions argument j has: its weight for each question.
-pub(crate) fn copies(t: &[u16], at: usize, j: usize) -> usize
+fn copies(t: &[u16], at: usize, j: usize) -> usize
     ensures { λ r. ⌜ r ≡ copiesOf (now (t .entry)) at j ⌝ }
 {
     mul_add(
@@ -94,7 +94,7 @@ pub(crate) fn copies(t: &[u16], at: usize, j: usize) -> usize
 }
 
 // How many positions n arguments from argument j on have.
-pub(crate) fn spots(t: &[u16], at: usize, j: usize, n: usize) -> usize
+fn spots(t: &[u16], at: usize, j: usize, n: usize) -> usize
     ensures { λ r. ⌜ r ≡ argSpots (now (t .entry)) at j n ⌝ }
 {
     if n == 0 {
@@ -105,14 +105,7 @@ pub(crate) fn spots(t: &[u16], at: usize, j: usize, n: usize) -> usize
 }
 
 // The answer of number k of an argument, after which the name waits at the position `next`.
-pub(crate) fn reply_here(
-    id: usize,
-    class: usize,
-    values: usize,
-    arg: usize,
-    k: usize,
-    next: usize,
-) -> Out
+fn reply_here(id: usize, class: usize, values: usize, arg: usize, k: usize, next: usize) -> Out
     ensures { λ r. ⌜ r ≡ replyHere id class values arg k next ⌝ }
 {
     if class == COMMANDS {
@@ -125,15 +118,7 @@ pub(crate) fn reply_here(
 }
 
 // Reply k of n arguments from argument j on.
-pub(crate) fn reply(
-    t: &[u16],
-    id: usize,
-    at: usize,
-    j: usize,
-    n: usize,
-    k: usize,
-    next: usize,
-) -> Out
+fn reply(t: &[u16], id: usize, at: usize, j: usize, n: usize, k: usize, next: usize) -> Out
     ensures { λ r. ⌜ r ≡ replyOf (now (t .entry)) id at j n k next ⌝ }
 {
     if n == 0 {
@@ -177,15 +162,7 @@ pub fn arg_in(
 }
 
 // Position k of n arguments from argument j on; their positions begin at base, their replies at after.
-pub(crate) fn in_args(
-    t: &[u16],
-    at: usize,
-    j: usize,
-    n: usize,
-    k: usize,
-    base: usize,
-    after: usize,
-) -> Spot
+fn in_args(t: &[u16], at: usize, j: usize, n: usize, k: usize, base: usize, after: usize) -> Spot
     ensures { λ r. ⌜ r ≡ inArgs (now (t .entry)) at j n k base after ⌝ }
 {
     if n == 0 {
@@ -217,7 +194,7 @@ pub(crate) fn in_args(
 }
 
 // The name's own move: an answer to its question ends it.
-pub fn hear_answer(t: &[u16], at: usize, q: usize, x: usize, m: Move) -> Out
+fn hear_answer(t: &[u16], at: usize, q: usize, x: usize, m: Move) -> Out
     ensures { λ r. ⌜ r ≡ hearAnswer (now (t .entry)) at q x m ⌝ }
 {
     let kind = m.kind;
@@ -235,7 +212,7 @@ pub fn hear_answer(t: &[u16], at: usize, q: usize, x: usize, m: Move) -> Out
 }
 
 // A move at argument j, where the first n may be asked: a question enters its copy of the argument.
-pub(crate) fn hear_question(t: &[u16], at: usize, n: usize, j: usize, m: Move) -> Out
+fn hear_question(t: &[u16], at: usize, n: usize, j: usize, m: Move) -> Out
     ensures { λ r. ⌜ r ≡ hearQuestion (now (t .entry)) at n j m ⌝ }
 {
     if n <= j {
@@ -255,7 +232,7 @@ pub(crate) fn hear_question(t: &[u16], at: usize, n: usize, j: usize, m: Move) -
 }
 
 // What follows a move at a name that waits, whose first n arguments may be asked.
-pub(crate) fn listen(t: &[u16], at: usize, q: usize, x: usize, n: usize, m: Move) -> Out
+fn listen(t: &[u16], at: usize, q: usize, x: usize, n: usize, m: Move) -> Out
     ensures { λ r. ⌜ r ≡ listenOf (now (t .entry)) at q x n m ⌝ }
 {
     if m.id != name_id(t, at) {

@@ -3,7 +3,7 @@
 ghost use mathlib.Core.List.{List};
 ghost use mathlib.Core.Path.{_≡_};
 ghost use Prim.Native.Nat.{_+_, _-_, _*_, _<_, _≤_, ℕ};
-ghost use lib.ListN.{length, getD};
+ghost use lib.ListN.{length};
 ghost use Rattle.numbering.specs.inner.Counting.{Noted, Counting, ToMeet};
 ghost use Rattle.class_words.specs.Places.{classAt, numberAt, stateAt};
 ghost use Rattle.numbering.specs.Positions.{Countable, NumberedIn};

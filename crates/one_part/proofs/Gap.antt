@@ -62,7 +62,7 @@ abbrev pub Declares : List Name → List Binder → List Name → Type 0
 Declares ns bs ns′ = (id : ℕ) → DeclaredAs (meaning ns bs id) (declared ns′ id)
 
 -- the part has the same type in its own sheet
-pub own-type : (ns ns′ : List Name) (bs : List Binder) (m : Written) → Declares ns bs ns′ →
+own-type : (ns ns′ : List Name) (bs : List Binder) (m : Written) → Declares ns bs ns′ →
     typed ns bs m ≡ typed ns′ [] m
 unfolding meaning
 own-type ns ns′ bs m h = same-typed ns ns′ m bs [] (λ id. as-type (h id))

@@ -146,7 +146,7 @@ module _ (ns : List Name) (bs : List Binder) where
       back u (inr x) = let (w, s, y) = g .1 u x in (w, s, inr y)
 
   -- one word each
-  pub word-match : {n : ℕ} {A B : Type 0} {v w : Word} → Shows n v w → (A → B) → (B → A) →
+  word-match : {n : ℕ} {A B : Type 0} {v w : Word} → Shows n v w → (A → B) → (B → A) →
       Match n (λ u. A × (u ≡ v)) (λ u. B × (u ≡ w))
   word-match {n} {A} {B} {v} {w} s f g =
       (λ u (a, e). (w, subst (λ z. Shows n z w) (sym e) s, (f a, refl)),

@@ -2,11 +2,11 @@
 use Prim.Native.Nat.{ℕ, zero, suc, _+_, _-_, _≤_, _<_}
 use native.Mathlib.Omega.{arith}
 use native.Mathlib.Decide.{decLe}
-use mathlib.Core.Path.{_≡_, refl, sym, ap, _∙_, subst}
+use mathlib.Core.Path.{_≡_, refl, _∙_, subst}
 use mathlib.Core.Logic.{_⊎_, inl, inr}
 use mathlib.Core.Bool.{Bool, true, false}
-use mathlib.Core.List.{List, [], _∷_, _++_}
-use lib.ListN.{length, getD, set}
+use mathlib.Core.List.{List, [], _++_}
+use lib.ListN.{length, getD}
 use lib.Dec.{eqb, leb, ltb}
 use borrow.Author.Tests.{eqb-false, le-ltb}
 use Rattle.language.specs.Choice.{pick}
@@ -27,7 +27,7 @@ use Rattle.procedures.proofs.Tests.{by-test}
 use Rattle.sheet.specs.Encoding.{encode, encodeNames, encodeSheet}
 use Rattle.sheet.specs.Heading.{declareOf, retireOf, declareAt, retireAt}
 use Rattle.sheet.specs.Reader.{Tree, Answer, got, refused, bind, onJudged, readPart, Whole, whole, withName}
-use Rattle.sheet.specs.Reader.{wholeOfShape, nameOf, namesStep, namesOf, closed, numbersAt, nothing, wholeOf, accepted}
+use Rattle.sheet.specs.Reader.{wholeOfShape, nameOf, namesStep, namesOf, closed, nothing, wholeOf, accepted}
 use Rattle.sheet.specs.Reader.{rejected, sheetIn, sizeIn, checks, readUnder}
 use Rattle.sheet.proofs.Standings.{matches-nothing}
 use Rattle.sheet.proofs.NameList.{extends-first}

@@ -8,7 +8,6 @@ use lib.Seq.{take-at, take-append-seam, drop-at, drop-append-seam}
 use lib.Dec.{eqb}
 use Rattle.language.specs.Choice.{pick}
 use Rattle.language.specs.Term.{freely, once, onces}
-use Rattle.language.specs.declared.Numbers.{Numbers}
 use Rattle.records.specs.Limits.{greatest-depth}
 use Rattle.records.specs.declared.edition.Edition.the-variants.{Present}
 use Rattle.procedures.specs.Written.{Written, Name, declare, retire, Sheet}
@@ -20,9 +19,8 @@ use Rattle.sheet.proofs.Right.{gives}
 use Rattle.comparer.specs.Promise.{Holds}
 use Rattle.comparer.proofs.Unique.{held-accepted}
 use Rattle.one_part.specs.Around.{Around, filled}
-use Rattle.one_part.specs.Part.{Differ}
 use Rattle.one_part.specs.Bytes.{StandsAt}
-use Rattle.one_part.specs.Rules.{OneStretch, BytesTell}
+use Rattle.one_part.specs.Rules.{BytesTell}
 use Rattle.one_part.proofs.Records.{fine-rest}
 use Rattle.one_part.proofs.Stretch.{Frame, put-before, frame, heading}
 use Rattle.one_part.proofs.Rereading.{hole, found, read, no-names, gap}

@@ -32,10 +32,6 @@ unfolding framesOf
 frames-less p zero h = absurd (omega arith)
 frames-less p (suc i) h = let e : suc i - 1 ≡ i = omega arith in rw e
 
-start-less : (p : List ℕ) (c : ℕ) → 0 < c → startOf p c ≡ fieldOf p (c - 1) 3
-unfolding startOf levelAt
-start-less p c h = rw (ne-eqb c 0 (λ z. omega arith))
-
 pub fewer : (p : List ℕ) (c left : ℕ) → Sound p c → left ≤ c → Sound p left
 fewer p c left S h = record { room = S .room; few = omega (arith, S .few); plain = λ i b. S .plain i (omega arith) }
 

@@ -1,10 +1,8 @@
 -- A position that waits is a name's, and what follows a move there is what the name says.
-use mathlib.Core.Path.{_≡_, refl, sym, _∙_, ap, subst}
+use mathlib.Core.Path.{_≡_, subst}
 use mathlib.Core.Bool.{Bool, true, false}
-use mathlib.Core.List.{List, [], _∷_}
-use mathlib.Core.Option.{Option, none, some}
-use Prim.Native.Nat.{ℕ, zero, suc, _+_, _-_, _%_}
-use native.Mathlib.Omega.{arith}
+use mathlib.Core.List.{List}
+use Prim.Native.Nat.{ℕ, zero, suc, _-_}
 use lib.Dec.{eqb, ltb, leb}
 use Rattle.language.specs.Choice.{pick}
 use Rattle.part_rows.specs.Row.{word}
@@ -14,17 +12,11 @@ use Rattle.term_positions.specs.declared.Out.the-variants.{Go, Exit, Say, Hear,
 use Rattle.term_positions.specs.declared.Spot.{Spot}
 use Rattle.term_positions.specs.declared.Spot.the-variants.{Here, Inside}
 use Rattle.term_positions.specs.Row.{nameCount, nameId, sumOf, partClass, partValues, partWeight}
-use Rattle.language.specs.Operator.{operate}
-use Rattle.term_positions.specs.Types.{answersOf, answerNumber, questionKind, questionValue}
+use Rattle.term_positions.specs.Types.{answersOf}
 use Rattle.name_use.specs.Name.{argHere, inArgs, replyHere, replyOf, atWait, atSpent, inName, argSpots, saidOf}
 use Rattle.name_use.specs.Name.{copiesOf, innerOf, againOf}
 use Rattle.automaton.specs.walk.Down.{inFetch, inSeq, inWhile, condIn, inCond, operateIn, inOperate, assignIn, inAssign}
 use Rattle.automaton.specs.walk.Down.{inNew, inPrivate, downAs, downOf}
-use Rattle.language.specs.declared.Numbers.{Numbers}
-use Rattle.term_positions.specs.declared.Frame.{Frame}
-use Rattle.rise.specs.Up.{exitDone, exitTruth, exitValue, exitResult, exitOperate, exitAssign, exitArgument}
-use Rattle.rise.specs.Up.{exitNew, exitsOf, goesOf, riseOf}
-use Rattle.part_path.specs.Path.{riseAll}
 use Rattle.name_use.specs.Name.{noMove}
 
 -- not waiting

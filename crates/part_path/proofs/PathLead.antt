@@ -1,24 +1,20 @@
 -- Where a silent step leads: counted from the first state of the part, or of the copy of a block whose variable is
 -- written.
 use mathlib.Core.Path.{_≡_, refl, sym, _∙_, ap}
-use mathlib.Core.Bool.{Bool, true, false}
 use mathlib.Core.List.{List, [], _∷_}
-use Prim.Native.Nat.{ℕ, zero, suc, _+_, _-_, _≤_, _<_}
+use Prim.Native.Nat.{ℕ, suc, _+_, _<_}
 use native.Mathlib.Omega.{arith}
-use native.Mathlib.Decide.{decLt, ℕ-discrete}
+use native.Mathlib.Decide.{ℕ-discrete}
 use lib.ListN.{length}
 use borrow.Author.Tests.{eq-eqb, ne-eqb}
 use Rattle.language.specs.declared.Numbers.{Numbers}
 use Rattle.term_positions.specs.declared.Move.{Move}
 use Rattle.term_positions.specs.declared.Frame.{Frame}
-use Rattle.term_positions.specs.declared.Out.{Out}
-use Rattle.term_positions.specs.declared.Out.the-variants.{Go, Exit, Say, Hear, Stuck}
-use Rattle.term_positions.specs.Row.{sumOf, mulAddOf}
+use Rattle.term_positions.specs.declared.Out.the-variants.{Go, Say, Hear, Stuck}
+use Rattle.term_positions.specs.Row.{sumOf}
 use Rattle.rise.specs.Up.{goesOf, riseOf}
 use Rattle.automaton.proofs.Sums.{sum-small}
 use Rattle.part_path.specs.Path.{riseAll, baseOf, Owned, blockIn}
-use Rattle.part_path.specs.Levels.{frameOf, framesOf}
-use Rattle.part_path.proofs.PathWords.{frames-length}
 
 -- a frame that is not the block
 none-here : (f : Frame) (fs : List Frame) (l : ℕ) → blockIn (f ∷ fs) l ≡ 0 →

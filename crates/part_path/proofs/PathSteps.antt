@@ -1,9 +1,9 @@
 -- What each turn of the code that finds where a step leads needs.
-use mathlib.Core.Path.{_≡_, refl, sym, _∙_, ap, subst}
-use mathlib.Core.List.{List, [], _∷_}
-use Prim.Native.Nat.{ℕ, zero, suc, _+_, _*_, _-_, _≤_, _<_}
+use mathlib.Core.Path.{_≡_, refl, sym, _∙_, ap}
+use mathlib.Core.List.{List}
+use Prim.Native.Nat.{ℕ, zero, suc, _+_, _-_, _≤_, _<_}
 use native.Mathlib.Omega.{arith}
-use native.Mathlib.Decide.{decLt, ℕ-discrete}
+use native.Mathlib.Decide.{decLt}
 use borrow.Author.Tests.{eq-eqb, ne-eqb, lt-ltb, le-ltb}
 use lib.Dec.{eqb}
 use Rattle.language.specs.Choice.{pick}
@@ -19,7 +19,7 @@ use Rattle.part_path.specs.States.{targetOf}
 use Rattle.part_path.specs.Path.{riseAll, baseOf, storeOf, upOf, innermostOf, blockIn, leftOf}
 use Rattle.part_path.specs.Levels.{fieldOf, frameOf, levelAt, framesOf, Sound}
 use Rattle.part_path.specs.Kept.{startOf}
-use Rattle.part_path.proofs.PathWords.{frames-next, frames-length}
+use Rattle.part_path.proofs.PathWords.{frames-length}
 use Rattle.part_path.proofs.PathLead.{rise-go, block-none}
 use Rattle.part_path.proofs.PathExits.{exit-none, exit-up, exit-all, up-low, up-stops}
 use Rattle.part_path.proofs.PathRise.{Alike, alike-exits, alike-go, alike-exit, alike-stuck, alike-say, alike-hear}

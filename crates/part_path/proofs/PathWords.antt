@@ -1,12 +1,10 @@
 -- The words of a path after a level is written.
-use mathlib.Core.Path.{_≡_, refl, sym, _∙_, ap}
+use mathlib.Core.Path.{_≡_, refl, _∙_, ap}
 use mathlib.Core.List.{List, [], _∷_}
 use Prim.Native.Nat.{ℕ, zero, suc, _+_, _*_, _≤_, _<_}
 use native.Mathlib.Omega.{arith}
-use native.Mathlib.Numerals.{add-one}
 use lib.ListN.{getD, set, length, length-set}
 use lib.Seq.{getD-set-same, getD-set-other}
-use Rattle.term_positions.specs.declared.Frame.{Frame}
 use Rattle.part_path.specs.declared.Level.{Level}
 use Rattle.part_path.specs.Levels.{fieldOf, frameOf, levelAt, framesOf, setAll, levelWords, withLevel}
 

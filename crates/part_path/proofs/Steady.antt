@@ -1,5 +1,5 @@
 -- Descending is steady: for all positions of the part that it gives, it gives the same part, question and frame.
-use mathlib.Core.Path.{_≡_, refl, sym, _∙_, ap, ap₂}
+use mathlib.Core.Path.{_≡_, refl, sym, _∙_, ap}
 use mathlib.Core.Bool.{Bool, true, false}
 use mathlib.Core.Logic.{_⊎_, inl, inr}
 use mathlib.Core.List.{List}
@@ -7,7 +7,7 @@ use Prim.Native.Nat.{ℕ, zero, suc, _+_, _*_, _-_, _/_, _%_, _≤_, _<_}
 use native.Mathlib.Omega.{arith}
 use native.Mathlib.Decide.{decLt, ℕ-discrete}
 use native.Mathlib.Nat.{div-add-mod', mod-lt, mul-le-mul-right, mul-zero}
-use lib.Dec.{eqb, ltb, leb}
+use lib.Dec.{eqb}
 use borrow.Author.Tests.{lt-ltb, le-ltb, lt-leb, le-leb, eq-eqb, ne-eqb}
 use Rattle.language.specs.Choice.{pick}
 use Rattle.part_rows.specs.Row.{cell}
@@ -18,7 +18,7 @@ use Rattle.term_positions.specs.declared.Out.{Out}
 use Rattle.term_positions.specs.declared.Out.the-variants.{Exit, Stuck}
 use Rattle.term_positions.specs.declared.Spot.{Spot}
 use Rattle.term_positions.specs.declared.Spot.the-variants.{Here, Inside}
-use Rattle.term_positions.specs.Row.{partWeight, partClass, partValues, nameCount, nameId, nameSpent, sumOf, mulAddOf}
+use Rattle.term_positions.specs.Row.{partWeight, partClass, partValues, nameCount, nameSpent, sumOf, mulAddOf}
 use Rattle.term_positions.specs.Types.{questionsOf, questionKind, questionValue, answersOf}
 use Rattle.name_use.specs.Name.{framedOf, copiesOf, argHere, inArgs, argSpots, innerOf, inName}
 use Rattle.automaton.specs.walk.Down.{inFetch, inSeq, inWhile, condIn, inCond, operateIn, inOperate, assignIn, inAssign}

@@ -1,7 +1,7 @@
 -- The path that is kept from state to state, and what it says.
 use mathlib.Core.Path.{_≡_}
-use mathlib.Core.List.{List, [], _∷_}
-use Prim.Native.Nat.{ℕ, zero, suc, _+_, _-_, _≤_, _<_}
+use mathlib.Core.List.{List, _∷_}
+use Prim.Native.Nat.{ℕ, _+_, _-_, _≤_, _<_}
 use lib.ListN.{length}
 use lib.Dec.{eqb, ltb, leb}
 use Rattle.language.specs.Choice.{pick}
@@ -14,14 +14,14 @@ use Rattle.term_positions.specs.declared.Out.{Out}
 use Rattle.term_positions.specs.declared.Out.the-variants.{Say, Hear}
 use Rattle.part_rows.specs.PartKind.{WEIGHT, CLASS, VALUES}
 use Rattle.term_positions.specs.declared.Spot.{Spot}
-use Rattle.term_positions.specs.declared.Spot.the-variants.{Here, Inside}
+use Rattle.term_positions.specs.declared.Spot.the-variants.{Here}
 use Rattle.name_use.specs.Name.{noMove, argHere, atWait}
 use Rattle.automaton.specs.walk.Down.{downOf}
 use Rattle.automaton.specs.walk.Step.{stepAt}
 use Rattle.part_path.specs.declared.Level.{Level}
 use Rattle.part_path.specs.States.{atStart, repliedOf, afterOf, spotsOf, sheetAt}
 use Rattle.part_path.specs.Path.{riseAll, storeOf, innermostOf, upOf}
-use Rattle.part_path.specs.Levels.{framesOf, levelAt, Plain, Sound}
+use Rattle.part_path.specs.Levels.{framesOf, levelAt, Sound}
 
 -- where the state k is: the start, a copy of the term, or an answer
 unfoldable pub sheetSpot : List ℕ → ℕ → ℕ → Move → Spot

@@ -1,9 +1,9 @@
 -- The way from the root of a sheet to the part in which a state lies: the frames passed, the innermost first.
 use mathlib.Core.Path.{_≡_}
 use mathlib.Core.Logic.{_⊎_}
-use mathlib.Core.Bool.{Bool, true, false}
+use mathlib.Core.Bool.{Bool, true}
 use mathlib.Core.List.{List, [], _∷_}
-use Prim.Native.Nat.{ℕ, zero, suc, _+_, _-_, _≤_, _<_}
+use Prim.Native.Nat.{ℕ, suc, _+_, _-_, _≤_, _<_}
 use lib.ListN.{length}
 use lib.Dec.{eqb, ltb}
 use Rattle.language.specs.Choice.{pick}
@@ -13,7 +13,6 @@ use Rattle.term_positions.specs.Row.{SHORTS}
 use Rattle.term_positions.specs.declared.Move.{Move}
 use Rattle.term_positions.specs.declared.Frame.{Frame}
 use Rattle.term_positions.specs.declared.Out.{Out}
-use Rattle.term_positions.specs.declared.Out.the-variants.{Go, Exit, Say, Hear, Stuck}
 use Rattle.term_positions.specs.declared.Spot.{Spot}
 use Rattle.term_positions.specs.declared.Spot.the-variants.{Here, Inside}
 use Rattle.term_positions.specs.Role.{BLOCK, AS-IS}

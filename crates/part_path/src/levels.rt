@@ -14,7 +14,7 @@ use term_positions::roles::AS_IS;
 // How many levels a path has at most: those of a term, and the whole.
 pub(crate) const LEVELS: usize = 6145;
 // The words of a level.
-pub(crate) const FIELDS: usize = 13;
+const FIELDS: usize = 13;
 
 pub(crate) const PART: usize = 0;
 
@@ -26,21 +26,21 @@ pub(crate) const BASE: usize = 3;
 
 pub(crate) const END: usize = 4;
 
-pub(crate) const OUTER: usize = 5;
+const OUTER: usize = 5;
 
-pub(crate) const ROLE: usize = 6;
+const ROLE: usize = 6;
 
-pub(crate) const OFFSET: usize = 7;
+const OFFSET: usize = 7;
 
-pub(crate) const A: usize = 8;
+const A: usize = 8;
 
 pub(crate) const B: usize = 9;
 
 pub(crate) const C: usize = 10;
 
-pub(crate) const D: usize = 11;
+const D: usize = 11;
 
-pub(crate) const UP: usize = 12;
+const UP: usize = 12;
 // All words.
 pub const PATH_WORDS: usize = 79885;
 

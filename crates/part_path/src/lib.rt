@@ -24,7 +24,7 @@ pub struct Site {
 // A level of the path to a state: a part, asked the question of this kind and value, whose first state is base and
 // which is the same up to the state `end`; the levels up to the innermost block outside it, those up to the one where
 // its exits lead, and what its steps become in the part above it.
-pub struct Level {
+pub(crate) struct Level {
     pub part: usize,
     pub kind: usize,
     pub value: usize,

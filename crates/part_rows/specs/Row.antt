@@ -1,7 +1,6 @@
 -- The table of parts, which the reader leaves: nine words for each place of a sheet. Only inner contracts cite it; what the
 -- words say is told in procedures/specs/Table.
 use Prim.Native.Nat.{ℕ, _+_, _*_, _%_}
-use mathlib.Core.Bool.{Bool}
 use mathlib.Core.List.{List}
 use lib.ListN.{getD, set}
 use lib.Dec.{eqb, ltb}

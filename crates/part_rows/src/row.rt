@@ -13,7 +13,7 @@ use records::read::short_at;
 use records::standing::Standing;
 use records::standing::meaning_of;
 ghost use mathlib.Core.Path.{_≡_};
-ghost use Prim.Native.Nat.{_+_, _*_, _≤_, _<_};
+ghost use Prim.Native.Nat.{_+_, _*_, _<_};
 ghost use lib.ListN.{set, length};
 ghost use Rattle.part_rows.specs.Row.{cell, word, useKind, rowKind, classOf, declaredDetail, useDetail, detail};
 ghost use Rattle.part_rows.specs.Row.{fiveFrom, five, rowWritten, linked};
@@ -79,7 +79,7 @@ pub fn put(t: &mut [u16], i: usize, v: u16)
 }
 
 // Word i of the row at a place.
-pub(crate) fn cell_at(place: usize, i: usize) -> usize
+fn cell_at(place: usize, i: usize) -> usize
     requires { ⌜ (place < 65536) × (i < 65536) ⌝ }
     ensures { λ r. ⌜ r ≡ cell place i ⌝ }
 {
@@ -95,7 +95,7 @@ pub fn word_of(t: &[u16], place: usize, i: usize) -> usize
 }
 
 // Stores v in word i of the row at a place, if the table reaches that far.
-pub(crate) fn put_cell(t: &mut [u16], place: usize, i: usize, v: u16)
+fn put_cell(t: &mut [u16], place: usize, i: usize, v: u16)
     requires { ⌜ (place < 65536) × (i < 65536) ⌝ }
     ensures { λ r. ⌜ now (t .exit) ≡ set (now (t .entry)) (cell place i) v ⌝ }
 {
@@ -104,7 +104,7 @@ pub(crate) fn put_cell(t: &mut [u16], place: usize, i: usize, v: u16)
 }
 
 // The kind in the row of a use, of an id whose standing is `c`.
-pub(crate) fn use_kind(kind: u16, c: u32) -> u16
+fn use_kind(kind: u16, c: u32) -> u16
     ensures { λ r. ⌜ r ≡ useKind kind (standingOf c) ⌝ }
 {
     let standing = meaning_of(c);
@@ -125,7 +125,7 @@ pub(crate) fn use_kind(kind: u16, c: u32) -> u16
 }
 
 // The kind in a record's row.
-pub(crate) fn row_kind(rule: Rule, r: Record) -> u16
+fn row_kind(rule: Rule, r: Record) -> u16
     ensures { λ x. ⌜ x ≡ rowKind rule r ⌝ }
 {
     let kind = r.kind as u16;
@@ -147,7 +147,7 @@ pub(crate) fn row_kind(rule: Rule, r: Record) -> u16
 }
 
 // The class of a type.
-pub(crate) fn class_of(ty: u8) -> u16
+fn class_of(ty: u8) -> u16
     ensures { λ r. ⌜ r ≡ classOf ty ⌝ }
 {
     if ty == COMMAND {
@@ -169,7 +169,7 @@ fn name_detail(id: u8, count: u8, once: u8) -> u16
 
 // The detail of a use: of a name as above, of a variable or a parameter its number, of a procedure the place of its
 // record and 4,096 times the number of its arguments.
-pub(crate) fn use_detail(r: Record) -> u16
+fn use_detail(r: Record) -> u16
     ensures { λ x. ⌜ x ≡ useDetail (r .a) (r .parts) (standingOf (r .b)) ⌝ }
 {
     let standing = meaning_of(r.b);
@@ -186,7 +186,7 @@ pub(crate) fn use_detail(r: Record) -> u16
 }
 
 // The detail in the row of a record that `number` binders enclose.
-pub(crate) fn detail_of(rule: Rule, n: Numbers, r: Record, number: u8) -> u16
+fn detail_of(rule: Rule, n: Numbers, r: Record, number: u8) -> u16
     ensures { λ x. ⌜ x ≡ detail rule n r number ⌝ }
 {
     match rule {

@@ -9,29 +9,29 @@ use records::standing::argument_of;
 use records::standing::result_of;
 ghost use mathlib.Core.Path.{_≡_};
 ghost use mathlib.Core.Bool.{true, false};
-ghost use Prim.Native.Nat.{_+_, _≤_, _<_};
+ghost use Prim.Native.Nat.{_+_, _<_};
 ghost use Rattle.parts.specs.Rule.{operandType, resultType, acceptsPart, partType};
 
 // The types.
 pub const COMMAND: u8 = 0;
 
-pub const TRUTH: u8 = 1;
+const TRUTH: u8 = 1;
 
-pub const NUMBER: u8 = 2;
+const NUMBER: u8 = 2;
 
 pub const TRUTH_VARIABLE: u8 = 3;
 
-pub const NUMBER_VARIABLE: u8 = 4;
+const NUMBER_VARIABLE: u8 = 4;
 
 // The type of an operator's operands: those below AND take numbers.
-pub(crate) fn operand_type(op: u8) -> u8
+fn operand_type(op: u8) -> u8
     ensures { λ r. ⌜ r ≡ operandType op ⌝ }
 {
     if op < AND { NUMBER } else { TRUTH }
 }
 
 // The type of its result: those below EQUAL give a number.
-pub(crate) fn result_type(op: u8) -> u8
+fn result_type(op: u8) -> u8
     ensures { λ r. ⌜ r ≡ resultType op ⌝ }
 {
     if op < EQUAL { NUMBER } else { TRUTH }

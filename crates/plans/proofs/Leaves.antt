@@ -6,7 +6,7 @@ use mathlib.Core.Path.{_≡_, refl, ap, sym, _∙_}
 use lib.ListN.{getD}
 use lib.Seq.{getD-drop}
 use borrow.Author.Tests.{lt-ltb, le-ltb, eq-eqb, ne-eqb}
-use Rattle.part_rows.specs.PartKind.{NAME, OPERATE, ASSIGN, NEW, PARAMETER, ROUTINE, VALUES, PARTS}
+use Rattle.part_rows.specs.PartKind.{NAME, OPERATE, ASSIGN, PARAMETER, ROUTINE, VALUES, PARTS}
 use Rattle.procedures.specs.Made.{sign}
 use Rattle.procedures.specs.Marks.{bits}
 use Rattle.part_rows.specs.Row.{word}

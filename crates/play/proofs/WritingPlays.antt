@@ -43,7 +43,7 @@ unfolding firstLetter letterFrom
 letter-long k i j v h = rw (le-ltb k 5 h)
 
 -- records with one letter are the same
-pub same-record : {r s : List ℕ} → Record r → Record s → firstLetter r ≡ firstLetter s → r ≡ s
+same-record : {r s : List ℕ} → Record r → Record s → firstLetter r ≡ firstLetter s → r ≡ s
 same-record (short k i j hk hi hj) (short l m n hl hm hn) e =
     let f : k * 16777216 + i * 65536 + j * 256 ≡ l * 16777216 + m * 65536 + n * 256 =
           sym (letter-short k i j hk) ∙ e ∙ letter-short l m n hl in
@@ -91,7 +91,7 @@ good-four k i j v place g gk hi hj hv h =
       (λ t. rw t tt)
 
 -- THEOREM: the records of a play of bytes are records
-pub good-parse : (place : ℕ) (s : List ℕ) → ((i : ℕ) → getD s i 0 < 256) → GoodGiven (parse place s)
+good-parse : (place : ℕ) (s : List ℕ) → ((i : ℕ) → getD s i 0 < 256) → GoodGiven (parse place s)
 unfolding GoodGiven Good parse
 good-parse place [] h = tt
 good-parse place (k ∷ []) h = tt

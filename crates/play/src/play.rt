@@ -1,6 +1,4 @@
 // The records of a play, and the letters of their moves.
-use term_positions::moves::MOVE_KINDS;
-use term_positions::moves::VALUE;
 use explicit::letters::ARGUMENT_UNIT;
 use explicit::letters::ID_UNIT;
 use explicit::letters::KIND_UNIT;
@@ -8,6 +6,8 @@ use explicit::letters::RANK_ZERO;
 use records::limits::BYTES;
 use records::read::byte_at;
 use records::store::put_byte;
+use term_positions::moves::MOVE_KINDS;
+use term_positions::moves::VALUE;
 ghost use mathlib.Core.Path.{_≡_};
 ghost use Prim.Native.Nat.{_+_, _≤_, _%_};
 ghost use lib.ListN.{length, set, take, drop};
@@ -60,7 +60,7 @@ pub fn count_moves(play: &[u8]) -> Parsed
 }
 
 // The letter of a record's bytes.
-pub(crate) fn letter_from(kind: u8, id: u8, arg: u8, value: u8) -> usize
+fn letter_from(kind: u8, id: u8, arg: u8, value: u8) -> usize
     ensures { λ r. ⌜ r ≡ letterFrom kind id arg value ⌝ }
 {
     let k = kind as usize;

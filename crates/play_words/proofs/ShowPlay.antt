@@ -21,7 +21,7 @@ use Rattle.play.specs.Bytes.{recordsBy}
 
 module _ (n k r : ℕ) (ws ws′ : List ℕ) (t : Trail n (take (5 * n) ws) k) (s : Spelling n k ws ws′ r) where
   -- the word has fewer letters than there are states
-  pub few-moves : r < n
+  few-moves : r < n
   few-moves =
       let w = trail-spelled n (take (5 * n) ws) k t in
       omega (arith, s .word (w .0) (w .1) .0, spelled-length n (take (5 * n) ws) k (w .0) (w .1), t .below)

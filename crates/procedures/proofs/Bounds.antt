@@ -118,6 +118,3 @@ mutual
 -- in the words of the design: at most 3w - 1 nodes, at most 2w deep
 pub nodes-bound : (M : Term) {n : List ℕ} {T : Ty} → Typed n M T → Valued M → nodes M + 1 ≤ 3 * weight M
 nodes-bound M {T = T} x v = omega (arith, few-nodes M x v, spare-least T)
-
-pub depth-bound : (M : Term) {n : List ℕ} {T : Ty} → Typed n M T → Valued M → deep M ≤ 2 * weight M
-depth-bound M {T = T} x v = omega (arith, not-deep M x v, slack-least T .1, heavy M v)

@@ -77,7 +77,7 @@ sees-come ns {Δ = Δ} (from-scope {Γ = Γ} {qs = qs} {other = other} s) =
     ∙ sees-come ns s
 
 -- the parameters around are those inside too
-pub parameter-inside : (ps : List Parameter) (bs : List Binder) (s : ℕ) → IsParameter bs s →
+parameter-inside : (ps : List Parameter) (bs : List Binder) (s : ℕ) → IsParameter bs s →
     IsParameter (inside ps bs) s
 unfolding inside IsParameter
 parameter-inside [] bs s h = h

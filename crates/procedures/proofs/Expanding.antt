@@ -311,7 +311,7 @@ module _ (N : Numbers) (ns : List Name) (R : ℕ → Option Row) where
         rw e (rep-passes y ρ p z i (omega arith) u′ a)
 
 -- THEOREM: the row of a term is right for it
-pub expands-rep : (N : Numbers) (ns : List Name) (R : ℕ → Option Row) {Γ : Context} {ε : Slots} {W : Written}
+expands-rep : (N : Numbers) (ns : List Name) (R : ℕ → Option Row) {Γ : Context} {ε : Slots} {W : Written}
     {n r m : ℕ} →
     Expands N ns R Γ ε W n r m → Represents N ns R Γ ε W r
 unfolding Represents

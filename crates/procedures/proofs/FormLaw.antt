@@ -68,7 +68,7 @@ right-more φ c bs ω (named often ty tys) b h = tt
 right-more φ c bs ω retired b h = tt
 right-more φ c bs ω free b h = tt
 
-pub right-declared : (φ : Forms) (bs : List Binder) (ω : Weights) (ns : List Name) (id : ℕ) →
+right-declared : (φ : Forms) (bs : List Binder) (ω : Weights) (ns : List Name) (id : ℕ) →
     Forms-right φ bs ω (declared ns id)
 unfolding Forms-right
 right-declared φ bs ω ns id = all-declared (Forms-right φ bs ω) ns id (λ often ty tys. tt) tt tt
@@ -87,7 +87,7 @@ module _ (N : Numbers) (ns : List Name) where
   abbrev pub Rights : Forms → List Binder → Weights → Type 0
   Rights φ bs ω = (id : ℕ) → Forms-right φ bs ω (meaning ns bs id)
 
-  pub rights-more : (φ : Forms) (c : Binder) (bs : List Binder) (ω : Weights) →
+  rights-more : (φ : Forms) (c : Binder) (bs : List Binder) (ω : Weights) →
       Forms-right φ (c ∷ bs) ω (meant (length bs) c) → Rights φ bs ω → Rights φ (c ∷ bs) ω
   rights-more φ c bs ω h r =
       one-more-binder (Forms-right φ (c ∷ bs) ω) ns c bs h (λ id b. right-more φ c bs ω (meaning ns bs id) b (r id))
@@ -101,7 +101,7 @@ module _ (N : Numbers) (ns : List Name) where
   unfolding Forms-right meant
   rights-block φ id d bs ω r = rights-more φ (a-block id d) bs ω tt r
 
-  pub rights-inside : (φ : Forms) (ps : List Parameter) (bs : List Binder) (ω : Weights) → Rights φ bs ω →
+  rights-inside : (φ : Forms) (ps : List Parameter) (bs : List Binder) (ω : Weights) → Rights φ bs ω →
       Rights φ (inside ps bs) ω
   unfolding inside Forms-right meant
   rights-inside φ [] bs ω r = r

@@ -16,7 +16,7 @@ use Rattle.procedures.proofs.Tests.{by-test}
 use Rattle.procedures.proofs.Numbering.{beyond-below, beyond-above}
 
 -- sums over the enclosing parameters
-pub over-same : (bs : List Binder) (g h : ℕ → ℕ) → ((s : ℕ) → s < length bs → g s ≡ h s) → over bs g ≡ over bs h
+over-same : (bs : List Binder) (g h : ℕ → ℕ) → ((s : ℕ) → s < length bs → g s ≡ h s) → over bs g ≡ over bs h
 unfolding over
 over-same [] g h e = refl
 over-same (a-block id d ∷ bs) g h e = over-same bs g h (λ s l. e s (omega arith))
@@ -42,7 +42,7 @@ over-zero : (bs : List Binder) (x : ℕ → ℕ) → over bs (λ s. 0 * x s) ≡
 over-zero bs x = over-times bs 0 x ∙ zero-mul (over bs x)
 
 -- a binder more, at which there is nothing
-pub over-more : (b : Binder) (bs : List Binder) (g : ℕ → ℕ) → g (length bs) ≡ 0 → over (b ∷ bs) g ≡ over bs g
+over-more : (b : Binder) (bs : List Binder) (g : ℕ → ℕ) → g (length bs) ≡ 0 → over (b ∷ bs) g ≡ over bs g
 unfolding over
 over-more (a-block id d) bs g e = refl
 over-more (a-parameter id ty) bs g e = rw e (omega arith)
@@ -103,7 +103,7 @@ value-times bs c f x =
         over-times bs c (λ s. f .of s * x s))
       (sym (mul-add c (f .constant) (over bs (λ s. f .of s * x s))))
 
-pub value-sums : (bs : List Binder) (m : ℕ) (c : ℕ → ℕ) (f : ℕ → Form) (x : ℕ → ℕ) →
+value-sums : (bs : List Binder) (m : ℕ) (c : ℕ → ℕ) (f : ℕ → Form) (x : ℕ → ℕ) →
     value bs (sums m c f) x ≡ total m (λ j. c j * value bs (f j) x)
 unfolding sums total
 value-sums bs zero c f x = value-only bs 0 x

@@ -120,13 +120,6 @@ module _ (ns : List Name) (origin : ℕ → Bool) (unnamed : (j : ℕ) → origi
     pub held-as-read : (j : ℕ) → isHeld ds j ≡ true → origin j ≡ true → isHeld bs j ≡ true
     pub held-as-written : (j : ℕ) → isHeld bs j ≡ true → isHeld ds j ≡ true
 
-  -- THEOREM: hiding is the same judged on the sheet as read or as changed
-  pub judged-alike : (seen : ℕ → Bool) (f : ℕ → ℕ) (bs ds : List Binder) (taken : ℕ → Bool) (a : ℕ) →
-      Around seen f bs ds taken → origin a ≡ true → isHeld bs a ≡ isHeld ds a
-  judged-alike seen f bs ds taken a r o =
-      by-test (isHeld bs a) (λ t. t ∙ sym (r .held-as-written a t))
-        (λ t. t ∙ sym (not-true (isHeld ds a) (λ e. true-false (isHeld bs a) (r .held-as-read a e o) t)))
-
   later : (seen : ℕ → Bool) (f : ℕ → ℕ) (bs ds : List Binder) (taken then : ℕ → Bool) → Around seen f bs ds taken →
       Grows taken then → Around seen f bs ds then
   unfolding Grows

@@ -3,22 +3,15 @@ use Prim.Native.Nat.{ℕ, zero, suc, _+_, _*_, _≤_, _<_}
 use native.Mathlib.Omega.{arith}
 use native.Mathlib.Nat.{mul-le-mul-right, mul-le-mul-left, zero-mul, mul-zero}
 use mathlib.Core.Path.{_≡_, refl, sym, _∙_}
-use mathlib.Core.Bool.{Bool, true, false}
 use mathlib.Core.Logic.{_↔_}
 use lib.Dec.{ltb}
 use borrow.Author.Tests.{ltb-true, ltb-false}
-use Rattle.language.specs.Choice.{pick}
-use Rattle.procedures.specs.Form.{Form, only, plus, times, lower, sums, instance}
-use Rattle.procedures.specs.Held.{held, heldForm, SameForm}
+use Rattle.procedures.specs.Held.{held}
 use Rattle.procedures.proofs.Tests.{by-test}
 
 pub held-sum : (a b c d : ℕ) → held a ≡ held c → held b ≡ held d → held (a + b) ≡ held (c + d)
 unfolding held
 held-sum a b c d e f = omega arith
-
-pub held-plus : (a b : ℕ) → held (a + b) ≡ held (held a + held b)
-unfolding held
-held-plus a b = omega arith
 
 pub held-held : (a : ℕ) → held (held a) ≡ held a
 unfolding held
@@ -76,62 +69,7 @@ held-times (suc a) (suc b) =
       some-right (suc a) (suc b) g (omega arith)
         ∙ sym (rw (above-bound (suc a) g) (some-right 4097 (held (suc b)) (omega arith) (held-suc b))))
 
-pub used-held : (a : ℕ) → (0 < held a) ↔ (0 < a)
-unfolding held
-used-held a = (λ h. omega arith, λ h. omega arith)
-
 -- up to the bound nothing is held
 pub within : (a k : ℕ) → k ≤ 4096 → (held a ≤ k) ↔ (a ≤ k)
 unfolding held
 within a k h = (λ g. omega arith, λ g. omega arith)
-
--- forms
-pub held-form-plus : (f g : Form) → SameForm (heldForm (plus f g)) (heldForm (plus (heldForm f) (heldForm g)))
-unfolding heldForm plus
-held-form-plus f g = record {
-    constants = held-plus (f .constant) (g .constant);
-    coefficients = λ s. held-plus (f .of s) (g .of s) }
-
-pub held-form-times : (c : ℕ) (f : Form) → SameForm (heldForm (times c f)) (heldForm (times (held c) (heldForm f)))
-unfolding heldForm times
-held-form-times c f = record {
-    constants = held-times c (f .constant);
-    coefficients = λ s. held-times c (f .of s) }
-
-held-sums-constant : (m : ℕ) (c : ℕ → ℕ) (f : ℕ → Form) →
-    held (sums m c f .constant) ≡ held (sums m (λ j. held (c j)) (λ j. heldForm (f j)) .constant)
-unfolding sums plus times only heldForm
-held-sums-constant zero c f = refl
-held-sums-constant (suc m) c f =
-    held-sum (sums m c f .constant) (c m * f m .constant)
-      (sums m (λ j. held (c j)) (λ j. heldForm (f j)) .constant) (held (c m) * held (f m .constant))
-      (held-sums-constant m c f) (held-times (c m) (f m .constant))
-
-held-sums-of : (m : ℕ) (c : ℕ → ℕ) (f : ℕ → Form) (s : ℕ) →
-    held (sums m c f .of s) ≡ held (sums m (λ j. held (c j)) (λ j. heldForm (f j)) .of s)
-unfolding sums plus times only heldForm
-held-sums-of zero c f s = refl
-held-sums-of (suc m) c f s =
-    held-sum (sums m c f .of s) (c m * f m .of s)
-      (sums m (λ j. held (c j)) (λ j. heldForm (f j)) .of s) (held (c m) * held (f m .of s))
-      (held-sums-of m c f s) (held-times (c m) (f m .of s))
-
-held-lower : (k : ℕ) (f : Form) (s : ℕ) → held (lower k f .of s) ≡ held (lower k (heldForm f) .of s)
-unfolding lower heldForm
-held-lower k f s = go (ltb s k)
-  where
-    go : (b : Bool) → held (pick b (f .of s) 0) ≡ held (pick b (held (f .of s)) 0)
-    go true = sym (held-held (f .of s))
-    go false = refl
-
--- THEOREM: a use of a procedure may be reckoned from held forms
-pub held-instance : (k m : ℕ) (f : Form) (xs : ℕ → Form) →
-    SameForm (heldForm (instance k m f xs)) (heldForm (instance k m (heldForm f) (λ j. heldForm (xs j))))
-unfolding heldForm instance plus lower
-held-instance k m f xs = record {
-    constants = held-sum (f .constant) (sums m (λ j. f .of (k + j)) xs .constant) (held (f .constant))
-      (sums m (λ j. held (f .of (k + j))) (λ j. heldForm (xs j)) .constant) (sym (held-held (f .constant)))
-      (held-sums-constant m (λ j. f .of (k + j)) xs);
-    coefficients = λ s. held-sum (lower k f .of s) (sums m (λ j. f .of (k + j)) xs .of s) (lower k (heldForm f) .of s)
-      (sums m (λ j. held (f .of (k + j))) (λ j. heldForm (xs j)) .of s) (held-lower k f s)
-      (held-sums-of m (λ j. f .of (k + j)) xs s) }

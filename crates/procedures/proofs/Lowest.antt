@@ -86,12 +86,12 @@ lowest-from-least taken (suc n) id j h g =
       by-id j id (λ e. rw e t) (λ n′. lowest-from-least taken n (suc id) j (omega (arith, h, n′)) g′))
     (λ t. let g′ : j < id = rw t at g in absurd (omega (arith, h, g′)))
 
-pub lowest-least : (taken : ℕ → Bool) (j : ℕ) → j < lowest taken → taken j ≡ true
+lowest-least : (taken : ℕ → Bool) (j : ℕ) → j < lowest taken → taken j ≡ true
 unfolding lowest
 lowest-least taken j h = lowest-from-least taken 255 0 j (omega arith) h
 
 -- how many are left
-pub left-most : (taken : ℕ → Bool) (n : ℕ) → left taken n ≤ n
+left-most : (taken : ℕ → Bool) (n : ℕ) → left taken n ≤ n
 unfolding left
 left-most taken zero = omega arith
 left-most taken (suc n) =

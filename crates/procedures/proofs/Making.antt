@@ -247,7 +247,7 @@ module _ (N : Numbers) (ns : List Name) (R S : ℕ → Option Row) where
     passes-same (one-unused u y) f = one-unused u (passes-same y f)
 
 -- THEOREM: a sheet makes as many rows as are counted, at most 12,288 where it is accepted
-pub sheet-made : (S : Sheet) (R : ℕ → Option Row) (r n : ℕ) → Expansion S R r n → n ≡ madeSheet S
+sheet-made : (S : Sheet) (R : ℕ → Option Row) (r n : ℕ) → Expansion S R r n → n ≡ madeSheet S
 unfolding Expansion madeSheet binders forms makes
 sheet-made S R r n x = omega (arith, expands-made (S .numbers) (S .names) R x)
 

@@ -3,7 +3,7 @@ use Prim.Native.Nat.{ℕ, zero, suc, _+_, _-_, _*_, _/_, _%_, _^_, _≤_, _<_, m
 use native.Mathlib.Omega.{arith}
 use native.Mathlib.Nat.{pow-suc}
 use mathlib.Core.Path.{_≡_, refl, sym, ap, ap₂, _∙_, subst}
-use mathlib.Core.Logic.{_↔_, _⊎_, inl, inr}
+use mathlib.Core.Logic.{_⊎_, inl, inr}
 use mathlib.Core.Bool.{Bool, true, false, _||_, _&&_, not, false≢true}
 use mathlib.Core.List.{List, [], _∷_}
 use mathlib.Core.Option.{Option, none as nothing, some}
@@ -16,7 +16,7 @@ use lib.Pow.{pow-pos, shr-shr}
 use Rattle.language.specs.Choice.{pick}
 use Rattle.language.specs.Term.{Often}
 use Rattle.procedures.specs.Written.{Written, skip, diverge, truth, number, call, fetch, operate, assign}
-use Rattle.procedures.specs.Written.{sequence, while, choose, new, procedure, Parameter, Writtens, none, more}
+use Rattle.procedures.specs.Written.{sequence, while, choose, new, procedure, Writtens, none, more}
 use Rattle.procedures.specs.Written.{Name, declare, retire, Sheet}
 use Rattle.procedures.specs.Meaning.{Binder, Meaning, private, argument, routine, named, retired, free}
 use Rattle.procedures.specs.Meaning.{a-block, meaning, inside, after}
@@ -326,7 +326,7 @@ mark-rule S = record {
     unused = first-unset S }
 
 -- as many bits as records
-pub bits-below : (f : Name → Bool) (ns : List Name) (k : ℕ) → length ns ≤ k → bits f ns < 2 ^ k
+bits-below : (f : Name → Bool) (ns : List Name) (k : ℕ) → length ns ≤ k → bits f ns < 2 ^ k
 unfolding bits bit
 bits-below f [] k h = pow-pos k
 bits-below f (n ∷ ns) zero h = absurd (omega arith)

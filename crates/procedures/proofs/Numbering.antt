@@ -60,7 +60,7 @@ Below k (named often ty tys) = Unit
 Below k retired = Unit
 Below k free = Unit
 
-pub below-more : (k l : ℕ) (m : Meaning) → k ≤ l → Below k m → Below l m
+below-more : (k l : ℕ) (m : Meaning) → k ≤ l → Below k m → Below l m
 unfolding Below
 below-more k l (private j d) h b = omega arith
 below-more k l (argument j d) h b = omega arith

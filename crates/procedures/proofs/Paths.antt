@@ -2,7 +2,7 @@
 use Prim.Native.Nat.{ℕ, zero, suc, _+_, _≤_, _<_, max}
 use native.Mathlib.Omega.{arith}
 use mathlib.Core.Path.{_≡_, refl}
-use mathlib.Core.Option.{Option, some}
+use mathlib.Core.Option.{Option}
 use mathlib.Core.List.{List, [], _∷_}
 use lib.ListN.{length}
 use Rattle.language.specs.Term.{Term, Args}
@@ -11,31 +11,6 @@ use Rattle.procedures.specs.Nodes.{deep, deepArgs}
 use Rattle.procedures.specs.Shared.{Parts, Row, Rep, rep-skip, rep-diverge, rep-const, rep-private, rep-name}
 use Rattle.procedures.specs.Shared.{rep-fetch, rep-operate, rep-assign, rep-seq, rep-while, rep-cond, rep-new}
 use Rattle.procedures.specs.Shared.{Reps, rep-none, rep-part, Any, Fresh, heightParts, heightRow, height}
-
--- the rows of R are rows of S
-abbrev pub Extends : (ℕ → Option Row) → (ℕ → Option Row) → Type 0
-Extends R S = (r : ℕ) (x : Row) → R r ≡ some x → S r ≡ some x
-
--- THEOREM: what a row represents it represents where there are more rows
-module _ (R S : ℕ → Option Row) (Q : List ℕ → ℕ → Type 0) (e : Extends R S) where
-  mutual
-    pub rep-more : {p : List ℕ} {r : ℕ} {M : Term} → Rep R Q p r M → Rep S Q p r M
-    rep-more (rep-skip h) = rep-skip (e _ _ h)
-    rep-more (rep-diverge h) = rep-diverge (e _ _ h)
-    rep-more (rep-const h) = rep-const (e _ _ h)
-    rep-more (rep-private h s) = rep-private (e _ _ h) s
-    rep-more (rep-name h a) = rep-name (e _ _ h) (reps-more a)
-    rep-more (rep-fetch h x) = rep-fetch (e _ _ h) (rep-more x)
-    rep-more (rep-operate h x y) = rep-operate (e _ _ h) (rep-more x) (rep-more y)
-    rep-more (rep-assign h x y) = rep-assign (e _ _ h) (rep-more x) (rep-more y)
-    rep-more (rep-seq h x y) = rep-seq (e _ _ h) (rep-more x) (rep-more y)
-    rep-more (rep-while h x y) = rep-while (e _ _ h) (rep-more x) (rep-more y)
-    rep-more (rep-cond h b x y) = rep-cond (e _ _ h) (rep-more b) (rep-more x) (rep-more y)
-    rep-more (rep-new h q x) = rep-new (e _ _ h) q (rep-more x)
-
-    reps-more : {p : List ℕ} {xs : Parts} {args : Args} → Reps R Q p xs args → Reps S Q p xs args
-    reps-more rep-none = rep-none
-    reps-more (rep-part x a) = rep-part (rep-more x) (reps-more a)
 
 module _ (R : ℕ → Option Row) (Q : List ℕ → ℕ → Type 0) where
   -- a row is as high as each term that it represents is deep

@@ -1,13 +1,13 @@
 -- How far forms and what parts come down to reach: only enclosing parameters have a coefficient. Document 02 [1].
-use Prim.Native.Nat.{ℕ, zero, suc, _+_, _*_, _-_, _≤_, _<_}
+use Prim.Native.Nat.{ℕ, zero, suc, _+_, _-_, _≤_, _<_}
 use native.Mathlib.Omega.{arith}
 use native.Mathlib.Nat.{mul-zero}
-use mathlib.Core.Path.{_≡_, refl, sym, ap, _∙_}
+use mathlib.Core.Path.{_≡_, refl, sym, ap}
 use mathlib.Core.Logic.{_⊎_, inl, inr}
 use mathlib.Core.List.{List, [], _∷_}
 use lib.ListN.{length}
-use lib.Dec.{ltb, eqb}
-use borrow.Author.Tests.{ltb-true, ltb-false, lt-ltb, le-ltb, ne-eqb}
+use lib.Dec.{ltb}
+use borrow.Author.Tests.{ltb-true, ltb-false, ne-eqb}
 use Rattle.language.specs.declared.Numbers.{Numbers}
 use Rattle.language.specs.Ty.{questions, answers}
 use Rattle.language.specs.Typing.{operands}
@@ -27,7 +27,7 @@ use Rattle.procedures.specs.Context.{Context, whole, in-block, in-proced
 use Rattle.procedures.specs.Context.{Sees, sees-it, from-block, from-procedure, from-scope}
 use Rattle.procedures.specs.Marks.{bits, usedBits}
 use Rattle.procedures.proofs.Tests.{by-test}
-use Rattle.procedures.proofs.Numbering.{Below, below, beyond-below, beyond-above}
+use Rattle.procedures.proofs.Numbering.{Below, below}
 use Rattle.procedures.proofs.Renaming.{length-inside}
 use Rattle.procedures.proofs.Alike.{inside-parameter, parameter-below}
 use Rattle.procedures.proofs.Contexts.{sees-below, sees-form, sees-parameter, Found, Found-right, found}

@@ -8,7 +8,7 @@ use lib.ListN.{length}
 use Rattle.language.specs.Ty.{Question, run, ask, read, write, Answer, done, ok, value, Answers}
 use Rattle.language.specs.Move as mv
 use Rattle.language.specs.Move.{question, answer, at, move, Word}
-use Rattle.language.specs.Play.{Plays, PlaysArg, Complete, VarPair, Star, AsOften, Use, Stable, kept, hide}
+use Rattle.language.specs.Play.{Plays, PlaysArg, Complete, VarPair, AsOften, Use, Stable, kept, hide}
 use Rattle.language.specs.Term as t
 use Rattle.language.specs.Term.{Term}
 use Rattle.language.specs.declared.Numbers.{Numbers}
@@ -38,7 +38,7 @@ pub record Plays-as (π : Playing) (ρ : Terms) : Type 1 where
   pub body : (k : ℕ) (Ls : ℕ → ℕ → Language) (xs : ℕ → ℕ → Term) → OfArgs Ls xs → (n : ℕ) →
     Of (π .body k Ls n) (ρ .body k xs n)
 
-pub nothing-plays : Plays-as no-plays no-terms
+nothing-plays : Plays-as no-plays no-terms
 unfolding no-plays no-terms Plays
 nothing-plays = record {
     level = λ k. refl;

@@ -78,7 +78,7 @@ right-more φ μ c bs ρ (named often ty tys) b h = tt
 right-more φ μ c bs ρ retired b h = tt
 right-more φ μ c bs ρ free b h = tt
 
-pub right-declared : (φ : Forms) (μ : ℕ → ℕ) (bs : List Binder) (ρ : Terms) (ns : List Name) (id : ℕ) →
+right-declared : (φ : Forms) (μ : ℕ → ℕ) (bs : List Binder) (ρ : Terms) (ns : List Name) (id : ℕ) →
     Rows-right φ μ bs ρ (declared ns id)
 unfolding Rows-right
 right-declared φ μ bs ρ ns id = all-declared (Rows-right φ μ bs ρ) ns id (λ often ty tys. tt) tt tt
@@ -102,7 +102,7 @@ module _ (N : Numbers) (ns : List Name) where
   rights-agree φ ψ μ μ′ bs ρ σ a r id =
       right-agree (length bs) φ ψ μ μ′ bs ρ σ (meaning ns bs id) a (below ns bs id) (r id)
 
-  pub rights-more : (φ : Forms) (μ : ℕ → ℕ) (c : Binder) (bs : List Binder) (ρ : Terms) →
+  rights-more : (φ : Forms) (μ : ℕ → ℕ) (c : Binder) (bs : List Binder) (ρ : Terms) →
       Rows-right φ μ (c ∷ bs) ρ (meant (length bs) c) → Rights φ μ bs ρ → Rights φ μ (c ∷ bs) ρ
   rights-more φ μ c bs ρ h r =
       one-more-binder (Rows-right φ μ (c ∷ bs) ρ) ns c bs h (λ id b. right-more φ μ c bs ρ (meaning ns bs id) b (r id))
@@ -117,7 +117,7 @@ module _ (N : Numbers) (ns : List Name) where
           bodies = λ j h. refl } in
       rights-more φ μ (a-block id d) bs σ tt (rights-agree φ φ μ μ bs ρ σ a r)
 
-  pub rights-inside : (φ : Forms) (μ : ℕ → ℕ) (ps : List Parameter) (bs : List Binder) (ρ : Terms) → Rights φ μ bs ρ →
+  rights-inside : (φ : Forms) (μ : ℕ → ℕ) (ps : List Parameter) (bs : List Binder) (ρ : Terms) → Rights φ μ bs ρ →
       Rights φ μ (inside ps bs) ρ
   unfolding inside Rows-right meant
   rights-inside φ μ [] bs ρ r = r

@@ -44,13 +44,13 @@ held-here p r =
     let i : Scope (r ∷ p) 0 r = here in
     record { within = omega arith; index = rw e i }
 
-pub agree-less : {k l : ℕ} {ρ σ : Terms} → Agree l ρ σ → k ≤ l → Agree k ρ σ
+agree-less : {k l : ℕ} {ρ σ : Terms} → Agree l ρ σ → k ≤ l → Agree k ρ σ
 agree-less a h = record {
     levels = λ j b. a .levels j (omega arith);
     passeds = λ j b. a .passeds j (omega arith);
     bodies = λ j b. a .bodies j (omega arith) }
 
-pub agree-again : {k : ℕ} {ρ σ τ : Terms} → Agree k ρ σ → Agree k σ τ → Agree k ρ τ
+agree-again : {k : ℕ} {ρ σ τ : Terms} → Agree k ρ σ → Agree k σ τ → Agree k ρ τ
 agree-again a b = record {
     levels = λ j l. b .levels j l ∙ a .levels j l;
     passeds = λ j l. b .passeds j l ∙ a .passeds j l;

@@ -41,7 +41,7 @@ module _ (N : Numbers) (ns : List Name) where
   rights-agree φ ψ bs ρ σ ρ′ σ′ a r id =
       alike-agree (length bs) φ ψ bs ρ σ ρ′ σ′ (meaning ns bs id) a (below ns bs id) (r id)
 
-  pub rights-more : (φ : Forms) (c : Binder) (bs : List Binder) (ρ σ : Terms) →
+  rights-more : (φ : Forms) (c : Binder) (bs : List Binder) (ρ σ : Terms) →
       Alike-right φ (c ∷ bs) ρ σ (meant (length bs) c) → Rights φ bs ρ σ → Rights φ (c ∷ bs) ρ σ
   rights-more φ c bs ρ σ h r =
       one-more-binder (Alike-right φ (c ∷ bs) ρ σ) ns c bs h (λ id b. alike-more φ c bs ρ σ (meaning ns bs id) (r id))
@@ -61,7 +61,7 @@ module _ (N : Numbers) (ns : List Name) where
       rights-more φ (a-block id d) bs ρ′ σ′ (beyond-at k (ρ .level) (λ i. n) ∙ sym (beyond-at k (σ .level) (λ i. n)))
         (rights-agree φ φ bs ρ σ ρ′ σ′ a r)
 
-  pub rights-inside : (φ : Forms) (ps : List Parameter) (bs : List Binder) (ρ σ : Terms) → Rights φ bs ρ σ →
+  rights-inside : (φ : Forms) (ps : List Parameter) (bs : List Binder) (ρ σ : Terms) → Rights φ bs ρ σ →
       Rights φ (inside ps bs) ρ σ
   unfolding inside Alike-right meant IsParameter
   rights-inside φ [] bs ρ σ r = r

@@ -44,7 +44,7 @@ pub record ValuedTerms (ρ : Terms) : Type 0 where
   pub passed : ValuedAll (ρ .passed)
   pub body : (k : ℕ) (xs : ℕ → ℕ → Term) → ValuedAll xs → (n : ℕ) → Valued (ρ .body k xs n)
 
-pub valued-nothing : ValuedTerms no-terms
+valued-nothing : ValuedTerms no-terms
 unfolding no-terms Valued
 valued-nothing = record { passed = λ j n. tt; body = λ k xs h n. tt }
 
@@ -122,7 +122,7 @@ module _ (N : Numbers) (ns : List Name) (z : 0 < N .z) where
     valued-resolved (more w ws) bs ρ n zero h = valued w bs ρ n h
     valued-resolved (more w ws) bs ρ n (suc j) h = valued-resolved ws bs ρ n j h
 
-pub accepted-valued : (S : Sheet) → WellFormed S → Valued (termOf S)
+accepted-valued : (S : Sheet) → WellFormed S → Valued (termOf S)
 unfolding termOf
 accepted-valued S A = valued (S .numbers) (S .names) (A .in-order .z-above) (S .term) [] no-terms 0 valued-nothing
 

@@ -28,7 +28,7 @@ pub record Weighs (ρ : Terms) (ω : Weights) : Type 0 where
   pub body : (k : ℕ) (xs : ℕ → ℕ → Term) (ws : ℕ → ℕ) → WeighsArgs xs ws → (n : ℕ) →
       weight (ρ .body k xs n) ≡ ω .body k ws
 
-pub weighs-nothing : Weighs no-terms no-weights
+weighs-nothing : Weighs no-terms no-weights
 unfolding no-terms no-weights weight
 weighs-nothing = record { passed = λ j n. refl; body = λ k xs ws h n. refl }
 

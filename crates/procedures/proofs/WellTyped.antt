@@ -69,12 +69,6 @@ module _ (N : Numbers) where
   Passed v (ty ∷ tys) xs =
       ((w : List ℕ) → Deeper v w → Typed w (xs 0 (length w)) (tyOf N ty)) × Passed v tys (λ j. xs (suc j))
 
-  passed-deeper : {v w : List ℕ} (tys : List ℕ) (xs : ℕ → ℕ → term.Term) → Deeper v w → Passed v tys xs →
-      Passed w tys xs
-  unfolding Passed
-  passed-deeper [] xs d p = tt
-  passed-deeper (ty ∷ tys) xs d p = (λ u e. p .0 u (further d e), passed-deeper tys (λ j. xs (suc j)) d (p .1))
-
   -- what stands for what is meant is well typed, in blocks v and deeper
   unfoldable pub Right : Terms → List ℕ → Meaning → Type 0
   Right ρ v (private k d) = Held v (ρ .level k) (values N d) × (0 < d) × (d < 3)

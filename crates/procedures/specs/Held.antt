@@ -8,9 +8,6 @@ use Rattle.procedures.specs.Form.{Form}
 unfoldable pub held : ℕ → ℕ
 held n = min n held-at
 
-unfoldable pub heldForm : Form → Form
-heldForm f = record { constant = held (f .constant); of = λ s. held (f .of s) }
-
 pub record SameForm (f g : Form) : Type 0 where
   pub constants : f .constant ≡ g .constant
   pub coefficients : (s : ℕ) → f .of s ≡ g .of s

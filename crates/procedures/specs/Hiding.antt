@@ -4,7 +4,7 @@
 use Prim.Native.Nat.{ℕ, _+_}
 use mathlib.Core.Path.{_≡_}
 use mathlib.Core.Logic.{_↔_}
-use mathlib.Core.Bool.{Bool, true, false, _||_}
+use mathlib.Core.Bool.{Bool, false, _||_}
 use mathlib.Core.List.{List, [], _∷_, _++_}
 use lib.Dec.{eqb}
 use Rattle.language.specs.Choice.{pick}
@@ -19,9 +19,6 @@ use Rattle.procedures.specs.Width.{width}
 unfoldable pub isHeld : List Binder → ℕ → Bool
 isHeld [] id = false
 isHeld (b ∷ bs) id = eqb (idOf b) id || isHeld bs id
-
-unfoldable pub Held : List Binder → ℕ → Type 0
-Held bs id = isHeld bs id ≡ true
 
 unfoldable pub Unheld : List Binder → ℕ → Type 0
 Unheld bs id = isHeld bs id ≡ false

@@ -9,7 +9,6 @@ pub mod Come
 pub mod Occurs
 pub mod Nodes
 pub mod Like
-pub mod Rename
 pub mod Made
 pub mod Held
 pub mod Ids

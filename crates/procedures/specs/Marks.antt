@@ -1,8 +1,8 @@
 -- Marks of parts, a word for each place of a sheet: what a part comes down to (specs/Come), and of a procedure also which
 -- arguments it uses (a bit for each parameter), times `COMES`. Document 02 [1]; only inner contracts cite it.
-use Prim.Native.Nat.{ℕ, zero, suc, _+_, _*_, _<_}
+use Prim.Native.Nat.{ℕ, suc, _+_, _*_, _<_}
 use mathlib.Core.Path.{_≡_}
-use mathlib.Core.List.{List, [], _∷_}
+use mathlib.Core.List.{List}
 use lib.ListN.{length, getD}
 use Rattle.language.specs.declared.Numbers.{Numbers}
 use Rattle.procedures.specs.Environment.{beyond}

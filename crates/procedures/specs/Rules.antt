@@ -91,8 +91,6 @@ pub record Exists (S : Sheet) : Type 0 where
   pub count : ℕ
   pub expansion : Expansion S rows row count
 
-unfoldable pub Expandable : Type 0
-Expandable = (S : Sheet) → WellFormed S → Exists S
-
+-- the expansion of an accepted sheet has at most 12,288 rows
 unfoldable pub FewRows : Type 0
 FewRows = (S : Sheet) (R : ℕ → Option Row) (r n : ℕ) → WellFormed S → Expansion S R r n → n ≤ 12288

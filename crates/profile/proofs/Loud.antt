@@ -36,7 +36,7 @@ class-expression (suc (suc (suc n))) =
       ne-eqb ty 2 (λ e. omega (arith, e))) refl
 
 module _ (N : Numbers) (ns : List Name) (t : List ℕ) where
-  pub class-of : (bs : List Binder) (at : ℕ) (W : Written) → Seat ns t bs at W →
+  class-of : (bs : List Binder) (at : ℕ) (W : Written) → Seat ns t bs at W →
       eqb (word t at 2) 1 ≡ isExpression (typed ns bs W)
   class-of bs at W S = ap (λ (k : ℕ). eqb k 1) (S .classed) ∙ class-expression (typed ns bs W)
 

@@ -223,7 +223,7 @@ module _ (N : Numbers) (ns : List Name) where
     like-all (like-more {w′ = w′} x a) i at = rw (like-width x, like-offending x i at, like-all a i (at + width w′))
 
 -- THEOREM: the ids of binders aside
-pub ids-aside : IdsAside
+ids-aside : IdsAside
 unfolding IdsAside offences withTerm headingWidth
 ids-aside S W l = like-offending (S .numbers) (S .names) l false _
 

@@ -46,7 +46,7 @@ no-hit true at e = let z : _≡_ {A = ℕ} 0 1 = cc in absurd (omega arith)
 no-hit false at e = refl
 
 -- the two types of expressions
-pub expression-either : {P : Type 0} (ty : ℕ) → isExpression ty ≡ true → (ty ≡ 1 → P) → (ty ≡ 2 → P) → P
+expression-either : {P : Type 0} (ty : ℕ) → isExpression ty ≡ true → (ty ≡ 1 → P) → (ty ≡ 2 → P) → P
 unfolding isExpression
 expression-either {P} ty e f g = go (eqb ty 1) refl e
   where
@@ -165,7 +165,7 @@ module _ (N : Numbers) (ns : List Name) (bs : List Binder) (ρ : Terms) (H : Sti
         still-each ws tys (at + width w) n j (F .2) (right-empty (offending ns bs true at w) _ o) (quiet-rest ty tys l)
 
 -- THEOREM: a part of expression type in which nothing offends, in a scope whose terms are still, has a still term
-pub still-part : (N : Numbers) (ns : List Name) (bs : List Binder) (ρ : Terms) → StillTerms ns bs ρ → (W : Written)
+still-part : (N : Numbers) (ns : List Name) (bs : List Binder) (ρ : Terms) → StillTerms ns bs ρ → (W : Written)
     (i : Bool) (at n : ℕ) → Fine N ns bs W → isExpression (typed ns bs W) ≡ true → offending ns bs i at W ≡ [] →
     Still (resolve N ns bs ρ n W)
 still-part N ns bs ρ H W true at n F e o = still N ns bs ρ H W at n F o (expression-some (typed ns bs W) e)

@@ -49,7 +49,7 @@ passed-rule s ty size uses e = go (readSheet s) refl e
               quiet = λ x u p. quiet-plays S (g .1 .ordered) (ap isExpression (sym (g .2)) ∙ x) o u p }
 
 -- THEOREM: as check
-pub as-check : AsCheck
+as-check : AsCheck
 unfolding AsCheck profiledOf heldTo InProfile
 as-check s f = go (readSheet s) refl
   where
@@ -58,7 +58,7 @@ as-check s f = go (readSheet s) refl
     go (accepted S ty size) r = ap (λ (ps : List ℕ). heldTo ps (checkedOf (accepted S ty size))) (f S ty size r)
 
 -- THEOREM: a sheet that profile refuses
-pub refused-rule : RefusedRule
+refused-rule : RefusedRule
 unfolding RefusedRule profiledOf heldTo
 refused-rule s x e = go (readSheet s) refl e
   where

@@ -135,17 +135,17 @@ module _ (S : Sheet) (s t : List ℕ) (until at kind body next : ℕ) (G : Walki
   offends-here m = sym (ap₂ (λ (x y : Bool). x && y) (O .tests) (O .louds)) ∙ m
 
   -- it does not offend
-  pub walk-on : offendsAt t at (reachAt t at until) kind ≡ false → Walking S s t (reachAt t at until) next
+  walk-on : offendsAt t at (reachAt t at until) kind ≡ false → Walking S s t (reachAt t at until) next
   unfolding hit
   walk-on m = O .onward (ap (λ (b : Bool). pick b (at ∷ []) []) (offends-here m))
 
   -- it offends
-  pub walk-found : offendsAt t at (reachAt t at until) kind ≡ true → At at ≡ firstOf (offences S)
+  walk-found : offendsAt t at (reachAt t at until) kind ≡ true → At at ≡ firstOf (offences S)
   unfolding hit firstOf
   walk-found m = sym (ap firstOf (O .found ∙ ap (λ (b : Bool). pick b (at ∷ []) [] ++ O .rest) (offends-here m)))
 
 -- the whole term, and nothing more
-pub walk-first : (S : Sheet) (s t : List ℕ) (root ty n : ℕ) → readSheet s ≡ accepted S ty n → root ≡ headingLength S →
+walk-first : (S : Sheet) (s t : List ℕ) (root ty n : ℕ) → readSheet s ≡ accepted S ty n → root ≡ headingLength S →
     Seated (S .names) t [] root (S .term) → Walking S s t 0 root
 unfolding encodeSheet headingLength bytesOf offs offences
 walk-first S s t root ty n e r Z =
@@ -166,7 +166,7 @@ unfolding bytesOf
 item-some x xs = omega (arith, length-append (encode (x .term)) (bytesOf xs), wide (x .term), width-some (x .term))
 
 -- nothing is left
-pub walk-last : (S : Sheet) (s t : List ℕ) (until at : ℕ) → Walking S s t until at → length s ≤ at →
+walk-last : (S : Sheet) (s t : List ℕ) (until at : ℕ) → Walking S s t until at → length s ≤ at →
     Nothing ≡ firstOf (offences S)
 unfolding firstOf offs
 walk-last S s t until at G h = go (G .pending) (G .ends) (G .all)

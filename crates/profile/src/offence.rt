@@ -16,7 +16,7 @@ ghost use lib.ListN.{length};
 ghost use Rattle.profile.specs.inner.Pass.{loudFrom, loudAt, reachAt, offendsAt, Finds};
 
 // What the pass finds: no record that offends, or the place of the first.
-pub enum Offence {
+pub(crate) enum Offence {
     Nothing,
     At(usize),
 }

@@ -1,7 +1,6 @@
 -- The kinds of records. Document 01, "The sheet, byte by byte", the table: "Each record is one byte of kind and a body whose
 -- length the kind fixes"; document 02 [1] for kind 28, [5] for kind 3. SHEETS 2.2 to 2.4.
 use Prim.Native.Nat.{ℕ}
-use mathlib.Core.Bool.{Bool, true, false}
 use lib.Dec.{eqb}
 use Rattle.language.specs.Choice.{pick}
 use Rattle.records.specs.declared.kind.Rule.the-variants.{Skip, Diverge, Truth, Number, Use, Fetch, Operate}

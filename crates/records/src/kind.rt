@@ -4,19 +4,19 @@ ghost use Prim.Native.Nat.{_<_};
 ghost use Rattle.records.specs.Kind.{shapeOf, bodyIn, partsIn};
 
 // The kinds of records.
-pub const DECLARE: u8 = 1;
+const DECLARE: u8 = 1;
 
 pub const RETIRE: u8 = 2;
 
-pub const DECLARE_ONCE: u8 = 3;
+const DECLARE_ONCE: u8 = 3;
 
 pub const SKIP: u8 = 16;
 
-pub const DIVERGE: u8 = 17;
+const DIVERGE: u8 = 17;
 
 pub const TRUTH: u8 = 18;
 
-pub const NUMBER: u8 = 19;
+const NUMBER: u8 = 19;
 
 pub const USE: u8 = 20;
 
@@ -44,7 +44,7 @@ pub const RESULT: usize = 2;
 
 pub const COUNT: usize = 3;
 
-pub const ARGUMENT_TYPES: usize = 4;
+pub(crate) const ARGUMENT_TYPES: usize = 4;
 
 pub const PARAMETER_IDS: usize = 4;
 

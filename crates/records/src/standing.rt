@@ -14,13 +14,13 @@ pub const FREE: u32 = 0;
 pub const RETIRED: u32 = 1;
 
 // The first standings of declared ids, of variables, of parameters and of procedures.
-pub const FIRST_DECLARED: u32 = 256;
+const FIRST_DECLARED: u32 = 256;
 
 pub const FIRST_VARIABLE: u32 = 12288;
 
-pub const FIRST_PARAMETER: u32 = 16384;
+const FIRST_PARAMETER: u32 = 16384;
 
-pub const FIRST_PROCEDURE: u32 = 32768;
+const FIRST_PROCEDURE: u32 = 32768;
 
 // By what the place of a name's record, the number of a variable or a parameter and the place of a procedure are
 // multiplied in a standing.

@@ -13,7 +13,6 @@ use Rattle.procedures.specs.Written.{Written, skip, diverge, truth, number, cal
 use Rattle.procedures.specs.Written.{while, choose, new, procedure, Parameter, Writtens, none, more, Name, Sheet}
 use Rattle.procedures.specs.Meaning.{Binder, a-block, inside, after, meaning}
 use Rattle.procedures.specs.Fine.{Fine}
-use Rattle.procedures.specs.Width.{width}
 use Rattle.procedures.specs.Renumber.{holds-id, put, isNamed, isBound, isBoundIn, takenAtFirst}
 use Rattle.procedures.proofs.Tests.{by-test}
 use Rattle.sheet.specs.Encoding.{pairs, encode, encodes, encodeNames, encodeSheet, headingLength}
@@ -259,7 +258,7 @@ pub record Bounding (S : Sheet) (s k : List ℕ) (at : ℕ) : Type 0 where
   pub all : (id : ℕ) → (taken id || isBoundIn pending id) ≡ takenAtFirst S id
 
 -- a turn of the loop
-pub bound-again : (S : Sheet) (s k k′ : List ℕ) (at kind body next : ℕ) → Bounding S s k at → at < length s →
+bound-again : (S : Sheet) (s k k′ : List ℕ) (at kind body next : ℕ) → Bounding S s k at → at < length s →
     kind ≡ getD s at 0 → k′ ≡ tookIds s at kind (min (getD s (at + 3) 0) 4) k → body ≡ bodyIn (shapeOf kind) →
     next ≡ at + (1 + body) → Bounding S s k′ next
 unfolding encodes isBoundIn
@@ -296,7 +295,7 @@ bound-again S s k k′ at kind body next G h e u i z =
             ∙ or-assoc (G .taken id) (isBound w id) (isBoundIn ws id) ∙ A id }
 
 -- the term, and nothing more
-pub bound-first : (S : Sheet) (s k : List ℕ) (root ty n : ℕ) → readEarlier s ≡ accepted S ty n → root ≡ headingLength
+bound-first : (S : Sheet) (s k : List ℕ) (root ty n : ℕ) → readEarlier s ≡ accepted S ty n → root ≡ headingLength
     S →
     Takes k (isNamed (S .names)) → Bounding S s k root
 unfolding encodeSheet headingLength encodes isBoundIn takenAtFirst
@@ -318,7 +317,7 @@ term-some : (w : Written) (ws : Writtens) → 0 < length (encodes (more w ws))
 unfolding encodes
 term-some w ws = omega (arith, length-append (encode w) (encodes ws), wide w, width-some w)
 
-pub bound-last : (S : Sheet) (s k : List ℕ) (at : ℕ) → Bounding S s k at → length s ≤ at → Takes k (takenAtFirst S)
+bound-last : (S : Sheet) (s k : List ℕ) (at : ℕ) → Bounding S s k at → length s ≤ at → Takes k (takenAtFirst S)
 unfolding isBoundIn
 bound-last S s k at G h = go (G .pending) (G .ends) (G .all)
   where

@@ -10,7 +10,7 @@ use Rattle.procedures.specs.Written.{Parameter, Name}
 use Rattle.procedures.specs.Meaning.{Binder, a-parameter, idOf, meant, inside}
 use Rattle.procedures.specs.Fine.{FineParameters}
 use Rattle.procedures.specs.Hiding.{isHeld}
-use Rattle.procedures.specs.Renumber.{put, mapInside, over, next, lowest, changed, renumberId}
+use Rattle.procedures.specs.Renumber.{put, mapInside, over, lowest, changed, renumberId}
 use Rattle.procedures.specs.Renumber.{withId, renumberParameters}
 use Rattle.sheet.specs.Encoding.{pairs}
 use Rattle.renumbering.specs.Work.{marked, Takes, boundEntry, heldIn, arity, Scoped, Lies, note, notes}

@@ -1,12 +1,12 @@
 -- The whole sheet: from the pass over its term to the service.
-use Prim.Native.Nat.{ℕ, _+_, _-_, _*_, _≤_, _<_}
+use Prim.Native.Nat.{ℕ, _+_, _*_, _≤_, _<_}
 use native.Mathlib.Omega.{arith}
 use mathlib.Core.Path.{_≡_, refl, sym, ap, ap₂, _∙_, subst}
 use mathlib.Core.Bool.{Bool, false}
 use mathlib.Core.List.{List, [], _∷_, _++_, append-assoc, append-nil}
-use lib.ListN.{length, getD, take, drop, replicate, length-append, length-drop, length-replicate, getD-replicate}
+use lib.ListN.{length, take, drop, replicate, length-append, length-drop, length-replicate, getD-replicate}
 use lib.Seq.{drop-append-seam, take-length, take-at}
-use lib.Dec.{eqb, ltb}
+use lib.Dec.{eqb}
 use borrow.Author.Tests.{lt-ltb, le-ltb}
 use Rattle.records.specs.Refusal.{refusal, cause}
 use Rattle.records.specs.declared.refusal.Refusal.{Refusal}
@@ -28,7 +28,7 @@ use Rattle.judge.specs.declared.mark.Uses.{Uses}
 use Rattle.judge.specs.declared.judge.Judgement.{Judgement}
 use Rattle.judge.specs.declared.judge.Judgement.the-variants as judged
 use Rattle.renumbering.specs.Outcome.{readEarlier, listed, written, checked, outcome, RenumberedBy, RenumberPromise}
-use Rattle.renumbering.specs.Work.{Takes, Scoped, heldIn, becomesIn, argumentsIn, arity, Lies, Rewrites, notes}
+use Rattle.renumbering.specs.Work.{Takes, Scoped, heldIn, becomesIn, argumentsIn, arity, Lies, Rewrites}
 use Rattle.renumbering.specs.Found.{Found, Wrote, PartFound, AcceptedAt, EarlierJudged, Headed, Taken}
 use Rattle.renumbering.specs.Found.{WroteSheet, Worked, Renumbers}
 use Rattle.renumbering.specs.declared.step.Step.{Step}

@@ -5,7 +5,6 @@ use mathlib.Core.Path.{_≡_, refl, sym, ap, ap₂, _∙_}
 use mathlib.Core.List.{List, _++_}
 use lib.ListN.{length, getD, set, take, drop, length-append, length-drop}
 use lib.Seq.{paste-suc, length-take-le}
-use lib.Dec.{eqb, leb}
 use borrow.Author.Tests.{eq-eqb, ne-eqb, le-leb, lt-leb}
 use Rattle.procedures.specs.Renumber.{lowestFrom, lowest}
 use Rattle.renumbering.specs.Work.{marked, tookParameters, tookIds, namedEntry, nameEntry}

@@ -6,7 +6,7 @@ use mathlib.Core.Bool.{Bool, true, false, _||_}
 use mathlib.Core.List.{List, [], _∷_}
 use lib.ListN.{length, getD, set, drop, length-set, length-append}
 use lib.Seq.{getD-set-same, getD-set-other}
-use lib.Dec.{eqb, leb}
+use lib.Dec.{eqb}
 use Rattle.language.specs.Term.{Often, freely, once}
 use borrow.Author.Tests.{eq-eqb, ne-eqb, lt-leb}
 use Rattle.records.specs.Kind.{shapeOf, bodyIn}
@@ -155,7 +155,7 @@ body-often freely = refl
 body-often once = refl
 
 -- a turn of the loop
-pub name-again : (S : Sheet) (s : List ℕ) (root : ℕ) (k scope k′ scope′ : List ℕ) (at kind id c e body next : ℕ) →
+name-again : (S : Sheet) (s : List ℕ) (root : ℕ) (k scope k′ scope′ : List ℕ) (at kind id c e body next : ℕ) →
     Naming S s root k scope at → at < root → kind ≡ getD s at 0 → id ≡ getD s (at + 1) 0 → k′ ≡ set k id 1 →
     c ≡ getD s (at + 3) 0 → e ≡ nameEntry kind c → scope′ ≡ set scope id e → body ≡ bodyIn (shapeOf kind) →
     next ≡ at + (1 + body) → Naming S s root k′ scope′ next
@@ -196,7 +196,7 @@ name-again S s root k scope k′ scope′ at kind id c e body next G h i j u v w
         rw (u, x, p, w′) N
 
 -- the first name, and none more
-pub name-first : (S : Sheet) (s : List ℕ) (root ty n : ℕ) (k scope : List ℕ) → readEarlier s ≡ accepted S ty n →
+name-first : (S : Sheet) (s : List ℕ) (root ty n : ℕ) (k scope : List ℕ) → readEarlier s ≡ accepted S ty n →
     root ≡ headingLength S → Takes k (λ id. false) → Scoped [] [] (λ id. id) scope → Naming S s root k scope 2
 unfolding encodeSheet headingLength isNamed declared orElse
 name-first S s root ty n k scope e r T C =
@@ -213,7 +213,7 @@ unfolding encodeNames encodeName
 name-some (declare often id ty tys) ns = omega arith
 name-some (retire id) ns = omega arith
 
-pub name-last : (S : Sheet) (s : List ℕ) (root : ℕ) (k scope : List ℕ) (at : ℕ) → Naming S s root k scope at → root ≤
+name-last : (S : Sheet) (s : List ℕ) (root : ℕ) (k scope : List ℕ) (at : ℕ) → Naming S s root k scope at → root ≤
     at →
     Takes k (isNamed (S .names)) × Scoped (S .names) [] (λ id. id) scope
 unfolding isNamed declared meaning

@@ -10,10 +10,10 @@ use Rattle.records.specs.Kind.{shapeOf, bodyIn}
 use Rattle.procedures.specs.Written.{Written, skip, diverge, truth, number, call, fetch, operate, assign, sequence}
 use Rattle.procedures.specs.Written.{while, choose, new, procedure, Writtens, none, more, Name}
 use Rattle.procedures.specs.Meaning.{Binder, a-block, idOf, meant, Meaning, private, argument, routine, named}
-use Rattle.procedures.specs.Meaning.{retired, free, meaning, after}
+use Rattle.procedures.specs.Meaning.{retired, free, meaning}
 use Rattle.procedures.specs.Fine.{Fine, FineUse, FineArgs, depth, depths}
 use Rattle.procedures.specs.Width.{width, widths}
-use Rattle.procedures.specs.Renumber.{put, over, next, renumberId}
+use Rattle.procedures.specs.Renumber.{put, over, renumberId}
 use Rattle.procedures.specs.Renumber.{renumber, renumberAll}
 use Rattle.sheet.specs.Encoding.{encode, encodes}
 use Rattle.renumbering.specs.Work.{Takes, boundEntry, argumentsIn, becomesIn, arity, Scoped}

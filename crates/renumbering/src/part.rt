@@ -29,7 +29,6 @@ use records::read::byte_at;
 ghost use mathlib.Core.Path.{_≡_};
 ghost use Prim.Native.Nat.{_+_, _*_, _≤_, _<_};
 ghost use lib.ListN.{set};
-ghost use Rattle.procedures.specs.Renumber.{Change};
 ghost use Rattle.renumbering.specs.Work.{note};
 ghost use Rattle.renumbering.specs.Found.{IdFound, ParametersFound, PartFound, PartsFound, CallFound, BlockFound};
 ghost use Rattle.renumbering.specs.Found.{RoutineFound};

@@ -23,7 +23,7 @@ ghost use Rattle.renumbering.specs.Found.{AcceptedAt, Renumbers, Earlier
 use judge::check::refusal_of;
 
 // The bytes of a list space, and of a change in it.
-pub const LIST: usize = 1020;
+pub(crate) const LIST: usize = 1020;
 
 pub const CHANGE: usize = 4;
 

@@ -1,6 +1,6 @@
 -- The program's buffer holds every text that it can print: at most 510 moves of 15 bytes each, after three
 -- lines.
-use Prim.Native.Nat.{ℕ, zero, suc, _+_, _-_, _*_, _≤_, _<_}
+use Prim.Native.Nat.{ℕ, zero, suc, _+_, _*_, _≤_, _<_}
 use native.Mathlib.Omega.{arith}
 use mathlib.Core.Path.{_≡_, refl, ap, _∙_}
 use mathlib.Core.Bool.{Bool, true, false}
@@ -22,7 +22,7 @@ use Rattle.sheet.specs.Fine.{Accepted}
 use Rattle.procedures.specs.Meaning.{tyOf, termOf}
 use Rattle.records.specs.declared.edition.Edition.the-variants.{Present}
 use Rattle.records.specs.declared.refusal.Cause.{Cause}
-use Rattle.sheet.specs.Reader.{readSheet, accepted}
+use Rattle.sheet.specs.Reader.{readSheet}
 use Rattle.judge.specs.Mark.{usesOf}
 use Rattle.sheet.proofs.Right.{gives}
 use Rattle.explicit.specs.Letter.{AllSmall}
@@ -32,7 +32,7 @@ use Rattle.comparer.specs.Refusals.{compareRefusal}
 use Rattle.comparer.specs.Promise.{Holds, Decided, same, apart, ComparedBy}
 use Rattle.comparer.specs.declared.Comparison.{Comparison}
 use Rattle.comparer.proofs.Unique.{held-accepted}
-use Rattle.text.specs.Text.{ascii, apartText, firstMove, firstWidth, movesText, sizeIn, declaredOf, sheetsText}
+use Rattle.text.specs.Text.{ascii, firstMove, firstWidth, movesText, sizeIn, declaredOf, sheetsText}
 use Rattle.text.specs.Text.{textOf}
 use Rattle.report.specs.Program.{BufferHolds, PrintsWhole}
 use Rattle.report.proofs.Fits.{reported-fits}
@@ -131,7 +131,7 @@ accepted-text {old} {new} {space} {S} {T} h k b (apart d) =
     rw (d .answer, d .written) (looser 8192 (omega (arith, few)) p)
 
 -- THEOREM: the buffer holds every text
-pub buffer-holds : BufferHolds
+buffer-holds : BufferHolds
 unfolding ComparedBy Bounded textOf
 buffer-holds old new ws space r ws′ space′ a b p =
     go (compareRefusal old new (length ws) (length space)) (rw (a, b) (bounded old new)) p

@@ -25,7 +25,7 @@ small-number n (inr (inl h)) = omega (arith, h)
 small-number n (inr (inr h)) = omega (arith, h)
 
 -- THEOREM: the buffer holds every text
-pub renumber-buffer-holds : RenumberBufferHolds
+renumber-buffer-holds : RenumberBufferHolds
 unfolding RenumberedBy renumberText WrittenRule AcceptedRule RenumberNumbers
 renumber-buffer-holds s output list r output′ list′ p = go (outcome s (length output) (length list)) refl p
   where

@@ -33,7 +33,7 @@ const FALSE: usize = 0;
 const TRUE: usize = 1;
 
 // Done leads on.
-pub(crate) fn exit_done(kind: usize, next: usize, block: usize, set: usize) -> Out
+fn exit_done(kind: usize, next: usize, block: usize, set: usize) -> Out
     ensures { λ r. ⌜ r ≡ exitDone kind next block set ⌝ }
 {
     if kind == DONE {
@@ -43,14 +43,7 @@ pub(crate) fn exit_done(kind: usize, next: usize, block: usize, set: usize) -> O
 }
 
 // A truth leads to a, and a falsehood to b, or out where b is 0.
-pub(crate) fn exit_truth(
-    kind: usize,
-    value: usize,
-    a: usize,
-    b: usize,
-    block: usize,
-    set: usize,
-) -> Out
+fn exit_truth(kind: usize, value: usize, a: usize, b: usize, block: usize, set: usize) -> Out
     ensures { λ r. ⌜ r ≡ exitTruth kind value a b block set ⌝ }
 {
     if kind == VALUE {
@@ -81,7 +74,7 @@ pub(crate) fn exit_truth(
 }
 
 // A value leads to its copy of the other part.
-pub(crate) fn exit_value(kind: usize, value: usize, f: Frame, block: usize, set: usize) -> Out
+fn exit_value(kind: usize, value: usize, f: Frame, block: usize, set: usize) -> Out
     ensures { λ r. ⌜ r ≡ exitValue kind value f block set ⌝ }
 {
     if kind == VALUE {
@@ -97,14 +90,7 @@ pub(crate) fn exit_value(kind: usize, value: usize, f: Frame, block: usize, set:
 }
 
 // The result of an operator, where it has one.
-pub(crate) fn exit_operate(
-    n: Numbers,
-    kind: usize,
-    value: usize,
-    f: Frame,
-    block: usize,
-    set: usize,
-) -> Out
+fn exit_operate(n: Numbers, kind: usize, value: usize, f: Frame, block: usize, set: usize) -> Out
     ensures { λ r. ⌜ r ≡ exitOperate n kind value f block set ⌝ }
 {
     if kind == VALUE {
@@ -128,7 +114,7 @@ pub(crate) fn exit_operate(
 }
 
 // The answer ok of a variable ends its assignment.
-pub(crate) fn exit_assign(kind: usize, block: usize, set: usize) -> Out
+fn exit_assign(kind: usize, block: usize, set: usize) -> Out
     ensures { λ r. ⌜ r ≡ exitAssign kind block set ⌝ }
 {
     if kind == OK {
@@ -143,7 +129,7 @@ pub(crate) fn exit_assign(kind: usize, block: usize, set: usize) -> Out
 }
 
 // An answer to the question of this copy of an argument leads to the reply.
-pub(crate) fn exit_argument(kind: usize, value: usize, f: Frame, block: usize, set: usize) -> Out
+fn exit_argument(kind: usize, value: usize, f: Frame, block: usize, set: usize) -> Out
     ensures { λ r. ⌜ r ≡ exitArgument kind value f block set ⌝ }
 {
     let q = question_kind(f.b, f.d);
@@ -160,7 +146,7 @@ pub(crate) fn exit_argument(kind: usize, value: usize, f: Frame, block: usize, s
 }
 
 // A block's own variable ends with it.
-pub(crate) fn exit_new(kind: usize, value: usize, f: Frame, block: usize, set: usize) -> Out
+fn exit_new(kind: usize, value: usize, f: Frame, block: usize, set: usize) -> Out
     ensures { λ r. ⌜ r ≡ exitNew kind value f block set ⌝ }
 {
     if block == f.a {

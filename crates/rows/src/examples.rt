@@ -152,7 +152,7 @@ fn example(what: &[u8], names: &[u8], old: &[u8], new: &[u8]) {
     ranges(2, names, old, new);
 }
 
-pub fn all() {
+pub(crate) fn all() {
     example(b"5.1 locality", &C, &[27, 1, 2, 20, 8], &[20, 8]);
     example(b"5.2 snapback", &F, &SNAPBACK, &[20, 7, 17, 0]);
     example(b"5.3 invariant", &F, &EVEN, &DIVERGE);

@@ -13,7 +13,7 @@ const SKIP: [u8; 3] = [1, 0, 16];
 
 const DIVERGE: [u8; 4] = [1, 0, 17, 0];
 
-pub fn compared() {
+pub(crate) fn compared() {
     let mut words = [0u32; 288];
     let mut fewer = [0u32; 287];
     let mut space = [0u8; 28];
@@ -58,7 +58,7 @@ fn play(what: &[u8], sheet: &[u8], play: &[u8]) {
     print(follow(sheet, play, &mut words));
 }
 
-pub fn followed() {
+pub(crate) fn followed() {
     play(b"run on skip", &SKIP, &[0, 255, 0]);
     play(b"run on diverge", &DIVERGE, &[0, 255, 0]);
     play(b"run and done on skip", &SKIP, &[0, 255, 0, 1, 255, 0]);

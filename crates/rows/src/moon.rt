@@ -43,7 +43,7 @@ fn table(what: &[u8], rule: u8) {
     row(what, 1, rule, &F_AND_C, &NOTED, &COUNTING);
 }
 
-pub fn rows() {
+pub(crate) fn rows() {
     table(
         b"a moon table with a note at its end | without it, rule 0",
         0,

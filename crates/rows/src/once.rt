@@ -8,7 +8,7 @@ const F_ONCE: [u8; 8] = [3, 7, 0, 1, 0, 255, 255, 255];
 // f takes two commands, is a command and asks once.
 const F_TWO_ONCE: [u8; 8] = [3, 7, 0, 2, 0, 0, 255, 255];
 
-pub fn rows() {
+pub(crate) fn rows() {
     // new v in f(v := !v + 1) | f(skip)
     row(
         b"counting | f(skip), rule 0, f asks once",

@@ -118,7 +118,7 @@ fn sheet(what: &[u8], s: &[u8]) {
     as_program(&[1, 0, 16], s);
 }
 
-pub fn sheets() {
+pub(crate) fn sheets() {
     sheet(b"1 over 4,096 bytes", &[0; 4097]);
     sheet(b"2 empty", b"");
     sheet(b"2 no term", &[1, 0]);
@@ -129,7 +129,7 @@ pub fn sheets() {
     sheet(b"4 a new on a retired id", &[1, 0, 2, 5, 27, 5, 2, 16]);
 }
 
-pub fn more_sheets() {
+pub(crate) fn more_sheets() {
     sheet(b"5 use of an id that nothing declares", &[1, 0, 20, 5]);
     sheet(b"6 use of a retired id", &[1, 0, 2, 5, 20, 5]);
     sheet(b"7 while with a command as its test", &[1, 0, 26, 16, 16]);
@@ -143,7 +143,7 @@ pub fn more_sheets() {
 }
 
 // Document 02, [3]: a binder with the id of an enclosing one.
-pub fn enclosed() {
+pub(crate) fn enclosed() {
     sheet(
         b"16 a new inside one with its id",
         &[1, 0, 27, 1, 2, 27, 1, 2, 16],
@@ -171,7 +171,7 @@ fn pair(what: &[u8], old: &[u8], new: &[u8]) {
     as_program(old, new);
 }
 
-pub fn pairs() {
+pub(crate) fn pairs() {
     pair(b"12 the rules differ", &[1, 0, 16], &[1, 1, 16]);
     pair(b"12 the result types differ", &[1, 0, 16], &[1, 0, 17, 1]);
     pair(

@@ -2,7 +2,7 @@
 use crate::show::row;
 use crate::terms::E;
 
-pub fn rows() {
+pub(crate) fn rows() {
     row(
         b"-1 remainder 7 | 6, rule 0",
         7,

@@ -1019,7 +1019,7 @@ const SUM: [u8; 24] = [
 ];
 
 // Six lines for each saint, written out and written once.
-pub fn saints() {
+pub(crate) fn saints() {
     row(
         b"six lines for each saint | a procedure of six lines",
         7,
@@ -1039,7 +1039,7 @@ pub fn saints() {
 }
 
 // A procedure and its text.
-pub fn inlined() {
+pub(crate) fn inlined() {
     row(
         b"procedure p(s) = s; s in p(c) | c; c",
         1,
@@ -1076,7 +1076,7 @@ pub fn inlined() {
 }
 
 // What is not used weighs nothing, however often it is said.
-pub fn weights() {
+pub(crate) fn weights() {
     // An argument that is not used weighs nothing: by itself it would be 50,625.
     row(
         b"procedure p(s) = skip in p(four blocks) | skip, Z 7",
@@ -1107,7 +1107,7 @@ pub fn weights() {
 }
 
 // Private variables of the caller and of the procedure.
-pub fn variables() {
+pub(crate) fn variables() {
     // A private variable of the caller with the id of one of the procedure.
     row(
         b"procedure p(s) = new v in (s; v := 0) in new v in (p(v := 1); x := !v) | x := 1",
@@ -1147,7 +1147,7 @@ pub fn variables() {
 }
 
 // What an id means where it stands.
-pub fn ids() {
+pub(crate) fn ids() {
     // A procedure uses one that is around it.
     row(
         b"procedure p() = c in procedure q() = p; p in q | c; c",
@@ -1178,7 +1178,7 @@ pub fn ids() {
 }
 
 // What an id and an argument mean in a procedure with a parameter.
-pub fn parameters() {
+pub(crate) fn parameters() {
     // A parameter with the procedure's own id.
     row(
         b"procedure p(p) = p; p in p(c) | c; c",
@@ -1200,7 +1200,7 @@ pub fn parameters() {
 }
 
 // Procedures that are expressions.
-pub fn expressions() {
+pub(crate) fn expressions() {
     // The argument is played anew at each use.
     row(
         b"procedure p(n) = n - n in p(e) | 0",

@@ -5,17 +5,17 @@ use text::write::push;
 use text::write::text;
 ghost use Rattle.text.specs.Page.{Counts};
 
-pub fn say(s: &[u8]) {
+pub(crate) fn say(s: &[u8]) {
     io::write_all(STDOUT_FILENO, s);
 }
 
-pub fn title(s: &[u8]) {
+pub(crate) fn title(s: &[u8]) {
     say(b"# ");
     say(s);
     say(b"\n");
 }
 
-pub fn number(n: u64) {
+pub(crate) fn number(n: u64) {
     io::print_decimal(STDOUT_FILENO, n);
 }
 
@@ -30,21 +30,21 @@ fn sheet(out: &mut [u8], z: u8, rule: u8, names: &[u8], term: &[u8]) -> usize
 }
 
 // Compares two sheets and prints the report.
-pub fn compared(old: &[u8], new: &[u8], words: &mut [u32], space: &mut [u8]) {
+pub(crate) fn compared(old: &[u8], new: &[u8], words: &mut [u32], space: &mut [u8]) {
     let mut out = [0u8; 65536];
     let n = report(old, new, words, space, &mut out);
     say(&out[..n]);
 }
 
 // The same with as many words and bytes as the program lends.
-pub fn as_program(old: &[u8], new: &[u8]) {
+pub(crate) fn as_program(old: &[u8], new: &[u8]) {
     let mut words = [0u32; 16384];
     let mut space = [0u8; 2040];
     compared(old, new, &mut words, &mut space);
 }
 
 // Two terms with the same range, rule and name records, as the program compares them.
-pub fn row(what: &[u8], z: u8, rule: u8, names: &[u8], old: &[u8], new: &[u8]) {
+pub(crate) fn row(what: &[u8], z: u8, rule: u8, names: &[u8], old: &[u8], new: &[u8]) {
     let mut a = [0u8; 256];
     let mut b = [0u8; 256];
     let n = sheet(&mut a, z, rule, names, old);
@@ -54,7 +54,7 @@ pub fn row(what: &[u8], z: u8, rule: u8, names: &[u8], old: &[u8], new: &[u8]) {
 }
 
 // The same with words and bytes for every example.
-pub fn with_room(z: u8, rule: u8, names: &[u8], old: &[u8], new: &[u8]) {
+pub(crate) fn with_room(z: u8, rule: u8, names: &[u8], old: &[u8], new: &[u8]) {
     let mut a = [0u8; 64];
     let mut b = [0u8; 64];
     let n = sheet(&mut a, z, rule, names, old);

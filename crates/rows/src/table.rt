@@ -8,7 +8,7 @@ use crate::terms::EVEN;
 use crate::terms::F;
 use crate::terms::SNAPBACK;
 
-pub fn rows() {
+pub(crate) fn rows() {
     row(b"skip | diverge", 1, 0, b"", &[16], &DIVERGE);
     row(
         b"while true do skip | diverge",
@@ -39,7 +39,7 @@ pub fn rows() {
     row(b"e - e | 0", 1, 0, &E, &[22, 1, 20, 9, 20, 9], &[19, 0]);
 }
 
-pub fn more_rows() {
+pub(crate) fn more_rows() {
     // new v in (v := 0; f(v := 1); if !v = 1 then diverge else skip) | f(diverge)
     row(
         b"snapback | f(diverge)",

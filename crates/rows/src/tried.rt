@@ -400,7 +400,7 @@ const FIFTY_NINE: [u8; 176] = [
 ];
 
 // A silent loop, an argument that enters a block again, a write that ends a block.
-pub fn blocks() {
+pub(crate) fn blocks() {
     row(
         b"while true do new v in v := 0 | diverge",
         1,
@@ -428,7 +428,7 @@ pub fn blocks() {
 }
 
 // Nested arguments, moves that only one sheet has, a difference of 120 moves.
-pub fn calls() {
+pub(crate) fn calls() {
     row(
         b"f(f(c)) | f(c)",
         1,

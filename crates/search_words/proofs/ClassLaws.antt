@@ -29,13 +29,13 @@ module _ (n : ℕ) (ws : List ℕ) (x : ℕ) (x-lt : x < n) (w : Low n ws) where
   p-lt : getD ws x 0 < n
   p-lt = omega (arith, w .low x x-lt)
 
-  pub halved-low : Low n halved
+  halved-low : Low n halved
   halved-low = record
     { room = rw length-set (w .room); few = w .few
     ; low = set-all (λ y v. y < n → v ≤ y) ws x _ (omega (arith, w .room))
       (λ h. omega (arith, w .low x x-lt, w .low (getD ws x 0) p-lt)) (λ y q h. w .low y h) }
 
-  pub halved-rep : (rep : ℕ → ℕ) → Rep n ws rep → getD ws x 0 ≢ x → Rep n halved rep
+  halved-rep : (rep : ℕ → ℕ) → Rep n ws rep → getD ws x 0 ≢ x → Rep n halved rep
   halved-rep rep r ne = record
     { up = set-all (λ y v. y < n → rep v ≡ rep y) ws x _ (omega (arith, w .room)) (λ h. r .up (getD ws x 0) p-lt
       ∙ r .up x x-lt) (λ y q h. r .up y h)

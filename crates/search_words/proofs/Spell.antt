@@ -13,7 +13,7 @@ use Rattle.dfa.proofs.laws.Rest.{rest-is, rest-length}
 use Rattle.search_words.proofs.Trace.{trace-first, trace-last, trace-more, trace-pos, trail-spelled}
 
 -- the front's places are the whole's
-pub front-is : (n : ℕ) (ws : List ℕ) (j k : ℕ) → j < n → k < 4 → getD (take (5 * n) ws) (n + 4 * j + k) 0 ≡ getD
+front-is : (n : ℕ) (ws : List ℕ) (j k : ℕ) → j < n → k < 4 → getD (take (5 * n) ws) (n + 4 * j + k) 0 ≡ getD
   ws (n + 4 * j + k) 0
 front-is n ws j k h l = getD-take (5 * n) ws (n + 4 * j + k) 0 (omega arith)
 

@@ -1,6 +1,6 @@
 -- A property of everything that is read, and how it goes through the reader's steps.
 use Prim.Native.Nat.{ℕ, suc, _+_}
-use mathlib.Core.Path.{_≡_, refl, subst}
+use mathlib.Core.Path.{_≡_, refl}
 use mathlib.Core.Bool.{Bool, true, false}
 use mathlib.Core.List.{List}
 use Rattle.language.specs.Choice.{pick}

@@ -91,7 +91,7 @@ matches-same E M = record {
 
 -- an id is free by its standing exactly if it is free by the name records
 module _ {s st : List ℕ} {ns : List Name} {π : ℕ → ℕ} (M : Matches s ns [] π st) (id : ℕ) (b : id < 255) where
-  pub standing-free : getD st id 0 ≡ 0 → declared ns id ≡ free
+  standing-free : getD st id 0 ≡ 0 → declared ns id ≡ free
   unfolding meaning Agrees
   standing-free e = go (declared ns id) (M .standing id b)
     where

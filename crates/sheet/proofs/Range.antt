@@ -8,7 +8,6 @@ use lib.Dec.{eqb, leb, ltb}
 use borrow.Author.Tests.{ltb-false, le-ltb}
 use Rattle.records.specs.Limits.{earlier-z, greatest-z, most-bytes}
 use Rattle.records.specs.declared.edition.Edition.{Edition}
-use Rattle.procedures.specs.Written.{Sheet}
 use Rattle.sheet.specs.Reader.{Answer, got, refused, Whole, wholeBy, wholeOf, accepted, checks, readUnder}
 use Rattle.sheet.specs.Agreement.{EarlierRange, StillAccepted}
 use Rattle.sheet.proofs.Answers.{All, one, none′, pick-all}
@@ -19,7 +18,7 @@ unfolding wholeBy
 whole-alike ed s h = rw (le-ltb earlier-z (getD s 0 0) h, le-ltb greatest-z (getD s 0 0) (omega arith)) refl
 
 -- THEOREM: where Z is within document 01's range, the answer is the one with that range
-pub earlier-range : EarlierRange
+earlier-range : EarlierRange
 unfolding readUnder
 earlier-range ed s h = ap (checks s) (whole-alike ed s h)
 

@@ -246,7 +246,7 @@ built s r rule ty around end ts e = ap (λ (x : Rule). build x s r (writtens s t
 
 -- THEOREM: a reading spelled out is sound
 module _ {ed : Edition} (N : Numbers) (s : List ℕ) (ns : List Name) where
-  pub sounds :
+  sounds :
       (left : ℕ) → ((bs : List Binder) (π : ℕ → ℕ) (at : ℕ) (t : Tree) (ty next : ℕ) →
         Parsed ed N s ns left bs π at t ty next → Sound ed N s ns left bs at (written s t) ty next) →
       {bs : List Binder} {π : ℕ → ℕ} {at : ℕ} {ts : Trees} {tys : List ℕ} {next : ℕ} →

@@ -199,11 +199,11 @@ matches-entered {s} {st} {ns} {bs} {π} r M l b e d d′ =
       (record { outer = omega arith; above = d; below = d′; stands = refl; unnamed = e }) M l b
 
 -- places of procedures with one more
-pub place-before : (n : ℕ) (π : ℕ → ℕ) (at k : ℕ) → k < n → beyond n π (λ (j : ℕ). at) k ≡ π k
+place-before : (n : ℕ) (π : ℕ → ℕ) (at k : ℕ) → k < n → beyond n π (λ (j : ℕ). at) k ≡ π k
 unfolding beyond
 place-before n π at k h = rw (lt-ltb k n h) refl
 
-pub place-here : (n : ℕ) (π : ℕ → ℕ) (at : ℕ) → beyond n π (λ (j : ℕ). at) n ≡ at
+place-here : (n : ℕ) (π : ℕ → ℕ) (at : ℕ) → beyond n π (λ (j : ℕ). at) n ≡ at
 unfolding beyond
 place-here n π at = rw (le-ltb n n (omega arith)) refl
 

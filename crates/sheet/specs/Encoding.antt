@@ -3,7 +3,6 @@
 use Prim.Native.Nat.{ℕ, zero, suc, _+_}
 use mathlib.Core.List.{List, [], _∷_, _++_}
 use lib.ListN.{length}
-use Rattle.language.specs.declared.Numbers.{Numbers}
 use Rattle.language.specs.Term.{Often, freely, once}
 use Rattle.procedures.specs.Written.{Written, skip, diverge, truth, number, call, fetch, operate, assign, sequence}
 use Rattle.procedures.specs.Written.{while, choose, new, procedure, Parameter, Writtens, none, more, Name, declare}

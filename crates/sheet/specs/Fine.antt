@@ -1,6 +1,6 @@
 -- Which sheets are accepted: those in order (procedures/specs/Fine) of at most 4,096 bytes; by the present rule no binder
 -- hides another. Document 01, "The sheet, byte by byte"; document 02 [3]. SHEETS 2, 3.2 and 7.3.
-use Prim.Native.Nat.{ℕ, _≤_}
+use Prim.Native.Nat.{_≤_}
 use mathlib.Core.Path.{_≡_}
 use mathlib.Core.List.{[]}
 use lib.ListN.{length}

@@ -3,7 +3,7 @@
 -- edition, [11] for the greatest Z. SHEETS 9.1 and 9.2.
 use Prim.Native.Nat.{ℕ, zero, suc, _+_}
 use mathlib.Core.List.{List, [], _∷_}
-use lib.ListN.{length, getD, set, take, drop, replicate}
+use lib.ListN.{length, getD, set, drop, replicate}
 use lib.Dec.{eqb, ltb, leb}
 use Rattle.language.specs.Choice.{pick}
 use Rattle.language.specs.Weight.{size}

@@ -13,7 +13,7 @@ use records::refusal::ID_TAKEN;
 use records::refusal::refuse;
 use records::standing::FREE;
 ghost use mathlib.Core.Path.{_≡_};
-ghost use Prim.Native.Nat.{_+_, _≤_, _<_};
+ghost use Prim.Native.Nat.{_+_, _<_};
 ghost use lib.ListN.{getD, set};
 ghost use Rattle.sheet.specs.Heading.{fresh, argument, arguments, declareOf};
 

@@ -1,7 +1,7 @@
 // The reader of sheets: from bytes to the parts of a term, or a refusal.
-pub mod heading;
+mod heading;
 pub mod names;
 pub mod note;
-pub mod number;
-pub mod part;
+mod number;
+mod part;
 pub mod reading;

@@ -8,7 +8,7 @@ use records::standing::FIRST_VARIABLE;
 use records::standing::RETIRED;
 ghost use mathlib.Core.Path.{_≡_};
 ghost use Rattle.records.specs.Standing.{standingOf};
-ghost use Rattle.sheet.specs.table.Notes.{isNameStanding, usesName, noted, isNoted};
+ghost use Rattle.sheet.specs.table.Notes.{isNameStanding, noted, isNoted};
 
 // The note of a name that is used.
 const NOTED: u16 = 1;

@@ -37,7 +37,7 @@ ghost use Rattle.sheet.specs.table.Fill.{fill, fills, fillsNext, Reads, 
 const SECOND: u8 = 1;
 
 // What reading gives: the type and the place after; or the refusal.
-pub enum Part {
+pub(crate) enum Part {
     Read { ty: u8, next: usize },
     Refused(Refusal),
 }

@@ -15,7 +15,6 @@ use records::refusal::OUT_OF_RANGE;
 use records::refusal::TOO_LONG;
 use records::refusal::refuse;
 ghost use mathlib.Core.Path.{_≡_};
-ghost use lib.ListN.{length};
 ghost use Rattle.sheet.specs.Reader.{wholeOf, numbersAt};
 ghost use Rattle.sheet.specs.table.Fill.{ReadsSheet, closedReading};
 

@@ -1,8 +1,6 @@
 // The classes of the states of an automaton in lent words: two states are in one class exactly if they accept the same
 // words. The words are those of crate class_words.
-ghost use mathlib.Core.Path.{_≡_};
 ghost use Prim.Native.Nat.{_*_};
-ghost use lib.ListN.{length};
 ghost use Rattle.dfa.specs.Graph.{rest};
 ghost use Rattle.sorting.specs.Sorted.{Sortable, Sorted};
 use crate::refine::refine;

@@ -1,6 +1,5 @@
 // The first two classes: the accepting state alone, and all the others.
 ghost use mathlib.Core.Logic.{_≢_};
-ghost use mathlib.Core.Path.{_≡_};
 ghost use Prim.Native.Nat.{_+_, _-_, _*_, _<_, _≤_};
 ghost use lib.ListN.{length};
 ghost use Rattle.sorting.specs.inner.Starting.{Placed, Started};

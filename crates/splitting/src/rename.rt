@@ -1,5 +1,4 @@
 // The words of classes follow the places.
-ghost use mathlib.Core.List.{List};
 ghost use Prim.Native.Nat.{_<_, ℕ};
 ghost use Rattle.class_words.specs.Parted.{Parted};
 ghost use Rattle.splitting.specs.inner.Renaming.{ToRename, RenamedOne, ToRenameAll, RenamedAll};

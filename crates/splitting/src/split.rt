@@ -1,9 +1,7 @@
 // Classes split by the letters that lead into one class.
 ghost use mathlib.Core.List.{List};
-ghost use mathlib.Core.Path.{_≡_};
 ghost use Prim.Native.Nat.{_<_, _≤_, _+_, _*_, ℕ};
-ghost use lib.ListN.{length, set};
-ghost use Rattle.class_words.specs.Parted.{Parted};
+ghost use lib.ListN.{length};
 ghost use Rattle.splitting.specs.inner.Grouping.{ToGroup, Grouped};
 ghost use Rattle.splitting.specs.inner.Signs.{ToSign, Signable, SignedTo, Signed};
 ghost use Rattle.splitting.specs.inner.Splitting.{Carved, ToSplit, Splitting, SplitOne};

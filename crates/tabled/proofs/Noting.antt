@@ -1,14 +1,13 @@
 -- The notes that reading leaves: a name is noted exactly if some use in the term means it.
-use Prim.Native.Nat.{ℕ, zero, suc, _+_, _-_, _*_, _/_, _%_, _≤_, _<_}
+use Prim.Native.Nat.{ℕ, zero, suc, _+_, _*_, _≤_, _<_}
 use native.Mathlib.Omega.{arith}
 use mathlib.Core.Path.{_≡_, refl, sym, ap, _∙_}
 use mathlib.Core.Bool.{Bool, true, false, _||_, _&&_}
 use mathlib.Core.List.{List, [], _∷_}
-use lib.ListN.{length, getD, set, replicate, length-replicate, List·getD-eq-default}
+use lib.ListN.{length, getD, set, replicate, length-replicate}
 use lib.Seq.{getD-set-same, getD-set-other}
-use lib.Dec.{eqb, ltb}
-use borrow.Author.Tests.{eqb-true, eqb-false, eq-eqb, ne-eqb}
-use Rattle.language.specs.Choice.{pick}
+use lib.Dec.{eqb}
+use borrow.Author.Tests.{eqb-true, eqb-false}
 use Rattle.language.specs.Term.{onces}
 use Rattle.language.proofs.AskOnceLaws.{onces-below}
 use Rattle.language.specs.declared.Numbers.{Numbers}
@@ -19,10 +18,9 @@ use Rattle.records.specs.declared.edition.Edition.{Edition}
 use Rattle.heads.specs.declared.head.Record.{Record}
 use Rattle.records.proofs.StandingLaws.{declared-again, variable-again, parameter-again, procedure-again}
 use Rattle.records.specs.declared.standing.Standing.{Standing}
-use Rattle.records.specs.declared.standing.Standing.the-variants.{Declared, Variable, Parameter, Procedure}
 use Rattle.procedures.specs.Written as w
 use Rattle.procedures.specs.Written.{Written, Name}
-use Rattle.procedures.specs.Meaning.{Binder, a-block, meaning, inside, after}
+use Rattle.procedures.specs.Meaning.{Binder, a-block, inside, after}
 use Rattle.procedures.specs.Uses.{isName, uses, someUses}
 use Rattle.procedures.proofs.Tests.{by-test}
 use Rattle.sheet.specs.Reader.{Tree, node, Trees, leaf, branch, written, writtens, build, first, rest}
@@ -205,7 +203,7 @@ module _ (N : Numbers) (s : List ℕ) (ns : List Name) (short : length s ≤ 409
   low : {r : Record} {at kind body : ℕ} {rule : _} → Stands s r at kind body rule → r .place < 4096
   low st = omega (arith, st .place, st .byte .0)
 
-  pub notes-part : {ed : Edition} {left at ty next : ℕ} {bs : List Binder} {π : ℕ → ℕ} {x : Tree} →
+  notes-part : {ed : Edition} {left at ty next : ℕ} {bs : List Binder} {π : ℕ → ℕ} {x : Tree} →
       Parsed ed N s ns left bs π at x ty next → Notes bs x
   unfolding fills written writtens build first rest uses someUses isName usesName isNameStanding
   notes-part d =

@@ -18,7 +18,7 @@ use Rattle.sheet.specs.table.Number.{usedNumber}
 use Rattle.records.specs.declared.edition.Edition.{Edition}
 use Rattle.sheet.proofs.Parsed.{Parsed, p-skip, p-diverge, p-truth, p-number, p-private, p-parameter, p-use}
 use Rattle.sheet.proofs.Parsed.{p-name, p-fetch, p-operate, p-assign, p-sequence, p-if, p-while, p-new}
-use Rattle.sheet.proofs.Parsed.{p-procedure, ParsedArgs, p-none, p-more}
+use Rattle.sheet.proofs.Parsed.{p-procedure, p-none, p-more}
 use Rattle.tabled.proofs.Rows.{length-written, length-linked, written-else, linked-else, length-noted, noted-else}
 use Rattle.tabled.proofs.Rows.{weighed-else}
 
@@ -100,16 +100,6 @@ module _ (N : Numbers) (s : List ℕ) (ns : List Name) where
     | p-more (d → x) (ds → xs) ↦ (
           (λ j h. part {j = j} (omega arith) (x .span) (xs .0 (j + 1) (omega arith))),
           (λ h. xs .1 (x .within))) ]
-
-  pub placed-args : {ed : Edition} {left at next : ℕ} {bs : List Binder} {π : ℕ → ℕ} {ts : Trees} {tys : List ℕ} →
-      ParsedArgs ed N s ns left bs π at ts tys next → (j : ℕ) → j + length tys ≤ 4 → Parts j at next ts
-  placed-args p-none j h = stop
-  placed-args (p-more d ds) j h = part {j = j} (omega arith) (placed d .span) (placed-args ds (j + 1) (omega arith))
-
-  pub within-args : {ed : Edition} {left at next : ℕ} {bs : List Binder} {π : ℕ → ℕ} {ts : Trees} {tys : List ℕ} →
-      ParsedArgs ed N s ns left bs π at ts tys next → at ≤ length s → next ≤ length s
-  within-args p-none h = h
-  within-args (p-more d ds) h = within-args ds (placed d .within)
 
 -- a place outside a span
 pub data Outside (at next p : ℕ) : Type 0 where

@@ -5,17 +5,15 @@ use native.Mathlib.Omega.{arith}
 use mathlib.Core.Path.{_≡_, refl, sym, ap, _∙_}
 use mathlib.Core.List.{List, []}
 use lib.ListN.{length, drop, length-append, length-drop}
-use Rattle.records.specs.Refusal.{refusal}
 use Rattle.records.specs.declared.edition.Edition.{Edition}
 use Rattle.procedures.specs.Meaning.{typeOf}
 use Rattle.sheet.specs.Encoding.{encodeNames, headingLength}
-use Rattle.sheet.specs.Reader.{Answer, got, refused, Whole, whole, numbersAt, wholeOf, sheetIn, sizeIn, checks}
+use Rattle.sheet.specs.Reader.{Answer, got, Whole, whole, numbersAt, wholeOf, sheetIn, sizeIn, checks}
 use Rattle.sheet.specs.Reader.{readUnder}
 use Rattle.sheet.specs.table.Fill.{eraseSheet, LeavesSheet, ReadsSheet}
 use Rattle.sheet.specs.table.Notes.{Blank}
 use Rattle.tabled.specs.Tabled.{places, TabledBy}
 use Rattle.sheet.specs.declared.names.Reading.{Reading}
-use Rattle.sheet.specs.declared.names.Reading.the-variants.{Refused}
 use Rattle.sheet.proofs.Answers.{All, one, none′}
 use Rattle.sheet.proofs.NameList.{NamesRead, names-read, extends-first}
 use Rattle.sheet.proofs.Right.{SheetRead, sheet-all}
@@ -24,7 +22,6 @@ use Rattle.tabled.proofs.Shows.{shows-whole}
 use Rattle.tabled.proofs.Seating.{seats-whole}
 use Rattle.tabled.proofs.Noting.{notes-whole}
 use Rattle.tabled.proofs.weights.Weights.{weights-whole}
-use Rattle.sheet.proofs.Whole.{sheet-refused}
 
 module _ (ed : Edition) (s t u : List ℕ) (blank : Blank t) where
   tabled-whole :

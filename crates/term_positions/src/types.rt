@@ -16,7 +16,7 @@ pub const COMMANDS: usize = part_rows::class::COMMANDS as usize;
 
 pub const EXPRESSIONS: usize = part_rows::class::EXPRESSIONS as usize;
 
-pub(crate) const VARIABLES: usize = part_rows::class::VARIABLES as usize;
+const VARIABLES: usize = part_rows::class::VARIABLES as usize;
 
 // How many questions a type has.
 pub fn questions(class: usize, values: usize) -> usize
@@ -110,7 +110,7 @@ pub fn question_number(class: usize, values: usize, kind: usize, value: usize) -
 }
 
 // 1 more than a value that is answered; 0 where the answer is no such value.
-pub(crate) fn value_answer(values: usize, kind: usize, value: usize) -> usize
+fn value_answer(values: usize, kind: usize, value: usize) -> usize
     ensures { λ r. ⌜ r ≡ valueAnswer values kind value ⌝ }
 {
     if kind == VALUE {

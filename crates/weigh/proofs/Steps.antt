@@ -4,8 +4,8 @@ use native.Mathlib.Omega.{arith}
 use mathlib.Core.List.{List}
 use mathlib.Core.Path.{_≡_, ap, ap₂, sym, _∙_}
 use lib.ListN.{set}
-use borrow.Author.Tests.{eq-eqb, ne-eqb, lt-ltb, le-ltb}
-use Rattle.part_rows.specs.PartKind.{KIND, DETAIL, PARTS, PROCEDURE, ROUTINE}
+use borrow.Author.Tests.{eq-eqb, ne-eqb}
+use Rattle.part_rows.specs.PartKind.{KIND, DETAIL, PARTS, PROCEDURE}
 use Rattle.part_rows.specs.Row.{word}
 use Rattle.weighing.specs.Stack.{marks-from, slots-from, height-at, most-forms, marksIn, heightOf, lowerForm, addedForm}
 use Rattle.weighing.specs.Plan.{partsOf, factorOf, extraOf, comeAt, comeOf, usedOf}

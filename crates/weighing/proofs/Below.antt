@@ -9,7 +9,7 @@ use lib.ListN.{length, getD, set, length-set}
 use lib.Seq.{getD-set-other}
 use Rattle.language.specs.Choice.{pick}
 use Rattle.procedures.specs.Held.{held}
-use Rattle.part_rows.specs.PartKind.{KIND, DETAIL, PARTS, PROCEDURE, PARAMETER, ROUTINE}
+use Rattle.part_rows.specs.PartKind.{KIND, DETAIL, PARTS, PROCEDURE, PARAMETER}
 use Rattle.procedures.specs.Marks.{COMES}
 use Rattle.part_rows.specs.Row.{word}
 use Rattle.weighing.specs.Stack.{marks-from, slots-from, height-at, forms-from, most-forms, marksIn, heightOf}
@@ -24,35 +24,35 @@ pub record From (b : ℕ) (t t′ : List ℕ) : Type 0 where
   pub long : length t′ ≡ length t
   pub low : (i : ℕ) → i < b → getD t′ i 0 ≡ getD t i 0
 
-pub from-none : (b : ℕ) (t : List ℕ) → From b t t
+from-none : (b : ℕ) (t : List ℕ) → From b t t
 from-none b t = record { long = refl; low = λ i h. refl }
 
-pub from-set : (b : ℕ) (t u : List ℕ) (j v : ℕ) → b ≤ j → From b t u → From b t (set u j v)
+from-set : (b : ℕ) (t u : List ℕ) (j v : ℕ) → b ≤ j → From b t u → From b t (set u j v)
 from-set b t u j v h F = record {
     long = length-set u j v ∙ F .long;
     low = λ i l. getD-set-other u j i v 0 (λ r. omega arith) ∙ F .low i l }
 
-pub from-then : (b : ℕ) (t u v : List ℕ) → From b t u → From b u v → From b t v
+from-then : (b : ℕ) (t u v : List ℕ) → From b t u → From b u v → From b t v
 from-then b t u v F G = record { long = G .long ∙ F .long; low = λ i l. G .low i l ∙ F .low i l }
 
-pub from-less : (b c : ℕ) (t u : List ℕ) → b ≤ c → From c t u → From b t u
+from-less : (b c : ℕ) (t u : List ℕ) → b ≤ c → From c t u → From b t u
 from-less b c t u h F = record { long = F .long; low = λ i l. F .low i (omega arith) }
 
-pub from-pick : (b : ℕ) (t u v : List ℕ) (x : Bool) → From b t u → From b t v → From b t (pick x u v)
+from-pick : (b : ℕ) (t u v : List ℕ) (x : Bool) → From b t u → From b t v → From b t (pick x u v)
 from-pick b t u v true F G = F
 from-pick b t u v false F G = G
 
 -- all forms stand after the height
-pub spot-from : (row i : ℕ) → forms-from ≤ spot row i
+spot-from : (row i : ℕ) → forms-from ≤ spot row i
 unfolding spot
 spot-from row i = omega arith
 
-pub from-cleared : (b at n : ℕ) (t : List ℕ) → b ≤ at → From b t (cleared at n t)
+from-cleared : (b at n : ℕ) (t : List ℕ) → b ≤ at → From b t (cleared at n t)
 unfolding cleared
 from-cleared b at zero t h = from-none b t
 from-cleared b at (suc n) t h = from-set b t (cleared at n t) (at + n) 0 (omega arith) (from-cleared b at n t h)
 
-pub from-copied : (to from n : ℕ) (t : List ℕ) → From forms-from t (copied to from n t)
+from-copied : (to from n : ℕ) (t : List ℕ) → From forms-from t (copied to from n t)
 unfolding copied
 from-copied to from zero t = from-none forms-from t
 from-copied to from (suc n) t =
@@ -60,7 +60,7 @@ from-copied to from (suc n) t =
     from-set forms-from t u (spot to (1 + n)) (formWord u from (1 + n)) (spot-from to (1 + n))
       (from-copied to from n t)
 
-pub from-summed : (to from c n : ℕ) (t : List ℕ) → From forms-from t (summed to from c n t)
+from-summed : (to from c n : ℕ) (t : List ℕ) → From forms-from t (summed to from c n t)
 unfolding summed
 from-summed to from c zero t = from-none forms-from t
 from-summed to from c (suc n) t =
@@ -68,13 +68,13 @@ from-summed to from c (suc n) t =
     from-set forms-from t u (spot to (1 + n)) (held (formWord u to (1 + n) + c * formWord u from (1 + n)))
       (spot-from to (1 + n)) (from-summed to from c n t)
 
-pub from-constant : (row c : ℕ) (t : List ℕ) → From forms-from t (constantForm row c t)
+from-constant : (row c : ℕ) (t : List ℕ) → From forms-from t (constantForm row c t)
 unfolding constantForm
 from-constant row c t =
     from-set forms-from t (set t (spot row 0) 0) (spot row 1) (held c) (spot-from row 1)
       (from-set forms-from t t (spot row 0) 0 (spot-from row 0) (from-none forms-from t))
 
-pub from-unit : (row s : ℕ) (t : List ℕ) → From forms-from t (unitForm row s t)
+from-unit : (row s : ℕ) (t : List ℕ) → From forms-from t (unitForm row s t)
 unfolding unitForm
 from-unit row s t =
     let u : List ℕ = set t (spot row 0) (1 + s) in
@@ -83,7 +83,7 @@ from-unit row s t =
       (from-then forms-from t u v (from-set forms-from t t (spot row 0) (1 + s) (spot-from row 0)
         (from-none forms-from t)) (from-cleared forms-from (spot row 1) (1 + s) u (spot-from row 1)))
 
-pub from-lower : (to from k : ℕ) (t : List ℕ) → From forms-from t (lowerForm to from k t)
+from-lower : (to from k : ℕ) (t : List ℕ) → From forms-from t (lowerForm to from k t)
 unfolding lowerForm
 from-lower to from k t =
     let n : ℕ = min k (formWord t from 0) in
@@ -91,7 +91,7 @@ from-lower to from k t =
     from-then forms-from t u (copied to from (1 + n) u)
       (from-set forms-from t t (spot to 0) n (spot-from to 0) (from-none forms-from t)) (from-copied to from (1 + n) u)
 
-pub from-widened : (to n : ℕ) (t : List ℕ) → From forms-from t (widened to n t)
+from-widened : (to n : ℕ) (t : List ℕ) → From forms-from t (widened to n t)
 unfolding widened
 from-widened to n t =
     let w : ℕ = formWord t to 0 in
@@ -101,7 +101,7 @@ from-widened to n t =
         (from-cleared forms-from (spot to (2 + w)) (n - w) t (spot-from to (2 + w))))
       (from-none forms-from t)
 
-pub from-added : (to from c e : ℕ) (t : List ℕ) → From forms-from t (addedForm to from c e t)
+from-added : (to from c e : ℕ) (t : List ℕ) → From forms-from t (addedForm to from c e t)
 unfolding addedForm
 from-added to from c e t =
     let n : ℕ = formWord t from 0 in
@@ -110,7 +110,7 @@ from-added to from c e t =
     from-set forms-from t u (spot to 1) (held (formWord u to 1 + e)) (spot-from to 1)
       (from-then forms-from t w u (from-widened to n t) (from-summed to from c (1 + n) w))
 
-pub from-started : (kind detail k row : ℕ) (t : List ℕ) → From forms-from t (started kind detail k row t)
+from-started : (kind detail k row : ℕ) (t : List ℕ) → From forms-from t (started kind detail k row t)
 unfolding started
 from-started kind detail k row t =
     let x : List ℕ = lowerForm row (termForm t detail) k t in
@@ -121,14 +121,14 @@ from-started kind detail k row t =
       (from-pick forms-from t y x (eqb kind PARAMETER) (from-unit row (min detail 127) t)
         (from-lower row (termForm t detail) k t))
 
-pub from-part : (kind detail k at first row j : ℕ) (t : List ℕ) →
+from-part : (kind detail k at first row j : ℕ) (t : List ℕ) →
     From forms-from t (partAdded kind detail k at first row j t)
 unfolding partAdded
 from-part kind detail k at first row j t =
     let place : ℕ = word t at (PARTS + j) in
     from-added row (first + j) (factorOf t kind detail k at place j) (extraOf t kind place) t
 
-pub from-parts : (kind detail k at first row n j : ℕ) (t : List ℕ) →
+from-parts : (kind detail k at first row n j : ℕ) (t : List ℕ) →
     From forms-from t (partsAdded kind detail k at first row n j t)
 unfolding partsAdded
 from-parts kind detail k at first row zero j t = from-none forms-from t
@@ -137,7 +137,7 @@ from-parts kind detail k at first row (suc n) j t =
     from-then forms-from t u (partsAdded kind detail k at first row n (suc j) u)
       (from-part kind detail k at first row j t) (from-parts kind detail k at first row n (suc j) u)
 
-pub from-closed : (at to row mark : ℕ) (t : List ℕ) → From marks-from t (closed at to row mark t)
+from-closed : (at to row mark : ℕ) (t : List ℕ) → From marks-from t (closed at to row mark t)
 unfolding closed
 from-closed at to row mark t =
     let l : List ℕ = lowerForm to row most-parameters t in
@@ -170,7 +170,7 @@ from-procedure at number t =
     let to : ℕ = heightOf t - 2 in
     from-closed at to (suc to) (comeAt (marksIn t) (word t at (PARTS + 1)) + COMES * usedOf t to number) t
 
-pub from-weighed : (k at : ℕ) (t : List ℕ) → From marks-from t (weighed k at t)
+from-weighed : (k at : ℕ) (t : List ℕ) → From marks-from t (weighed k at t)
 unfolding weighed
 from-weighed k at t =
     from-pick marks-from t (weighedProcedure at (word t at DETAIL) t)
@@ -187,82 +187,9 @@ length-copied to from n t = from-copied to from n t .long
 pub length-summed : (to from c n : ℕ) (t : List ℕ) → length (summed to from c n t) ≡ length t
 length-summed to from c n t = from-summed to from c n t .long
 
-pub length-constant : (row c : ℕ) (t : List ℕ) → length (constantForm row c t) ≡ length t
-length-constant row c t = from-constant row c t .long
-
-pub length-unit : (row s : ℕ) (t : List ℕ) → length (unitForm row s t) ≡ length t
-length-unit row s t = from-unit row s t .long
-
-pub length-lower : (to from k : ℕ) (t : List ℕ) → length (lowerForm to from k t) ≡ length t
-length-lower to from k t = from-lower to from k t .long
-
-pub length-widened : (to n : ℕ) (t : List ℕ) → length (widened to n t) ≡ length t
-length-widened to n t = from-widened to n t .long
-
-pub length-added : (to from c e : ℕ) (t : List ℕ) → length (addedForm to from c e t) ≡ length t
-length-added to from c e t = from-added to from c e t .long
-
-pub length-started : (kind detail k row : ℕ) (t : List ℕ) → length (started kind detail k row t) ≡ length t
-length-started kind detail k row t = from-started kind detail k row t .long
-
-pub length-part : (kind detail k at first row j : ℕ) (t : List ℕ) →
-    length (partAdded kind detail k at first row j t) ≡ length t
-length-part kind detail k at first row j t = from-part kind detail k at first row j t .long
-
-pub length-parts : (kind detail k at first row n j : ℕ) (t : List ℕ) →
-    length (partsAdded kind detail k at first row n j t) ≡ length t
-length-parts kind detail k at first row n j t = from-parts kind detail k at first row n j t .long
-
-pub length-closed : (at to row mark : ℕ) (t : List ℕ) → length (closed at to row mark t) ≡ length t
-length-closed at to row mark t = from-closed at to row mark t .long
-
 -- THEOREM: weighing keeps the table's length
 pub length-weighed : (k at : ℕ) (t : List ℕ) → length (weighed k at t) ≡ length t
 length-weighed k at t = from-weighed k at t .long
-
--- the words before those that are written
-pub cleared-low : (at n : ℕ) (t : List ℕ) (i : ℕ) → i < at → getD (cleared at n t) i 0 ≡ getD t i 0
-cleared-low at n t i h = from-cleared at at n t (omega arith) .low i h
-
-pub copied-low : (to from n : ℕ) (t : List ℕ) (i : ℕ) → i < forms-from →
-    getD (copied to from n t) i 0 ≡ getD t i 0
-copied-low to from n t i h = from-copied to from n t .low i h
-
-pub summed-low : (to from c n : ℕ) (t : List ℕ) (i : ℕ) → i < forms-from →
-    getD (summed to from c n t) i 0 ≡ getD t i 0
-summed-low to from c n t i h = from-summed to from c n t .low i h
-
-pub constant-low : (row c : ℕ) (t : List ℕ) (i : ℕ) → i < forms-from → getD (constantForm row c t) i 0 ≡ getD t i 0
-constant-low row c t i h = from-constant row c t .low i h
-
-pub unit-low : (row s : ℕ) (t : List ℕ) (i : ℕ) → i < forms-from → getD (unitForm row s t) i 0 ≡ getD t i 0
-unit-low row s t i h = from-unit row s t .low i h
-
-pub lower-low : (to from k : ℕ) (t : List ℕ) (i : ℕ) → i < forms-from → getD (lowerForm to from k t) i 0 ≡ getD t i 0
-lower-low to from k t i h = from-lower to from k t .low i h
-
-pub widened-low : (to n : ℕ) (t : List ℕ) (i : ℕ) → i < forms-from → getD (widened to n t) i 0 ≡ getD t i 0
-widened-low to n t i h = from-widened to n t .low i h
-
-pub added-low : (to from c e : ℕ) (t : List ℕ) (i : ℕ) → i < forms-from →
-    getD (addedForm to from c e t) i 0 ≡ getD t i 0
-added-low to from c e t i h = from-added to from c e t .low i h
-
-pub started-low : (kind detail k row : ℕ) (t : List ℕ) (i : ℕ) → i < forms-from →
-    getD (started kind detail k row t) i 0 ≡ getD t i 0
-started-low kind detail k row t i h = from-started kind detail k row t .low i h
-
-pub part-low : (kind detail k at first row j : ℕ) (t : List ℕ) (i : ℕ) → i < forms-from →
-    getD (partAdded kind detail k at first row j t) i 0 ≡ getD t i 0
-part-low kind detail k at first row j t i h = from-part kind detail k at first row j t .low i h
-
-pub parts-low : (kind detail k at first row n j : ℕ) (t : List ℕ) (i : ℕ) → i < forms-from →
-    getD (partsAdded kind detail k at first row n j t) i 0 ≡ getD t i 0
-parts-low kind detail k at first row n j t i h = from-parts kind detail k at first row n j t .low i h
-
-pub closed-low : (at to row mark : ℕ) (t : List ℕ) (i : ℕ) → i < marks-from →
-    getD (closed at to row mark t) i 0 ≡ getD t i 0
-closed-low at to row mark t i h = from-closed at to row mark t .low i h
 
 -- THEOREM: and all words before the marks
 pub weighed-low : (k at : ℕ) (t : List ℕ) (i : ℕ) → i < marks-from → getD (weighed k at t) i 0 ≡ getD t i 0

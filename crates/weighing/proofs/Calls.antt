@@ -9,7 +9,7 @@ use borrow.Author.Tests.{lt-ltb, le-ltb, ne-eqb, ltb-true, ltb-false}
 use Rattle.language.specs.Choice.{pick}
 use Rattle.language.specs.Ty.{questions, answers}
 use Rattle.language.specs.declared.Numbers.{Numbers}
-use Rattle.language.specs.Term.{Often, onces}
+use Rattle.language.specs.Term.{Often}
 use Rattle.language.specs.Weight.{useWeight}
 use Rattle.language.proofs.AskOnceLaws.{onces-below}
 use Rattle.parts.specs.Rule.{values}
@@ -78,7 +78,7 @@ module _ (N : Numbers) (ns : List Name) (t : List ℕ) where
 
   module _ (h k : ℕ) (Γ : Context) (π : ℕ → ℕ) (at end : ℕ) (long : length t ≡ 58313) where
     -- as many as there are types
-    pub args-many : (ws : Writtens) (tys : List ℕ) (j from : ℕ) → ShownArgs N ns t Γ π at j from end ws tys →
+    args-many : (ws : Writtens) (tys : List ℕ) (j from : ℕ) → ShownArgs N ns t Γ π at j from end ws tys →
         many ws ≡ length tys
     unfolding many
     args-many none [] j from shown-none = refl

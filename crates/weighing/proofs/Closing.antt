@@ -38,7 +38,7 @@ only-at-form t u at h row b O = record {
     forms = λ r i l g. only-form t u row r i O (λ e. omega arith) g }
 
 -- the form moves
-pub form-moved : (t : List ℕ) (to row : ℕ) (f : Form) → length t ≡ 58313 → to < 100 → row < 100 → Shows t row f →
+form-moved : (t : List ℕ) (to row : ℕ) (f : Form) → length t ≡ 58313 → to < 100 → row < 100 → Shows t row f →
     Shaped t (pick (eqb to row) t (lowerForm to row most-parameters t)) to f
 form-moved t to row f long h l S =
     by-test (eqb to row)

@@ -22,7 +22,7 @@ use Rattle.procedures.specs.Marks.{Marked}
 use Rattle.procedures.proofs.Reach.{come-bound}
 use Rattle.weighing.specs.Plan.{comeAt}
 
-pub depth-some : (W : Written) → 0 < depth W
+depth-some : (W : Written) → 0 < depth W
 unfolding depth
 depth-some skip = omega arith
 depth-some (diverge ty) = omega arith
@@ -47,7 +47,7 @@ module _ (N : Numbers) (ns : List Name) (t : List ℕ) where
     pub kind : ℕ
     pub row : PartRow N ns t Γ kind W at end
 
-  pub row-of : {Γ : Context} {π : ℕ → ℕ} {at end : ℕ} {W : Written} → Shown N ns t Γ π at end W → AnyRow Γ W at end
+  row-of : {Γ : Context} {π : ℕ → ℕ} {at end : ℕ} {W : Written} → Shown N ns t Γ π at end W → AnyRow Γ W at end
   row-of (shown-skip r) = record { kind = _; row = r }
   row-of (shown-diverge r) = record { kind = _; row = r }
   row-of (shown-truth r d) = record { kind = _; row = r }

@@ -15,7 +15,7 @@ use Rattle.procedures.specs.Come.{come}
 use Rattle.procedures.specs.Held.{held, SameForm}
 use Rattle.procedures.specs.Context.{Context, in-block, binders, forms, downs}
 use Rattle.part_rows.specs.PartKind.{SKIP, DIVERGE, CONSTANT, FETCH, OPERATE, ASSIGN, SEQUENCE, IF, WHILE, NEW, PRIVATE}
-use Rattle.part_rows.specs.PartKind.{PARAMETER, ROUTINE, VALUES, DETAIL, PARTS}
+use Rattle.part_rows.specs.PartKind.{PARAMETER, VALUES, DETAIL, PARTS}
 use Rattle.part_rows.specs.Row.{word}
 use Rattle.procedures.specs.Table.{Shown}
 use Rattle.procedures.specs.Marks.{Marked, MarkedArgs}

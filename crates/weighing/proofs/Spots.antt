@@ -20,7 +20,7 @@ pub record Become (t t′ : List ℕ) (b n : ℕ) (w : ℕ → ℕ) : Type 0 whe
   pub below : (j : ℕ) → j < b → getD t′ j 0 ≡ getD t j 0
   pub above : (j : ℕ) → b + n ≤ j → getD t′ j 0 ≡ getD t j 0
 
-pub become-none : (t : List ℕ) (b : ℕ) (w : ℕ → ℕ) → Become t t b 0 w
+become-none : (t : List ℕ) (b : ℕ) (w : ℕ → ℕ) → Become t t b 0 w
 become-none t b w = record {
     len = refl;
     done = λ i h. absurd (omega arith);
@@ -35,7 +35,7 @@ done-more t b i v w h d e j (yes p) l =
 done-more t b i v w h d e j (no p) l =
     getD-set-other t (b + i) (b + j) v 0 (λ r. p (omega arith)) ∙ d j (omega arith)
 
-pub become-more : (t u : List ℕ) (b i v : ℕ) (w : ℕ → ℕ) → Become t u b i w → v ≡ w i → b + i < length t →
+become-more : (t u : List ℕ) (b i v : ℕ) (w : ℕ → ℕ) → Become t u b i w → v ≡ w i → b + i < length t →
     Become t (set u (b + i) v) b (suc i) w
 become-more t u b i v w B e h =
     let q : length u ≡ length t = B .len in
@@ -60,17 +60,13 @@ become-cleared at (suc n) t h =
     become-more t (cleared at n t) at n 0 (λ i. 0) (become-cleared at n t (omega arith)) refl (omega arith)
 
 -- a word of a form among others
-pub spot-next : (row a i : ℕ) → spot row (a + i) ≡ spot row a + i
+spot-next : (row a i : ℕ) → spot row (a + i) ≡ spot row a + i
 unfolding spot
 spot-next row a i = omega arith
 
-pub spot-less : (row a b : ℕ) → a < b → spot row a < spot row b
+spot-less : (row a b : ℕ) → a < b → spot row a < spot row b
 unfolding spot
 spot-less row a b h = omega arith
-
-pub spot-most : (row a b : ℕ) → a ≤ b → spot row a ≤ spot row b
-unfolding spot
-spot-most row a b h = omega arith
 
 -- the words of a form of which some become others
 pub word-done : (t t′ : List ℕ) (row a n : ℕ) (w : ℕ → ℕ) (i : ℕ) → Become t t′ (spot row a) n w → i < n →
@@ -148,10 +144,3 @@ only-become t t′ row a n w h B = record {
     long = B .len;
     before = λ i l. B .below i (omega arith);
     after = λ i l. B .above i (omega arith) }
-
-pub only-set : (t : List ℕ) (row i v : ℕ) → i < form-words → OnlyForm t (set t (spot row i) v) row
-unfolding spot
-only-set t row i v h = record {
-    long = length-set t (spot row i) v;
-    before = λ j l. getD-set-other t (spot row i) j v 0 (λ r. omega arith);
-    after = λ j l. getD-set-other t (spot row i) j v 0 (λ r. omega arith) }

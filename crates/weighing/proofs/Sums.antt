@@ -1,7 +1,7 @@
 -- Forms that are the same, otherwise added up.
 use Prim.Native.Nat.{ℕ}
 use native.Mathlib.Omega.{arith}
-use mathlib.Core.Path.{_≡_, refl, _∙_}
+use mathlib.Core.Path.{_≡_, refl}
 use Rattle.procedures.specs.Form.{Form, only, plus, times}
 use Rattle.procedures.specs.Held.{SameForm}
 
@@ -10,10 +10,6 @@ same-itself f = record { constants = refl; coefficients = λ s. refl }
 
 pub same-path : (f g : Form) → f ≡ g → SameForm f g
 same-path f g e = rw e (same-itself g)
-
-pub same-then : (f g h : Form) → SameForm f g → SameForm g h → SameForm f h
-same-then f g h p q = record {
-    constants = p .constants ∙ q .constants; coefficients = λ s. p .coefficients s ∙ q .coefficients s }
 
 pub first-times : (c : ℕ) (f : Form) → SameForm (plus (plus (only 0) (times c f)) (only 0)) (times c f)
 unfolding plus times only

@@ -1,5 +1,5 @@
 -- What a form of the stack shows: a form held at 4,097. Document 02 [1], "Reckoned size".
-use Prim.Native.Nat.{ℕ, suc, _≤_, _<_}
+use Prim.Native.Nat.{ℕ, _≤_, _<_}
 use mathlib.Core.List.{List}
 use mathlib.Core.Path.{_≡_}
 use lib.ListN.{length, getD}

@@ -5,7 +5,7 @@ use mathlib.Core.List.{List}
 use lib.ListN.{set}
 use lib.Dec.{eqb, ltb}
 use Rattle.language.specs.Choice.{pick}
-use Rattle.part_rows.specs.PartKind.{KIND, DETAIL, PARTS, PROCEDURE, PARAMETER, ROUTINE}
+use Rattle.part_rows.specs.PartKind.{KIND, DETAIL, PARTS, PROCEDURE, PARAMETER}
 use Rattle.procedures.specs.Marks.{COMES}
 use Rattle.part_rows.specs.Row.{word}
 use Rattle.weighing.specs.Stack.{marks-from, slots-from, height-at, most-forms, marksIn, heightOf, constantForm}

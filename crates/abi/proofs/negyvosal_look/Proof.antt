@@ -6,9 +6,6 @@ use Rattle.abi.proofs.Returning.{look-returned}
 use Rattle.abi.proofs.negyvosal_look.Statement.{statement}
 use Rattle.abi.proofs.negyvosal_look.Tie as tie
 
-returns : tie.Need-returns
-returns c = no-room (c .if1 .taken) refl refl refl refl
-
 returns-2 : tie.Need-returns-2
 returns-2 c =
     look-returned _ _ _ _ _ _ _ _ _ _ _ (c .before .before .before .before .before .before .before .before .before
@@ -16,5 +13,6 @@ returns-2 c =
     (c .before .before .answer-look .ensures .0) (c .before .before .answer-look .ensures .1)
 
 pub negyvosal-look-spec : {M : Type 1} → statement M
-negyvosal-look-spec = tie.close (tie.spec returns (λ c κs. search needs) (λ c κs. search needs) (search needs)
-    (search needs) (search needs) returns-2)
+negyvosal-look-spec =
+    tie.close (tie.spec (λ c. no-room (c .if1 .taken) refl refl refl refl) (λ c κs. search needs)
+    (λ c κs. search needs) (search needs) (search needs) (search needs) returns-2)

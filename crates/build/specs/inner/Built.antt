@@ -1,6 +1,6 @@
 -- Sheets ready for their automata, and the automata in the working words.
 use mathlib.Core.Path.{_≡_}
-use mathlib.Core.List.{List, []}
+use mathlib.Core.List.{List}
 use Prim.Native.Nat.{ℕ, _+_, _*_, _-_, _≤_}
 use lib.ListN.{length, getD}
 use Rattle.language.specs.declared.Numbers.{Numbers}

@@ -7,9 +7,8 @@ use native.Mathlib.Decide.{decLt, ℕ-discrete}
 use native.Mathlib.Omega.{arith}
 use lib.ListN.{getD, length, length-set, set}
 use lib.Seq.{getD-set-other, getD-set-same}
-use Rattle.dfa.specs.Graph.{Graph, letter, target}
-use Rattle.dfa.proofs.laws.Edges.{first-edge}
-use Rattle.class_words.specs.Packed.{Latest, Packed, Sized}
+use Rattle.dfa.specs.Graph.{Graph, target}
+use Rattle.class_words.specs.Packed.{Latest, Packed}
 use Rattle.class_words.specs.Places.{headAt}
 use Rattle.class_words.specs.inner.Linking.{Linking, Zeroed}
 
@@ -93,7 +92,7 @@ module _ (G : List ℕ) (n g : ℕ) (ws₀ : List ℕ) (e : ℕ) (ws : List ℕ)
     t-is : t ≡ target G n e
     t-is = et ∙ L .targets e (L .low) h
 
-    pub t-low : t < n
+    t-low : t < n
     t-low =
         let s = has-source G n (L .graph) n (omega arith) e (L .low) h in
         let l = L .graph .edges (s .0) (s .1 .0) .small e (s .1 .1 .0) (s .1 .1 .1) .1 in

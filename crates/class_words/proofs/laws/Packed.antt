@@ -1,19 +1,16 @@
 -- The automaton read from the words, with its edges in lists. Assumes nothing.
 use mathlib.Core.List.{List}
 use mathlib.Core.Path.{_∙_, _≡_, ap}
-use Prim.Native.Nat.{_%_, _*_, _+_, _-_, _/_, _<_, _≤_, ℕ}
+use Prim.Native.Nat.{_%_, _*_, _+_, _<_, _≤_, ℕ}
 use native.Mathlib.Omega.{arith}
 use lib.ListN.{getD, length}
-use Rattle.dfa.specs.Graph.{EdgeOf, Graph, letter, target}
-use Rattle.class_words.specs.Packed.{Latest, Packed, Sized}
+use Rattle.dfa.specs.Graph.{EdgeOf, target}
+use Rattle.class_words.specs.Packed.{Packed}
 
 module _ (G : List ℕ) (n g : ℕ) (ws : List ℕ) (P : Packed G n g ws) where
   -- what reading a word of edge e asks
   pub edge-room : (e : ℕ) → e < getD G n 0 → (n ≤ 8192) × ((e < 262144) × (6 * n + 2 + 2 * e < length ws))
   edge-room e h = let z = P .sized in (z .few, (omega arith, omega arith))
-
-  pub first-is : (p a : ℕ) → p ≤ n → a ≡ getD ws (5 * n + p) 0 → a ≡ getD G p 0
-  first-is p a h e = e ∙ P .firsts p h
 
   pub target-low : (p e : ℕ) → EdgeOf G n p e → target G n e < n
   target-low p e h = P .graph .edges p (h .below) .small e (h .from) (h .to) .1

@@ -42,7 +42,7 @@ swap-all Φ i j x a b o = go (ℕ-discrete x i) (ℕ-discrete x j)
     go (no q) (yes r) = rw (swap-right i j x r) (b r)
     go (no q) (no r) = rw (swap-other i j x q r) (o q r)
 
-pub swap-twice : (i j x : ℕ) → swap i j (swap i j x) ≡ x
+swap-twice : (i j x : ℕ) → swap i j (swap i j x) ≡ x
 swap-twice i j x = go (ℕ-discrete x i) (ℕ-discrete x j)
   where
     go : Dec (x ≡ i) → Dec (x ≡ j) → swap i j (swap i j x) ≡ x
@@ -136,13 +136,6 @@ module _ (n : ℕ) (ws : List ℕ) (own : ℕ → ℕ) (count : ℕ) (P : Parted
     to-is c h = exchanged-other (4 * n + c) (inr (omega arith))
 
     -- the places of a class stay
-    own-i : (x : ℕ) → x < n → (x ≡ placeAt n ws (memberAt n ws i) → ⊥) ⊎ (x ≡ i)
-    own-i x h = go (ℕ-discrete x i)
-      where
-        go : Dec (x ≡ i) → (x ≡ placeAt n ws (memberAt n ws i) → ⊥) ⊎ (x ≡ i)
-        go (yes e) = inr e
-        go (no e) = inl (λ q. e (q ∙ P .place-member i a))
-
     from-swap : (p : ℕ) → p < n → fromAt n ws (own p) ≤ swap i j (placeAt n ws p)
     from-swap p h = swap-all (λ y. fromAt n ws (own p) ≤ y) i j (placeAt n ws p)
         (λ e. let is = own-of p i h e in

@@ -10,18 +10,17 @@ use lib.Seq.{getD-set-other, getD-set-same}
 use Rattle.dfa.specs.Graph.{EdgeOf, letter, target, δ}
 use Rattle.dfa.proofs.laws.Edges.{edge-from, edge-step, edge-to, one-source, step-edge}
 use Rattle.smallest.specs.Classes.{Into}
-use Rattle.class_words.specs.Packed.{Latest, Packed}
-use Rattle.class_words.specs.Places.{classAt, copyAt, fromAt, headAt, memberAt, placeAt, toAt, touchedAt}
+use Rattle.class_words.specs.Packed.{Latest}
+use Rattle.class_words.specs.Places.{copyAt, fromAt, headAt, memberAt, placeAt, toAt, touchedAt}
 use Rattle.class_words.specs.inner.Sources.{AllTouched, AllTouching, Copied, CopiedTo, Copying, Sourced, Sourcing}
-use Rattle.class_words.specs.inner.Sources.{ToAll}
 use Rattle.class_words.specs.inner.Touching.{IsTouched, TouchKeeps, Touches, Touching}
 use Rattle.class_words.proofs.laws.Packed.{edge-room, packed-keep, target-low}
 use Rattle.class_words.proofs.laws.Touching.{few-own, parted-keep}
 
-pub keeps-refl : (n g : ℕ) (ws : List ℕ) → TouchKeeps n g ws ws
+keeps-refl : (n g : ℕ) (ws : List ℕ) → TouchKeeps n g ws ws
 keeps-refl n g ws = record { len = refl; classes = λ x l. refl; graph = λ x a b. refl; copy = λ x l. refl }
 
-pub keeps-trans : (n g : ℕ) (u v w : List ℕ) → TouchKeeps n g u v → TouchKeeps n g v w → TouchKeeps n g u w
+keeps-trans : (n g : ℕ) (u v w : List ℕ) → TouchKeeps n g u v → TouchKeeps n g v w → TouchKeeps n g u w
 keeps-trans n g u v w a b = record {
   len = b .len ∙ a .len;
   classes = λ x l. b .classes x l ∙ a .classes x l;

@@ -18,7 +18,7 @@ use Rattle.class_words.specs.Parted.{Parted}
 use Rattle.class_words.specs.Places.{classAt, exchanged, fromAt, listAt, memberAt, placeAt, toAt, touchedAt}
 use Rattle.class_words.specs.inner.Touching.{IsTouched, TouchKeeps, Touches, Touching}
 use Rattle.class_words.proofs.laws.Packed.{packed-keep}
-use Rattle.class_words.proofs.laws.Places.{exchanged-length, exchanged-member, exchanged-other, exchanged-parted}
+use Rattle.class_words.proofs.laws.Places.{exchanged-length, exchanged-other, exchanged-parted}
 use Rattle.class_words.proofs.laws.Places.{exchanged-place, first-member, swap, swap-all, swap-other, swap-right}
 
 -- there are no more classes than states
@@ -78,7 +78,7 @@ module _ (G : List ℕ) (n g s : ℕ) (own : ℕ → ℕ) (count : ℕ) (ws : Li
       omega (arith, T .within d l, T .parted .top d l)
 
   -- what a class without touched members, and one more, leave room for
-  pub few-more : (d : ℕ) → d < count → touchedAt n g ws d ≡ 0 → k < count
+  few-more : (d : ℕ) → d < count → touchedAt n g ws d ≡ 0 → k < count
   few-more d h z = let r = pigeons count (k + 1) f low one in omega arith
     where
       f : ℕ → ℕ
@@ -119,9 +119,6 @@ module _ (G : List ℕ) (n g s : ℕ) (own : ℕ → ℕ) (count : ℕ) (ws : Li
 
     d-low : d < n
     d-low = omega (arith, d-count, few-own)
-
-    pub first-room : first ≤ n
-    first-room = omega (arith, T .within d d-count, T .parted .top d d-count)
 
     -- p is touched already
     pub touch-done : i < first → Touches G n g s own count p ws k ws
@@ -342,7 +339,7 @@ module _ (G : List ℕ) (n g s : ℕ) (own : ℕ → ℕ) (count : ℕ) (ws : Li
       }
 
       -- the class of p is listed already
-      pub touch-more : 0 < c → Touches G n g s own count p ws k w₂
+      touch-more : 0 < c → Touches G n g s own count p ws k w₂
       touch-more some = record {
         touching = record {
           packed = w₂-packed;
@@ -430,7 +427,7 @@ module _ (G : List ℕ) (n g s : ℕ) (own : ℕ → ℕ) (count : ℕ) (ws : Li
         not-listed : (x : ℕ) → x < k → listAt n g ws x ≢ d
         not-listed x l e = omega (arith, T .list-some x l, ap (touchedAt n g ws) e)
 
-        pub touch-new : Touches G n g s own count p ws (k + 1) w₃
+        touch-new : Touches G n g s own count p ws (k + 1) w₃
         touch-new = let z = T .packed .sized in record {
           touching = record {
             packed = packed-keep G n g w₂ w₂-packed w₃ (length-set w₂ (g + 2 * n + k) d)

@@ -7,7 +7,7 @@ use Rattle.dfa.specs.Graph.{δ}
 use Rattle.smallest.specs.Classes.{Into}
 use Rattle.class_words.specs.Packed.{Packed}
 use Rattle.class_words.specs.Parted.{Parted}
-use Rattle.class_words.specs.Places.{classAt, fromAt, listAt, memberAt, placeAt, toAt, touchedAt}
+use Rattle.class_words.specs.Places.{classAt, fromAt, listAt, placeAt, toAt, touchedAt}
 
 -- the state p is touched
 abbrev pub IsTouched : ℕ → ℕ → (ℕ → ℕ) → List ℕ → ℕ → Type 0

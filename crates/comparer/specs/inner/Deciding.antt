@@ -27,8 +27,6 @@ use Rattle.play_words.specs.declared.Decision.{Decision}
 use Rattle.play_words.specs.declared.Decision.the-variants.{Same, Apart}
 use Rattle.comparer.specs.declared.Comparison.{Comparison}
 use Rattle.comparer.specs.declared.Comparison.the-variants as compared
-use lib.Seq.{sets}
-use Rattle.play.specs.Bytes.{recordsBy}
 
 -- two terms of one type, of sizes `all` and `more`, in range, their automata in the words, and room for the play
 pub record Deciding (ws space : List ℕ) (all more : ℕ) : Type 0 where

@@ -66,7 +66,7 @@ look-found G n m (suc k) i = go (look-found G n m k (suc i)) (eqb (letter G n i)
 
 module _ (G : List ℕ) (n : ℕ) (g : Graph G n) where
   -- the first edges rise with the states
-  pub first-edges : (d p : ℕ) → p + d ≤ n → getD G p 0 ≤ getD G (p + d) 0
+  first-edges : (d p : ℕ) → p + d ≤ n → getD G p 0 ≤ getD G (p + d) 0
   first-edges zero p h = subst (λ k. getD G p 0 ≤ getD G k 0) {x = p} {y = p + zero} (omega arith) (omega arith)
   first-edges (suc d) p h =
     let r = first-edges d p (omega arith) in

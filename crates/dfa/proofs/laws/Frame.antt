@@ -2,19 +2,16 @@
 use mathlib.Core.List.{List}
 use mathlib.Core.Logic.{_≢_}
 use mathlib.Core.Path.{_≡_}
-use Prim.Native.Nat.{_<_, _≤_, ℕ}
+use Prim.Native.Nat.{_<_, ℕ}
 use native.Mathlib.Decide.{ℕ-discrete}
 use native.Mathlib.Omega.{arith}
 use lib.ListN.{getD, length, set}
 use lib.Seq.{getD-set-other, getD-set-same}
-use Rattle.dfa.specs.Frame.{SameBelow, SameFrom}
+use Rattle.dfa.specs.Frame.{SameFrom}
 
 -- a store at place i leaves what is on its other side
 pub set-from : (n i v : ℕ) (ws : List ℕ) → i < n → SameFrom n ws (set ws i v)
 set-from n i v ws h j l = getD-set-other ws i j v 0 (λ q. omega arith)
-
-pub set-below : (n i v : ℕ) (ws : List ℕ) → n ≤ i → SameBelow n ws (set ws i v)
-set-below n i v ws h j l = getD-set-other ws i j v 0 (λ q. omega arith)
 
 -- what holds at the stored place and at the others
 pub set-all : (Φ : ℕ → ℕ → Type 0) (ws : List ℕ) (i v : ℕ) → i < length ws → Φ i v

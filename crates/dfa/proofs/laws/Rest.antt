@@ -25,13 +25,13 @@ module _ (g : ℕ) (ws ys : List ℕ) (room : g ≤ length ws) (len : length ys 
   pub back-length : length (ys ++ drop g ws) ≡ length ws
   back-length = rw (length-append, length-drop) (omega (arith, ys-len))
 
-  pub back-drop : drop g (ys ++ drop g ws) ≡ drop g ws
+  back-drop : drop g (ys ++ drop g ws) ≡ drop g ws
   back-drop = drop-at ys (drop g ws) g ys-len
 
   pub back-rest : rest g (ys ++ drop g ws) ≡ rest g ws
   back-rest = rest-is g (ys ++ drop g ws) ∙ back-drop ∙ sym (rest-is g ws)
 
-  pub back-take : take g (ys ++ drop g ws) ≡ ys
+  back-take : take g (ys ++ drop g ws) ≡ ys
   back-take = take-at ys (drop g ws) g ys-len
 
   pub back : (P : List ℕ → List ℕ → Type 0) → P (rest g ws) ys → P (rest g (ys ++ drop g ws))

@@ -47,7 +47,7 @@ module _ (G G′ : List ℕ) (n : ℕ) (g : Graph G n) (s : SameEdges n G G′) 
       (same-edges p h (g .edges p h)) }
 
   -- with the same steps
-  pub same-step : (p m : ℕ) → p < n → δ G′ n p m ≡ δ G n p m
+  same-step : (p m : ℕ) → p < n → δ G′ n p m ≡ δ G n p m
   same-step p m h =
     let l = ends p h in
     let e = g .edges p h in

@@ -1,13 +1,11 @@
 -- The order of words is total, so there is one first difference. Assumes nothing.
-use mathlib.Core.Bool.{Bool}
 use mathlib.Core.List.{List, [], _∷_}
-use mathlib.Core.Logic.{_⊎_, inl, inr}
-use mathlib.Core.Path.{_∙_, _≡_, ap, refl, sym}
-use Prim.Native.Nat.{_<_, _≤_, ℕ}
-use native.Mathlib.Decide.{decLt}
+use mathlib.Core.Logic.{inl, inr}
+use mathlib.Core.Path.{_∙_, ap}
+use Prim.Native.Nat.{_≤_, ℕ}
 use native.Mathlib.Omega.{arith}
 use lib.ListN.{length}
-use Rattle.dfa.specs.Word.{First, Less}
+use Rattle.dfa.specs.Word.{Less}
 use Rattle.difference.specs.inner.Comparison.{Le}
 
 pub less-irrefl : (x : List ℕ) → Less x x → ⊥
@@ -49,28 +47,3 @@ less-length (m ∷ x) (n ∷ y) (inr h) = omega (arith, ap length (h .0))
 pub le-length : (x y : List ℕ) → Le x y → length x ≤ length y
 le-length x y (inl e) = omega (arith, ap length e)
 le-length x y (inr h) = less-length x y h
-
--- the order of words is total
-less-total : (x y : List ℕ) → Less x y ⊎ ((x ≡ y) ⊎ Less y x)
-less-total [] [] = inr (inl refl)
-less-total [] (n ∷ y) = inl tt
-less-total (m ∷ x) [] = inr (inr tt)
-less-total (m ∷ x) (n ∷ y) = go (less-total x y) (decLt m n) (decLt n m)
-  where
-    go : Less x y ⊎ ((x ≡ y) ⊎ Less y x) → Dec (m < n) → Dec (n < m) → Less (m ∷ x) (n ∷ y) ⊎
-      ((m ∷ x ≡ n ∷ y) ⊎ Less (n ∷ y) (m ∷ x))
-    go (inl h) a b = inl (inl h)
-    go (inr (inr h)) a b = inr (inr (inl h))
-    go (inr (inl h)) (yes a) b = inl (inr (h, a))
-    go (inr (inl h)) (no a) (yes b) = inr (inr (inr (sym h, b)))
-    go (inr (inl h)) (no a) (no b) = let e : m ≡ n = omega arith in inr (inl (cc))
-
--- there is one first difference
-pub first-unique : (n : ℕ) (δ : ℕ → ℕ → ℕ) (fin : ℕ → Bool) (p q : ℕ) (u v : List ℕ) → First n δ fin p q u
-  → First n δ fin p q v → u ≡ v
-first-unique n δ fin p q u v a b = go (less-total u v)
-  where
-    go : Less u v ⊎ ((u ≡ v) ⊎ Less v u) → u ≡ v
-    go (inl h) = absurd (a .differ (b .least u h))
-    go (inr (inl h)) = h
-    go (inr (inr h)) = absurd (b .differ (a .least v h))

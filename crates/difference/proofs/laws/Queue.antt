@@ -17,7 +17,7 @@ use Rattle.search_words.proofs.ClassLaws.{linked-low, linked-rep, low-frame, re
 use Rattle.dfa.proofs.laws.Frame.{set-from}
 use Rattle.difference.proofs.laws.Merge.{snoc-all, snoc-old}
 
-pub queue-frame : (n tail : ℕ) (ws ws′ : List ℕ) (E : ℕ → Entry) → SameFrom n ws ws′ → Queue n ws tail E
+queue-frame : (n tail : ℕ) (ws ws′ : List ℕ) (E : ℕ → Entry) → SameFrom n ws ws′ → Queue n ws tail E
   → Queue n ws′ tail E
 queue-frame n tail ws ws′ E s q = record
   { first = λ k h. s (n + 4 * k) (omega arith) ∙ q .first k h
@@ -69,7 +69,7 @@ module _ (n : ℕ) (ws : List ℕ) (k p q f l : ℕ) (room : n + 4 * k + 4 ≤ l
   abbrev pub entry : (ℕ → Entry) → Entry
   entry E = record { left = p; right = q; word = l ∷ E f .word }
 
-  pub pushed-queue : (E : ℕ → Entry) → Queue n ws k E → f < k → Queue n new (suc k) (snoc E k (record { left = p;
+  pushed-queue : (E : ℕ → Entry) → Queue n ws k E → f < k → Queue n new (suc k) (snoc E k (record { left = p;
     right = q; word = l ∷ E f .word }))
   pushed-queue E u h = record
     { first = snoc-all E k (entry E) (λ j c. getD new (n + 4 * j) 0 ≡ c .left) (λ j g. pushed-below (n + 4 * j)

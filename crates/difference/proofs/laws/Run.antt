@@ -111,7 +111,7 @@ module _ (G : List ℕ) (t : Task) (s : Setting G t) (ws : List ℕ) (head tail 
 -- the start
 module _ (G : List ℕ) (t : Task) (s : Setting G t) (ne : t .p ≢ t .q) (w₁ : List ℕ) (room : 5 * t .n ≤ length w₁)
   (own : (x : ℕ) → x < t .n → getD w₁ x 0 ≡ x) where
-  pub own-low : Low (t .n) w₁
+  own-low : Low (t .n) w₁
   own-low = record { room = room; few = s .graph .few; low = λ x h. omega (arith, own x h) }
 
   own-rep : Rep (t .n) w₁ (λ x. x)

@@ -2,10 +2,10 @@
 use mathlib.Core.Bool.{Bool, Bool·beq, false, true}
 use mathlib.Core.List.{List}
 use mathlib.Core.Path.{_∙_, _≡_, ap₂, refl, subst, sym}
-use Prim.Native.Nat.{_*_, _+_, _-_, _<_, _≤_, suc, ℕ}
+use Prim.Native.Nat.{_*_, _+_, _<_, _≤_, suc, ℕ}
 use native.Mathlib.Decide.{ℕ-discrete}
 use native.Mathlib.Omega.{arith}
-use lib.ListN.{getD, length, length-take, take}
+use lib.ListN.{length, length-take, take}
 use Rattle.dfa.specs.Graph.{rest}
 use Rattle.dfa.specs.Word.{accepting}
 use Rattle.dfa.proofs.laws.Rest.{front-at}
@@ -15,7 +15,7 @@ use Rattle.difference.specs.declared.Verdict.{Verdict}
 use Rattle.difference.specs.declared.Verdict.the-variants.{Same, Apart as Told}
 use Rattle.difference.specs.declared.search.Level.{Level}
 use Rattle.difference.specs.declared.search.Level.the-variants.{Alike, Apart}
-use Rattle.difference.specs.inner.Level.{Deep, Layer, Leveled, Shallow, alikeAt}
+use Rattle.difference.specs.inner.Level.{Deep, Leveled, Shallow, alikeAt}
 use Rattle.difference.specs.inner.Queue.{Grown}
 use Rattle.difference.specs.inner.Search.{Leveling, Runs, Testing}
 use Rattle.difference.specs.inner.State.{Half, State}
@@ -23,7 +23,7 @@ use Rattle.difference.proofs.laws.Level.{deep-first, deep-next, layer-a
 use Rattle.difference.proofs.laws.Run.{last-same, last-told, run-on, run-same, run-told, spells, tail-low}
 
 -- what is said of an entry in all words is said of it in the front
-pub alike-front : (t : Task) (ws : List ℕ) (k : ℕ) → k < t .n
+alike-front : (t : Task) (ws : List ℕ) (k : ℕ) → k < t .n
   → alikeAt (t .n) (take (5 * t .n) ws) k (t .f) (t .g) ≡ alikeAt (t .n) ws k (t .f) (t .g)
 alike-front t ws k h = ap₂ (λ a b. Bool·beq (accepting (t .f) (t .g) a) (accepting (t .f) (t .g) b))
   (sym (front-at (5 * t .n) ws (t .n + 4 * k) _ (omega arith) refl))

@@ -74,7 +74,7 @@ module _ (n : ℕ) (δ : ℕ → ℕ → ℕ) (fin : ℕ → Bool) (p q L : ℕ)
   Either = ((x : List ℕ) → fin (after δ p x) ≡ fin (after δ q x)) ⊎ ((u : List ℕ) × First n δ fin p q u)
 
   -- at most n - 1 entries
-  pub few-entries : (E : ℕ → Entry) (head tail : ℕ) (rep : ℕ → ℕ) → Inv n δ fin p q E head tail rep → tail + 1 ≤ n
+  few-entries : (E : ℕ → Entry) (head tail : ℕ) (rep : ℕ → ℕ) → Inv n δ fin p q E head tail rep → tail + 1 ≤ n
   few-entries E head tail rep i = omega (arith, roots-1 n δ fin p q E head tail rep i p-lt, i .count)
 
   compare : (fuel head tail : ℕ) (E : ℕ → Entry) (rep : ℕ → ℕ) → Top n δ fin p q E head tail rep
@@ -105,12 +105,12 @@ module _ (n : ℕ) (δ : ℕ → ℕ → ℕ) (fin : ℕ → Bool) (p q L : ℕ)
       go (no e) = compare n 0 1 _ _ (begun n δ fin p q p-lt q-lt p q (inl (refl, refl)) e) (omega arith)
 
 module _ (G : List ℕ) (n : ℕ) (g : Graph G n) where
-  pub high-dead : (x m : ℕ) → x < n → 2 ^ 27 ≤ m → δ G n x m ≡ n - 1
+  high-dead : (x m : ℕ) → x < n → 2 ^ 27 ≤ m → δ G n x m ≡ n - 1
   high-dead x m h l = look-none G n m (getD G (x + 1) 0 - getD G x 0) (getD G x 0)
     (λ j a b e. let s = g .edges x h in let z = s .small j a (omega (arith, s .le)) .0 in omega arith)
 
   -- the first difference of two states, or none
-  pub first-difference : (f e p q : ℕ) → p < n → q < n
+  first-difference : (f e p q : ℕ) → p < n → q < n
     → ((x : List ℕ) → accepting f e (after (δ G n) p x) ≡ accepting f e (after (δ G n) q x)) ⊎ ((u : List ℕ) × First n
       (δ G n) (accepting f e) p q u)
   first-difference f e p q p-lt q-lt =
@@ -118,7 +118,7 @@ module _ (G : List ℕ) (n : ℕ) (g : Graph G n) where
       (λ x y m hx hy l. high-dead x m hx l ∙ sym (high-dead y m hy l))
 
   -- what some word tells apart, a word of at most n - 2 letters tells apart
-  pub apart-short : (f e p q : ℕ) → p < n → q < n → (x : List ℕ) → accepting f e (after (δ G n) p x) ≢ accepting f e
+  apart-short : (f e p q : ℕ) → p < n → q < n → (x : List ℕ) → accepting f e (after (δ G n) p x) ≢ accepting f e
     (after (δ G n) q x)
     → (u : List ℕ) × First n (δ G n) (accepting f e) p q u
   apart-short f e p q p-lt q-lt x ne = go (first-difference f e p q p-lt q-lt)

@@ -22,22 +22,22 @@ use Rattle.difference.proofs.laws.Merge.{snoc-all, snoc-old}
 -- the states of an entry are states
 module _ (G : List ℕ) (t : Task) (s : Setting G t) (ws : List ℕ) (head last lo : ℕ) (h : Half G t ws head last lo)
   where
-  pub p-low : h .E head .left < t .n
+  p-low : h .E head .left < t .n
   p-low =
       rw (h .mid .inv .reach head (h .mid .here) .0) (after-lt G (t .n) (t .p) (s .graph) (s .p-lt) (h .E head .word))
 
-  pub q-low : h .E head .right < t .n
+  q-low : h .E head .right < t .n
   q-low =
       rw (h .mid .inv .reach head (h .mid .here) .1) (after-lt G (t .n) (t .q) (s .graph) (s .q-lt) (h .E head .word))
 
-  pub last-low : last < t .n
+  last-low : last < t .n
   last-low = omega (arith, h .mid .inv .count, roots-1 _ _ _ _ _ (h .E) (suc head) last (h .rep)
     (h .mid .inv) (s .p-lt))
 
-  pub first-is : getD ws (t .n + 4 * head) 0 ≡ h .E head .left
+  first-is : getD ws (t .n + 4 * head) 0 ≡ h .E head .left
   first-is = h .queue .first head (h .mid .here)
 
-  pub second-is : getD ws (t .n + 4 * head + 1) 0 ≡ h .E head .right
+  second-is : getD ws (t .n + 4 * head + 1) 0 ≡ h .E head .right
   second-is = h .queue .second head (h .mid .here)
 
 pub record Ranges (n head tail : ℕ) (G ws : List ℕ) : Type 0 where
@@ -103,10 +103,10 @@ module _ (G : List ℕ) (t : Task) (s : Setting G t) (head : ℕ) (ws : List ℕ
   gap o h l = u .ti o h ∙ look-before G (t .n) o i ie (u .ei) (λ v. omega (arith, x .lowi v))
     ∙ sym (u .tj o h ∙ look-before G (t .n) o j je (u .ej) (λ v. omega (arith, x .lowj v)))
 
-  pub a-is : (a : ℕ) → a ≡ look G (t .n) m (ie - i) i → a ≡ D (E head .left) m
+  a-is : (a : ℕ) → a ≡ look G (t .n) m (ie - i) i → a ≡ D (E head .left) m
   a-is a e = e ∙ sym (u .ti m lo-m)
 
-  pub b-is : (b : ℕ) → b ≡ look G (t .n) m (je - j) j → b ≡ D (E head .right) m
+  b-is : (b : ℕ) → b ≡ look G (t .n) m (je - j) j → b ≡ D (E head .right) m
   b-is b e = e ∙ sym (u .tj m lo-m)
 
   a-lt : D (E head .left) m < t .n

@@ -1,18 +1,17 @@
 -- What it means that the code's answer at a state shows the machine's action there.
 use mathlib.Core.Path.{_≡_}
-use mathlib.Core.List.{List, []}
-use Prim.Native.Nat.{ℕ, _<_, _≤_}
-use lib.ListN.{length}
+use mathlib.Core.List.{List}
+use Prim.Native.Nat.{ℕ}
 use Rattle.language.specs.declared.Numbers.{Numbers}
 use Rattle.language.specs.Ty.{Ty}
 use Rattle.language.specs.Move.{Event, at, Move, move}
-use Rattle.machine.specs.Action.{Next, to, out, dead, Heard, Listen, calling, opening, Hears, Action, go, say, hear}
+use Rattle.machine.specs.Action.{Next, to, out, dead, Heard, Listen, opening, Hears, Action, go, say, hear}
 use Rattle.machine.specs.Edge.{edge-hear}
 use Rattle.machine.specs.Settle.{Index}
 use Rattle.nodes.specs.Rep.{TyRow}
 use Rattle.term_positions.specs.declared.Move.{Move as Record}
 use Rattle.term_positions.specs.declared.Out.{Out}
-use Rattle.term_positions.specs.declared.Out.the-variants.{Go, Exit, Say, Hear, Stuck}
+use Rattle.term_positions.specs.declared.Out.the-variants.{Go, Say, Hear, Stuck}
 use Rattle.term_positions.specs.MoveKind.{OPENING, NO-MOVE}
 use Rattle.automaton.specs.walk.Shows.{moveOf, Awaits}
 use Rattle.part_path.specs.States.{WHOLE}

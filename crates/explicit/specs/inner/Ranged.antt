@@ -1,6 +1,6 @@
 -- Actions whose moves have letters.
 use mathlib.Core.List.{List, [], _∷_}
-use Prim.Native.Nat.{ℕ, _<_, _≤_}
+use Prim.Native.Nat.{_<_, _≤_}
 use lib.ListN.{length}
 use Rattle.language.specs.declared.Numbers.{Numbers}
 use Rattle.language.specs.Ty.{Ty}

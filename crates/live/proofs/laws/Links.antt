@@ -66,7 +66,7 @@ module _ (n end : ℕ) where
       go (yes h) = before h (place-low e h)
       go (no h) = let l : 3 * n ≤ e = omega arith in behind l (place-high e l)
 
-  pub place-above : (e : ℕ) → 2 * n ≤ linkPlace n end e
+  place-above : (e : ℕ) → 2 * n ≤ linkPlace n end e
   place-above e = go (side e)
     where
       go : Side e → 2 * n ≤ linkPlace n end e
@@ -121,17 +121,17 @@ linked-keep G n b ws ws′ l low high = record
 
 -- the edges and the targets, read from the words
 module _ (G : List ℕ) (n : ℕ) (ws : List ℕ) (h : Held G n ws) where
-  pub end-is : getD ws (6 * n) 0 ≡ getD G n 0
+  end-is : getD ws (6 * n) 0 ≡ getD G n 0
   end-is = ap (λ k. getD ws k 0) {x = 6 * n} {y = 5 * n + n} (omega arith) ∙ h .same n (omega arith)
 
-  pub first-is : getD ws (5 * n) 0 ≡ getD G 0 0
+  first-is : getD ws (5 * n) 0 ≡ getD G 0 0
   first-is = ap (λ k. getD ws k 0) {x = 5 * n} {y = 5 * n + 0} (omega arith) ∙ h .same 0 (omega arith)
 
-  pub edges-is : (p : ℕ) → p < n → getD ws (5 * n + p + 1) 0 ≡ getD G (p + 1) 0
+  edges-is : (p : ℕ) → p < n → getD ws (5 * n + p + 1) 0 ≡ getD G (p + 1) 0
   edges-is p l = ap (λ k. getD ws k 0) {x = 5 * n + p + 1} {y = 5 * n + (p + 1)} (omega arith)
     ∙ h .same (p + 1) (omega arith)
 
-  pub target-is : (e : ℕ) → e < getD G n 0 → getD ws (6 * n + 2 + 2 * e) 0 ≡ target G n e
+  target-is : (e : ℕ) → e < getD G n 0 → getD ws (6 * n + 2 + 2 * e) 0 ≡ target G n e
   target-is e l = ap (λ k. getD ws k 0) {x = 6 * n + 2 + 2 * e} {y = 5 * n + (n + 2 + 2 * e)} (omega arith)
     ∙ h .same (n + 2 + 2 * e) (omega arith)
 
@@ -150,7 +150,7 @@ bounds G n ws h = record
   ; is = end-is G n ws h }
 
 -- an edge leads to a state
-pub edge-target : (G : List ℕ) (n p e : ℕ) → Graph G n → EdgeOf G n p e → target G n e < n
+edge-target : (G : List ℕ) (n p e : ℕ) → Graph G n → EdgeOf G n p e → target G n e < n
 edge-target G n p e g h = g .edges p (h .below) .small e (h .from) (h .to) .1
 
 -- what link stores
@@ -206,7 +206,7 @@ module _ (G : List ℕ) (n : ℕ) (ws₀ ws : List ℕ) (p e : ℕ) (L : Linking
       go (no q) = omega (arith, L .below)
 
   -- e is an edge of p
-  pub link-edge : e < getD ws (5 * n + p + 1) 0 → EdgeOf G n p e
+  link-edge : e < getD ws (5 * n + p + 1) 0 → EdgeOf G n p e
   link-edge h = record
     { below = L .below; from = L .from; to = omega (arith, edges-is G n ws (L .links .held) p (L .below)) }
 

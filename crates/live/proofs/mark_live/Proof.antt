@@ -28,6 +28,5 @@ returns c = marked _ _ _ _ (c .before .before .before .before .before .before .b
 
 pub mark-live-spec : {M : Type 1} → statement M
 mark-live-spec =
-    tie.close
-    (tie.spec (search needs) (search needs) slice-aggregate-clear (λ c κs. search needs) link-edges-requires
-    mark-requires (search needs) returns)
+    tie.close (tie.spec (search needs) (search needs) slice-aggregate-clear (λ c κs. search needs)
+    link-edges-requires mark-requires (search needs) returns)

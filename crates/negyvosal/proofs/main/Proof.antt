@@ -27,9 +27,8 @@ slice-aggregate-report-2 c =
 
 pub main-spec : {M : Type 1} → statement M
 main-spec =
-    tie.close
-    (tie.spec (search needs) (search needs) (λ c κs. search needs) (search needs) (search needs) (search needs)
-    (search needs) (search needs) (λ c κs. search needs) (search needs) (search needs) (search needs)
+    tie.close (tie.spec (search needs) (search needs) (λ c κs. search needs) (search needs) (search needs)
+    (search needs) (search needs) (search needs) (λ c κs. search needs) (search needs) (search needs) (search needs)
     array-share-prefix-old slice-aggregate-report array-share-prefix-new slice-aggregate-report-2 (search needs)
     (search needs) (search needs) (λ c κs. search needs) (search needs) (search needs) (λ c κs. search needs)
     (search needs))

@@ -15,7 +15,6 @@ use Rattle.dfa.proofs.laws.Edges.{edge-from, edge-step, edge-to}
 use Rattle.dfa.proofs.laws.Look.{rise}
 use Rattle.smallest.specs.Numbered.{Met, Numbered}
 use Rattle.smallest.proofs.Pigeons.{pigeons}
-use Rattle.class_words.specs.Packed.{Packed}
 use Rattle.class_words.specs.Places.{classAt, numberAt, stateAt}
 use Rattle.numbering.specs.Positions.{Countable, NumberedIn}
 use Rattle.class_words.specs.inner.Linking.{Zeroed}
@@ -68,12 +67,12 @@ edges-rise G n p f e g a b h =
 module _ (G : List ℕ) (n g : ℕ) (own : ℕ → ℕ) (ws : List ℕ) (head e tail : ℕ) (C : Counting G n g own ws head e tail)
     where
   -- no more classes than states
-  pub few-numbered : tail ≤ n
+  few-numbered : tail ≤ n
   few-numbered = pigeons n tail (λ k. own (stateAt n ws k)) (λ k h. C .own-low (stateAt n ws k) (C .low k h))
       (λ j k a b q. omega (arith, C .numbers j a, C .numbers k b, ap (numberAt n ws) q))
 
   -- and one more where a class has no number
-  pub few-more : (c : ℕ) → c < n → numberAt n ws c ≡ 0 → tail < n
+  few-more : (c : ℕ) → c < n → numberAt n ws c ≡ 0 → tail < n
   few-more c h z = let r = pigeons n (tail + 1) f low one in omega arith
     where
       f : ℕ → ℕ
@@ -425,7 +424,7 @@ module _ (G : List ℕ) (n g : ℕ) (own : ℕ → ℕ) (ws : List ℕ) (head e 
                 less (no y) = absurd (q (omega arith))
 
     -- what note leaves
-    pub count-again : (t dead r : ℕ) (w : List ℕ) → t ≡ target G n e → t < n → dead ≡ own (n - 1)
+    count-again : (t dead r : ℕ) (w : List ℕ) → t ≡ target G n e → t < n → dead ≡ own (n - 1)
         → Noted n dead t tail ws r w → Counting G n g own w head (e + 1) r
     count-again t dead r w et l ed (lost q er ew) =
         rw (er, ew) (keep-on (inl (ap own (sym et) ∙ sym (C .class t l) ∙ q ∙ ed)))
@@ -438,7 +437,7 @@ module _ (G : List ℕ) (n g : ℕ) (own : ℕ → ℕ) (ws : List ℕ) (head e 
         rw (er, ew, is) (note-new t et l (λ y. q (is ∙ y ∙ sym ed)) (sym (ap (numberAt n ws) is) ∙ p))
 
   -- the edges of the next class are done
-  pub count-next : head < tail → e ≡ getD G (stateAt n ws head + 1) 0
+  count-next : head < tail → e ≡ getD G (stateAt n ws head + 1) 0
       → Counting G n g own ws (head + 1) 0 tail
   count-next h q = record {
     packed = C .packed;
@@ -497,7 +496,7 @@ module _ (G : List ℕ) (n g : ℕ) (own : ℕ → ℕ) (ws : List ℕ) (head e 
               )
 
 -- the edges of the next class are begun
-pub count-from : (G : List ℕ) (n g : ℕ) (own : ℕ → ℕ) (ws : List ℕ) (head tail e : ℕ) → Counting G n g own ws head 0
+count-from : (G : List ℕ) (n g : ℕ) (own : ℕ → ℕ) (ws : List ℕ) (head tail e : ℕ) → Counting G n g own ws head 0
     tail
     → e ≡ getD G (stateAt n ws head) 0 → Counting G n g own ws head e tail
 count-from G n g own ws head tail e C q = record {

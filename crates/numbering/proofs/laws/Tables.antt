@@ -1,22 +1,22 @@
 -- The table of the numbered classes is the smallest one of the words that the automaton accepts. Assumes nothing.
 use mathlib.Core.Bool.{Bool, cond, false, true}
 use mathlib.Core.List.{List, [], _∷_}
-use mathlib.Core.Logic.{_≢_, _↔_, _⊎_, inl, inr}
+use mathlib.Core.Logic.{_≢_, _⊎_, inl, inr}
 use mathlib.Core.Path.{_∙_, _≡_, ap, refl, subst, sym}
-use Prim.Native.Nat.{_*_, _+_, _-_, _<_, _≤_, suc, zero, ℕ}
+use Prim.Native.Nat.{_+_, _-_, _<_, _≤_, suc, zero, ℕ}
 use native.Mathlib.Decide.{ℕ-discrete}
 use native.Mathlib.Omega.{arith}
 use lib.Dec.{eqb}
 use lib.ListN.{getD, length}
 use borrow.Author.Tests.{eq-eqb, ne-eqb}
-use Rattle.dfa.specs.Graph.{EdgeOf, Edges, Graph, letter, target, δ}
+use Rattle.dfa.specs.Graph.{EdgeOf, Edges, letter, target, δ}
 use Rattle.dfa.specs.Live.{Single}
 use Rattle.dfa.specs.Word.{accepting}
 use Rattle.dfa.proofs.laws.Edges.{edge-step}
 use Rattle.dfa.proofs.laws.Look.{edges-tail}
 use Rattle.smallest.specs.Classes.{Classes}
 use Rattle.smallest.specs.Numbered.{Numbered}
-use Rattle.smallest.specs.Table.{Arc, Has, Place, Rising, Smallest, nowhere}
+use Rattle.smallest.specs.Table.{Arc, Has, Rising, Smallest, nowhere}
 use Rattle.smallest.proofs.Numbered.{AcceptedWord, numbered-smallest}
 use Rattle.numbering.specs.Tables.{arcsOf, placeOf, placesOf}
 use Rattle.numbering.proofs.laws.Counting.{step-letter}
@@ -114,12 +114,12 @@ module _ (G : List ℕ) (n f : ℕ) (own number : ℕ → ℕ) where
           next (no y) = omega arith
 
   -- the places
-  pub places-length : (state : ℕ → ℕ) (c k : ℕ) → length (placesOf G n f own number state c k) ≡ c
+  places-length : (state : ℕ → ℕ) (c k : ℕ) → length (placesOf G n f own number state c k) ≡ c
   unfolding placesOf
   places-length state zero k = refl
   places-length state (suc c) k = ap suc (places-length state c (suc k))
 
-  pub places-at : (state : ℕ → ℕ) (c k i : ℕ) → i < c
+  places-at : (state : ℕ → ℕ) (c k i : ℕ) → i < c
       → getD (placesOf G n f own number state c k) i nowhere ≡ placeOf G n f own number (state (k + i))
   unfolding placesOf
   places-at state zero k i h = absurd (omega arith)

@@ -5,11 +5,8 @@ use lib.Seq.{length-take-le}
 use Rattle.refusals.proofs.named.Statement.{statement}
 use Rattle.refusals.proofs.named.Tie as tie
 
-slice-aggregate-show : tie.Need-slice-aggregate-show
-slice-aggregate-show c = sym (length-take-le _ _ (search needs))
-
 pub named-spec : {M : Type 1} → statement M
 named-spec =
-    tie.close
-    (tie.spec (search needs) (search needs) (λ c κs. search needs) (search needs) (λ c κs. search needs)
-    (search needs) (search needs) slice-aggregate-show (λ c κs. search needs) (search needs) (search needs))
+    tie.close (tie.spec (search needs) (search needs) (λ c κs. search needs) (search needs) (λ c κs. search needs)
+    (search needs) (search needs) (λ c. sym (length-take-le _ _ (search needs))) (λ c κs. search needs)
+    (search needs) (search needs))

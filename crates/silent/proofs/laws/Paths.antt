@@ -23,7 +23,7 @@ own-here S p e = sym (rw (eq-eqb (getD S p 0) 0 e))
 pub own-none : (S : List ℕ) (p : ℕ) → getD S p 0 ≢ 0 → 0 ≡ own S p
 own-none S p e = sym (rw (ne-eqb (getD S p 0) 0 e))
 
-pub own-path : (n : ℕ) (S : List ℕ) (p : ℕ) → p < n → PathOf S n p (own S p)
+own-path : (n : ℕ) (S : List ℕ) (p : ℕ) → p < n → PathOf S n p (own S p)
 own-path n S p h = go (ℕ-discrete (getD S p 0) 0)
   where
     go : Dec (getD S p 0 ≡ 0) → PathOf S n p (own S p)

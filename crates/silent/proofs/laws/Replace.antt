@@ -35,7 +35,7 @@ module _ (n : ℕ) (ws : List ℕ) (x v : ℕ) (room : n + x < length ws) where
       go ih (yes q) = omega (arith, stored k q)
       go ih (no q) = omega (arith, other k q)
 
-  pub unlike-less : getD ws (n + x) 0 ≢ v → (k : ℕ) → x < k → unlike (set ws (n + x) v) n v k < unlike ws n v k
+  unlike-less : getD ws (n + x) 0 ≢ v → (k : ℕ) → x < k → unlike (set ws (n + x) v) n v k < unlike ws n v k
   unfolding unlike
   unlike-less ne zero h = absurd (omega arith)
   unlike-less ne (suc k) h = go (unlike-less ne k) (ℕ-discrete k x)
@@ -76,7 +76,7 @@ module _ (n p old new x : ℕ) (ws₀ ws ws′ : List ℕ) (st : Steps n ws₀) 
   pub replace-less : unlike ws′ n new n < unlike ws n new n
   replace-less = rw e (unlike-less n ws x new room (λ z. ne (sym had ∙ z)) n (l .below))
 
-  pub replace-lt : stepped ws′ x < n
+  replace-lt : stepped ws′ x < n
   replace-lt = rw step (stepped-lt n ws₀ x (st .small) (l .below))
 
   module _ (S : List ℕ) (agree : SameBelow n S ws₀) where

@@ -16,7 +16,7 @@ use Rattle.dfa.proofs.laws.Rest.{rest-at, rest-length}
 use Rattle.silent.proofs.laws.Silent.{settled-same}
 
 -- every edge from the first state's first to the last state's last is in range
-pub some-edge : (G : List ℕ) (n : ℕ) → Graph G n → (j p : ℕ) → p ≤ n → getD G 0 0 ≤ j → j < getD G p 0
+some-edge : (G : List ℕ) (n : ℕ) → Graph G n → (j p : ℕ) → p ≤ n → getD G 0 0 ≤ j → j < getD G p 0
   → target G n j < n
 some-edge G n g j zero h l m = absurd (omega arith)
 some-edge G n g j (suc p) h l m = go (some-edge G n g j p (omega arith) l) (decLt j (getD G p 0))

@@ -1,5 +1,5 @@
 -- The settled graph is a graph, and each of its steps is a step of the old one, settled. Assumes nothing.
-use mathlib.Core.Bool.{Bool, cond, false, true}
+use mathlib.Core.Bool.{cond}
 use mathlib.Core.List.{List}
 use mathlib.Core.Path.{_∙_, _≡_, ap, subst, sym}
 use Prim.Native.Nat.{_+_, _-_, _<_, _≤_, suc, zero, ℕ}
@@ -8,12 +8,12 @@ use native.Mathlib.Omega.{arith}
 use lib.Dec.{eqb}
 use lib.ListN.{getD}
 use borrow.Author.Tests.{eq-eqb, ne-eqb}
-use Rattle.dfa.specs.Graph.{Graph, letter, look, target, δ}
+use Rattle.dfa.specs.Graph.{Graph, target}
 use Rattle.silent.specs.Silent.{Settled, Settling, Silent, moved}
 use Rattle.silent.proofs.laws.Settle.{rising}
 use Rattle.silent.proofs.laws.Silent.{moved-lt, stays}
 
-pub settled-lt : (S : List ℕ) (n x y : ℕ) → Silent n S → x < n → Settled S n x y → y < n
+settled-lt : (S : List ℕ) (n x y : ℕ) → Silent n S → x < n → Settled S n x y → y < n
 settled-lt S n x y s h t = rw (t .ends) (go (ℕ-discrete (getD S (moved S (t .steps) x) 0) 0))
   where
     go : Dec (getD S (moved S (t .steps) x) 0 ≡ 0) → cond (eqb (getD S (moved S (t .steps) x) 0) 0)
@@ -50,21 +50,3 @@ module _ (S G G′ : List ℕ) (n : ℕ) (g : Graph G n) (s : Silent n S) (t : S
       ; rising = λ k a b. rw (t .letters k, t .letters (k + 1)) (e .rising k a b)
       ; small = λ k a b. (rw (t .letters k) (e .small k a b .0), settled-lt S n _ _ s (e .small k a b .1)
         (within p k h a b)) }) }
-
-  module _ (dead : getD S (n - 1) 0 ≡ 0) where
-    look-settled : (m k i : ℕ) → ((j : ℕ) → i ≤ j → j < i + k → Settled S n (target G n j) (target G′ n j))
-      → Settled S n (look G n m k i) (look G′ n m k i)
-    unfolding look
-    look-settled m zero i f = settled-here S n (n - 1) dead
-    look-settled m (suc k) i f = rw (t .letters i)
-      (go (look-settled m k (suc i) (λ j a b. f j (omega arith) (omega arith))) (eqb (letter G n i) m))
-      where
-        go : Settled S n (look G n m k (suc i)) (look G′ n m k (suc i)) → (b : Bool)
-          → Settled S n (cond b (target G n i) (look G n m k (suc i)))
-            (cond b (target G′ n i) (look G′ n m k (suc i)))
-        go ih true = f i (omega arith) (omega arith)
-        go ih false = ih
-
-    pub settled-step : (p m : ℕ) → p < n → Settled S n (δ G n p m) (δ G′ n p m)
-    settled-step p m h = rw (t .first p (omega arith), t .first (p + 1) (omega arith))
-      (look-settled m (getD G (p + 1) 0 - getD G p 0) (getD G p 0) (λ j a b. within p j h a (omega arith)))

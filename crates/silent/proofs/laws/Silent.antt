@@ -67,7 +67,7 @@ moved-lt n S zero x s h = h
 moved-lt n S (suc m) x s h = stepped-lt n S (moved S m x) s (moved-lt n S m x s h)
 
 -- silent words that agree below n lead to the same states
-pub moved-same : (n : ℕ) (S S′ : List ℕ) (m x : ℕ) → Silent n S → SameBelow n S S′ → x < n
+moved-same : (n : ℕ) (S S′ : List ℕ) (m x : ℕ) → Silent n S → SameBelow n S S′ → x < n
   → moved S′ m x ≡ moved S m x
 unfolding moved
 moved-same n S S′ zero x s e h = refl
@@ -90,7 +90,7 @@ settled-back S n d x y t = record
 
 -- a walk of m states that comes back to itself never leaves them
 module _ (S : List ℕ) (p m a : ℕ) (a-lt : a < m) (back : moved S m p ≡ moved S a p) where
-  pub round : (e : ℕ) → Among S p m (moved S e p)
+  round : (e : ℕ) → Among S p m (moved S e p)
   unfolding moved
   round zero = record { after = 0; before = omega arith; is = refl }
   round (suc e) = go (round e)
@@ -123,7 +123,7 @@ unfolding moved
 stays S x zero e = refl
 stays S x (suc m) e = ap (stepped S) (stays S x m e) ∙ rw (eq-eqb (getD S x 0) 0 e)
 
-pub stays-from : (S : List ℕ) (x j m : ℕ) → getD S (moved S j x) 0 ≡ 0 → j ≤ m → moved S m x ≡ moved S j x
+stays-from : (S : List ℕ) (x j m : ℕ) → getD S (moved S j x) 0 ≡ 0 → j ≤ m → moved S m x ≡ moved S j x
 stays-from S x j m e h =
   ap (λ k. moved S k x) {x = m} {y = (m - j) + j} (omega arith) ∙ moved-add S (m - j) j x
     ∙ stays S (moved S j x) (m - j) e
@@ -143,7 +143,7 @@ module _ (n : ℕ) (S : List ℕ) (x : ℕ) (s : Silent n S) (x-lt : x < n) wher
         (omega arith) ∙ r .1 .1 .1)))
 
   -- a state silent after n steps is silent for ever
-  pub for-ever : getD S (moved S n x) 0 ≢ 0 → (m : ℕ) → getD S (moved S m x) 0 ≢ 0
+  for-ever : getD S (moved S n x) 0 ≢ 0 → (m : ℕ) → getD S (moved S m x) 0 ≢ 0
   for-ever ne m e = absurd (omega (arith, pigeonhole n (suc n) (λ i. moved S i x) (λ i h. moved-lt n S i x s x-lt)
     twice))
     where
@@ -172,7 +172,7 @@ module _ (n : ℕ) (S : List ℕ) (x : ℕ) (s : Silent n S) (x-lt : x < n) wher
       go (no u) = absurd (for-ever u j e)
 
   -- a state that reaches none settles at the dead state
-  pub settles-dead : (y : ℕ) → getD S (moved S n x) 0 ≢ 0 → Settled S n x y → y ≡ n - 1
+  settles-dead : (y : ℕ) → getD S (moved S n x) 0 ≢ 0 → Settled S n x y → y ≡ n - 1
   settles-dead y ne t = t .ends ∙ rw (ne-eqb (getD S (moved S (t .steps) x) 0) 0 (for-ever ne (t .steps)))
 
   pub settled-unique : (y z : ℕ) → Settled S n x y → Settled S n x z → y ≡ z

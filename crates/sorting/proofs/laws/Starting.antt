@@ -1,30 +1,28 @@
 -- The first two classes, and the automaton as it was given. Assumes nothing.
-use mathlib.Core.Bool.{cond}
 use mathlib.Core.List.{List}
 use mathlib.Core.Logic.{_≢_, _⊎_, inl, inr}
 use mathlib.Core.Path.{_∙_, _≡_, ap, refl, subst, sym}
 use Prim.Native.Nat.{_%_, _*_, _+_, _-_, _<_, _≤_, suc, zero, ℕ}
 use native.Mathlib.Decide.{decLt, ℕ-discrete}
 use native.Mathlib.Omega.{arith}
-use lib.Dec.{eqb}
 use lib.ListN.{getD, length, length-set, set}
 use lib.Seq.{getD-set-other, getD-set-same}
 use borrow.Author.Tests.{eq-eqb, ne-eqb}
-use Rattle.dfa.specs.Graph.{letter, rest, target}
+use Rattle.dfa.specs.Graph.{rest, target}
 use Rattle.dfa.proofs.laws.Edges.{first-edge}
 use Rattle.dfa.proofs.laws.Rest.{rest-at}
-use Rattle.class_words.specs.Packed.{Latest, Packed, Sized}
+use Rattle.class_words.specs.Packed.{Packed}
 use Rattle.class_words.specs.Parted.{Parted}
-use Rattle.class_words.specs.Places.{classAt, exchanged, fromAt, headAt, memberAt, placeAt, toAt, touchedAt}
+use Rattle.class_words.specs.Places.{classAt, exchanged, fromAt, memberAt, placeAt, toAt}
 use Rattle.sorting.specs.Sorted.{Sortable, Sorted}
 use Rattle.class_words.specs.inner.Linking.{Linking, Zeroed}
-use Rattle.splitting.specs.inner.Refining.{Ready, Refinable, Refined}
+use Rattle.splitting.specs.inner.Refining.{Refinable, Refined}
 use Rattle.sorting.specs.inner.Starting.{Placed, Started, ownOf}
 use Rattle.class_words.proofs.laws.Linking.{has-source, linked-packed}
 use Rattle.class_words.proofs.laws.Packed.{packed-keep}
-use Rattle.class_words.proofs.laws.Places.{exchanged-length, exchanged-member, exchanged-other, exchanged-parted}
-use Rattle.class_words.proofs.laws.Places.{exchanged-place, swap-left, swap-right}
-use Rattle.class_words.proofs.laws.Touching.{few-classes, parted-keep}
+use Rattle.class_words.proofs.laws.Places.{exchanged-length, exchanged-other, exchanged-parted}
+use Rattle.class_words.proofs.laws.Places.{exchanged-place, swap-left}
+use Rattle.class_words.proofs.laws.Touching.{few-classes}
 
 -- placing
 pub placed-first : (n : ℕ) (ws : List ℕ) → Placed n 0 ws ws
@@ -327,9 +325,6 @@ module _ (n f : ℕ) (ws : List ℕ) (S : Sortable n f ws) where
   pub end-is : (e : ℕ) → e ≡ getD ws (5 * n + n) 0 → e ≡ getD G n 0
   end-is e q = q ∙ at-graph (5 * n + n) n refl
 
-  pub edge-asks : (n ≤ n) × ((n ≤ 8192) × (6 * n < length ws))
-  edge-asks = (omega arith, (S .few, omega (arith, S .room, S .low)))
-
   pub g-is : (e : ℕ) → e ≡ getD ws (5 * n + n) 0 → 6 * n + 1 + 2 * e ≡ 6 * n + 1 + 2 * getD G n 0
   g-is e q = ap (λ x. 6 * n + 1 + 2 * x) (end-is e q)
 
@@ -386,9 +381,6 @@ module _ (n f : ℕ) (ws : List ℕ) (S : Sortable n f ws) where
           high = first-edge G n (S .single .graph) 0 n (omega arith) (omega arith)
 
       module _ (u : List ℕ) (L : Linking G n g v (getD G n 0) u) where
-        pub place-asks : (n ≤ 8192) × (5 * n ≤ length u)
-        place-asks = let z = L .sized in (z .few, omega arith)
-
         module _ (w : List ℕ) (P : Placed n n u w) where
           pub start-asks : (n ≤ 8192) × ((5 * n ≤ length w) × ((f < n) × ((f ≢ n - 1) × Placed n n w w)))
           start-asks = let z = L .sized in (
@@ -435,6 +427,3 @@ module _ (n f : ℕ) (ws : List ℕ) (S : Sortable n f ws) where
               few = few-classes n o (R .own) count (R .ready .parted);
               classes = R .classes;
             }
-
-            pub sorted-length : length y ≡ length ws
-            sorted-length = T .len ∙ P .len ∙ L .len ∙ Z .len

@@ -6,13 +6,11 @@ use mathlib.Core.Path.{_∙_, _≡_, ap, refl, subst, sym}
 use Prim.Native.Nat.{_*_, _+_, _-_, _<_, _≤_, ℕ}
 use native.Mathlib.Decide.{decLt, ℕ-discrete}
 use native.Mathlib.Omega.{arith}
-use lib.ListN.{getD, length}
+use lib.ListN.{length}
 use Rattle.dfa.specs.Graph.{δ}
 use Rattle.dfa.proofs.laws.Live.{no-true}
 use Rattle.dfa.proofs.laws.Look.{δ-lt}
 use Rattle.smallest.specs.Classes.{SameInto}
-use Rattle.class_words.specs.Packed.{Packed}
-use Rattle.class_words.specs.Parted.{Parted}
 use Rattle.class_words.specs.Places.{classAt, copyAt, exchanged, fromAt, memberAt, placeAt, toAt}
 use Rattle.splitting.specs.inner.Grouping.{Groupable, GroupedTo, Quick}
 use Rattle.splitting.specs.inner.Into.{Comparing}

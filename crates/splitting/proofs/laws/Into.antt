@@ -3,16 +3,15 @@ use mathlib.Core.Bool.{Bool, false, true}
 use mathlib.Core.List.{List}
 use mathlib.Core.Logic.{_≢_, _↔_}
 use mathlib.Core.Path.{_∙_, _≡_, ap, refl, subst, sym}
-use Prim.Native.Nat.{_%_, _*_, _+_, _-_, _<_, _≤_, suc, ℕ}
+use Prim.Native.Nat.{_%_, _*_, _+_, _-_, _<_, _≤_, ℕ}
 use native.Mathlib.Decide.{decLt, ℕ-discrete}
 use native.Mathlib.Omega.{arith}
 use lib.ListN.{getD, length}
-use Rattle.dfa.specs.Graph.{EdgeOf, Edges, Graph, letter, look, target, δ}
+use Rattle.dfa.specs.Graph.{Edges, letter, look, target, δ}
 use Rattle.dfa.proofs.laws.Look.{edges-tail, look-at, look-before, look-past}
 use Rattle.smallest.specs.Classes.{SameInto}
 use Rattle.dfa.proofs.laws.Live.{no-true}
 use Rattle.dfa.proofs.laws.Edges.{edge-from, edge-to, first-edge}
-use Rattle.class_words.specs.Packed.{Packed}
 use Rattle.class_words.specs.Places.{classAt}
 use Rattle.class_words.proofs.laws.Packed.{edge-room, target-low}
 use Rattle.splitting.specs.inner.Into.{Comparing, Entering, Into-loop, LeftAlike, Skipped, Skipping, Skips}
@@ -49,11 +48,11 @@ module _ (G : List ℕ) (g n s i end : ℕ) (ws : List ℕ) (S : Skipping G g n 
 
 -- the edges that same_into looks at
 module _ (G : List ℕ) (g n s p q : ℕ) (ws : List ℕ) (C : Comparing G g n s p q ws) where
-  pub skip-left : (i ie : ℕ) → ie ≡ getD G (p + 1) 0 → getD G p 0 ≤ i → Edges G n i ie → Skipping G g n s i ie ws
+  skip-left : (i ie : ℕ) → ie ≡ getD G (p + 1) 0 → getD G p 0 ≤ i → Edges G n i ie → Skipping G g n s i ie ws
   skip-left i ie e h E = record
       { packed = C .packed; source = p; low = C .left; first = h; last = e; edges = E; some = C .some; dead = C .dead }
 
-  pub skip-right : (j je : ℕ) → je ≡ getD G (q + 1) 0 → getD G q 0 ≤ j → Edges G n j je → Skipping G g n s j je ws
+  skip-right : (j je : ℕ) → je ≡ getD G (q + 1) 0 → getD G q 0 ≤ j → Edges G n j je → Skipping G g n s j je ws
   skip-right j je e h E = record
       { packed = C .packed; source = q; low = C .right; first = h; last = e; edges = E; some = C .some; dead = C .dead }
 
@@ -184,7 +183,7 @@ module _ (G : List ℕ) (n : ℕ) (cls : ℕ → ℕ) (s : ℕ) (some : 0 < s) (
       (x (letter G n j) .1 (ap cls (look-at G n (letter G n j) j je h refl) ∙ a))
 
   -- no edge is left
-  pub none-left : (i ie j je : ℕ) → Edges G n i ie → Edges G n j je → ie ≤ i → je ≤ j → LeftAlike G n cls s i ie j je
+  none-left : (i ie j je : ℕ) → Edges G n i ie → Edges G n j je → ie ≤ i → je ≤ j → LeftAlike G n cls s i ie j je
   none-left i ie j je e f h k m = (
     (λ x. absurd (not-dead (look G n m (ie - i) i) (look-before G n m i ie e (λ u. absurd (omega arith))) x)),
     (λ x. absurd (not-dead (look G n m (je - j) j) (look-before G n m j je f (λ u. absurd (omega arith))) x)),
@@ -225,7 +224,7 @@ module _ (G : List ℕ) (n : ℕ) (cls : ℕ → ℕ) (s : ℕ) (some : 0 < s) (
 
   module _ (p q : ℕ) where
     -- before the loop of same_into
-    pub loop-first : (a ie b je i j : ℕ) → a ≡ getD G p 0 → ie ≡ getD G (p + 1) 0 → b ≡ getD G q 0
+    loop-first : (a ie b je i j : ℕ) → a ≡ getD G p 0 → ie ≡ getD G (p + 1) 0 → b ≡ getD G q 0
         → je ≡ getD G (q + 1) 0 → Skipped G n cls s a ie i → Skipped G n cls s b je j
         → Into-loop G n p q cls s i ie j je
     loop-first a ie b je i j ea ee eb ef S T = record {

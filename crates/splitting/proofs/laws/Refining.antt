@@ -1,6 +1,6 @@
 -- Classes made finer, splitter by splitter. Assumes nothing.
-use mathlib.Core.Bool.{Bool, cond, false, true}
-use mathlib.Core.List.{List, [], _∷_}
+use mathlib.Core.Bool.{false, true}
+use mathlib.Core.List.{List, []}
 use mathlib.Core.Logic.{_≢_, _⊎_, inl, inr}
 use mathlib.Core.Path.{_∙_, _≡_, ap, refl, subst, sym}
 use Prim.Native.Nat.{_*_, _+_, _-_, _<_, _≤_, suc, zero, ℕ}
@@ -10,22 +10,20 @@ use lib.ListN.{getD, length}
 use borrow.Author.Tests.{eq-eqb, ne-eqb}
 use Rattle.dfa.specs.Graph.{look, δ}
 use Rattle.dfa.specs.Live.{Single}
-use Rattle.dfa.specs.Word.{accepting, after}
+use Rattle.dfa.specs.Word.{accepting}
 use Rattle.dfa.proofs.laws.Look.{δ-lt}
-use Rattle.smallest.specs.Classes.{Accepting, Classes, Equal, Finite, Into, Refining, SameInto, Split}
+use Rattle.smallest.specs.Classes.{Accepting, Finite, Into, Refining, Split}
 use Rattle.smallest.proofs.Refining.{refined, refining-on}
 use Rattle.smallest.proofs.Pigeons.{pigeons}
-use Rattle.class_words.specs.Parted.{Parted}
-use Rattle.class_words.specs.Places.{classAt, copyAt, fromAt, listAt, memberAt, placeAt, toAt, touchedAt}
+use Rattle.class_words.specs.Places.{classAt, fromAt, listAt, memberAt, placeAt, toAt, touchedAt}
 use Rattle.splitting.specs.inner.Refining.{Ready, Refinable, RefineState, Refined, SplitAll, SplitState}
-use Rattle.splitting.specs.inner.Refining.{ToSplitAll}
 use Rattle.splitting.specs.inner.Refining.{SignedAll, Touched}
-use Rattle.splitting.specs.inner.Signs.{HasSign, Signable, Signed, SignedTo, SigningAll, ToSign, signOf}
+use Rattle.splitting.specs.inner.Signs.{HasSign, Signable, Signed, SignedTo, SigningAll, ToSign}
 use Rattle.splitting.proofs.laws.Signs.{same-sign}
 use Rattle.splitting.proofs.laws.Exact.{same-letters}
 use Rattle.splitting.proofs.laws.Splitting.{into-moves, signed-keep}
 use Rattle.splitting.specs.inner.Renaming.{RenamedAll}
-use Rattle.splitting.specs.inner.Splitting.{Parting, SplitOne, Splitting}
+use Rattle.splitting.specs.inner.Splitting.{SplitOne}
 use Rattle.class_words.specs.inner.Sources.{AllTouched}
 use Rattle.class_words.specs.inner.Touching.{IsTouched, Touching}
 use Rattle.class_words.proofs.laws.Packed.{packed-keep}
@@ -313,7 +311,7 @@ module _ (G : List ℕ) (n g s : ℕ) (cls : ℕ → ℕ) (count m : ℕ) (ws : 
             (omega (arith, ap (fromAt n ws) (f .1 .1), ap (touchedAt n g ws) (f .1 .1))))
 
 -- no class is touched
-pub ready-touching : (G : List ℕ) (n g s : ℕ) (own : ℕ → ℕ) (count : ℕ) (ws : List ℕ) → Ready G n g own count ws
+ready-touching : (G : List ℕ) (n g s : ℕ) (own : ℕ → ℕ) (count : ℕ) (ws : List ℕ) → Ready G n g own count ws
     → Touching G n g s own count ws 0
 ready-touching G n g s own count ws R =
     let few = few-classes n ws own count (R .parted) in
@@ -420,7 +418,7 @@ module _ (G : List ℕ) (n f : ℕ) (single : Single G n f) (low : f < n) where
       }
 
       module _ (k : ℕ) (u : List ℕ) (B : SplitAll G n g s (S .own) count v k u) where
-        pub turn-split : Split (δ G n) n (S .own) s count (B .cur) k
+        turn-split : Split (δ G n) n (S .own) s count (B .cur) k
         turn-split = record {
           low = B .parting .parted .own-low;
           finer = B .parting .finer;

@@ -1,15 +1,14 @@
 -- The words of classes follow the places. Assumes nothing.
 use mathlib.Core.List.{List}
-use mathlib.Core.Logic.{_≢_}
 use mathlib.Core.Path.{_∙_, _≡_, ap, refl, subst, sym}
 use Prim.Native.Nat.{_*_, _+_, _<_, _≤_, ℕ}
 use native.Mathlib.Decide.{decLt, ℕ-discrete}
 use native.Mathlib.Omega.{arith}
-use lib.ListN.{getD, length, length-set, set}
+use lib.ListN.{length, length-set, set}
 use lib.Seq.{getD-set-other, getD-set-same}
 use Rattle.class_words.specs.Parted.{Parted}
 use Rattle.class_words.specs.Places.{classAt, fromAt, memberAt, placeAt, toAt}
-use Rattle.splitting.specs.inner.Renaming.{RenamedAll, RenamedOne, RenamedTo, RenamedUpTo, ToRename, ToRenameAll}
+use Rattle.splitting.specs.inner.Renaming.{RenamedAll, RenamedOne, RenamedTo, RenamedUpTo, ToRename}
 use Rattle.class_words.proofs.laws.Touching.{few-classes, parted-keep}
 
 pub rename-asks : (n c : ℕ) (ws : List ℕ) → ToRename n c ws → (c < n) × ((n ≤ 8192) × (5 * n ≤ length ws))
@@ -38,9 +37,6 @@ module _ (n : ℕ) (ws : List ℕ) (own : ℕ → ℕ) (count c : ℕ) (P : Part
 
     pub p-low : p < n
     p-low = rw p-is (P .member-low i (omega (arith, P .top c low)))
-
-    place-p : placeAt n ws p ≡ i
-    place-p = ap (placeAt n ws) p-is ∙ P .place-member i (omega (arith, P .top c low))
 
     own-p : own p ≡ c
     own-p = ap own p-is ∙ P .whole c low i from (omega arith)

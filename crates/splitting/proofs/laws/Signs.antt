@@ -1,25 +1,22 @@
 -- Signs. Assumes nothing.
-use mathlib.Core.Bool.{Bool, cond, false, true}
 use mathlib.Core.List.{List}
-use mathlib.Core.Logic.{_≢_, _↔_, _⊎_, inl, inr}
+use mathlib.Core.Logic.{_≢_}
 use mathlib.Core.Path.{_∙_, _≡_, ap, refl, subst, sym}
 use Prim.Native.Nat.{_*_, _+_, _-_, _<_, _≤_, suc, zero, ℕ}
 use native.Mathlib.Decide.{decLt, ℕ-discrete}
 use native.Mathlib.Numerals.{add-one}
 use native.Mathlib.Omega.{arith}
-use lib.Dec.{eqb}
 use lib.ListN.{getD, length, length-set, set}
 use lib.Seq.{getD-set-other, getD-set-same}
 use borrow.Author.Tests.{eq-eqb, ne-eqb}
 use Rattle.dfa.specs.Graph.{EdgeOf, Edges, letter, target, δ}
 use Rattle.dfa.proofs.laws.Look.{edges-tail}
-use Rattle.dfa.proofs.laws.Edges.{edge-to, first-edge}
-use Rattle.smallest.specs.Classes.{Into, SameInto}
-use Rattle.class_words.specs.Packed.{Packed}
+use Rattle.dfa.proofs.laws.Edges.{edge-to}
+use Rattle.smallest.specs.Classes.{SameInto}
 use Rattle.class_words.specs.Places.{classAt, copyAt, memberAt}
 use Rattle.class_words.proofs.laws.Packed.{edge-room, packed-keep, target-low}
 use Rattle.splitting.specs.inner.Into.{Entering, LeftAlike}
-use Rattle.splitting.specs.inner.Signs.{HasSign, SignLoop, Signable, SignedTo, Signing, ToSign, mixed, signFrom}
+use Rattle.splitting.specs.inner.Signs.{HasSign, SignLoop, Signable, SignedTo, Signing, mixed, signFrom}
 use Rattle.splitting.specs.inner.Signs.{signOf}
 use Rattle.splitting.proofs.laws.Into.{both-out, left-only, left-out, letters-differ, right-only}
 

@@ -1,7 +1,7 @@
 -- A class split by the letters that lead into the class s. Assumes nothing.
 use mathlib.Core.Bool.{cond}
 use mathlib.Core.List.{List}
-use mathlib.Core.Logic.{_≢_, _↔_, _⊎_, inl, inr}
+use mathlib.Core.Logic.{_≢_, _⊎_, inl, inr}
 use mathlib.Core.Path.{_∙_, _≡_, ap, refl, subst, sym}
 use Prim.Native.Nat.{_*_, _+_, _-_, _<_, _≤_, ℕ}
 use native.Mathlib.Decide.{decLt, ℕ-discrete}
@@ -14,12 +14,11 @@ use Rattle.dfa.specs.Graph.{δ}
 use Rattle.dfa.proofs.laws.Look.{δ-lt}
 use Rattle.smallest.specs.Classes.{Into, SameInto}
 use Rattle.smallest.proofs.Pigeons.{pigeons}
-use Rattle.class_words.specs.Packed.{Packed}
 use Rattle.class_words.specs.Parted.{Parted}
-use Rattle.class_words.specs.Places.{classAt, copyAt, fromAt, listAt, memberAt, placeAt, toAt, touchedAt}
+use Rattle.class_words.specs.Places.{classAt, copyAt, fromAt, memberAt, placeAt, toAt, touchedAt}
 use Rattle.splitting.specs.inner.Grouping.{Groupable, GroupedTo, Quick}
 use Rattle.splitting.specs.inner.Signs.{Signed}
-use Rattle.splitting.specs.inner.Splitting.{CarveState, Carved, Carving, Parting, SplitOne, Splitting, ToSplit}
+use Rattle.splitting.specs.inner.Splitting.{CarveState, Carved, Carving, Parting, SplitOne, Splitting}
 use Rattle.splitting.specs.inner.Splitting.{front, rear}
 use Rattle.class_words.specs.inner.Touching.{IsTouched}
 use Rattle.splitting.proofs.laws.Grouping.{same-into-of}
@@ -29,16 +28,16 @@ use Rattle.class_words.proofs.laws.Touching.{few-classes, parted-keep}
 
 -- going into s by the same letters is an equivalence
 module _ (d : ℕ → ℕ → ℕ) (cls : ℕ → ℕ) (s : ℕ) where
-  pub into-sym : (p q : ℕ) → SameInto d cls s p q → SameInto d cls s q p
+  into-sym : (p q : ℕ) → SameInto d cls s p q → SameInto d cls s q p
   into-sym p q h m = (h m .1, h m .0)
 
-  pub into-trans : (p q r : ℕ) → SameInto d cls s p q → SameInto d cls s q r → SameInto d cls s p r
+  into-trans : (p q r : ℕ) → SameInto d cls s p q → SameInto d cls s q r → SameInto d cls s p r
   into-trans p q r h k m = ((λ x. k m .0 (h m .0 x)), (λ x. h m .1 (k m .1 x)))
 
   pub into-moves : (p q : ℕ) → SameInto d cls s p q → Into d cls s p → Into d cls s q
   into-moves p q h i = (i .0, h (i .0) .0 (i .1))
 
-  pub into-none : (p q : ℕ) → (Into d cls s p → ⊥) → (Into d cls s q → ⊥) → SameInto d cls s p q
+  into-none : (p q : ℕ) → (Into d cls s p → ⊥) → (Into d cls s q → ⊥) → SameInto d cls s p q
   into-none p q a b m = ((λ x. absurd (a (m, x))), (λ x. absurd (b (m, x))))
 
 -- where the words of signs stay, signs do
@@ -205,7 +204,7 @@ module _ (G : List ℕ) (n g s : ℕ) (cls : ℕ → ℕ) (count : ℕ) (ws : Li
   cur-low : (p : ℕ) → p < n → cur p < n
   cur-low p h = omega (arith, Q .parted .own-low p h, few-k)
 
-  pub able : Groupable G n g s cur k d low till ws
+  able : Groupable G n g s cur k d low till ws
   able = let z = Q .packed .sized in record {
     packed = Q .packed;
     parted = Q .parted;
@@ -242,7 +241,7 @@ module _ (G : List ℕ) (n g s : ℕ) (cls : ℕ → ℕ) (count : ℕ) (ws : Li
   class-of : (q m : ℕ) → q < n → classAt ws (δ G n q m) ≡ cls (δ G n q m)
   class-of q m h = Q .class (δ G n q m) (δ-lt G n q m (Q .packed .graph) h)
 
-  pub quick : Signed G n g s cls ws → Quick G n g s low till ws
+  quick : Signed G n g s cls ws → Quick G n g s low till ws
   quick S = record {
     alike = λ q h x. S .alike (memberAt n ws low) q first-low h first-goes
         (same-into-of (δ G n) (classAt ws) cls s (memberAt n ws low) q
@@ -359,17 +358,17 @@ module _ (G : List ℕ) (n g s : ℕ) (cls : ℕ → ℕ) (count : ℕ) (ws : Li
       subst (λ x. fromAt n v x ≤ placeAt n v p) {x = cur p} {y = d} e (R .own-from p h),
     )
 
-    pub grouped-in : (p : ℕ) → p < n → cur p ≡ d → placeAt n v p < mid → SameInto (δ G n) cls s r p
+    grouped-in : (p : ℕ) → p < n → cur p ≡ d → placeAt n v p < mid → SameInto (δ G n) cls s r p
     grouped-in p h e l = to-cls r p r-low h (subst (λ x. SameInto (δ G n) (classAt ws) s r x)
         (R .member-place p h) (D .same (placeAt n v p) (at-least p h e) l))
 
-    pub grouped-out : (p : ℕ) → p < n → cur p ≡ d → mid ≤ placeAt n v p → placeAt n v p < till
+    grouped-out : (p : ℕ) → p < n → cur p ≡ d → mid ≤ placeAt n v p → placeAt n v p < till
         → SameInto (δ G n) cls s r p → ⊥
     grouped-out p h e l u k = D .other (placeAt n v p) l u (subst (λ x. SameInto (δ G n) (classAt ws) s r x)
         (sym (R .member-place p h)) (of-cls r p r-low h k))
 
     -- all that is left of d is one group
-    pub carve-none : end ≤ mid → Carving G n g s cls count v cur k d mid till end
+    carve-none : end ≤ mid → Carving G n g s cls count v cur k d mid till end
     carve-none all = record {
       parting = parting-v;
       others = λ p q a b e ne t. C .others p q a b e ne (sym (touched-is (cur p)) ∙ t);
@@ -397,7 +396,7 @@ module _ (G : List ℕ) (n g s : ℕ) (cls : ℕ → ℕ) (count : ℕ) (ws : Li
     -- d is cut at mid
     module _ (cut : mid < end) where
       -- there is a class number left
-      pub few-more : k < n
+      few-more : k < n
       few-more = let t = pigeons n (k + 1) f low-f one in omega arith
         where
           f : ℕ → ℕ
@@ -439,7 +438,7 @@ module _ (G : List ℕ) (n g s : ℕ) (cls : ℕ → ℕ) (count : ℕ) (ws : Li
                   ∙ ap (λ x. cur (memberAt n v x)) (sym (at-other c a) ∙ q ∙ at-other e b)
                   ∙ first-member n v cur k R e (omega arith)
 
-      pub carve-asks : (d < n) × ((k < n) × ((low ≤ mid) × ((mid ≤ end) × ((end ≤ n) × ((n ≤ 8192)
+      carve-asks : (d < n) × ((k < n) × ((low ≤ mid) × ((mid ≤ end) × ((end ≤ n) × ((n ≤ 8192)
           × (5 * n ≤ length v))))))
       carve-asks = let z = D .able .packed .sized in (
         omega (arith, C .d-low, few-k),
@@ -850,7 +849,7 @@ module _ (G : List ℕ) (n g s : ℕ) (cls : ℕ → ℕ) (count : ℕ) (ws : Li
         room : 5 * n ≤ length v
         room = let z = D .able .packed .sized in omega arith
 
-        pub carve-again : (e : ℕ) (w : List ℕ) → Carved n d k low mid end v e w
+        carve-again : (e : ℕ) (w : List ℕ) → Carved n d k low mid end v e w
             → (cur′ : ℕ → ℕ) × Carving G n g s cls count w cur′ (k + 1) e mid till end
         carve-again e w (front ee ew) = rw ee (turned k d (inl (refl, refl)) w
             (rw ew (simp length-set)) (rw ew k-from) (rw ew k-to) (rw ew d-from) (rw ew d-to)
@@ -942,11 +941,11 @@ module _ (G : List ℕ) (n g s : ℕ) (cls : ℕ → ℕ) (count : ℕ) (ws : Li
 
 -- what carve keeps
 module _ (n d k low mid end : ℕ) (v : List ℕ) (d-n : d < n) (k-n : k < n) where
-  pub carved-length : (e : ℕ) (w : List ℕ) → Carved n d k low mid end v e w → length w ≡ length v
+  carved-length : (e : ℕ) (w : List ℕ) → Carved n d k low mid end v e w → length w ≡ length v
   carved-length e w (front ee ew) = rw ew (simp length-set)
   carved-length e w (rear ee nz ew) = rw ew (simp length-set)
 
-  pub carved-high : (e : ℕ) (w : List ℕ) → Carved n d k low mid end v e w → (i : ℕ) → 5 * n ≤ i
+  carved-high : (e : ℕ) (w : List ℕ) → Carved n d k low mid end v e w → (i : ℕ) → 5 * n ≤ i
       → getD w i 0 ≡ getD v i 0
   carved-high e w (front ee ew) i l = ap (λ u. getD u i 0) ew
       ∙ getD-set-other (set (set v (3 * n + k) low) (4 * n + k) mid) (3 * n + d) i mid 0 (λ q. omega arith)

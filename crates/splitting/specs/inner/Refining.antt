@@ -2,8 +2,8 @@
 use mathlib.Core.List.{List}
 use mathlib.Core.Logic.{_≢_}
 use mathlib.Core.Path.{_≡_}
-use Prim.Native.Nat.{_+_, _-_, _<_, _≤_, ℕ}
-use lib.ListN.{getD, length}
+use Prim.Native.Nat.{_-_, _<_, _≤_, ℕ}
+use lib.ListN.{length}
 use Rattle.dfa.specs.Graph.{δ}
 use Rattle.dfa.specs.Live.{Single}
 use Rattle.dfa.specs.Word.{accepting}

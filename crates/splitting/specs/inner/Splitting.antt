@@ -9,7 +9,7 @@ use Rattle.dfa.specs.Graph.{δ}
 use Rattle.smallest.specs.Classes.{Into, SameInto}
 use Rattle.class_words.specs.Packed.{Packed}
 use Rattle.class_words.specs.Parted.{Parted}
-use Rattle.class_words.specs.Places.{classAt, fromAt, listAt, placeAt, toAt, touchedAt}
+use Rattle.class_words.specs.Places.{classAt, fromAt, placeAt, toAt, touchedAt}
 use Rattle.class_words.specs.inner.Touching.{IsTouched}
 use Rattle.splitting.specs.inner.Signs.{Signed}
 

@@ -83,7 +83,7 @@ before-noted r t h = go (usesName r) h
     go true g = let l : r .a < 256 = g refl in before-set t t (36864 + r .a) 1 (omega arith) (before-itself t)
     go false g = before-itself t
 
-pub height-before : (t u : List ℕ) → Before t u → heightOf u ≡ heightOf t
+height-before : (t u : List ℕ) → Before t u → heightOf u ≡ heightOf t
 unfolding heightOf
 height-before t u B = B .rest height-at (omega arith)
 

@@ -4,8 +4,5 @@ use mathlib.Core.Path.{refl}
 use Rattle.answers.proofs.half.high_half.Statement.{statement}
 use Rattle.answers.proofs.half.high_half.Tie as tie
 
-returns : tie.Need-returns
-returns c = refl
-
 pub high-half-spec : {M : Type 1} → statement M
-high-half-spec = tie.close (tie.spec (search needs) returns)
+high-half-spec = tie.close (tie.spec (search needs) (λ c. refl))

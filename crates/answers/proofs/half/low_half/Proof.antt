@@ -4,8 +4,5 @@ use mathlib.Core.Path.{refl}
 use Rattle.answers.proofs.half.low_half.Statement.{statement}
 use Rattle.answers.proofs.half.low_half.Tie as tie
 
-returns : tie.Need-returns
-returns c = refl
-
 pub low-half-spec : {M : Type 1} → statement M
-low-half-spec = tie.close (tie.spec (search needs) returns)
+low-half-spec = tie.close (tie.spec (search needs) (λ c. refl))

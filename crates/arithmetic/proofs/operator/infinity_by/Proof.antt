@@ -27,6 +27,5 @@ returns-3 c =
 
 pub infinity-by-spec : {M : Type 1} → statement M
 infinity-by-spec =
-    tie.close
-    (tie.spec (λ c κs. search needs) (search needs) (λ c κs. search needs) returns (search needs)
+    tie.close (tie.spec (λ c κs. search needs) (search needs) (λ c κs. search needs) returns (search needs)
     (λ c κs. search needs) returns-2 (search needs) (λ c κs. search needs) returns-3)

@@ -6,9 +6,5 @@ use Rattle.language.specs.declared.operator.Outcome.the-variants.{Is}
 use Rattle.arithmetic.proofs.operator.outside.Statement.{statement}
 use Rattle.arithmetic.proofs.operator.outside.Tie as tie
 
-returns : tie.Need-returns
-unfolding outcome
-returns c = ap Is (c .special .ensures)
-
 pub outside-spec : {M : Type 1} → statement M
-outside-spec = tie.close (tie.spec (λ c κs. search needs) returns)
+outside-spec = tie.close (tie.spec (λ c κs. search needs) (λ c. unfold outcome in ap Is (c .special .ensures)))

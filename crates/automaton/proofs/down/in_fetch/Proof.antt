@@ -4,9 +4,7 @@ use Rattle.automaton.specs.walk.Down.{inFetch}
 use Rattle.automaton.proofs.down.in_fetch.Statement.{statement}
 use Rattle.automaton.proofs.down.in_fetch.Tie as tie
 
-returns : tie.Need-returns
-unfolding inFetch
-returns c = simp (← c .before .part-at .ensures, ← c .framed .ensures)
-
 pub in-fetch-spec : {M : Type 1} → statement M
-in-fetch-spec = tie.close (tie.spec (λ c κs. search needs) (λ c κs. search needs) returns)
+in-fetch-spec =
+    tie.close (tie.spec (λ c κs. search needs) (λ c κs. search needs)
+    (λ c. unfold inFetch in simp (← c .before .part-at .ensures, ← c .framed .ensures)))

@@ -13,15 +13,6 @@ Inv-loop sheet root ty space₀ i₀ space i = (i ≤ root) × Headed sheet spac
 abbrev μ-loop : tie.MeasureT-loop
 μ-loop sheet root ty space₀ i₀ space i = root - i
 
-loop-holds : tie.Need-loop-holds Inv-loop μ-loop
-loop-holds c = (omega arith, headed-first _ _)
-
-byte-at-requires : tie.Need-byte-at-requires Inv-loop μ-loop
-byte-at-requires c κs = search needs
-
-put-byte-requires : tie.Need-put-byte-requires Inv-loop μ-loop
-put-byte-requires c κs = search needs
-
 add-i : tie.Need-add-i Inv-loop μ-loop
 add-i c =
     let d = c .before .before .before .before .before in
@@ -37,9 +28,6 @@ loop-again c =
       (c .before .before .put-byte .ensures)
       (omega (arith, d .loop-test .taken, d .before .before .before .before .pre .0))
       (c .before .before .before .byte-at .ensures))
-
-put-byte-requires-2 : tie.Need-put-byte-requires-2 Inv-loop μ-loop
-put-byte-requires-2 c κs = search needs
 
 add-result : tie.Need-add-result Inv-loop μ-loop
 add-result c = omega (arith, c .before .before .before .before .before .before .before .before .pre .1)
@@ -57,5 +45,5 @@ returns c =
 
 pub write-heading-spec : {M : Type 1} → statement M
 write-heading-spec =
-    tie.close (tie.spec Inv-loop μ-loop loop-holds byte-at-requires put-byte-requires add-i loop-less loop-again
-    put-byte-requires-2 add-result same-length returns)
+    tie.close (tie.spec Inv-loop μ-loop (λ c. (omega arith, headed-first _ _)) (λ c κs. search needs)
+    (λ c κs. search needs) add-i loop-less loop-again (λ c κs. search needs) add-result same-length returns)

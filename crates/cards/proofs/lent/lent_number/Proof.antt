@@ -6,9 +6,6 @@ use Rattle.conditions.specs.Pair.{numberOf}
 use Rattle.cards.proofs.lent.lent_number.Statement.{statement}
 use Rattle.cards.proofs.lent.lent_number.Tie as tie
 
-words-asked-requires : tie.Need-words-asked-requires
-words-asked-requires c κs = omega (arith, c .pre)
-
 returns : tie.Need-returns
 unfolding numberOf
 returns c = simp (← c .before .words-asked .ensures, lt-ltb _ _ (c .if1 .taken))
@@ -26,4 +23,5 @@ returns-3 c =
       le-ltb _ _ (c .before .before .if1 .left), le-ltb _ _ (c .if2 .left))
 
 pub lent-number-spec : {M : Type 1} → statement M
-lent-number-spec = tie.close (tie.spec words-asked-requires returns (λ c κs. search needs) returns-2 returns-3)
+lent-number-spec =
+    tie.close (tie.spec (λ c κs. omega (arith, c .pre)) returns (λ c κs. search needs) returns-2 returns-3)

@@ -3,11 +3,7 @@ use borrow.Author.Needs.{needs}
 use Rattle.class_words.proofs.links.link.Statement.{statement}
 use Rattle.class_words.proofs.links.link.Tie as tie
 
-returns : tie.Need-returns
-returns c = cc
-
 pub link-spec : {M : Type 1} → statement M
 link-spec =
-    tie.close
-    (tie.spec (search needs) (search needs) (search needs) (search needs) (search needs) (search needs)
-    (λ c κs. search needs) (search needs) (search needs) (λ c κs. search needs) (search needs) returns)
+    tie.close (tie.spec (search needs) (search needs) (search needs) (search needs) (search needs) (search needs)
+    (λ c κs. search needs) (search needs) (search needs) (λ c κs. search needs) (search needs) (λ c. cc))

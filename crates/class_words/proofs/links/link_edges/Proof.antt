@@ -1,6 +1,6 @@
 -- `link_edges` puts edge after edge in the list of its target.
 use mathlib.Core.List.{List}
-use mathlib.Core.Path.{_∙_, _≡_, subst, sym}
+use mathlib.Core.Path.{_≡_, subst, sym}
 use Prim.Native.Nat.{_-_, ℕ}
 use native.Mathlib.Omega.{arith}
 use lib.ListN.{getD}
@@ -94,18 +94,5 @@ returns c = λ G L₀. let L = c .before .loop .inv G L₀ (first-is _ _ _ _ L�
 
 pub link-edges-spec : {M : Type 1} → statement M
 link-edges-spec =
-    tie.close
-    (tie.spec
-    Inv-loop
-    μ-loop
-    first-edge-requires
-    first-edge-requires-2
-    loop-holds
-    edge-target-requires
-    head-requires
-    link-requires
-    add-e
-    loop-less
-    loop-again
-    same-length
-    returns)
+    tie.close (tie.spec Inv-loop μ-loop first-edge-requires first-edge-requires-2 loop-holds edge-target-requires
+    head-requires link-requires add-e loop-less loop-again same-length returns)

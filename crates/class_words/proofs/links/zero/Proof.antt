@@ -13,9 +13,6 @@ Inv-loop words₀ from size i₀ words i = (i ≤ size) × Zeroed from i words�
 abbrev μ-loop : tie.MeasureT-loop
 μ-loop words₀ from size i₀ words i = size - i
 
-loop-holds : tie.Need-loop-holds Inv-loop μ-loop
-loop-holds c = (omega arith, zeroed-first _ _)
-
 add-put : tie.Need-add-put Inv-loop μ-loop
 add-put c = omega (arith, c .before .loop-test .taken, c .before .before .before .before .pre .1)
 
@@ -39,9 +36,6 @@ loop-again c = let I = c .before .before .before .before .before .loop .inv in (
           c .before .before .before .before .before .before .before .pre .0)) (c .before .before .put .ensures),
 )
 
-same-length : tie.Need-same-length Inv-loop μ-loop
-same-length c = let I = c .before .loop .inv in I .1 .len
-
 returns : tie.Need-returns Inv-loop μ-loop
 returns c = let I = c .before .loop .inv in
     subst (λ k. Zeroed (c .before .before .before .args .from) k (c .before .before .before .args .words .now)
@@ -50,15 +44,5 @@ returns c = let I = c .before .loop .inv in
 
 pub zero-spec : {M : Type 1} → statement M
 zero-spec =
-    tie.close
-    (tie.spec
-    Inv-loop
-    μ-loop
-    loop-holds
-    add-put
-    put-requires
-    add-i
-    loop-less
-    loop-again
-    same-length
-    returns)
+    tie.close (tie.spec Inv-loop μ-loop (λ c. (omega arith, zeroed-first _ _)) add-put put-requires add-i loop-less
+    loop-again (λ c. let I = c .before .loop .inv in I .1 .len) returns)

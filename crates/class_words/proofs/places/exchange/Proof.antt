@@ -3,12 +3,8 @@ use borrow.Author.Needs.{needs}
 use Rattle.class_words.proofs.places.exchange.Statement.{statement}
 use Rattle.class_words.proofs.places.exchange.Tie as tie
 
-returns : tie.Need-returns
-returns c = cc
-
 pub exchange-spec : {M : Type 1} → statement M
 exchange-spec =
-    tie.close
-    (tie.spec (search needs) (λ c κs. search needs) (search needs) (λ c κs. search needs) (search needs)
+    tie.close (tie.spec (search needs) (λ c κs. search needs) (search needs) (λ c κs. search needs) (search needs)
     (λ c κs. search needs) (search needs) (λ c κs. search needs) (search needs) (search needs)
-    (λ c κs. search needs) (search needs) (search needs) (λ c κs. search needs) (search needs) returns)
+    (λ c κs. search needs) (search needs) (search needs) (λ c κs. search needs) (search needs) (λ c. cc))

@@ -13,9 +13,6 @@ Inv-loop words₀ n g a b i₀ words i = (a ≤ i) × ((i ≤ b) × CopiedTo n g
 abbrev μ-loop : tie.MeasureT-loop
 μ-loop words₀ n g a b i₀ words i = b - i
 
-loop-holds : tie.Need-loop-holds Inv-loop μ-loop
-loop-holds c = (omega arith, (c .before .pre .order, copied-first _ _ _ _))
-
 member-requires : tie.Need-member-requires Inv-loop μ-loop
 member-requires c κs = let I = c .before .before .loop .inv in member-asks _ _ _ _ _
     (c .before .before .before .before .pre) _ _ (I .0) (c .before .loop-test .taken) (I .1 .1)
@@ -52,9 +49,6 @@ loop-again c = let I = c .before .before .before .before .before .before .before
   ),
 )
 
-same-length : tie.Need-same-length Inv-loop μ-loop
-same-length c = let I = c .before .loop .inv in I .1 .1 .len
-
 returns : tie.Need-returns Inv-loop μ-loop
 returns c = let I = c .before .loop .inv in
     subst (λ k. CopiedTo (c .before .before .before .args .n) (c .before .before .before .args .g)
@@ -64,16 +58,6 @@ returns c = let I = c .before .loop .inv in
 
 pub copy-members-spec : {M : Type 1} → statement M
 copy-members-spec =
-    tie.close
-    (tie.spec
-    Inv-loop
-    μ-loop
-    loop-holds
-    member-requires
-    sub-set-copied
-    set-copied-requires
-    add-i
-    loop-less
-    loop-again
-    same-length
-    returns)
+    tie.close (tie.spec Inv-loop μ-loop (λ c. (omega arith, (c .before .pre .order, copied-first _ _ _ _)))
+    member-requires sub-set-copied set-copied-requires add-i loop-less loop-again
+    (λ c. let I = c .before .loop .inv in I .1 .1 .len) returns)

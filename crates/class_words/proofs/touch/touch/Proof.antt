@@ -172,7 +172,6 @@ returns-3 c = λ G s own count T I. touched-new _ _ _ _ _ _ _ _ T _ _ _ _ _
 
 pub touch-spec : {M : Type 1} → statement M
 touch-spec =
-    tie.close
-    (tie.spec at-requires touched-requires from-requires add-first place-requires (search needs) returns
+    tie.close (tie.spec at-requires touched-requires from-requires add-first place-requires (search needs) returns
     exchange-requires add-set-touched set-touched-requires (search needs) returns-2 set-listed-requires add-result
     (search needs) returns-3)

@@ -183,19 +183,5 @@ returns c = λ G own count T l.
 
 pub touch-all-spec : {M : Type 1} → statement M
 touch-all-spec =
-    tie.close
-    (tie.spec
-    Inv-loop
-    μ-loop
-    from-requires
-    to-requires
-    copy-members-requires
-    sub-size
-    loop-holds
-    copied-requires
-    touch-sources-requires
-    add-j
-    loop-less
-    loop-again
-    same-length
-    returns)
+    tie.close (tie.spec Inv-loop μ-loop from-requires to-requires copy-members-requires sub-size loop-holds
+    copied-requires touch-sources-requires add-j loop-less loop-again same-length returns)

@@ -4,7 +4,6 @@ use mathlib.Core.Path.{_≡_, refl}
 use Prim.Native.Nat.{ℕ}
 use native.Mathlib.Omega.{arith}
 use Rattle.class_words.specs.inner.Sources.{Sourcing}
-use Rattle.class_words.specs.inner.Touching.{Touching}
 use Rattle.class_words.proofs.laws.Sources.{edge-asks, source-asks, source-goes, sources-again, sources-first}
 use Rattle.class_words.proofs.laws.Sources.{sources-last, sources-less}
 use Rattle.class_words.proofs.laws.Touching.{touch-room}
@@ -20,12 +19,6 @@ abbrev μ-loop : tie.MeasureT-loop
 
 head-requires : tie.Need-head-requires Inv-loop μ-loop
 head-requires c κs = let Q = c .before .before .pre in (Q .low, touch-room _ _ _ _ _ _ _ _ (Q .touching))
-
-loop-holds : tie.Need-loop-holds Inv-loop μ-loop
-loop-holds c = λ G s own count i S. S
-
-sub-e : tie.Need-sub-e Inv-loop μ-loop
-sub-e c = omega (arith, c .loop-test .taken)
 
 source-requires : tie.Need-source-requires Inv-loop μ-loop
 source-requires c κs = let Q = c .before .before .before .before .before .before .pre in
@@ -103,17 +96,6 @@ returns c = λ G s own count T i. let Q = c .before .before .before .before .bef
 
 pub touch-sources-spec : {M : Type 1} → statement M
 touch-sources-spec =
-    tie.close
-    (tie.spec
-    Inv-loop
-    μ-loop
-    head-requires
-    loop-holds
-    sub-e
-    source-requires
-    touch-requires
-    edge-next-requires
-    loop-less
-    loop-again
-    same-length
-    returns)
+    tie.close (tie.spec Inv-loop μ-loop head-requires (λ c G s own count i S. S)
+    (λ c. omega (arith, c .loop-test .taken)) source-requires touch-requires edge-next-requires loop-less loop-again
+    same-length returns)

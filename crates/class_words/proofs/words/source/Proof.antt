@@ -1,5 +1,5 @@
 -- `source` halves the states between two whose edges begin at e or before, and behind.
-use mathlib.Core.Path.{_≡_, subst}
+use mathlib.Core.Path.{subst}
 use Prim.Native.Nat.{_*_, _+_, _-_, _<_, _≤_}
 use native.Mathlib.Omega.{arith}
 use lib.ListN.{getD}
@@ -72,16 +72,5 @@ returns c = let I = c .before .loop .inv in (
 
 pub source-spec : {M : Type 1} → statement M
 source-spec =
-    tie.close
-    (tie.spec
-    Inv-loop
-    μ-loop
-    loop-holds
-    add-loop
-    add-middle
-    first-edge-requires
-    loop-less
-    loop-again
-    loop-less-2
-    loop-again-2
-    returns)
+    tie.close (tie.spec Inv-loop μ-loop loop-holds add-loop add-middle first-edge-requires loop-less loop-again
+    loop-less-2 loop-again-2 returns)

@@ -4,9 +4,7 @@ use borrow.Author.Needs.{needs}
 use Rattle.closing.proofs.close.first_values.Statement.{statement}
 use Rattle.closing.proofs.close.first_values.Tie as tie
 
-returns : tie.Need-returns
-unfolding firstValues
-returns c = simp (← c .before .word-at .ensures, ← c .word-at2 .ensures)
-
 pub first-values-spec : {M : Type 1} → statement M
-first-values-spec = tie.close (tie.spec (λ c κs. search needs) (λ c κs. search needs) returns)
+first-values-spec =
+    tie.close (tie.spec (λ c κs. search needs) (λ c κs. search needs)
+    (λ c. unfold firstValues in simp (← c .before .word-at .ensures, ← c .word-at2 .ensures)))

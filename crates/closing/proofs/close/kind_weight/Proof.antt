@@ -6,10 +6,6 @@ use borrow.Author.Tests.{lt-ltb, le-ltb, eq-eqb, ne-eqb}
 use Rattle.closing.proofs.close.kind_weight.Statement.{statement}
 use Rattle.closing.proofs.close.kind_weight.Tie as tie
 
-returns : tie.Need-returns
-unfolding kindWeight
-returns c = rw (lt-ltb _ _ (c .if1 .taken)) (omega arith)
-
 returns-2 : tie.Need-returns-2
 unfolding kindWeight
 returns-2 c = rw (le-ltb _ _ (c .before .before .before .before .if1 .left), eq-eqb _ _ (c .before .before .before
@@ -88,9 +84,10 @@ returns-11 c = rw (le-ltb _ _ (c .before .before .before .before .before .before
     .before .before .if8 .left), ne-eqb _ _ (c .before .if9 .left), ne-eqb _ _ (c .if10 .left)) (omega arith)
 
 pub kind-weight-spec : {M : Type 1} → statement M
-kind-weight-spec = tie.close (tie.spec returns (λ c κs. search needs) (search needs) (λ c κs. search needs)
-    (λ c κs. search needs) returns-2 (λ c κs. search needs) returns-3 (λ c κs. search needs) returns-4
-    (λ c κs. search needs) (λ c κs. search needs) returns-5 (λ c κs. search needs) returns-6 returns-7
-    (λ c κs. search needs) returns-8 (λ c κs. search needs) (search needs) (λ c κs. search needs)
-    (λ c κs. search needs) returns-9 (λ c κs. search needs) (search needs) (λ c κs. search needs) returns-10
-    returns-11)
+kind-weight-spec =
+    tie.close (tie.spec (λ c. unfold kindWeight in rw (lt-ltb _ _ (c .if1 .taken)) (omega arith))
+    (λ c κs. search needs) (search needs) (λ c κs. search needs) (λ c κs. search needs) returns-2
+    (λ c κs. search needs) returns-3 (λ c κs. search needs) returns-4 (λ c κs. search needs) (λ c κs. search needs)
+    returns-5 (λ c κs. search needs) returns-6 returns-7 (λ c κs. search needs) returns-8 (λ c κs. search needs)
+    (search needs) (λ c κs. search needs) (λ c κs. search needs) returns-9 (λ c κs. search needs) (search needs)
+    (λ c κs. search needs) returns-10 returns-11)

@@ -5,10 +5,6 @@ use borrow.Author.Tests.{eq-eqb, ne-eqb, lt-ltb, le-ltb}
 use Rattle.closing.proofs.close.leaf_weight.Statement.{statement}
 use Rattle.closing.proofs.close.leaf_weight.Tie as tie
 
-returns : tie.Need-returns
-unfolding leafWeight
-returns c = simp (lt-ltb _ _ (c .if1 .taken))
-
 returns-2 : tie.Need-returns-2
 unfolding leafWeight
 returns-2 c = simp (← c .own-of .ensures, le-ltb _ _ (c .before .before .if1 .left), eq-eqb _ _ (c .before .if2
@@ -25,4 +21,6 @@ returns-4 c = simp (le-ltb _ _ (c .before .before .if1 .left), ne-eqb _ _ (c .be
     .left))
 
 pub leaf-weight-spec : {M : Type 1} → statement M
-leaf-weight-spec = tie.close (tie.spec returns (λ c κs. search needs) returns-2 returns-3 returns-4)
+leaf-weight-spec =
+    tie.close (tie.spec (λ c. unfold leafWeight in simp (lt-ltb _ _ (c .if1 .taken))) (λ c κs. search needs)
+    returns-2 returns-3 returns-4)

@@ -1,7 +1,6 @@
 -- Sums of held numbers, held, are the held sum.
 use Rattle.closing.proofs.Stores.{held-sum, own-held}
 use Rattle.closing.specs.Close.{nameWeight}
-use native.Mathlib.Omega.{arith}
 use borrow.Author.Needs.{needs}
 use Rattle.closing.proofs.close.name_weight.Statement.{statement}
 use Rattle.closing.proofs.close.name_weight.Tie as tie

@@ -7,21 +7,8 @@ use Rattle.closing.specs.Close.{fourAt}
 use Rattle.closing.proofs.close.put_four.Statement.{statement}
 use Rattle.closing.proofs.close.put_four.Tie as tie
 
-slice-write-rows-2 : tie.Need-slice-write-rows-2
-slice-write-rows-2 c = simp length-set (omega arith)
-
-slice-write-rows-3 : tie.Need-slice-write-rows-3
-slice-write-rows-3 c = simp length-set (omega arith)
-
-slice-write-rows-4 : tie.Need-slice-write-rows-4
-slice-write-rows-4 c = simp length-set (omega arith)
-
-returns : tie.Need-returns
-unfolding fourAt
-returns c = refl
-
 pub put-four-spec : {M : Type 1} → statement M
 put-four-spec =
-    tie.close (tie.spec (search needs) (search needs) (search needs) (search needs) slice-write-rows-2
-    (search needs) (search needs) slice-write-rows-3 (search needs) (search needs) slice-write-rows-4 (search needs)
-    returns)
+    tie.close (tie.spec (search needs) (search needs) (search needs) (search needs)
+    (λ c. simp length-set (omega arith)) (search needs) (search needs) (λ c. simp length-set (omega arith))
+    (search needs) (search needs) (λ c. simp length-set (omega arith)) (search needs) (λ c. unfold fourAt in refl))

@@ -14,10 +14,7 @@ returns : tie.Need-returns
 returns c = head-at _ _ _ _ _ _ _ _ (c .before .before .before .place-of2 .ensures) (c .before .before .put-five
     .ensures)
 
-returns-2 : tie.Need-returns-2
-returns-2 c = c .before .before .put-head-each .ensures
-
 pub put-head-spec : {M : Type 1} → statement M
 put-head-spec =
     tie.close (tie.spec (λ c κs. search needs) (λ c κs. search needs) put-five-requires (search needs) returns
-    (λ c κs. search needs) (search needs) returns-2)
+    (λ c κs. search needs) (search needs) (λ c. c .before .before .put-head-each .ensures))

@@ -14,10 +14,7 @@ returns : tie.Need-returns
 returns c = parts-at _ _ _ _ _ _ _ (c .before .before .before .place-of2 .ensures) (c .before .before .put-four
     .ensures)
 
-returns-2 : tie.Need-returns-2
-returns-2 c = c .before .before .put-parts-each .ensures
-
 pub put-parts-spec : {M : Type 1} → statement M
 put-parts-spec =
     tie.close (tie.spec (search needs) (λ c κs. search needs) (λ c κs. search needs) put-four-requires
-    (search needs) returns (λ c κs. search needs) (search needs) returns-2)
+    (search needs) returns (λ c κs. search needs) (search needs) (λ c. c .before .before .put-parts-each .ensures))

@@ -4,10 +4,6 @@ use borrow.Author.Tests.{eq-eqb, ne-eqb}
 use Rattle.closing.proofs.close.stays.Statement.{statement}
 use Rattle.closing.proofs.close.stays.Tie as tie
 
-returns : tie.Need-returns
-unfolding staysOf
-returns c = simp (eq-eqb _ _ (c .if1 .taken))
-
 returns-2 : tie.Need-returns-2
 unfolding staysOf
 returns-2 c = simp (ne-eqb _ _ (c .before .if1 .left), eq-eqb _ _ (c .if2 .taken))
@@ -23,4 +19,5 @@ returns-4 c = simp (ne-eqb _ _ (c .before .before .if1 .left), ne-eqb _ _ (c .be
     .left))
 
 pub stays-spec : {M : Type 1} → statement M
-stays-spec = tie.close (tie.spec returns returns-2 returns-3 returns-4)
+stays-spec =
+    tie.close (tie.spec (λ c. unfold staysOf in simp (eq-eqb _ _ (c .if1 .taken))) returns-2 returns-3 returns-4)

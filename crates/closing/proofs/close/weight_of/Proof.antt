@@ -5,9 +5,6 @@ use borrow.Author.Needs.{needs}
 use Rattle.closing.proofs.close.weight_of.Statement.{statement}
 use Rattle.closing.proofs.close.weight_of.Tie as tie
 
-cast-result : tie.Need-cast-result
-cast-result c = omega (arith, c .kind-weight .ensures)
-
 returns : tie.Need-returns
 unfolding weightOf
 returns c = rw (← c .before .before .before .before .before .word-at .ensures, ← c .before .before .before .before
@@ -16,5 +13,6 @@ returns c = rw (← c .before .before .before .before .before .word-at .ensures,
     (c .kind-weight .ensures)
 
 pub weight-of-spec : {M : Type 1} → statement M
-weight-of-spec = tie.close (tie.spec (λ c κs. search needs) (λ c κs. search needs) (λ c κs. search needs)
-    (λ c κs. search needs) (λ c κs. search needs) (λ c κs. search needs) cast-result returns)
+weight-of-spec =
+    tie.close (tie.spec (λ c κs. search needs) (λ c κs. search needs) (λ c κs. search needs) (λ c κs. search needs)
+    (λ c κs. search needs) (λ c κs. search needs) (λ c. omega (arith, c .kind-weight .ensures)) returns)

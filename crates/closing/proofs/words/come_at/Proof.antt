@@ -4,9 +4,5 @@ use borrow.Author.Needs.{needs}
 use Rattle.closing.proofs.words.come_at.Statement.{statement}
 use Rattle.closing.proofs.words.come_at.Tie as tie
 
-returns : tie.Need-returns
-unfolding comeOf
-returns c = simp (← c .mark-at .ensures)
-
 pub come-at-spec : {M : Type 1} → statement M
-come-at-spec = tie.close (tie.spec (λ c κs. search needs) returns)
+come-at-spec = tie.close (tie.spec (λ c κs. search needs) (λ c. unfold comeOf in simp (← c .mark-at .ensures)))

@@ -4,26 +4,13 @@ use borrow.Author.Tests.{ne-eqb}
 use Rattle.closing.proofs.words.first_bits.Statement.{statement}
 use Rattle.closing.proofs.words.first_bits.Tie as tie
 
-returns : tie.Need-returns
-unfolding firstBits
-returns c = simp (c .match .keys1)
-
-returns-2 : tie.Need-returns-2
-unfolding firstBits
-returns-2 c = simp (c .match .keys2)
-
-returns-3 : tie.Need-returns-3
-unfolding firstBits
-returns-3 c = simp (c .match .keys3)
-
-returns-4 : tie.Need-returns-4
-unfolding firstBits
-returns-4 c = simp (c .match .keys4)
-
 returns-5 : tie.Need-returns-5
 unfolding firstBits
 returns-5 c = simp (ne-eqb _ _ (c .match .rest .1), ne-eqb _ _ (c .match .rest .0 .1), ne-eqb _ _ (c .match .rest .0
     .0 .1), ne-eqb _ _ (c .match .rest .0 .0 .0 .1))
 
 pub first-bits-spec : {M : Type 1} → statement M
-first-bits-spec = tie.close (tie.spec returns returns-2 returns-3 returns-4 returns-5)
+first-bits-spec =
+    tie.close (tie.spec (λ c. unfold firstBits in simp (c .match .keys1))
+    (λ c. unfold firstBits in simp (c .match .keys2)) (λ c. unfold firstBits in simp (c .match .keys3))
+    (λ c. unfold firstBits in simp (c .match .keys4)) returns-5)

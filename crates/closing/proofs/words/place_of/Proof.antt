@@ -5,9 +5,5 @@ use borrow.Author.Needs.{needs}
 use Rattle.closing.proofs.words.place_of.Statement.{statement}
 use Rattle.closing.proofs.words.place_of.Tie as tie
 
-returns : tie.Need-returns
-unfolding cell
-returns c = omega arith
-
 pub place-of-spec : {M : Type 1} → statement M
-place-of-spec = tie.close (tie.spec (search needs) (search needs) returns)
+place-of-spec = tie.close (tie.spec (search needs) (search needs) (λ c. unfold cell in omega arith))

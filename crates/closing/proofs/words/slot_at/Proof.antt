@@ -3,8 +3,5 @@ use borrow.Author.Needs.{needs}
 use Rattle.closing.proofs.words.slot_at.Statement.{statement}
 use Rattle.closing.proofs.words.slot_at.Tie as tie
 
-returns : tie.Need-returns
-returns c = c .short-at .ensures
-
 pub slot-at-spec : {M : Type 1} → statement M
-slot-at-spec = tie.close (tie.spec (λ c κs. search needs) returns)
+slot-at-spec = tie.close (tie.spec (λ c κs. search needs) (λ c. c .short-at .ensures))

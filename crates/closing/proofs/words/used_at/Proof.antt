@@ -4,9 +4,5 @@ use borrow.Author.Needs.{needs}
 use Rattle.closing.proofs.words.used_at.Statement.{statement}
 use Rattle.closing.proofs.words.used_at.Tie as tie
 
-returns : tie.Need-returns
-unfolding usedOf
-returns c = simp (← c .mark-at .ensures)
-
 pub used-at-spec : {M : Type 1} → statement M
-used-at-spec = tie.close (tie.spec (λ c κs. search needs) returns)
+used-at-spec = tie.close (tie.spec (λ c κs. search needs) (λ c. unfold usedOf in simp (← c .mark-at .ensures)))

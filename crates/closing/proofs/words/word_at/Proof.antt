@@ -4,9 +4,7 @@ use borrow.Author.Needs.{needs}
 use Rattle.closing.proofs.words.word_at.Statement.{statement}
 use Rattle.closing.proofs.words.word_at.Tie as tie
 
-returns : tie.Need-returns
-unfolding word
-returns c = rw (← c .before .place-of .ensures) (c .short-at .ensures)
-
 pub word-at-spec : {M : Type 1} → statement M
-word-at-spec = tie.close (tie.spec (λ c κs. search needs) (λ c κs. search needs) returns)
+word-at-spec =
+    tie.close (tie.spec (λ c κs. search needs) (λ c κs. search needs)
+    (λ c. unfold word in rw (← c .before .place-of .ensures) (c .short-at .ensures)))

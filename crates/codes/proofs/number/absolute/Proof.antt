@@ -25,5 +25,4 @@ returns-2 c =
     ∙ abs-above (c .before .before .args .v) (test-back f (c .before .if1 .left))
 
 pub absolute-spec : {M : Type 1} → statement M
-absolute-spec =
-    tie.close (tie.spec (λ c κs. search needs) add-result returns (λ c κs. search needs) returns-2)
+absolute-spec = tie.close (tie.spec (λ c κs. search needs) add-result returns (λ c κs. search needs) returns-2)

@@ -5,9 +5,6 @@ use Rattle.language.specs.Number.{finites}
 use Rattle.codes.proofs.number.finites.Statement.{statement}
 use Rattle.codes.proofs.number.finites.Tie as tie
 
-returns : tie.Need-returns
-unfolding finites
-returns c = omega arith
-
 pub finites-spec : {M : Type 1} → statement M
-finites-spec = tie.close (tie.spec (search needs) (search needs) (search needs) returns)
+finites-spec =
+    tie.close (tie.spec (search needs) (search needs) (search needs) (λ c. unfold finites in omega arith))

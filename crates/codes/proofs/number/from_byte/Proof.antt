@@ -6,11 +6,10 @@ use Rattle.codes.proofs.NumberSteps.{byte-low, byte-high}
 use Rattle.codes.proofs.number.from_byte.Statement.{statement}
 use Rattle.codes.proofs.number.from_byte.Tie as tie
 
-returns : tie.Need-returns
-returns c = byte-low (c .before .args .b) (omega arith)
-
 returns-2 : tie.Need-returns-2
 returns-2 c = read (c .minus .ok) (byte-high (c .before .before .args .b) (omega arith) (c .minus .ensures))
 
 pub from-byte-spec : {M : Type 1} → statement M
-from-byte-spec = tie.close (tie.spec (search needs) returns (λ c κs. search needs) returns-2)
+from-byte-spec =
+    tie.close (tie.spec (search needs) (λ c. byte-low (c .before .args .b) (omega arith)) (λ c κs. search needs)
+    returns-2)

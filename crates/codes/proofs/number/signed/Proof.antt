@@ -44,6 +44,5 @@ returns-5 c =
 
 pub signed-spec : {M : Type 1} → statement M
 signed-spec =
-    tie.close
-    (tie.spec (search needs) (search needs) returns (λ c κs. search needs) (λ c κs. search needs) returns-2
-    returns-3 add-if4 returns-4 returns-5)
+    tie.close (tie.spec (search needs) (search needs) returns (λ c κs. search needs) (λ c κs. search needs)
+    returns-2 returns-3 add-if4 returns-4 returns-5)

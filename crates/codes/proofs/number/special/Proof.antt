@@ -5,9 +5,6 @@ use Rattle.language.specs.Number.{special}
 use Rattle.codes.proofs.number.special.Statement.{statement}
 use Rattle.codes.proofs.number.special.Tie as tie
 
-returns : tie.Need-returns
-unfolding special
-returns c = omega arith
-
 pub special-spec : {M : Type 1} → statement M
-special-spec = tie.close (tie.spec (search needs) (search needs) (search needs) returns)
+special-spec =
+    tie.close (tie.spec (search needs) (search needs) (search needs) (λ c. unfold special in omega arith))

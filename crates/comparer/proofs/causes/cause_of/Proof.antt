@@ -8,11 +8,7 @@ returns : tie.Need-returns
 unfolding causeOf
 returns c = simp (c .of-sheet .ensures, c .before .refuse .ensures, c .before .before .enum-told .given .1)
 
-returns-2 : tie.Need-returns-2
-unfolding causeOf
-returns-2 c = simp (c .of-sheet2 .ensures, c .before .before .x .given .1)
-
 pub cause-of-spec : {M : Type 1} → statement M
-cause-of-spec = tie.close
-    (tie.spec (search needs) (search needs) (λ c κs. search needs) (λ c κs. search needs) returns
-    (λ c κs. search needs) returns-2)
+cause-of-spec =
+    tie.close (tie.spec (search needs) (search needs) (λ c κs. search needs) (λ c κs. search needs) returns
+    (λ c κs. search needs) (λ c. unfold causeOf in simp (c .of-sheet2 .ensures, c .before .before .x .given .1)))

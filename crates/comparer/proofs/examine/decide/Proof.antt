@@ -7,15 +7,6 @@ use Rattle.comparer.proofs.DecidePlays.{task, all-is, setting, decided-
 use Rattle.comparer.proofs.examine.decide.Statement.{statement}
 use Rattle.comparer.proofs.examine.decide.Tie as tie
 
-sub-t10 : tie.Need-sub-t10
-sub-t10 c = omega (arith, all-is _ _ _ _ (c .before .before .pre))
-
-sub-t12 : tie.Need-sub-t12
-sub-t12 c = omega (arith, all-is _ _ _ _ (c .before .before .pre))
-
-first-difference-requires : tie.Need-first-difference-requires
-first-difference-requires c κs = setting _ _ _ _ (c .before .before .before .pre) _
-
 sub-show : tie.Need-sub-show
 sub-show c = omega (arith, all-is _ _ _ _ (c .before .before .before .before .before .before .before .before .before
     .before .before .pre))
@@ -48,6 +39,7 @@ returns-2 c = λ D.
 
 pub decide-spec : {M : Type 1} → statement M
 decide-spec =
-    tie.close (tie.spec (search needs) (search needs) sub-t10 (search needs) sub-t12 first-difference-requires
-    (search needs) (search needs) sub-show show-requires (search needs) returns (search needs) (search needs)
-    returns-2)
+    tie.close (tie.spec (search needs) (search needs) (λ c. omega (arith, all-is _ _ _ _ (c .before .before .pre)))
+    (search needs) (λ c. omega (arith, all-is _ _ _ _ (c .before .before .pre)))
+    (λ c κs. setting _ _ _ _ (c .before .before .before .pre) _) (search needs) (search needs) sub-show
+    show-requires (search needs) returns (search needs) (search needs) returns-2)

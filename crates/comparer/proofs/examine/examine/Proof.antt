@@ -182,8 +182,7 @@ returns-4 c =
 
 pub examine-spec : {M : Type 1} → statement M
 examine-spec =
-    tie.close
-    (tie.spec (λ c κs. search needs) (search needs) (search needs) (λ c κs. search needs) returns
+    tie.close (tie.spec (λ c κs. search needs) (search needs) (search needs) (λ c κs. search needs) returns
     (λ c κs. search needs) (search needs) (search needs) (λ c κs. search needs) returns-2 (search needs)
     (search needs) (λ c κs. search needs) (λ c κs. search needs) add-pair-number pair-number-requires
     (λ c κs. search needs) returns-3 two-from-rows-requires decide-requires (λ c κs. search needs) add-t30 sub-t31

@@ -139,9 +139,8 @@ returns-4 c =
 
 pub follow-spec : {M : Type 1} → statement M
 follow-spec =
-    tie.close
-    (tie.spec (λ c κs. search needs) (search needs) (search needs) (λ c κs. search needs) returns (search needs)
-    (λ c κs. search needs) words-asked-requires (λ c κs. search needs) returns-2 (λ c κs. search needs)
-    (search needs) (search needs) (λ c κs. search needs) returns-3 one-from-rows-requires (search needs)
-    sub-mark-live mark-live-requires (search needs) longest-requires (λ c κs. search needs) sub-t17 (search needs)
-    returns-4)
+    tie.close (tie.spec (λ c κs. search needs) (search needs) (search needs) (λ c κs. search needs) returns
+    (search needs) (λ c κs. search needs) words-asked-requires (λ c κs. search needs) returns-2
+    (λ c κs. search needs) (search needs) (search needs) (λ c κs. search needs) returns-3 one-from-rows-requires
+    (search needs) sub-mark-live mark-live-requires (search needs) longest-requires (λ c κs. search needs) sub-t17
+    (search needs) returns-4)

@@ -11,9 +11,7 @@ returns c = so-far-said _ _ _ _ _ (c .before .enum-told .given .1) (c .if1 .take
 returns-2 : tie.Need-returns-2
 returns-2 c = same-said _ _ _ _ _ (c .before .enum-told .given .1) (c .if1 .left)
 
-returns-3 : tie.Need-returns-3
-unfolding rulingOf depthOf saying
-returns-3 c = simp (c .before .found .given .1)
-
 pub answer-spec : {M : Type 1} → statement M
-answer-spec = tie.close (tie.spec (search needs) returns (search needs) returns-2 returns-3)
+answer-spec =
+    tie.close (tie.spec (search needs) returns (search needs) returns-2
+    (λ c. unfold rulingOf depthOf saying in simp (c .before .found .given .1)))

@@ -5,10 +5,6 @@ use Rattle.conditions.specs.Pair.{matching}
 use Rattle.conditions.proofs.heading.alike.Statement.{statement}
 use Rattle.conditions.proofs.heading.alike.Tie as tie
 
-returns : tie.Need-returns
-unfolding matching
-returns c = simp (ne-eqb _ _ (c .if1 .taken))
-
 returns-2 : tie.Need-returns-2
 unfolding matching
 returns-2 c = simp (← c .before .same-first .ensures, eq-eqb _ _ (c .before .before .if1 .left), not-true (c .before
@@ -20,4 +16,6 @@ returns-3 c = simp (← c .before .same-first .ensures, eq-eqb _ _ (c .before .b
     .same-first .result) (c .if2 .left))
 
 pub alike-spec : {M : Type 1} → statement M
-alike-spec = tie.close (tie.spec returns (λ c κs. search needs) returns-2 returns-3)
+alike-spec =
+    tie.close (tie.spec (λ c. unfold matching in simp (ne-eqb _ _ (c .if1 .taken))) (λ c κs. search needs) returns-2
+    returns-3)

@@ -12,25 +12,10 @@ Inv-loop a b n i₀ i = sameFirst n a b ≡ sameFirst i a b
 abbrev μ-loop : tie.MeasureT-loop
 μ-loop a b n i₀ i = i
 
-loop-holds : tie.Need-loop-holds Inv-loop μ-loop
-loop-holds c = refl
-
-sub-i : tie.Need-sub-i Inv-loop μ-loop
-sub-i c = search needs
-
-byte-at-requires : tie.Need-byte-at-requires Inv-loop μ-loop
-byte-at-requires c κs = search needs
-
-byte-at-requires-2 : tie.Need-byte-at-requires-2 Inv-loop μ-loop
-byte-at-requires-2 c κs = search needs
-
 returns : tie.Need-returns Inv-loop μ-loop
 returns c =
     same-differ _ _ _ _ _ _ (c .before .before .before .loop-test .taken) (c .before .before .byte-at .ensures) (c
     .before .byte-at2 .ensures) (c .if1 .taken) (c .before .before .before .before .loop .inv)
-
-loop-less : tie.Need-loop-less Inv-loop μ-loop
-loop-less c = search needs
 
 loop-again : tie.Need-loop-again Inv-loop μ-loop
 loop-again c =
@@ -42,6 +27,5 @@ returns-2 c = same-last _ _ _ _ (c .loop-test .left) (c .before .loop .inv)
 
 pub same-first-spec : {M : Type 1} → statement M
 same-first-spec =
-    tie.close (tie.spec Inv-loop μ-loop loop-holds sub-i byte-at-requires byte-at-requires-2 returns loop-less
-    loop-again
-    returns-2)
+    tie.close (tie.spec Inv-loop μ-loop (λ c. refl) (search needs) (λ c κs. search needs) (λ c κs. search needs)
+    returns (search needs) loop-again returns-2)

@@ -5,10 +5,6 @@ use Rattle.conditions.specs.Pair.{numberOf}
 use Rattle.conditions.proofs.pair.pair_number.Statement.{statement}
 use Rattle.conditions.proofs.pair.pair_number.Tie as tie
 
-returns : tie.Need-returns
-unfolding numberOf
-returns c = simp (not-true (c .before .args .matching) (c .if1 .taken))
-
 returns-2 : tie.Need-returns-2
 unfolding numberOf
 returns-2 c = simp (not-false (c .before .before .before .args .matching) (c .before .before .if1 .left), ← c .before
@@ -27,5 +23,6 @@ returns-4 c =
       .before .before .words-asked .ensures, le-ltb _ _ (c .before .if2 .left), le-ltb _ _ (c .if3 .left))
 
 pub pair-number-spec : {M : Type 1} → statement M
-pair-number-spec = tie.close (tie.spec returns (λ c κs. search needs) returns-2 (search needs) (search needs)
-    returns-3 returns-4)
+pair-number-spec =
+    tie.close (tie.spec (λ c. unfold numberOf in simp (not-true (c .before .args .matching) (c .if1 .taken)))
+    (λ c κs. search needs) returns-2 (search needs) (search needs) returns-3 returns-4)

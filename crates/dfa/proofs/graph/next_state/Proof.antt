@@ -16,6 +16,5 @@ part-scan-start c = let r = rest-length (5 * c .before .args .n) (c .before .arg
 
 pub next-state-spec : {M : Type 1} → statement M
 next-state-spec =
-    tie.close
-    (tie.spec (search needs) (search needs) sub-scan part-scan-start (search needs) (λ c κs. search needs)
+    tie.close (tie.spec (search needs) (search needs) sub-scan part-scan-start (search needs) (λ c κs. search needs)
     (search needs))

@@ -12,15 +12,6 @@ Inv-loop graph n p m i₀ end i = Scanning graph n p m i end
 abbrev μ-loop : tie.MeasureT-loop
 μ-loop graph n p m i₀ end i = end - i
 
-at-requires : tie.Need-at-requires Inv-loop μ-loop
-at-requires c κs = omega (arith, c .before .pre .0 .room)
-
-add-at : tie.Need-add-at Inv-loop μ-loop
-add-at c = omega (arith, c .before .before .pre .0 .few)
-
-at-requires-2 : tie.Need-at-requires-2 Inv-loop μ-loop
-at-requires-2 c κs = omega (arith, c .before .before .pre .0 .room)
-
 loop-holds : tie.Need-loop-holds Inv-loop μ-loop
 loop-holds c = scan-first _ _ _ _ _ _ (c .before .before .before .pre .0) (c .before .before .before .pre .1)
     (c .before .at .ensures) (c .at2 .ensures)
@@ -95,25 +86,7 @@ returns-2 c = scan-last (c .before .before .before .before .before .args .graph 
 
 pub scan-spec : {M : Type 1} → statement M
 scan-spec =
-    tie.close
-    (tie.spec
-    Inv-loop
-    μ-loop
-    at-requires
-    add-at
-    at-requires-2
-    loop-holds
-    add-at-2
-    mul-at
-    add-at-3
-    at-requires-3
-    add-at-4
-    mul-at-2
-    add-at-5
-    at-requires-4
-    returns
-    add-i
-    loop-less
-    loop-again
-    sub-result
-    returns-2)
+    tie.close (tie.spec Inv-loop μ-loop (λ c κs. omega (arith, c .before .pre .0 .room))
+    (λ c. omega (arith, c .before .before .pre .0 .few)) (λ c κs. omega (arith, c .before .before .pre .0 .room))
+    loop-holds add-at-2 mul-at add-at-3 at-requires-3 add-at-4 mul-at-2 add-at-5 at-requires-4 returns add-i
+    loop-less loop-again sub-result returns-2)

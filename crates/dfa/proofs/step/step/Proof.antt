@@ -50,6 +50,5 @@ returns c = record { next = (next _ _ _ _ _ _ _ _ _
 
 pub step-spec : {M : Type 1} → statement M
 step-spec =
-    tie.close
-    (tie.spec (λ c κs. search needs) (λ c κs. search needs) (λ c κs. search needs) target-by-requires
+    tie.close (tie.spec (λ c κs. search needs) (λ c κs. search needs) (λ c κs. search needs) target-by-requires
     target-by-requires-2 past-requires past-requires-2 returns)

@@ -20,6 +20,5 @@ returns-3 c = sym (look-before _ _ _ _ _ (c .before .before .before .before .pre
 
 pub target-by-spec : {M : Type 1} → statement M
 target-by-spec =
-    tie.close
-    (tie.spec (search needs) returns (search needs) (search needs) (search needs) (λ c κs. search needs)
+    tie.close (tie.spec (search needs) returns (search needs) (search needs) (search needs) (λ c κs. search needs)
     (search needs) (search needs) (search needs) (λ c κs. search needs) returns-2 (search needs) returns-3)

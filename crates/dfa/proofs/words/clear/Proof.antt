@@ -15,25 +15,10 @@ Inv-loop words₀ i₀ words i = (i ≤ length words) × ((length words ≡ leng
 abbrev μ-loop : tie.MeasureT-loop
 μ-loop words₀ i₀ words i = length words - i
 
-loop-holds : tie.Need-loop-holds Inv-loop μ-loop
-loop-holds c = (omega arith, (refl, λ x h. absurd (omega arith)))
-
-put-requires : tie.Need-put-requires Inv-loop μ-loop
-put-requires c κs = search needs
-
-add-i : tie.Need-add-i Inv-loop μ-loop
-add-i c = search needs
-
-loop-less : tie.Need-loop-less Inv-loop μ-loop
-loop-less c = search needs
-
 loop-again : tie.Need-loop-again Inv-loop μ-loop
 loop-again c = (search needs, (search needs, clear-again (c .before .before .before .before .before .loop .words) _
     (c .before .before .before .before .before .loop .i) (c .before .before .before .before .loop-test .taken)
     (c .before .before .put .ensures) (c .before .before .before .before .before .loop .inv .1 .1)))
-
-same-length : tie.Need-same-length Inv-loop μ-loop
-same-length c = c .before .loop .inv .1 .0
 
 returns : tie.Need-returns Inv-loop μ-loop
 returns c = clear-last (c .before .before .before .args .words .now) _ _ (c .before .loop .inv .1 .0)
@@ -41,14 +26,5 @@ returns c = clear-last (c .before .before .before .args .words .now) _ _ (c .bef
 
 pub clear-spec : {M : Type 1} → statement M
 clear-spec =
-    tie.close
-    (tie.spec
-    Inv-loop
-    μ-loop
-    loop-holds
-    put-requires
-    add-i
-    loop-less
-    loop-again
-    same-length
-    returns)
+    tie.close (tie.spec Inv-loop μ-loop (λ c. (omega arith, (refl, λ x h. absurd (omega arith))))
+    (λ c κs. search needs) (search needs) (search needs) loop-again (λ c. c .before .loop .inv .1 .0) returns)

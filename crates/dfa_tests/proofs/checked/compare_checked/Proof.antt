@@ -57,7 +57,6 @@ returns-5 c = answer-word (c .before .before .before .before .before .before .be
 
 pub compare-checked-spec : {M : Type 1} → statement M
 compare-checked-spec =
-    tie.close
-    (tie.spec (λ c κs. search needs) (search needs) (search needs) (search needs) (search needs) (search needs)
-    (search needs) first-difference-requires (search needs) (search needs) spell-requires (search needs) returns-4
-    (search needs) returns-5)
+    tie.close (tie.spec (λ c κs. search needs) (search needs) (search needs) (search needs) (search needs)
+    (search needs) (search needs) first-difference-requires (search needs) (search needs) spell-requires
+    (search needs) returns-4 (search needs) returns-5)

@@ -28,6 +28,5 @@ returns-4 c = λ l. no-true (sym (c .if3 .left) ∙ c .before .is-marked .ensure
 
 pub live-checked-spec : {M : Type 1} → statement M
 live-checked-spec =
-    tie.close
-    (tie.spec (λ c κs. search needs) (search needs) (search needs) (search needs) (search needs) mark-live-requires
-    is-marked-requires (search needs) returns-3 (search needs) returns-4)
+    tie.close (tie.spec (λ c κs. search needs) (search needs) (search needs) (search needs) (search needs)
+    mark-live-requires is-marked-requires (search needs) returns-3 (search needs) returns-4)

@@ -9,9 +9,6 @@ use Rattle.difference.proofs.search.alike.Tie as tie
 returns : tie.Need-returns
 returns c = c .accepts .ensures ∙ first-is-f _ _ _ _ (c .before .if1 .taken)
 
-returns-2 : tie.Need-returns-2
-returns-2 c = second-is-f _ _ _ _ (c .before .if1 .left) (c .if2 .taken)
-
 returns-3 : tie.Need-returns-3
 returns-3 c = first-is-g _ _ _ _ (c .before .before .if1 .left) (c .before .if2 .left) (c .if3 .taken)
 
@@ -20,4 +17,6 @@ returns-4 c = simp (ne-eqb _ _ (c .before .before .if1 .left), ne-eqb _ _ (c .be
     .left))
 
 pub alike-spec : {M : Type 1} → statement M
-alike-spec = tie.close (tie.spec (λ c κs. search needs) returns returns-2 returns-3 returns-4)
+alike-spec =
+    tie.close (tie.spec (λ c κs. search needs) returns
+    (λ c. second-is-f _ _ _ _ (c .before .if1 .left) (c .if2 .taken)) returns-3 returns-4)

@@ -8,6 +8,5 @@ returns c = simp (c .alike .ensures, c .before .before .at .ensures, c .before .
 
 pub alike-at-spec : {M : Type 1} → statement M
 alike-at-spec =
-    tie.close
-    (tie.spec (search needs) (search needs) (λ c κs. search needs) (search needs) (search needs) (search needs)
-    (λ c κs. search needs) (λ c κs. search needs) returns)
+    tie.close (tie.spec (search needs) (search needs) (λ c κs. search needs) (search needs) (search needs)
+    (search needs) (λ c κs. search needs) (λ c κs. search needs) returns)

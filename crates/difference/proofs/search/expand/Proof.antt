@@ -145,45 +145,13 @@ loop-again c = expand-again _ _ _ _ _ _ _ _ _ _ _ _ _
     (c .before .before .before .before .step .ensures) (c .before .before .visit .kept .0)
     (c .before .before .visit .ensures)
 
-same-length : tie.Need-same-length Inv-loop μ-loop
-same-length c = c .before .loop .inv .len
-
 returns : tie.Need-returns Inv-loop μ-loop
 returns c = (expand-last _ _ _ _ _ _ _ _ _ _ (c .before .loop .inv) (c .loop-test .left),
     (c .before .loop .inv .graph, c .before .loop .inv .grown))
 
 pub expand-spec : {M : Type 1} → statement M
 expand-spec =
-    tie.close
-    (tie.spec
-    Inv-loop
-    μ-loop
-    mul-cut
-    mul-at
-    add-at
-    at-requires
-    mul-at-2
-    add-at-2
-    add-at-3
-    at-requires-2
-    mul-ends-of
-    sub-ends-of
-    part-ends-of-start
-    part-ends-of-end
-    ends-of-requires
-    loop-holds
-    add-loop
-    add-loop-2
-    mul-g
-    mul-step
-    sub-step
-    part-step-start
-    part-step-end
-    step-requires
-    slice-relend-prefix-visit
-    slice-aggregate-visit
-    visit-requires
-    loop-less
-    loop-again
-    same-length
-    returns)
+    tie.close (tie.spec Inv-loop μ-loop mul-cut mul-at add-at at-requires mul-at-2 add-at-2 add-at-3 at-requires-2
+    mul-ends-of sub-ends-of part-ends-of-start part-ends-of-end ends-of-requires loop-holds add-loop add-loop-2
+    mul-g mul-step sub-step part-step-start part-step-end step-requires slice-relend-prefix-visit
+    slice-aggregate-visit visit-requires loop-less loop-again (λ c. c .before .loop .inv .len) returns)

@@ -22,9 +22,6 @@ alike-at-requires : tie.Need-alike-at-requires Inv-loop μ-loop
 alike-at-requires c κs = let h = level-room _ _ _ _ _ _ _ (c .before .before .loop .inv) in
     omega (arith, h, c .before .loop-test .taken, c .before .before .loop .inv .layer .more)
 
-same-length : tie.Need-same-length Inv-loop μ-loop
-same-length c = c .before .before .before .before .loop .inv .len
-
 returns : tie.Need-returns Inv-loop μ-loop
 returns c = (level-told _ _ _ _ _ _ _ (c .before .before .before .before .loop .inv) (c .before .before .before
     .loop-test .taken)
@@ -51,25 +48,11 @@ loop-again c = level-again _ _ _ _ _ _ _ (c .before .before .before .before .bef
     .inv) (c .before .before .before .before .before .before .before .loop-test .taken) _ _ (c .before .before
     .expand .kept .0) (c .before .before .expand .ensures)
 
-same-length-2 : tie.Need-same-length-2 Inv-loop μ-loop
-same-length-2 c = c .before .loop .inv .len
-
 returns-2 : tie.Need-returns-2 Inv-loop μ-loop
 returns-2 c = (level-last _ _ _ _ _ _ _ (c .before .loop .inv) (c .loop-test .left), c .before .loop .inv .graph)
 
 pub expand-level-spec : {M : Type 1} → statement M
 expand-level-spec =
-    tie.close
-    (tie.spec
-    Inv-loop
-    μ-loop
-    loop-holds
-    alike-at-requires
-    same-length
-    returns
-    expand-requires
-    add-head
-    loop-less
-    loop-again
-    same-length-2
-    returns-2)
+    tie.close (tie.spec Inv-loop μ-loop loop-holds alike-at-requires
+    (λ c. c .before .before .before .before .loop .inv .len) returns expand-requires add-head loop-less loop-again
+    (λ c. c .before .loop .inv .len) returns-2)

@@ -48,6 +48,5 @@ returns-2 c = (outcome-of (c .before .before .before .before .before .before .be
 
 pub first-difference-spec : {M : Type 1} → statement M
 first-difference-spec =
-    tie.close
-    (tie.spec returns (search needs) (search needs) slice-aggregate-prepare prepare-requires run-requires
+    tie.close (tie.spec returns (search needs) (search needs) slice-aggregate-prepare prepare-requires run-requires
     (search needs) returns-2)

@@ -3,11 +3,7 @@ use borrow.Author.Needs.{needs}
 use Rattle.difference.proofs.search.push.Statement.{statement}
 use Rattle.difference.proofs.search.push.Tie as tie
 
-returns : tie.Need-returns
-returns c = cc
-
 pub push-spec : {M : Type 1} → statement M
 push-spec =
-    tie.close
-    (tie.spec (search needs) (search needs) (λ c κs. search needs) (search needs) (λ c κs. search needs)
-    (search needs) (λ c κs. search needs) (search needs) (λ c κs. search needs) (search needs) returns)
+    tie.close (tie.spec (search needs) (search needs) (λ c κs. search needs) (search needs) (λ c κs. search needs)
+    (search needs) (λ c κs. search needs) (search needs) (λ c κs. search needs) (search needs) (λ c. cc))

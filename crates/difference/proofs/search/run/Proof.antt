@@ -22,24 +22,15 @@ test-level-requires : tie.Need-test-level-requires Inv-loop μ-loop
 test-level-requires c κs = (c .before .before .before .loop .inv .set-at, (c .before .before .before .loop .inv
     .state, runs-deep _ _ _ _ _ _ (c .before .before .before .loop .inv) (omega (arith, c .before .if1 .taken))))
 
-same-length : tie.Need-same-length Inv-loop μ-loop
-same-length c = c .before .before .before .before .loop .inv .len
-
 returns : tie.Need-returns Inv-loop μ-loop
 returns c = (runs-out _ _ _ _ _ _ (c .before .before .before .before .loop .inv) (c .before .before .before .before
     .loop .words) (c .test-level .result) (c .test-level .ensures),
     c .before .before .before .before .loop .inv .graph)
 
-sub-left : tie.Need-sub-left Inv-loop μ-loop
-sub-left c = omega (arith, c .if1 .left)
-
 expand-level-requires : tie.Need-expand-level-requires Inv-loop μ-loop
 expand-level-requires c κs = (c .before .before .before .loop .inv .set-at, (c .before .before .before .loop .inv
     .state, runs-shallow _ _ _ _ _ _ (c .before .before .before .loop .inv)
     (omega (arith, c .before .if1 .left))))
-
-enum-known-l : tie.Need-enum-known-l Inv-loop μ-loop
-enum-known-l c = search needs
 
 same-length-2 : tie.Need-same-length-2 Inv-loop μ-loop
 same-length-2 c = c .before .before .before .before .before .expand-level .kept .0 ∙ c .before .before .before
@@ -52,9 +43,6 @@ returns-2 c = (runs-out _ _ _ _ _ _ (c .before .before .before .before .before .
     .expand-level .ensures .1 ∙ c .before .before .before .before .before .before .before .before .before .loop .inv
     .graph)
 
-enum-known-l-2 : tie.Need-enum-known-l-2 Inv-loop μ-loop
-enum-known-l-2 c = search needs
-
 loop-less : tie.Need-loop-less Inv-loop μ-loop
 loop-less c = omega (arith, c .before .before .before .before .before .before .before .if1 .left)
 
@@ -65,29 +53,12 @@ loop-again c = runs-again _ _ _ _ _ _ (c .before .before .before .before .before
     (leveled-alike _ _ _ _ _ _ _ _ (c .before .l2 .given .1) (c .before .before .before .before .before .expand-level
     .ensures .0)) (c .before .before .before .before .before .expand-level .ensures .1)
 
-same-length-3 : tie.Need-same-length-3 Inv-loop μ-loop
-same-length-3 c = c .before .loop .inv .len
-
 returns-3 : tie.Need-returns-3 Inv-loop μ-loop
 returns-3 c = (runs-same _ _ _ _ _ _ (c .before .loop .inv) (c .loop-test .left), c .before .loop .inv .graph)
 
 pub run-spec : {M : Type 1} → statement M
 run-spec =
-    tie.close
-    (tie.spec
-    Inv-loop
-    μ-loop
-    loop-holds
-    test-level-requires
-    same-length
-    returns
-    sub-left
-    expand-level-requires
-    enum-known-l
-    same-length-2
-    returns-2
-    enum-known-l-2
-    loop-less
-    loop-again
-    same-length-3
-    returns-3)
+    tie.close (tie.spec Inv-loop μ-loop loop-holds test-level-requires
+    (λ c. c .before .before .before .before .loop .inv .len) returns (λ c. omega (arith, c .if1 .left))
+    expand-level-requires (search needs) same-length-2 returns-2 (search needs) loop-less loop-again
+    (λ c. c .before .loop .inv .len) returns-3)

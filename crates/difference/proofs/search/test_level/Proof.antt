@@ -31,9 +31,6 @@ add-head : tie.Need-add-head Inv-loop μ-loop
 add-head c = let h = room-of _ _ _ _ (c .before .before .before .before .before .pre .0) (c .before .before .before
     .before .before .pre .1 .0) in omega (arith, h, c .before .before .loop-test .taken)
 
-loop-less : tie.Need-loop-less Inv-loop μ-loop
-loop-less c = omega (arith, c .before .before .loop-test .taken)
-
 loop-again : tie.Need-loop-again Inv-loop μ-loop
 loop-again c = testing-again _ _ _ _ (c .before .before .before .loop .inv) (sym (c .before .alike-at .ensures) ∙
     not-false _ (c .if1 .left))
@@ -44,14 +41,5 @@ returns-2 c = test-same _ _ _ _ (c .before .before .before .pre .0) (c .before .
 
 pub test-level-spec : {M : Type 1} → statement M
 test-level-spec =
-    tie.close
-    (tie.spec
-    Inv-loop
-    μ-loop
-    loop-holds
-    alike-at-requires
-    returns
-    add-head
-    loop-less
-    loop-again
-    returns-2)
+    tie.close (tie.spec Inv-loop μ-loop loop-holds alike-at-requires returns add-head
+    (λ c. omega (arith, c .before .before .loop-test .taken)) loop-again returns-2)

@@ -60,6 +60,5 @@ returns-2 c = let a = c .before .before .before .before .before .before .before 
 
 pub visit-spec : {M : Type 1} → statement M
 visit-spec =
-    tie.close
-    (tie.spec find-requires find-requires-2 (search needs) returns link-requires push-requires (search needs)
-    (search needs) returns-2)
+    tie.close (tie.spec find-requires find-requires-2 (search needs) returns link-requires push-requires
+    (search needs) (search needs) returns-2)

@@ -3,7 +3,7 @@ use Prim.Native.Nat.{_+_, _*_, ℕ, _<_}
 use borrow.Author.Needs.{needs}
 use borrow.Author.Tests.{not-false}
 use native.Mathlib.Omega.{arith}
-use mathlib.Core.Path.{refl, sym, _∙_}
+use mathlib.Core.Path.{refl, sym}
 use Rattle.expand.proofs.Joins.{piece-none, piece-some, pieces-two, pieces-four, row-made, entered, record-block}
 use Rattle.expand.proofs.Joins.{record-plain, kind-stays, leaf-made, no-parts}
 use Rattle.expand.proofs.Expansion.{by-come, by-end, by-kind}
@@ -162,33 +162,6 @@ expand-own-μ-loop t marks slots rows₀ level left n at own₀ here₀ around�
 
 -- enter
 module _ (t : ℕ) where
-  enter-word-at-requires : enter-lts.Need-word-at-requires (enter-calls t) (enter-at t) enter.Post
-  enter-word-at-requires c κs = search needs
-
-  enter-procedure-of-requires : enter-lts.Need-procedure-of-requires (enter-calls t) (enter-at t) enter.Post
-  enter-procedure-of-requires c κs = search needs
-
-  enter-word-at-requires-2 : enter-lts.Need-word-at-requires-2 (enter-calls t) (enter-at t) enter.Post
-  enter-word-at-requires-2 c κs = search needs
-
-  enter-word-at-requires-3 : enter-lts.Need-word-at-requires-3 (enter-calls t) (enter-at t) enter.Post
-  enter-word-at-requires-3 c κs = search needs
-
-  enter-used-at-requires : enter-lts.Need-used-at-requires (enter-calls t) (enter-at t) enter.Post
-  enter-used-at-requires c κs = search needs
-
-  enter-expand-parts-requires : enter-lts.Need-expand-parts-requires (enter-calls t) (enter-at t) enter.Post
-  enter-expand-parts-requires c κs = search needs
-
-  enter-pass-requires : enter-lts.Need-pass-requires (enter-calls t) (enter-at t) enter.Post
-  enter-pass-requires c κs = search needs
-
-  enter-passed-of-requires : enter-lts.Need-passed-of-requires (enter-calls t) (enter-at t) enter.Post
-  enter-passed-of-requires c κs = search needs
-
-  enter-more-requires : enter-lts.Need-more-requires (enter-calls t) (enter-at t) enter.Post
-  enter-more-requires c κs = search needs
-
   enter-returns : enter-lts.Need-returns (enter-calls t) (enter-at t) enter.Post
   enter-returns c = entered _ _ _ _ _ _ _ _ _ _ _ _ _ _ _ _ _ _ _ _ _ _ (c .before .before .before .before .before
       .before .before .before .before .before .before .before .before .before .word-at .ensures) (c .before .before
@@ -200,27 +173,6 @@ module _ (t : ℕ) where
 
 -- expand
 module _ (t : ℕ) where
-  expand-word-at-requires : expand-lts.Need-word-at-requires (expand-calls t) (expand-at t) expand.Post
-  expand-word-at-requires c κs = search needs
-
-  expand-stays-requires : expand-lts.Need-stays-requires (expand-calls t) (expand-at t) expand.Post
-  expand-stays-requires c κs = search needs
-
-  expand-expand-own-requires : expand-lts.Need-expand-own-requires (expand-calls t) (expand-at t) expand.Post
-  expand-expand-own-requires c κs = search needs
-
-  expand-returns : expand-lts.Need-returns (expand-calls t) (expand-at t) expand.Post
-  expand-returns c = c .expand-own .ensures
-
-  expand-returns-2 : expand-lts.Need-returns-2 (expand-calls t) (expand-at t) expand.Post
-  expand-returns-2 c = by-end _ _ _ _ _ _ _ _ (c .if2 .taken)
-
-  expand-sub-expand-row : expand-lts.Need-sub-expand-row (expand-calls t) (expand-at t) expand.Post
-  expand-sub-expand-row c = search needs
-
-  expand-expand-row-requires : expand-lts.Need-expand-row-requires (expand-calls t) (expand-at t) expand.Post
-  expand-expand-row-requires c κs = search needs
-
   expand-returns-3 : expand-lts.Need-returns-3 (expand-calls t) (expand-at t) expand.Post
   expand-returns-3 c = by-kind _ _ _ _ _ _ _ _ _ (sym (c .before .before .before .before .before .before .before
       .pre .1)) (omega arith) (c .before .before .if2 .left)
@@ -230,48 +182,11 @@ module _ (t : ℕ) where
 
 -- expand_own
 module _ (t : ℕ) where
-  expand-own-loop-holds : expand-own-lts.Need-loop-holds (expand-own-calls t) (expand-own-at t) expand-own.Post
-      expand-own-Inv-loop expand-own-μ-loop
-  expand-own-loop-holds c = led-first _ _ _ _ _ _ _ _
-
-  expand-own-sub-turns : expand-own-lts.Need-sub-turns (expand-own-calls t) (expand-own-at t) expand-own.Post
-      expand-own-Inv-loop expand-own-μ-loop
-  expand-own-sub-turns c = search needs
-
-  expand-own-come-at-requires : expand-own-lts.Need-come-at-requires (expand-own-calls t) (expand-own-at t)
-      expand-own.Post expand-own-Inv-loop expand-own-μ-loop
-  expand-own-come-at-requires c κs = search needs
-
-  expand-own-sub-slot-at : expand-own-lts.Need-sub-slot-at (expand-own-calls t) (expand-own-at t) expand-own.Post
-      expand-own-Inv-loop expand-own-μ-loop
-  expand-own-sub-slot-at c = search needs
-
-  expand-own-slot-at-requires : expand-own-lts.Need-slot-at-requires (expand-own-calls t) (expand-own-at t)
-      expand-own.Post expand-own-Inv-loop expand-own-μ-loop
-  expand-own-slot-at-requires c κs = search needs
-
   expand-own-returns : expand-own-lts.Need-returns (expand-own-calls t) (expand-own-at t) expand-own.Post
       expand-own-Inv-loop expand-own-μ-loop
   expand-own-returns c = led-come _ _ _ _ _ _ _ _ _ _ _ _ _ _ (c .before .before .before .before .before .before
       .loop .inv) _
       (c .before .before .before .come-at .ensures) _ (c .before .before .if1 .taken) (c .slot-at .ensures)
-
-  expand-own-word-at-requires : expand-own-lts.Need-word-at-requires (expand-own-calls t) (expand-own-at t)
-      expand-own.Post expand-own-Inv-loop expand-own-μ-loop
-  expand-own-word-at-requires c κs = search needs
-
-  expand-own-add-word-at : expand-own-lts.Need-add-word-at (expand-own-calls t) (expand-own-at t) expand-own.Post
-      expand-own-Inv-loop expand-own-μ-loop
-  expand-own-add-word-at c = search needs
-
-  expand-own-word-at-requires-2 : expand-own-lts.Need-word-at-requires-2 (expand-own-calls t) (expand-own-at t)
-      expand-own.Post expand-own-Inv-loop expand-own-μ-loop
-  expand-own-word-at-requires-2 c κs = search needs
-
-  expand-own-more-requires : expand-own-lts.Need-more-requires (expand-own-calls t) (expand-own-at t)
-      expand-own.Post
-      expand-own-Inv-loop expand-own-μ-loop
-  expand-own-more-requires c κs = search needs
 
   expand-own-loop-less : expand-own-lts.Need-loop-less (expand-own-calls t) (expand-own-at t) expand-own.Post
       expand-own-Inv-loop expand-own-μ-loop
@@ -330,29 +245,6 @@ module _ (t : ℕ) where
 
 -- expand_part
 module _ (t : ℕ) where
-  expand-part-returns : expand-part-lts.Need-returns (expand-part-calls t) (expand-part-at t) expand-part.Post
-  expand-part-returns c = piece-none _ _ _ _ _ _ _ _ _ _ (c .if1 .taken)
-
-  expand-part-add-word-at : expand-part-lts.Need-add-word-at (expand-part-calls t) (expand-part-at t)
-      expand-part.Post
-  expand-part-add-word-at c = search needs
-
-  expand-part-word-at-requires : expand-part-lts.Need-word-at-requires (expand-part-calls t) (expand-part-at t)
-      expand-part.Post
-  expand-part-word-at-requires c κs = search needs
-
-  expand-part-come-at-requires : expand-part-lts.Need-come-at-requires (expand-part-calls t) (expand-part-at t)
-      expand-part.Post
-  expand-part-come-at-requires c κs = search needs
-
-  expand-part-sub-slot-at : expand-part-lts.Need-sub-slot-at (expand-part-calls t) (expand-part-at t)
-      expand-part.Post
-  expand-part-sub-slot-at c = search needs
-
-  expand-part-slot-at-requires : expand-part-lts.Need-slot-at-requires (expand-part-calls t) (expand-part-at t)
-      expand-part.Post
-  expand-part-slot-at-requires c κs = search needs
-
   expand-part-returns-2 : expand-part-lts.Need-returns-2 (expand-part-calls t) (expand-part-at t) expand-part.Post
   expand-part-returns-2 c = piece-some _ _ _ _ _ _ _ _ _ _ _ _ _ _ (c .before .before .before .before .before
       .before .if1 .left) (c .before .before .before .before .word-at .ensures) (by-come _ _ _ _ _ _ _ _ (c .before
@@ -369,26 +261,10 @@ module _ (t : ℕ) where
 
 -- expand_parts
 module _ (t : ℕ) where
-  expand-parts-expand-part-requires : expand-parts-lts.Need-expand-part-requires (expand-parts-calls t)
-      (expand-parts-at t) expand-parts.Post
-  expand-parts-expand-part-requires c κs = search needs
-
-  expand-parts-expand-part-requires-2 : expand-parts-lts.Need-expand-part-requires-2 (expand-parts-calls t)
-      (expand-parts-at t) expand-parts.Post
-  expand-parts-expand-part-requires-2 c κs = search needs
-
   expand-parts-returns : expand-parts-lts.Need-returns (expand-parts-calls t) (expand-parts-at t) expand-parts.Post
   expand-parts-returns c = pieces-two _ _ _ _ _ _ (c .before .before .before .before .before .args .wanted) _ _ _ _
       _ _ _ _ (c .if1 .taken)
       (c .before .before .before .expand-part .ensures) (c .before .expand-part2 .ensures)
-
-  expand-parts-expand-part-requires-3 : expand-parts-lts.Need-expand-part-requires-3 (expand-parts-calls t)
-      (expand-parts-at t) expand-parts.Post
-  expand-parts-expand-part-requires-3 c κs = search needs
-
-  expand-parts-expand-part-requires-4 : expand-parts-lts.Need-expand-part-requires-4 (expand-parts-calls t)
-      (expand-parts-at t) expand-parts.Post
-  expand-parts-expand-part-requires-4 c κs = search needs
 
   expand-parts-returns-2 : expand-parts-lts.Need-returns-2 (expand-parts-calls t) (expand-parts-at t)
       expand-parts.Post
@@ -400,32 +276,11 @@ module _ (t : ℕ) where
 
 -- expand_record
 module _ (t : ℕ) where
-  expand-record-word-at-requires : expand-record-lts.Need-word-at-requires (expand-record-calls t) (expand-record-at
-      t) expand-record.Post
-  expand-record-word-at-requires c κs = search needs
-
-  expand-record-put-slot-requires : expand-record-lts.Need-put-slot-requires (expand-record-calls t)
-      (expand-record-at
-      t) expand-record.Post
-  expand-record-put-slot-requires c κs = search needs
-
-  expand-record-more-requires : expand-record-lts.Need-more-requires (expand-record-calls t) (expand-record-at t)
-      expand-record.Post
-  expand-record-more-requires c κs = search needs
-
-  expand-record-expand-row-requires : expand-record-lts.Need-expand-row-requires (expand-record-calls t)
-      (expand-record-at t) expand-record.Post
-  expand-record-expand-row-requires c κs = search needs
-
   expand-record-returns : expand-record-lts.Need-returns (expand-record-calls t) (expand-record-at t)
       expand-record.Post
   expand-record-returns c = record-block _ _ _ _ _ _ _ _ _ _ _ _ (c .before .before .before .before .before .before
       .before .word-at .ensures) _ _ (c .before .before .before .before .before .before .if1 .taken) (c .before
       .before .before .before .put-slot .ensures) (c .before .more .ensures) refl (c .expand-row .ensures)
-
-  expand-record-expand-row-requires-2 : expand-record-lts.Need-expand-row-requires-2 (expand-record-calls t)
-      (expand-record-at t) expand-record.Post
-  expand-record-expand-row-requires-2 c κs = search needs
 
   expand-record-returns-2 : expand-record-lts.Need-returns-2 (expand-record-calls t) (expand-record-at t)
       expand-record.Post
@@ -435,18 +290,6 @@ module _ (t : ℕ) where
 
 -- expand_row
 module _ (t : ℕ) where
-  expand-row-word-at-requires : expand-row-lts.Need-word-at-requires (expand-row-calls t) (expand-row-at t)
-      expand-row.Post
-  expand-row-word-at-requires c κs = search needs
-
-  expand-row-word-at-requires-2 : expand-row-lts.Need-word-at-requires-2 (expand-row-calls t) (expand-row-at t)
-      expand-row.Post
-  expand-row-word-at-requires-2 c κs = search needs
-
-  expand-row-parts-of-requires : expand-row-lts.Need-parts-of-requires (expand-row-calls t) (expand-row-at t)
-      expand-row.Post
-  expand-row-parts-of-requires c κs = search needs
-
   expand-row-close-leaf-requires : expand-row-lts.Need-close-leaf-requires (expand-row-calls t) (expand-row-at t)
       expand-row.Post
   expand-row-close-leaf-requires c κs =
@@ -454,29 +297,12 @@ module _ (t : ℕ) where
           .before .before .word-at2 .ensures) (c .before .before .before .parts-of .ensures) (c .before .before .if1
           .taken)
 
-  expand-row-more-requires : expand-row-lts.Need-more-requires (expand-row-calls t) (expand-row-at t)
-      expand-row.Post
-  expand-row-more-requires c κs = search needs
-
   expand-row-returns : expand-row-lts.Need-returns (expand-row-calls t) (expand-row-at t) expand-row.Post
   expand-row-returns c =
       leaf-made _ _ _ _ _ _ _ _ _ _ _ _ _ (c .before .before .before .before .before .before .before .before
           .word-at .ensures) (c .before .before .before .before .before .before .word-at2 .ensures) (c .before
           .before .before .before .before .parts-of .ensures) (c .before .before .before .before .if1 .taken)
         (c .more .ensures) (c .before .close-leaf .ensures)
-
-  expand-row-more-requires-2 : expand-row-lts.Need-more-requires-2 (expand-row-calls t) (expand-row-at t)
-      expand-row.Post
-  expand-row-more-requires-2 c κs = search needs
-
-  expand-row-expand-parts-requires : expand-row-lts.Need-expand-parts-requires (expand-row-calls t) (expand-row-at
-      t)
-      expand-row.Post
-  expand-row-expand-parts-requires c κs = search needs
-
-  expand-row-close-row-requires : expand-row-lts.Need-close-row-requires (expand-row-calls t) (expand-row-at t)
-      expand-row.Post
-  expand-row-close-row-requires c κs = search needs
 
   expand-row-returns-2 : expand-row-lts.Need-returns-2 (expand-row-calls t) (expand-row-at t) expand-row.Post
   expand-row-returns-2 c = row-made _ _ _ _ _ _ _ _ _ _ _ _ _ _ _ _ _ _ _ (c .before .before .before .before .before
@@ -488,39 +314,29 @@ module _ (t : ℕ) where
 pub +enter+expand+expand-own+expand-part+expand-parts+expand-record+expand-row-spec : {M : Type 1} → statement M
 +enter+expand+expand-own+expand-part+expand-parts+expand-record+expand-row-spec =
     close μ-enter μ-expand μ-expand-own μ-expand-part μ-expand-parts μ-expand-record μ-expand-row
-    (λ t. enter-lts.spec (enter-calls t) (enter-at t) enter.Post
-      (enter-word-at-requires t) (enter-procedure-of-requires t) (enter-word-at-requires-2 t)
-          (enter-word-at-requires-3 t) (enter-used-at-requires t) (enter-expand-parts-requires t)
-              (enter-pass-requires
-          t) (enter-passed-of-requires t) (enter-more-requires t) (enter-returns t))
-    (λ t. expand-lts.spec (expand-calls t) (expand-at t) expand.Post
-      (expand-word-at-requires t) (expand-stays-requires t) (expand-expand-own-requires t)
-          (expand-returns t) (expand-returns-2 t) (expand-sub-expand-row t) (expand-expand-row-requires t)
-          (expand-returns-3 t))
+    (λ t. enter-lts.spec (enter-calls t) (enter-at t) enter.Post (λ c κs. search needs) (λ c κs. search needs)
+      (λ c κs. search needs) (λ c κs. search needs) (λ c κs. search needs) (λ c κs. search needs)
+      (λ c κs. search needs) (λ c κs. search needs) (λ c κs. search needs) (enter-returns t))
+    (λ t. expand-lts.spec (expand-calls t) (expand-at t) expand.Post (λ c κs. search needs) (λ c κs. search needs)
+      (λ c κs. search needs) (λ c. c .expand-own .ensures) (λ c. by-end _ _ _ _ _ _ _ _ (c .if2 .taken))
+      (search needs) (λ c κs. search needs) (expand-returns-3 t))
     (λ t. expand-own-lts.spec (expand-own-calls t) (expand-own-at t) expand-own.Post expand-own-Inv-loop
-      expand-own-μ-loop
-      (expand-own-loop-holds t) (expand-own-sub-turns t) (expand-own-come-at-requires t) (expand-own-sub-slot-at t)
-          (expand-own-slot-at-requires t) (expand-own-returns t)
-          (expand-own-word-at-requires t) (expand-own-add-word-at t) (expand-own-word-at-requires-2 t)
-          (expand-own-more-requires t) (expand-own-loop-less t) (expand-own-loop-again t)
-          (expand-own-expand-record-requires t) (expand-own-returns-2 t)
-          (expand-own-enter-requires t) (expand-own-loop-less-2 t) (expand-own-loop-again-2 t)
-          (expand-own-returns-3 t))
+      expand-own-μ-loop (λ c. led-first _ _ _ _ _ _ _ _) (search needs) (λ c κs. search needs) (search needs)
+      (λ c κs. search needs) (expand-own-returns t) (λ c κs. search needs) (search needs) (λ c κs. search needs)
+      (λ c κs. search needs) (expand-own-loop-less t) (expand-own-loop-again t)
+      (expand-own-expand-record-requires t) (expand-own-returns-2 t) (expand-own-enter-requires t)
+      (expand-own-loop-less-2 t) (expand-own-loop-again-2 t) (expand-own-returns-3 t))
     (λ t. expand-part-lts.spec (expand-part-calls t) (expand-part-at t) expand-part.Post
-      (expand-part-returns t) (expand-part-add-word-at t) (expand-part-word-at-requires t)
-          (expand-part-come-at-requires t) (expand-part-sub-slot-at t) (expand-part-slot-at-requires t)
-          (expand-part-returns-2 t) (expand-part-expand-requires t) (expand-part-returns-3
-          t))
-    (λ t. expand-parts-lts.spec (expand-parts-calls t) (expand-parts-at t) expand-parts.Post
-      (expand-parts-expand-part-requires t) (expand-parts-expand-part-requires-2 t) (expand-parts-returns t)
-          (expand-parts-expand-part-requires-3 t) (expand-parts-expand-part-requires-4 t)
-          (expand-parts-returns-2 t))
+      (λ c. piece-none _ _ _ _ _ _ _ _ _ _ (c .if1 .taken)) (search needs) (λ c κs. search needs)
+      (λ c κs. search needs) (search needs) (λ c κs. search needs) (expand-part-returns-2 t)
+      (expand-part-expand-requires t) (expand-part-returns-3 t))
+    (λ t. expand-parts-lts.spec (expand-parts-calls t) (expand-parts-at t) expand-parts.Post (λ c κs. search needs)
+      (λ c κs. search needs) (expand-parts-returns t) (λ c κs. search needs) (λ c κs. search needs)
+      (expand-parts-returns-2 t))
     (λ t. expand-record-lts.spec (expand-record-calls t) (expand-record-at t) expand-record.Post
-      (expand-record-word-at-requires t) (expand-record-put-slot-requires t) (expand-record-more-requires t)
-          (expand-record-expand-row-requires t) (expand-record-returns t)
-          (expand-record-expand-row-requires-2 t) (expand-record-returns-2 t))
-    (λ t. expand-row-lts.spec (expand-row-calls t) (expand-row-at t) expand-row.Post
-      (expand-row-word-at-requires t) (expand-row-word-at-requires-2 t) (expand-row-parts-of-requires t)
-          (expand-row-close-leaf-requires t) (expand-row-more-requires t)
-          (expand-row-returns t) (expand-row-more-requires-2 t) (expand-row-expand-parts-requires t)
-          (expand-row-close-row-requires t) (expand-row-returns-2 t))
+      (λ c κs. search needs) (λ c κs. search needs) (λ c κs. search needs) (λ c κs. search needs)
+      (expand-record-returns t) (λ c κs. search needs) (expand-record-returns-2 t))
+    (λ t. expand-row-lts.spec (expand-row-calls t) (expand-row-at t) expand-row.Post (λ c κs. search needs)
+      (λ c κs. search needs) (λ c κs. search needs) (expand-row-close-leaf-requires t) (λ c κs. search needs)
+      (expand-row-returns t) (λ c κs. search needs) (λ c κs. search needs) (λ c κs. search needs)
+      (expand-row-returns-2 t))

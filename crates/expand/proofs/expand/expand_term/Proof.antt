@@ -5,8 +5,6 @@ use Rattle.expand.proofs.Expansion.{by-top}
 use Rattle.expand.proofs.expand.expand_term.Statement.{statement}
 use Rattle.expand.proofs.expand.expand_term.Tie as tie
 
-returns : tie.Need-returns
-returns c = by-top _ _ _ _ _ _ _ _ refl (c .expand-own .ensures)
-
 pub expand-term-spec : {M : Type 1} → statement M
-expand-term-spec = tie.close (tie.spec (λ c κs. search needs) returns)
+expand-term-spec =
+    tie.close (tie.spec (λ c κs. search needs) (λ c. by-top _ _ _ _ _ _ _ _ refl (c .expand-own .ensures)))

@@ -1,6 +1,5 @@
 -- What `close` leaves is what `closedOf` says.
 use borrow.Author.Needs.{needs}
-use borrow.Author.Tests.{le-leb, lt-leb, lt-ltb, le-ltb, eq-eqb, ne-eqb}
 use Rattle.explicit.specs.inner.Rows.{closedOf}
 use Rattle.explicit.proofs.fill.close.Statement.{statement}
 use Rattle.explicit.proofs.fill.close.Tie as tie

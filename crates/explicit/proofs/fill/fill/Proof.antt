@@ -18,9 +18,6 @@ Inv-loop t n s words₀ p₀ e root all c₀ k₀ next₀ words p c k next = (k 
 abbrev μ-loop : tie.MeasureT-loop
 μ-loop t n s words₀ p₀ e root all c₀ k₀ next₀ words p c k next = all - k
 
-spots-of-requires : tie.Need-spots-of-requires Inv-loop μ-loop
-spots-of-requires c κs = search needs
-
 loop-holds : tie.Need-loop-holds Inv-loop μ-loop
 loop-holds c = (omega arith, (refl, (kept-none _ _ _ (c .before .before .before .pre .1), filled-first _ _ _ _ _)))
 
@@ -28,28 +25,10 @@ go-to-requires : tie.Need-go-to-requires Inv-loop μ-loop
 go-to-requires c κs = (c .before .before .loop .inv .1 .1 .0, omega (arith, c .before .loop-test .taken, c .before
     .before .before .spots-of .ensures, c .before .before .before .before .before .before .pre .0))
 
-write-row-requires : tie.Need-write-row-requires Inv-loop μ-loop
-write-row-requires c κs = c .before .before .go-to .ensures
-
-add-k : tie.Need-add-k Inv-loop μ-loop
-add-k c = search needs
-
-loop-less : tie.Need-loop-less Inv-loop μ-loop
-loop-less c = search needs
-
 loop-again : tie.Need-loop-again Inv-loop μ-loop
 loop-again c = (search needs, (search needs, (kept-fewer _ _ (c .before .before .before .before .before .go-to .ensures
     .kept) (omega arith) (omega arith), filled-again (c .before .before .before .before .before .before .before .before
     .loop .inv .1 .1 .1) (c .before .before .write-row .ensures .0) (c .before .before .write-row .ensures .1))))
-
-sum-requires : tie.Need-sum-requires Inv-loop μ-loop
-sum-requires c κs = search needs
-
-write-head-requires : tie.Need-write-head-requires Inv-loop μ-loop
-write-head-requires c κs = search needs
-
-same-length : tie.Need-same-length Inv-loop μ-loop
-same-length c = search needs
 
 returns : tie.Need-returns Inv-loop μ-loop
 returns c =
@@ -61,6 +40,7 @@ returns c =
     (r .0, (r .1, c .before .before .before .before .before .before .loop .inv .1 .1 .0 .sound .room))
 
 pub fill-spec : {M : Type 1} → statement M
-fill-spec = tie.close (tie.spec Inv-loop μ-loop spots-of-requires loop-holds go-to-requires
-    write-row-requires add-k loop-less loop-again sum-requires write-head-requires
-    same-length returns)
+fill-spec =
+    tie.close (tie.spec Inv-loop μ-loop (λ c κs. search needs) loop-holds go-to-requires
+    (λ c κs. c .before .before .go-to .ensures) (search needs) (search needs) loop-again (λ c κs. search needs)
+    (λ c κs. search needs) (search needs) returns)

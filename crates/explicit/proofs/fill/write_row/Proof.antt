@@ -1,15 +1,11 @@
 -- `write_row` writes the row `rowOf`, and gives the number of the edge after it.
 use borrow.Author.Needs.{needs}
-use native.Mathlib.Omega.{arith}
 use mathlib.Core.Path.{refl}
 use Rattle.explicit.proofs.PathRows.{is-go, is-exit, is-stuck, row-quiet, row-says, row-hears}
 use Rattle.explicit.proofs.PathListens.{row-listens}
 use Rattle.explicit.proofs.Loops.{WroteRow}
 use Rattle.explicit.proofs.fill.write_row.Statement.{statement}
 use Rattle.explicit.proofs.fill.write_row.Tie as tie
-
-silent-at-requires : tie.Need-silent-at-requires
-silent-at-requires c κs = c .before .before .before .before .pre .kept .sound
 
 lead-requires : tie.Need-lead-requires
 lead-requires c κs = c .before .before .before .before .before .before .before .before .before .before .before .before
@@ -64,7 +60,9 @@ returns-5 c = row-quiet _ _ _ _ _ _ _ _ (c .before .before .before .before .befo
     .enum-told3 .given .1))
 
 pub write-row-spec : {M : Type 1} → statement M
-write-row-spec = tie.close (tie.spec (λ c κs. search needs) silent-at-requires (λ c κs. search needs) (search needs)
-    (search needs) (search needs) (λ c κs. search needs) lead-requires (λ c κs. search needs) (λ c κs. search needs)
-    (search needs) (λ c κs. search needs) hear-requires (search needs) (search needs) returns (search needs)
-    returns-2 (search needs) returns-3 (search needs) returns-4 (search needs) returns-5)
+write-row-spec =
+    tie.close (tie.spec (λ c κs. search needs) (λ c κs. c .before .before .before .before .pre .kept .sound)
+    (λ c κs. search needs) (search needs) (search needs) (search needs) (λ c κs. search needs) lead-requires
+    (λ c κs. search needs) (λ c κs. search needs) (search needs) (λ c κs. search needs) hear-requires (search needs)
+    (search needs) returns (search needs) returns-2 (search needs) returns-3 (search needs) returns-4 (search needs)
+    returns-5)

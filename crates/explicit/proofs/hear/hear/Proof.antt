@@ -5,12 +5,6 @@ use Rattle.explicit.proofs.HeardQuestions.{plain-told}
 use Rattle.explicit.proofs.hear.hear.Statement.{statement}
 use Rattle.explicit.proofs.hear.hear.Tie as tie
 
-hear-all-requires : tie.Need-hear-all-requires
-hear-all-requires c κs = c .before .before .before .before .before .pre
-
-returns : tie.Need-returns
-returns c = c .before .before .hear-all .ensures
-
 hear-answers-requires : tie.Need-hear-answers-requires
 hear-answers-requires c κs = (c .before .before .before .before .before .before .before .before .before .pre,
     c .before .before .before .before .before .if1 .left)
@@ -25,10 +19,8 @@ hear-called-requires : tie.Need-hear-called-requires
 hear-called-requires c κs = (c .before .before .before .before .before .before .before .pre,
     c .before .before .before .if1 .left)
 
-returns-3 : tie.Need-returns-3
-returns-3 c = c .before .before .hear-called .ensures
-
 pub hear-spec : {M : Type 1} → statement M
-hear-spec = tie.close (tie.spec hear-all-requires (search needs) returns (λ c κs. search needs)
-    (λ c κs. search needs) hear-answers-requires (search needs) returns-2 hear-called-requires (search needs)
-    returns-3)
+hear-spec =
+    tie.close (tie.spec (λ c κs. c .before .before .before .before .before .pre) (search needs)
+    (λ c. c .before .before .hear-all .ensures) (λ c κs. search needs) (λ c κs. search needs) hear-answers-requires
+    (search needs) returns-2 hear-called-requires (search needs) (λ c. c .before .before .hear-called .ensures))

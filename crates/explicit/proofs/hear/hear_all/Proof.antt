@@ -16,30 +16,17 @@ Inv-loop t n s words₀ p c wait e b₀ next₀ words b next = (b ≤ 35) × ((l
 abbrev μ-loop : tie.MeasureT-loop
 μ-loop t n s words₀ p c wait e b₀ next₀ words b next = 35 - b
 
-loop-holds : tie.Need-loop-holds Inv-loop μ-loop
-loop-holds c = (omega arith, (refl, heard-first _ _ _ _ _ _))
-
-hear-block-requires : tie.Need-hear-block-requires Inv-loop μ-loop
-hear-block-requires c κs = c .before .before .before .before .before .pre
-
-add-b : tie.Need-add-b Inv-loop μ-loop
-add-b c = search needs
-
-loop-less : tie.Need-loop-less Inv-loop μ-loop
-loop-less c = search needs
-
 loop-again : tie.Need-loop-again Inv-loop μ-loop
 loop-again c = (search needs, (search needs, heard-again _ _ _ _ _ _ _ _ _ _ _ (c .before .before .before .before
     .before .loop .inv .1 .1) (wrote (c .before .before .hear-block .ensures .0)
     (c .before .before .hear-block .ensures .1))))
-
-same-length : tie.Need-same-length Inv-loop μ-loop
-same-length c = c .before .loop .inv .1 .0
 
 returns : tie.Need-returns Inv-loop μ-loop
 returns c = told (heard-last _ _ _ _ _ _ _ _ _ (omega (arith, c .before .loop .inv .0, c .loop-test .left))
     (c .before .loop .inv .1 .1))
 
 pub hear-all-spec : {M : Type 1} → statement M
-hear-all-spec = tie.close (tie.spec Inv-loop μ-loop loop-holds hear-block-requires add-b loop-less loop-again
-    same-length returns)
+hear-all-spec =
+    tie.close (tie.spec Inv-loop μ-loop (λ c. (omega arith, (refl, heard-first _ _ _ _ _ _)))
+    (λ c κs. c .before .before .before .before .before .pre) (search needs) (search needs) loop-again
+    (λ c. c .before .loop .inv .1 .0) returns)

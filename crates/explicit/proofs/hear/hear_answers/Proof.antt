@@ -18,20 +18,8 @@ Inv-loop t n s words₀ p c wait kind e below all r₀ next₀ words r next = (r
 abbrev μ-loop : tie.MeasureT-loop
 μ-loop t n s words₀ p c wait kind e below all r₀ next₀ words r next = all - r
 
-limit-requires : tie.Need-limit-requires Inv-loop μ-loop
-limit-requires c κs = search needs
-
 returns : tie.Need-returns Inv-loop μ-loop
 returns c = told (block-none _ _ _ _ _ _ _ _ _ (c .before .limit .ensures) (c .if1 .taken))
-
-numbers-requires : tie.Need-numbers-requires Inv-loop μ-loop
-numbers-requires c κs = search needs
-
-cast-all : tie.Need-cast-all Inv-loop μ-loop
-cast-all c = search needs
-
-loop-holds : tie.Need-loop-holds Inv-loop μ-loop
-loop-holds c = (omega arith, (refl, values-first _ _ _ _ _ _ _ _ _))
 
 hear-answer-requires : tie.Need-hear-answer-requires Inv-loop μ-loop
 hear-answer-requires c κs = answering _ _ (c .before .before .before .before .before .before .before .before .pre .1) _
@@ -39,19 +27,10 @@ hear-answer-requires c κs = answering _ _ (c .before .before .before .before .b
     i)) (c .before .before .before .before .before .before .before .before .pre .0)
     (c .before .before .before .before .before .limit .ensures)
 
-add-r : tie.Need-add-r Inv-loop μ-loop
-add-r c = search needs
-
-loop-less : tie.Need-loop-less Inv-loop μ-loop
-loop-less c = search needs
-
 loop-again : tie.Need-loop-again Inv-loop μ-loop
 loop-again c = (search needs, (search needs, values-again _ _ _ _ _ _ _ _ _ _ _ _ _ _
     (c .before .before .before .before .before .loop .inv .1 .1) (wrote (c .before .before .hear-answer .ensures .0)
     (c .before .before .hear-answer .ensures .1))))
-
-same-length : tie.Need-same-length Inv-loop μ-loop
-same-length c = c .before .loop .inv .1 .0
 
 returns-2 : tie.Need-returns-2 Inv-loop μ-loop
 returns-2 c = told (block-some _ _ _ _ _ _ _ _ _ _ _ _ (c .before .before .before .before .limit .ensures)
@@ -60,5 +39,7 @@ returns-2 c = told (block-some _ _ _ _ _ _ _ _ _ _ _ _ (c .before .before .befor
     (c .before .loop .inv .1 .1))
 
 pub hear-answers-spec : {M : Type 1} → statement M
-hear-answers-spec = tie.close (tie.spec Inv-loop μ-loop limit-requires returns numbers-requires cast-all loop-holds
-    hear-answer-requires add-r loop-less loop-again same-length returns-2)
+hear-answers-spec =
+    tie.close (tie.spec Inv-loop μ-loop (λ c κs. search needs) returns (λ c κs. search needs) (search needs)
+    (λ c. (omega arith, (refl, values-first _ _ _ _ _ _ _ _ _))) hear-answer-requires (search needs) (search needs)
+    loop-again (λ c. c .before .loop .inv .1 .0) returns-2)

@@ -7,9 +7,6 @@ use Rattle.explicit.proofs.HeardQuestions.{limit-question}
 use Rattle.explicit.proofs.hear.hear_argument.Statement.{statement}
 use Rattle.explicit.proofs.hear.hear_argument.Tie as tie
 
-sub-j : tie.Need-sub-j
-sub-j c = omega (arith, c .before .before .pre .1 .some)
-
 returns : tie.Need-returns
 returns c = told (block-none _ _ _ _ _ _ _ _ _ (limit-question _ _ _ _ _ _ _ (c .before .before .before .before .before
     .before .pre .1) (c .before .before .before .part-class .ensures) (c .before .before .part-values .ensures) (c
@@ -26,5 +23,6 @@ returns-2 c = told (block-some _ _ _ _ _ _ _ _ _ _ _ _ (limit-question _ _ _ _ _
     .before .before .hear-values .ensures .0) (c .before .before .hear-values .ensures .1)))
 
 pub hear-argument-spec : {M : Type 1} → statement M
-hear-argument-spec = tie.close (tie.spec sub-j (λ c κs. search needs) (λ c κs. search needs) (λ c κs. search needs)
-    returns hear-values-requires (search needs) returns-2)
+hear-argument-spec =
+    tie.close (tie.spec (λ c. omega (arith, c .before .before .pre .1 .some)) (λ c κs. search needs)
+    (λ c κs. search needs) (λ c κs. search needs) returns hear-values-requires (search needs) returns-2)

@@ -25,25 +25,17 @@ hear-questions-requires : tie.Need-hear-questions-requires Inv-loop μ-loop
 hear-questions-requires c κs = (c .before .before .before .before .before .pre .0, c .before .before .before .before
     .before .pre .1 .0)
 
-add-kind : tie.Need-add-kind Inv-loop μ-loop
-add-kind c = search needs
-
-loop-less : tie.Need-loop-less Inv-loop μ-loop
-loop-less c = search needs
-
 loop-again : tie.Need-loop-again Inv-loop μ-loop
 loop-again c = ((omega (arith, c .before .before .before .before .before .loop .inv .0 .0), omega (arith, c .before
     .before .before .before .loop-test .taken)), (search needs, asked-again _ _ _ _ _ _ _ _ _ _ _ _ _ (c .before .before
     .before .before .before .loop .inv .0 .0) (c .before .before .before .before .before .loop .inv .1 .1) (wrote (c
     .before .before .hear-questions .ensures .0) (c .before .before .hear-questions .ensures .1))))
 
-same-length : tie.Need-same-length Inv-loop μ-loop
-same-length c = c .before .loop .inv .1 .0
-
 returns : tie.Need-returns Inv-loop μ-loop
 returns c = told (asked-last _ _ _ _ _ _ _ _ _ _ _ _ (omega (arith, c .before .loop .inv .0 .1, c .loop-test .left))
     (c .before .loop .inv .1 .1))
 
 pub hear-kinds-spec : {M : Type 1} → statement M
-hear-kinds-spec = tie.close (tie.spec Inv-loop μ-loop loop-holds hear-questions-requires add-kind loop-less loop-again
-    same-length returns)
+hear-kinds-spec =
+    tie.close (tie.spec Inv-loop μ-loop loop-holds hear-questions-requires (search needs) (search needs) loop-again
+    (λ c. c .before .loop .inv .1 .0) returns)

@@ -17,31 +17,20 @@ Inv-loop t n s words₀ p c wait kind count e arg₀ next₀ words arg next = (a
 abbrev μ-loop : tie.MeasureT-loop
 μ-loop t n s words₀ p c wait kind count e arg₀ next₀ words arg next = count - arg
 
-loop-holds : tie.Need-loop-holds Inv-loop μ-loop
-loop-holds c = (omega arith, (refl, questions-first _ _ _ _ _ _ _))
-
-add-arg : tie.Need-add-arg Inv-loop μ-loop
-add-arg c = search needs
-
 hear-argument-requires : tie.Need-hear-argument-requires Inv-loop μ-loop
 hear-argument-requires c κs = (c .before .before .before .before .before .pre .0, argument _ _ _ (c .before .before
     .before .before .before .pre .1) (c .before .loop-test .taken))
-
-loop-less : tie.Need-loop-less Inv-loop μ-loop
-loop-less c = search needs
 
 loop-again : tie.Need-loop-again Inv-loop μ-loop
 loop-again c = (search needs, (search needs, questions-again _ _ _ _ _ _ _ _ _ _ _ _ (c .before .before .before .before
     .before .loop .inv .1 .1) (wrote (c .before .before .hear-argument .ensures .0) (c .before .before .hear-argument
     .ensures .1))))
 
-same-length : tie.Need-same-length Inv-loop μ-loop
-same-length c = c .before .loop .inv .1 .0
-
 returns : tie.Need-returns Inv-loop μ-loop
 returns c = told (questions-last _ _ _ _ _ _ _ _ _ _ _ (omega (arith, c .before .loop .inv .0, c .loop-test .left))
     (c .before .loop .inv .1 .1))
 
 pub hear-questions-spec : {M : Type 1} → statement M
-hear-questions-spec = tie.close (tie.spec Inv-loop μ-loop loop-holds add-arg hear-argument-requires loop-less
-    loop-again same-length returns)
+hear-questions-spec =
+    tie.close (tie.spec Inv-loop μ-loop (λ c. (omega arith, (refl, questions-first _ _ _ _ _ _ _))) (search needs)
+    hear-argument-requires (search needs) loop-again (λ c. c .before .loop .inv .1 .0) returns)

@@ -7,9 +7,6 @@ use Rattle.explicit.proofs.hear.hear_value.Tie as tie
 returns : tie.Need-returns
 returns c = told (value-none _ _ _ _ _ _ _ _ _ _ _ (c .before .code-at .ensures) (c .if1 .taken))
 
-heard-requires : tie.Need-heard-requires
-heard-requires c κs = c .before .before .before .before .before .before .pre
-
 returns-2 : tie.Need-returns-2
 returns-2 c = told (value-some _ _ _ _ _ _ _ _ _ _ _ _ _ _ _ (c .before .before .before .before .before .before .before
     .before .code-at .ensures) (c .before .before .before .before .before .before .before .if1 .left)
@@ -17,5 +14,7 @@ returns-2 c = told (value-some _ _ _ _ _ _ _ _ _ _ _ _ _ _ _ (c .before .before 
     (c .before .before .before .write-edge .ensures) (c .sum .ensures))
 
 pub hear-value-spec : {M : Type 1} → statement M
-hear-value-spec = tie.close (tie.spec (λ c κs. search needs) returns (λ c κs. search needs) heard-requires
-    (λ c κs. search needs) (λ c κs. search needs) (search needs) returns-2)
+hear-value-spec =
+    tie.close (tie.spec (λ c κs. search needs) returns (λ c κs. search needs)
+    (λ c κs. c .before .before .before .before .before .before .pre) (λ c κs. search needs) (λ c κs. search needs)
+    (search needs) returns-2)

@@ -16,32 +16,11 @@ Inv-loop t n s words₀ p c wait kind arg below e all r₀ next₀ words r next 
 abbrev μ-loop : tie.MeasureT-loop
 μ-loop t n s words₀ p c wait kind arg below e all r₀ next₀ words r next = all - r
 
-numbers-requires : tie.Need-numbers-requires Inv-loop μ-loop
-numbers-requires c κs = search needs
-
-cast-all : tie.Need-cast-all Inv-loop μ-loop
-cast-all c = search needs
-
-loop-holds : tie.Need-loop-holds Inv-loop μ-loop
-loop-holds c = (omega arith, (refl, values-first _ _ _ _ _ _ _ _ _))
-
-hear-value-requires : tie.Need-hear-value-requires Inv-loop μ-loop
-hear-value-requires c κs = c .before .before .before .before .before .before .pre
-
-add-r : tie.Need-add-r Inv-loop μ-loop
-add-r c = search needs
-
-loop-less : tie.Need-loop-less Inv-loop μ-loop
-loop-less c = search needs
-
 loop-again : tie.Need-loop-again Inv-loop μ-loop
 loop-again c =
     (search needs, (search needs, values-again _ _ _ _ _ _ _ _ _ _ _ _ _ _
     (c .before .before .before .before .before .loop .inv .1 .1)
     (wrote (c .before .before .hear-value .ensures .0) (c .before .before .hear-value .ensures .1))))
-
-same-length : tie.Need-same-length Inv-loop μ-loop
-same-length c = c .before .loop .inv .1 .0
 
 returns : tie.Need-returns Inv-loop μ-loop
 returns c =
@@ -50,5 +29,8 @@ returns c =
     (c .before .loop .inv .1 .1))
 
 pub hear-values-spec : {M : Type 1} → statement M
-hear-values-spec = tie.close (tie.spec Inv-loop μ-loop numbers-requires cast-all loop-holds hear-value-requires add-r
-    loop-less loop-again same-length returns)
+hear-values-spec =
+    tie.close (tie.spec Inv-loop μ-loop (λ c κs. search needs) (search needs)
+    (λ c. (omega arith, (refl, values-first _ _ _ _ _ _ _ _ _)))
+    (λ c κs. c .before .before .before .before .before .before .pre) (search needs) (search needs) loop-again
+    (λ c. c .before .loop .inv .1 .0) returns)

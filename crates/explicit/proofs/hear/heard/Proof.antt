@@ -4,20 +4,15 @@ use Rattle.explicit.proofs.PathListens.{heard-start, heard-later}
 use Rattle.explicit.proofs.hear.heard.Statement.{statement}
 use Rattle.explicit.proofs.hear.heard.Tie as tie
 
-reach-requires : tie.Need-reach-requires
-reach-requires c κs = c .before .before .before .before .pre .sound
-
 returns : tie.Need-returns
 returns c = heard-start _ _ _ _ _ _ _ _ _ (c .before .before .before .before .before .pre)
     (c .before .before .if1 .taken) (c .before .at-start .ensures) (c .reach .ensures)
-
-reach-requires-2 : tie.Need-reach-requires-2
-reach-requires-2 c κs = c .before .before .before .before .pre .sound
 
 returns-2 : tie.Need-returns-2
 returns-2 c = heard-later _ _ _ _ _ _ _ _ _ (c .before .before .before .before .before .pre)
     (c .before .before .if1 .left) (c .before .waiting .ensures) (c .reach2 .ensures)
 
 pub heard-spec : {M : Type 1} → statement M
-heard-spec = tie.close (tie.spec (λ c κs. search needs) reach-requires returns (λ c κs. search needs)
-    reach-requires-2 returns-2)
+heard-spec =
+    tie.close (tie.spec (λ c κs. search needs) (λ c κs. c .before .before .before .before .pre .sound) returns
+    (λ c κs. search needs) (λ c κs. c .before .before .before .before .pre .sound) returns-2)

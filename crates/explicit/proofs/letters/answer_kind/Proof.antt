@@ -4,10 +4,6 @@ use Rattle.explicit.specs.inner.Moves.{answerKind}
 use Rattle.explicit.proofs.letters.answer_kind.Statement.{statement}
 use Rattle.explicit.proofs.letters.answer_kind.Tie as tie
 
-returns : tie.Need-returns
-unfolding answerKind
-returns c = simp (eq-eqb _ _ (c .if1 .taken))
-
 returns-2 : tie.Need-returns-2
 unfolding answerKind
 returns-2 c = simp (ne-eqb _ _ (c .before .if1 .left), eq-eqb _ _ (c .if2 .taken))
@@ -17,4 +13,5 @@ unfolding answerKind
 returns-3 c = simp (ne-eqb _ _ (c .before .if1 .left), ne-eqb _ _ (c .if2 .left))
 
 pub answer-kind-spec : {M : Type 1} → statement M
-answer-kind-spec = tie.close (tie.spec returns returns-2 returns-3)
+answer-kind-spec =
+    tie.close (tie.spec (λ c. unfold answerKind in simp (eq-eqb _ _ (c .if1 .taken))) returns-2 returns-3)

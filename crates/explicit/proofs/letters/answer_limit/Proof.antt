@@ -1,6 +1,5 @@
 -- What `answer_limit` gives is what `answerLimit` says, case by case.
-use borrow.Author.Needs.{needs}
-use borrow.Author.Tests.{le-leb, lt-leb, lt-ltb, le-ltb, eq-eqb, ne-eqb}
+use borrow.Author.Tests.{lt-ltb, le-ltb, eq-eqb, ne-eqb}
 use Rattle.explicit.specs.inner.Moves.{answerLimit}
 use Rattle.explicit.proofs.letters.answer_limit.Statement.{statement}
 use Rattle.explicit.proofs.letters.answer_limit.Tie as tie

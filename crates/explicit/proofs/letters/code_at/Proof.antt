@@ -1,7 +1,6 @@
 -- What `code_at` gives is what `codeAt` says, case by case.
 use borrow.Author.Needs.{needs}
-use native.Mathlib.Omega.{arith}
-use borrow.Author.Tests.{le-leb, lt-leb, lt-ltb, le-ltb, eq-eqb, ne-eqb}
+use borrow.Author.Tests.{lt-ltb, le-ltb}
 use Rattle.language.specs.Order.{codeAt}
 use Rattle.explicit.proofs.letters.code_at.Statement.{statement}
 use Rattle.explicit.proofs.letters.code_at.Tie as tie
@@ -34,6 +33,5 @@ returns-4 c =
 
 pub code-at-spec : {M : Type 1} → statement M
 code-at-spec =
-    tie.close
-    (tie.spec (λ c κs. search needs) (λ c κs. search needs) returns (search needs) (search needs) (search needs)
-    returns-2 (search needs) returns-3 returns-4)
+    tie.close (tie.spec (λ c κs. search needs) (λ c κs. search needs) returns (search needs) (search needs)
+    (search needs) returns-2 (search needs) returns-3 returns-4)

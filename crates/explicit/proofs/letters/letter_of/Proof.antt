@@ -1,15 +1,11 @@
 -- What `letter_of` gives is what `letterOf` says, case by case.
 use borrow.Author.Needs.{needs}
 use native.Mathlib.Omega.{arith}
-use borrow.Author.Tests.{le-leb, lt-leb, lt-ltb, le-ltb, eq-eqb, ne-eqb}
+use borrow.Author.Tests.{lt-ltb, le-ltb}
 use Rattle.explicit.specs.inner.Moves.{letterOf}
 use Rattle.explicit.proofs.Ranks.{rank-small}
 use Rattle.explicit.proofs.letters.letter_of.Statement.{statement}
 use Rattle.explicit.proofs.letters.letter_of.Tie as tie
-
-returns : tie.Need-returns
-unfolding letterOf
-returns c = simp (lt-ltb _ _ (c .if1 .taken))
 
 add-result : tie.Need-add-result
 add-result c = let h = rank-small _ _ _ (c .rank-of .ensures) in omega arith
@@ -19,6 +15,6 @@ unfolding letterOf
 returns-2 c = simp (← c .rank-of .ensures, le-ltb _ _ (c .before .if1 .left))
 
 pub letter-of-spec : {M : Type 1} → statement M
-letter-of-spec = tie.close
-    (tie.spec (search needs) (search needs) (search needs) (search needs) (search needs) returns
-    (λ c κs. search needs) add-result returns-2)
+letter-of-spec =
+    tie.close (tie.spec (search needs) (search needs) (search needs) (search needs) (search needs)
+    (λ c. unfold letterOf in simp (lt-ltb _ _ (c .if1 .taken))) (λ c κs. search needs) add-result returns-2)

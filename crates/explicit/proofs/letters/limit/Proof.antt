@@ -1,6 +1,6 @@
 -- What `limit` gives is what `limitOf` says, case by case.
 use borrow.Author.Needs.{needs}
-use borrow.Author.Tests.{le-leb, lt-leb, lt-ltb, le-ltb, eq-eqb, ne-eqb}
+use borrow.Author.Tests.{lt-ltb, le-ltb, eq-eqb, ne-eqb}
 use Rattle.explicit.specs.inner.Moves.{limitOf}
 use Rattle.explicit.proofs.letters.limit.Statement.{statement}
 use Rattle.explicit.proofs.letters.limit.Tie as tie

@@ -6,10 +6,6 @@ use Rattle.language.specs.Order.{rank}
 use Rattle.explicit.proofs.letters.rank_of.Statement.{statement}
 use Rattle.explicit.proofs.letters.rank_of.Tie as tie
 
-returns : tie.Need-returns
-unfolding rank
-returns c = rw (le-leb _ _ (c .if1 .taken))
-
 returns-2 : tie.Need-returns-2
 unfolding rank
 returns-2 c =
@@ -42,6 +38,6 @@ returns-6 c =
 
 pub rank-of-spec : {M : Type 1} → statement M
 rank-of-spec =
-    tie.close
-    (tie.spec (search needs) (search needs) returns (λ c κs. search needs) (search needs) returns-2 (search needs)
-    (search needs) returns-3 returns-4 (search needs) returns-5 returns-6)
+    tie.close (tie.spec (search needs) (search needs) (λ c. unfold rank in rw (le-leb _ _ (c .if1 .taken)))
+    (λ c κs. search needs) (search needs) returns-2 (search needs) (search needs) returns-3 returns-4 (search needs)
+    returns-5 returns-6)

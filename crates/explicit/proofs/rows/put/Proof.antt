@@ -5,8 +5,7 @@ use mathlib.Core.Path.{sym}
 use Rattle.explicit.proofs.rows.put.Statement.{statement}
 use Rattle.explicit.proofs.rows.put.Tie as tie
 
-returns-2 : tie.Need-returns-2
-returns-2 c = sym (set-out _ _ _ (c .if1 .left))
-
 pub put-spec : {M : Type 1} → statement M
-put-spec = tie.close (tie.spec (search needs) (search needs) (search needs) (search needs) (search needs) returns-2)
+put-spec =
+    tie.close (tie.spec (search needs) (search needs) (search needs) (search needs) (search needs)
+    (λ c. sym (set-out _ _ _ (c .if1 .left))))

@@ -1,6 +1,5 @@
 -- What `write_head` leaves is what `withHead` says.
 use borrow.Author.Needs.{needs}
-use borrow.Author.Tests.{le-leb, lt-leb, lt-ltb, le-ltb, eq-eqb, ne-eqb}
 use Rattle.explicit.specs.inner.Rows.{withHead}
 use Rattle.explicit.proofs.rows.write_head.Statement.{statement}
 use Rattle.explicit.proofs.rows.write_head.Tie as tie

@@ -5,9 +5,6 @@ use Rattle.forms.proofs.Made.{held-itself, constant-made}
 use Rattle.forms.proofs.set.set_constant.Statement.{statement}
 use Rattle.forms.proofs.set.set_constant.Tie as tie
 
-cast-v : tie.Need-cast-v
-cast-v c = omega arith
-
 returns : tie.Need-returns
 returns c =
     constant-made _ _ _ _ _ _
@@ -16,5 +13,5 @@ returns c =
 
 pub set-constant-spec : {M : Type 1} → statement M
 set-constant-spec =
-    tie.close
-    (tie.spec (λ c κs. search needs) cast-v (λ c κs. search needs) (λ c κs. search needs) (search needs) returns)
+    tie.close (tie.spec (λ c κs. search needs) (λ c. omega arith) (λ c κs. search needs) (λ c κs. search needs)
+    (search needs) returns)

@@ -19,6 +19,5 @@ returns c =
 
 pub set-unit-spec : {M : Type 1} → statement M
 set-unit-spec =
-    tie.close
-    (tie.spec (search needs) (search needs) (λ c κs. search needs) (λ c κs. search needs) clear-requires
+    tie.close (tie.spec (search needs) (search needs) (λ c κs. search needs) (λ c κs. search needs) clear-requires
     (search needs) (λ c κs. search needs) (search needs) returns)

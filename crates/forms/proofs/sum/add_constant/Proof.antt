@@ -5,15 +5,11 @@ use Rattle.forms.proofs.Made.{held-is, constant-more}
 use Rattle.forms.proofs.sum.add_constant.Statement.{statement}
 use Rattle.forms.proofs.sum.add_constant.Tie as tie
 
-cast-put-word : tie.Need-cast-put-word
-cast-put-word c = omega arith
-
 returns : tie.Need-returns
 returns c = constant-more _ _ _ _ _ _ (c .before .before .before .before .before .word-at .ensures)
     (held-is _ _ (c .before .before .before .before .sat-add .ensures)) (c .before .before .put-word .ensures)
 
 pub add-constant-spec : {M : Type 1} → statement M
 add-constant-spec =
-    tie.close
-    (tie.spec (λ c κs. search needs) (search needs) (λ c κs. search needs) cast-put-word (λ c κs. search needs)
-    (search needs) returns)
+    tie.close (tie.spec (λ c κs. search needs) (search needs) (λ c κs. search needs) (λ c. omega arith)
+    (λ c κs. search needs) (search needs) returns)

@@ -17,18 +17,9 @@ Inv-loop t₀ to from factor n i₀ t i = (i ≤ n) × (t ≡ summed to from fac
 abbrev μ-loop : tie.MeasureT-loop
 μ-loop t₀ to from factor n i₀ t i = n - i
 
-loop-holds : tie.Need-loop-holds Inv-loop μ-loop
-loop-holds c = (omega arith, summed-none _ _ _ _)
-
-add-word-at : tie.Need-add-word-at Inv-loop μ-loop
-add-word-at c = omega (arith, c .before .before .before .before .pre)
-
 word-at-requires : tie.Need-word-at-requires Inv-loop μ-loop
 word-at-requires c κs =
     (c .before .before .before .before .pre .0, omega (arith, c .before .before .before .before .pre))
-
-cast-x : tie.Need-cast-x Inv-loop μ-loop
-cast-x c = search needs
 
 add-word-at-2 : tie.Need-add-word-at-2 Inv-loop μ-loop
 add-word-at-2 c = omega (arith, c .before .before .before .before .before .before .pre)
@@ -37,17 +28,8 @@ word-at-requires-2 : tie.Need-word-at-requires-2 Inv-loop μ-loop
 word-at-requires-2 c κs = (c .before .before .before .before .before .before .pre .1 .0, omega
     (arith, c .before .before .before .before .before .before .pre))
 
-cast-y : tie.Need-cast-y Inv-loop μ-loop
-cast-y c = search needs
-
-sum-of-requires : tie.Need-sum-of-requires Inv-loop μ-loop
-sum-of-requires c κs = search needs
-
 add-put-word : tie.Need-add-put-word Inv-loop μ-loop
 add-put-word c = omega (arith, c .before .before .before .before .before .before .before .before .before .pre)
-
-cast-put-word : tie.Need-cast-put-word Inv-loop μ-loop
-cast-put-word c = omega (arith, held-below _ _ (c .before .sum-of .ensures))
 
 put-word-requires : tie.Need-put-word-requires Inv-loop μ-loop
 put-word-requires c κs = (c .before .before .before .before .before .before .before .before .before .pre .0, omega
@@ -56,9 +38,6 @@ put-word-requires c κs = (c .before .before .before .before .before .before .be
 add-i : tie.Need-add-i Inv-loop μ-loop
 add-i c = omega (arith, c .before .before .before .before .before .before .before .before .before .before .before
     .before .pre)
-
-loop-less : tie.Need-loop-less Inv-loop μ-loop
-loop-less c = omega arith
 
 loop-again : tie.Need-loop-again Inv-loop μ-loop
 loop-again c =
@@ -76,6 +55,8 @@ returns c = summed-all _ _ _ _ _ _ _ (c .before .loop .inv .0) (c .loop-test .le
 
 pub add-words-spec : {M : Type 1} → statement M
 add-words-spec =
-    tie.close
-    (tie.spec Inv-loop μ-loop loop-holds add-word-at word-at-requires cast-x add-word-at-2 word-at-requires-2 cast-y
-    sum-of-requires add-put-word cast-put-word put-word-requires add-i loop-less loop-again same-length returns)
+    tie.close (tie.spec Inv-loop μ-loop (λ c. (omega arith, summed-none _ _ _ _))
+    (λ c. omega (arith, c .before .before .before .before .pre)) word-at-requires (search needs) add-word-at-2
+    word-at-requires-2 (search needs) (λ c κs. search needs) add-put-word
+    (λ c. omega (arith, held-below _ _ (c .before .sum-of .ensures))) put-word-requires add-i (λ c. omega arith)
+    loop-again same-length returns)

@@ -4,11 +4,5 @@ use Rattle.procedures.specs.Held.{held}
 use Rattle.forms.proofs.sum.sum_of.Statement.{statement}
 use Rattle.forms.proofs.sum.sum_of.Tie as tie
 
-returns : tie.Need-returns
-unfolding held
-returns c = search needs
-
 pub sum-of-spec : {M : Type 1} → statement M
-sum-of-spec =
-    tie.close
-    (tie.spec (λ c κs. search needs) (λ c κs. search needs) returns)
+sum-of-spec = tie.close (tie.spec (λ c κs. search needs) (λ c κs. search needs) (λ c. unfold held in search needs))

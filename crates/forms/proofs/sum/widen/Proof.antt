@@ -25,6 +25,5 @@ returns-2 c = widened-same _ _ _ _ (c .before .width .ensures .0) (c .if1 .left)
 
 pub widen-spec : {M : Type 1} → statement M
 widen-spec =
-    tie.close
-    (tie.spec (λ c κs. search needs) (search needs) (λ c κs. search needs) (search needs) clear-requires
+    tie.close (tie.spec (λ c κs. search needs) (search needs) (λ c κs. search needs) (search needs) clear-requires
     (search needs) (λ c κs. search needs) (search needs) returns (search needs) returns-2)

@@ -16,32 +16,18 @@ Inv-loop t₀ at n i₀ t i = (i ≤ n) × (t ≡ cleared at i t₀)
 abbrev μ-loop : tie.MeasureT-loop
 μ-loop t₀ at n i₀ t i = n - i
 
-loop-holds : tie.Need-loop-holds Inv-loop μ-loop
-loop-holds c = (omega arith, cleared-none _ _)
-
-add-put : tie.Need-add-put Inv-loop μ-loop
-add-put c = omega (arith, c .before .before .before .before .pre)
-
-put-requires : tie.Need-put-requires Inv-loop μ-loop
-put-requires c κs = search needs
-
 add-i : tie.Need-add-i Inv-loop μ-loop
 add-i c = omega (arith, c .before .before .before .before .before .before .before .pre)
-
-loop-less : tie.Need-loop-less Inv-loop μ-loop
-loop-less c = omega arith
 
 loop-again : tie.Need-loop-again Inv-loop μ-loop
 loop-again c = (omega arith, cleared-more _ _ _ _ _ (c .before .before .before .before .before .loop .inv .1)
     (c .before .before .put .ensures))
-
-same-length : tie.Need-same-length Inv-loop μ-loop
-same-length c = ap length (c .before .loop .inv .1) ∙ length-cleared _ _ _
 
 returns : tie.Need-returns Inv-loop μ-loop
 returns c = cleared-all _ _ _ _ _ (c .before .loop .inv .0) (c .loop-test .left) (c .before .loop .inv .1)
 
 pub clear-spec : {M : Type 1} → statement M
 clear-spec =
-    tie.close
-    (tie.spec Inv-loop μ-loop loop-holds add-put put-requires add-i loop-less loop-again same-length returns)
+    tie.close (tie.spec Inv-loop μ-loop (λ c. (omega arith, cleared-none _ _))
+    (λ c. omega (arith, c .before .before .before .before .pre)) (λ c κs. search needs) add-i (λ c. omega arith)
+    loop-again (λ c. ap length (c .before .loop .inv .1) ∙ length-cleared _ _ _) returns)

@@ -15,12 +15,6 @@ Inv-loop t₀ to from n i₀ t i = (i ≤ n) × (t ≡ copied to from i t₀)
 abbrev μ-loop : tie.MeasureT-loop
 μ-loop t₀ to from n i₀ t i = n - i
 
-loop-holds : tie.Need-loop-holds Inv-loop μ-loop
-loop-holds c = (omega arith, copied-none _ _ _)
-
-add-word-at : tie.Need-add-word-at Inv-loop μ-loop
-add-word-at c = omega (arith, c .before .before .before .before .pre)
-
 word-at-requires : tie.Need-word-at-requires Inv-loop μ-loop
 word-at-requires c κs =
     (c .before .before .before .before .pre .1 .0, omega (arith, c .before .before .before .before .pre))
@@ -35,22 +29,16 @@ put-word-requires c κs = (c .before .before .before .before .before .before .pr
 add-i : tie.Need-add-i Inv-loop μ-loop
 add-i c = omega (arith, c .before .before .before .before .before .before .before .before .before .pre)
 
-loop-less : tie.Need-loop-less Inv-loop μ-loop
-loop-less c = omega arith
-
 loop-again : tie.Need-loop-again Inv-loop μ-loop
 loop-again c =
     (omega arith, copied-more _ _ _ _ _ _ _ (c .before .before .before .before .before .before .before .loop .inv .1)
     (c .before .before .before .before .word-at .ensures) (c .before .before .put-word .ensures))
-
-same-length : tie.Need-same-length Inv-loop μ-loop
-same-length c = ap length (c .before .loop .inv .1) ∙ length-copied _ _ _ _
 
 returns : tie.Need-returns Inv-loop μ-loop
 returns c = copied-all _ _ _ _ _ _ (c .before .loop .inv .0) (c .loop-test .left) (c .before .loop .inv .1)
 
 pub copy-spec : {M : Type 1} → statement M
 copy-spec =
-    tie.close
-    (tie.spec Inv-loop μ-loop loop-holds add-word-at word-at-requires add-put-word put-word-requires add-i loop-less
-    loop-again same-length returns)
+    tie.close (tie.spec Inv-loop μ-loop (λ c. (omega arith, copied-none _ _ _))
+    (λ c. omega (arith, c .before .before .before .before .pre)) word-at-requires add-put-word put-word-requires
+    add-i (λ c. omega arith) loop-again (λ c. ap length (c .before .loop .inv .1) ∙ length-copied _ _ _ _) returns)

@@ -4,9 +4,5 @@ use Rattle.weighing.specs.Stack.{spot}
 use Rattle.forms.proofs.words.spot.Statement.{statement}
 use Rattle.forms.proofs.words.spot.Tie as tie
 
-returns : tie.Need-returns
-unfolding spot
-returns c = search needs
-
 pub spot-spec : {M : Type 1} → statement M
-spot-spec = tie.close (tie.spec (search needs) (search needs) (search needs) returns)
+spot-spec = tie.close (tie.spec (search needs) (search needs) (search needs) (λ c. unfold spot in search needs))

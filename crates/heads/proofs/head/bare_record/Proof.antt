@@ -4,9 +4,5 @@ use Rattle.heads.specs.Bare.{bare}
 use Rattle.heads.proofs.head.bare_record.Statement.{statement}
 use Rattle.heads.proofs.head.bare_record.Tie as tie
 
-returns : tie.Need-returns
-unfolding bare
-returns c = search needs
-
 pub bare-record-spec : {M : Type 1} → statement M
-bare-record-spec = tie.close (tie.spec returns)
+bare-record-spec = tie.close (tie.spec (λ c. unfold bare in search needs))

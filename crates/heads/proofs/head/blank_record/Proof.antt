@@ -4,9 +4,5 @@ use Rattle.heads.specs.Head.{blank}
 use Rattle.heads.proofs.head.blank_record.Statement.{statement}
 use Rattle.heads.proofs.head.blank_record.Tie as tie
 
-returns : tie.Need-returns
-unfolding blank
-returns c = search needs
-
 pub blank-record-spec : {M : Type 1} → statement M
-blank-record-spec = tie.close (tie.spec (search needs) (search needs) returns)
+blank-record-spec = tie.close (tie.spec (search needs) (search needs) (λ c. unfold blank in search needs))

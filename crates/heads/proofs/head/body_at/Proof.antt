@@ -4,10 +4,6 @@ use Rattle.heads.specs.Head.{bodyOf}
 use Rattle.heads.proofs.head.body_at.Statement.{statement}
 use Rattle.heads.proofs.head.body_at.Tie as tie
 
-returns : tie.Need-returns
-unfolding bodyOf
-returns c = simp (c .enum-told .given .1)
-
 returns-2 : tie.Need-returns-2
 unfolding bodyOf
 returns-2 c = simp (c .before .enum-told2 .given .1, ← c .limited-body .ensures)
@@ -24,29 +20,9 @@ returns-5 : tie.Need-returns-5
 unfolding bodyOf
 returns-5 c = simp (c .before .enum-told5 .given .1, ← c .use-body .ensures)
 
-returns-6 : tie.Need-returns-6
-unfolding bodyOf
-returns-6 c = simp (c .enum-told6 .given .1)
-
 returns-7 : tie.Need-returns-7
 unfolding bodyOf
 returns-7 c = simp (c .before .enum-told7 .given .1, ← c .limited-body3 .ensures)
-
-returns-8 : tie.Need-returns-8
-unfolding bodyOf
-returns-8 c = simp (c .enum-told8 .given .1)
-
-returns-9 : tie.Need-returns-9
-unfolding bodyOf
-returns-9 c = simp (c .enum-told9 .given .1)
-
-returns-10 : tie.Need-returns-10
-unfolding bodyOf
-returns-10 c = simp (c .enum-told10 .given .1)
-
-returns-11 : tie.Need-returns-11
-unfolding bodyOf
-returns-11 c = simp (c .enum-told11 .given .1)
 
 returns-12 : tie.Need-returns-12
 unfolding bodyOf
@@ -61,5 +37,9 @@ body-at-spec =
     tie.close (tie.spec (search needs) (search needs) (λ c κs. search needs) (search needs) (λ c κs. search needs)
     (search needs) (λ c κs. search needs) (search needs) (λ c κs. search needs) (search needs) (search needs)
     (λ c κs. search needs) (search needs) (search needs) (search needs) (search needs) (search needs)
-    (λ c κs. search needs) (search needs) (λ c κs. search needs) returns returns-2 returns-3 returns-4 returns-5
-    returns-6 returns-7 returns-8 returns-9 returns-10 returns-11 returns-12 returns-13)
+    (λ c κs. search needs) (search needs) (λ c κs. search needs)
+    (λ c. unfold bodyOf in simp (c .enum-told .given .1)) returns-2 returns-3 returns-4 returns-5
+    (λ c. unfold bodyOf in simp (c .enum-told6 .given .1)) returns-7
+    (λ c. unfold bodyOf in simp (c .enum-told8 .given .1)) (λ c. unfold bodyOf in simp (c .enum-told9 .given .1))
+    (λ c. unfold bodyOf in simp (c .enum-told10 .given .1)) (λ c. unfold bodyOf in simp (c .enum-told11 .given .1))
+    returns-12 returns-13)

@@ -7,16 +7,9 @@ use Rattle.heads.specs.Head.{blank, headOf, headOfShape}
 use Rattle.heads.proofs.head.head_at.Statement.{statement}
 use Rattle.heads.proofs.head.head_at.Tie as tie
 
-returns : tie.Need-returns
-returns c = rw (c .before .if1 .taken) (c .too-deep .ensures _ _ _)
-
 returns-2 : tie.Need-returns-2
 unfolding headOf headOfShape
 returns-2 c = simp (← c .refuse .ensures, le-leb _ _ (c .before .if2 .taken))
-
-body-at-requires : tie.Need-body-at-requires
-unfolding blank
-body-at-requires c κs = rw (c .blank-record .ensures) (omega arith)
 
 returns-3 : tie.Need-returns-3
 unfolding headOf headOfShape
@@ -52,7 +45,8 @@ returns-6 c =
 
 pub head-at-spec : {M : Type 1} → statement M
 head-at-spec =
-    tie.close (tie.spec (λ c κs. search needs) returns (λ c κs. search needs) returns-2 (search needs)
-    (λ c κs. search needs) (search needs) (λ c κs. search needs) (search needs) (λ c κs. search needs)
-    (search needs) (λ c κs. search needs) (search needs) (λ c κs. search needs) body-at-requires returns-3 returns-4
+    tie.close (tie.spec (λ c κs. search needs) (λ c. rw (c .before .if1 .taken) (c .too-deep .ensures _ _ _))
+    (λ c κs. search needs) returns-2 (search needs) (λ c κs. search needs) (search needs) (λ c κs. search needs)
+    (search needs) (λ c κs. search needs) (search needs) (λ c κs. search needs) (search needs)
+    (λ c κs. search needs) (λ c κs. unfold blank in rw (c .blank-record .ensures) (omega arith)) returns-3 returns-4
     returns-5 returns-6)

@@ -4,9 +4,5 @@ use Rattle.heads.specs.Head.{used}
 use Rattle.heads.proofs.head.used_record.Statement.{statement}
 use Rattle.heads.proofs.head.used_record.Tie as tie
 
-returns : tie.Need-returns
-unfolding used
-returns c = simp (← c .count-of .ensures)
-
 pub used-record-spec : {M : Type 1} → statement M
-used-record-spec = tie.close (tie.spec (λ c κs. search needs) returns)
+used-record-spec = tie.close (tie.spec (λ c κs. search needs) (λ c. unfold used in simp (← c .count-of .ensures)))

@@ -4,9 +4,5 @@ use Rattle.heads.specs.Head.{withBody}
 use Rattle.heads.proofs.head.with_body.Statement.{statement}
 use Rattle.heads.proofs.head.with_body.Tie as tie
 
-returns : tie.Need-returns
-unfolding withBody
-returns c = search needs
-
 pub with-body-spec : {M : Type 1} → statement M
-with-body-spec = tie.close (tie.spec returns)
+with-body-spec = tie.close (tie.spec (λ c. unfold withBody in search needs))

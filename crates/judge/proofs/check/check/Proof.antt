@@ -6,9 +6,6 @@ use Rattle.judge.proofs.Judging.{checked-refused, checked-accepted}
 use Rattle.judge.proofs.check.check.Statement.{statement}
 use Rattle.judge.proofs.check.check.Tie as tie
 
-judge-sheet-requires : tie.Need-judge-sheet-requires
-judge-sheet-requires c κs = blank-made 58313 refl
-
 returns : tie.Need-returns
 returns c =
     checked-refused _ _ (c .before .before .before .before .judge-sheet .ensures) (c .before .before .enum-told
@@ -18,6 +15,6 @@ returns-2 : tie.Need-returns-2
 returns-2 c = checked-accepted _ _ (c .before .before .before .judge-sheet .ensures) (c .before .x .given .1)
 
 pub check-spec : {M : Type 1} → statement M
-check-spec = tie.close
-    (tie.spec judge-sheet-requires (search needs) (search needs) (λ c κs. search needs) (λ c κs. search needs)
-    returns returns-2)
+check-spec =
+    tie.close (tie.spec (λ c κs. blank-made 58313 refl) (search needs) (search needs) (λ c κs. search needs)
+    (λ c κs. search needs) returns returns-2)

@@ -30,78 +30,10 @@ declared-from-calls t = (byte-at-reads.Asked, byte-at-reads.Learnt, shape-of-rea
     declared-from-below t, declared-from.Post)
 
 module _ (t : ℕ) where
-  declared-from-returns : declared-from-lts.Need-returns (declared-from-calls t)
-      (declared-from-at t) declared-from.Post
-  declared-from-returns c = mask-none _ _ _ (c .if1 .taken)
-
-  declared-from-byte-at-requires : declared-from-lts.Need-byte-at-requires (declared-from-calls t)
-      (declared-from-at t) declared-from.Post
-  declared-from-byte-at-requires c κs = search needs
-
-  declared-from-shape-of-requires : declared-from-lts.Need-shape-of-requires (declared-from-calls t)
-      (declared-from-at t) declared-from.Post
-  declared-from-shape-of-requires c κs = search needs
-
-  declared-from-enum-told : declared-from-lts.Need-enum-told (declared-from-calls t)
-      (declared-from-at t) declared-from.Post
-  declared-from-enum-told c = search needs
-
-  declared-from-enum-told-2 : declared-from-lts.Need-enum-told-2 (declared-from-calls t)
-      (declared-from-at t) declared-from.Post
-  declared-from-enum-told-2 c = search needs
-
-  declared-from-enum-known-shape : declared-from-lts.Need-enum-known-shape (declared-from-calls t)
-      (declared-from-at t) declared-from.Post
-  declared-from-enum-known-shape c = search needs
-
-  declared-from-sub-declared-from : declared-from-lts.Need-sub-declared-from (declared-from-calls t)
-      (declared-from-at t) declared-from.Post
-  declared-from-sub-declared-from c = search needs
-
-  declared-from-add-declared-from : declared-from-lts.Need-add-declared-from (declared-from-calls t)
-      (declared-from-at t) declared-from.Post
-  declared-from-add-declared-from c = search needs
-
-  declared-from-cast-declared-from : declared-from-lts.Need-cast-declared-from (declared-from-calls t)
-      (declared-from-at t) declared-from.Post
-  declared-from-cast-declared-from c = search needs
-
-  declared-from-add-declared-from-2 : declared-from-lts.Need-add-declared-from-2 (declared-from-calls t)
-      (declared-from-at t) declared-from.Post
-  declared-from-add-declared-from-2 c = search needs
-
-  declared-from-declared-from-requires : declared-from-lts.Need-declared-from-requires (declared-from-calls t)
-      (declared-from-at t) declared-from.Post
-  declared-from-declared-from-requires c κs = search needs
-
   declared-from-mul-result : declared-from-lts.Need-mul-result (declared-from-calls t)
       (declared-from-at t) declared-from.Post
   declared-from-mul-result c = let h = mask-fits _ _ _ _ (c .declared-from .ensures) (c .before .before .before
       .before .before .before .before .before .pre .1 .0) in omega arith
-
-  declared-from-enum-known-shape-2 : declared-from-lts.Need-enum-known-shape-2 (declared-from-calls t)
-      (declared-from-at t) declared-from.Post
-  declared-from-enum-known-shape-2 c = search needs
-
-  declared-from-sub-declared-from-2 : declared-from-lts.Need-sub-declared-from-2 (declared-from-calls t)
-      (declared-from-at t) declared-from.Post
-  declared-from-sub-declared-from-2 c = search needs
-
-  declared-from-add-declared-from-3 : declared-from-lts.Need-add-declared-from-3 (declared-from-calls t)
-      (declared-from-at t) declared-from.Post
-  declared-from-add-declared-from-3 c = search needs
-
-  declared-from-cast-declared-from-2 : declared-from-lts.Need-cast-declared-from-2 (declared-from-calls t)
-      (declared-from-at t) declared-from.Post
-  declared-from-cast-declared-from-2 c = search needs
-
-  declared-from-add-declared-from-4 : declared-from-lts.Need-add-declared-from-4 (declared-from-calls t)
-      (declared-from-at t) declared-from.Post
-  declared-from-add-declared-from-4 c = search needs
-
-  declared-from-declared-from-requires-2 : declared-from-lts.Need-declared-from-requires-2 (declared-from-calls t)
-      (declared-from-at t) declared-from.Post
-  declared-from-declared-from-requires-2 c κs = search needs
 
   declared-from-mul-result-2 : declared-from-lts.Need-mul-result-2 (declared-from-calls t)
       (declared-from-at t) declared-from.Post
@@ -136,29 +68,10 @@ module _ (t : ℕ) where
       .ensures) (c .before .before .shape2 .given .1) (c .declared-from2 .ensures) refl refl refl
 
 pub +declared-from-spec : {M : Type 1} → statement M
-+declared-from-spec = close μ-declared-from λ t. declared-from-lts.spec (declared-from-calls t)
-    (declared-from-at t) declared-from.Post
-    (declared-from-returns t)
-    (declared-from-byte-at-requires t)
-    (declared-from-shape-of-requires t)
-    (declared-from-enum-told t)
-    (declared-from-enum-told-2 t)
-    (declared-from-enum-known-shape t)
-    (declared-from-sub-declared-from t)
-    (declared-from-add-declared-from t)
-    (declared-from-cast-declared-from t)
-    (declared-from-add-declared-from-2 t)
-    (declared-from-declared-from-requires t)
-    (declared-from-mul-result t)
-    (declared-from-enum-known-shape-2 t)
-    (declared-from-sub-declared-from-2 t)
-    (declared-from-add-declared-from-3 t)
-    (declared-from-cast-declared-from-2 t)
-    (declared-from-add-declared-from-4 t)
-    (declared-from-declared-from-requires-2 t)
-    (declared-from-mul-result-2 t)
-    (declared-from-add-result t)
-    (declared-from-returns-2 t)
-    (declared-from-returns-3 t)
-    (declared-from-returns-4 t)
-    (declared-from-returns-5 t)
++declared-from-spec =
+    close μ-declared-from λ t. declared-from-lts.spec (declared-from-calls t) (declared-from-at t)
+    declared-from.Post (λ c. mask-none _ _ _ (c .if1 .taken)) (λ c κs. search needs) (λ c κs. search needs)
+    (search needs) (search needs) (search needs) (search needs) (search needs) (search needs) (search needs)
+    (λ c κs. search needs) (declared-from-mul-result t) (search needs) (search needs) (search needs) (search needs)
+    (search needs) (λ c κs. search needs) (declared-from-mul-result-2 t) (declared-from-add-result t)
+    (declared-from-returns-2 t) (declared-from-returns-3 t) (declared-from-returns-4 t) (declared-from-returns-5 t)

@@ -31,90 +31,10 @@ mark-from-calls t = (byte-at-reads.Asked, byte-at-reads.Learnt, shape-of-reads.A
     mark-from-below t, mark-from.Post, is-noted-reads.Asked, is-noted-reads.Learnt)
 
 module _ (t : ℕ) where
-  mark-from-returns : mark-from-lts.Need-returns (mark-from-calls t)
-      (mark-from-at t) mark-from.Post
-  mark-from-returns c = mask-none _ _ _ (c .if1 .taken)
-
-  mark-from-byte-at-requires : mark-from-lts.Need-byte-at-requires (mark-from-calls t)
-      (mark-from-at t) mark-from.Post
-  mark-from-byte-at-requires c κs = search needs
-
-  mark-from-shape-of-requires : mark-from-lts.Need-shape-of-requires (mark-from-calls t)
-      (mark-from-at t) mark-from.Post
-  mark-from-shape-of-requires c κs = search needs
-
-  mark-from-enum-told : mark-from-lts.Need-enum-told (mark-from-calls t)
-      (mark-from-at t) mark-from.Post
-  mark-from-enum-told c = search needs
-
-  mark-from-enum-told-2 : mark-from-lts.Need-enum-told-2 (mark-from-calls t)
-      (mark-from-at t) mark-from.Post
-  mark-from-enum-told-2 c = search needs
-
-  mark-from-enum-known-shape : mark-from-lts.Need-enum-known-shape (mark-from-calls t)
-      (mark-from-at t) mark-from.Post
-  mark-from-enum-known-shape c = search needs
-
-  mark-from-sub-mark-from : mark-from-lts.Need-sub-mark-from (mark-from-calls t)
-      (mark-from-at t) mark-from.Post
-  mark-from-sub-mark-from c = search needs
-
-  mark-from-add-mark-from : mark-from-lts.Need-add-mark-from (mark-from-calls t)
-      (mark-from-at t) mark-from.Post
-  mark-from-add-mark-from c = search needs
-
-  mark-from-cast-mark-from : mark-from-lts.Need-cast-mark-from (mark-from-calls t)
-      (mark-from-at t) mark-from.Post
-  mark-from-cast-mark-from c = search needs
-
-  mark-from-add-mark-from-2 : mark-from-lts.Need-add-mark-from-2 (mark-from-calls t)
-      (mark-from-at t) mark-from.Post
-  mark-from-add-mark-from-2 c = search needs
-
-  mark-from-mark-from-requires : mark-from-lts.Need-mark-from-requires (mark-from-calls t)
-      (mark-from-at t) mark-from.Post
-  mark-from-mark-from-requires c κs = search needs
-
   mark-from-mul-result : mark-from-lts.Need-mul-result (mark-from-calls t)
       (mark-from-at t) mark-from.Post
   mark-from-mul-result c = let h = mask-fits _ _ _ _ (c .mark-from .ensures) (c .before .before .before .before
       .before .before .before .before .before .pre .1 .0) in omega arith
-
-  mark-from-enum-known-shape-2 : mark-from-lts.Need-enum-known-shape-2 (mark-from-calls t)
-      (mark-from-at t) mark-from.Post
-  mark-from-enum-known-shape-2 c = search needs
-
-  mark-from-sub-mark-from-2 : mark-from-lts.Need-sub-mark-from-2 (mark-from-calls t)
-      (mark-from-at t) mark-from.Post
-  mark-from-sub-mark-from-2 c = search needs
-
-  mark-from-add-mark-from-3 : mark-from-lts.Need-add-mark-from-3 (mark-from-calls t)
-      (mark-from-at t) mark-from.Post
-  mark-from-add-mark-from-3 c = search needs
-
-  mark-from-cast-mark-from-2 : mark-from-lts.Need-cast-mark-from-2 (mark-from-calls t)
-      (mark-from-at t) mark-from.Post
-  mark-from-cast-mark-from-2 c = search needs
-
-  mark-from-add-mark-from-4 : mark-from-lts.Need-add-mark-from-4 (mark-from-calls t)
-      (mark-from-at t) mark-from.Post
-  mark-from-add-mark-from-4 c = search needs
-
-  mark-from-mark-from-requires-2 : mark-from-lts.Need-mark-from-requires-2 (mark-from-calls t)
-      (mark-from-at t) mark-from.Post
-  mark-from-mark-from-requires-2 c κs = search needs
-
-  mark-from-add-byte-at : mark-from-lts.Need-add-byte-at (mark-from-calls t)
-      (mark-from-at t) mark-from.Post
-  mark-from-add-byte-at c = search needs
-
-  mark-from-byte-at-requires-2 : mark-from-lts.Need-byte-at-requires-2 (mark-from-calls t)
-      (mark-from-at t) mark-from.Post
-  mark-from-byte-at-requires-2 c κs = search needs
-
-  mark-from-is-noted-requires : mark-from-lts.Need-is-noted-requires (mark-from-calls t)
-      (mark-from-at t) mark-from.Post
-  mark-from-is-noted-requires c κs = search needs
 
   mark-from-mul-result-2 : mark-from-lts.Need-mul-result-2 (mark-from-calls t)
       (mark-from-at t) mark-from.Post
@@ -167,34 +87,11 @@ module _ (t : ℕ) where
       .before .is-noted .ensures) (c .if2 .left)
 
 pub +mark-from-spec : {M : Type 1} → statement M
-+mark-from-spec = close μ-mark-from λ t. mark-from-lts.spec (mark-from-calls t)
-    (mark-from-at t) mark-from.Post
-    (mark-from-returns t)
-    (mark-from-byte-at-requires t)
-    (mark-from-shape-of-requires t)
-    (mark-from-enum-told t)
-    (mark-from-enum-told-2 t)
-    (mark-from-enum-known-shape t)
-    (mark-from-sub-mark-from t)
-    (mark-from-add-mark-from t)
-    (mark-from-cast-mark-from t)
-    (mark-from-add-mark-from-2 t)
-    (mark-from-mark-from-requires t)
-    (mark-from-mul-result t)
-    (mark-from-enum-known-shape-2 t)
-    (mark-from-sub-mark-from-2 t)
-    (mark-from-add-mark-from-3 t)
-    (mark-from-cast-mark-from-2 t)
-    (mark-from-add-mark-from-4 t)
-    (mark-from-mark-from-requires-2 t)
-    (mark-from-add-byte-at t)
-    (mark-from-byte-at-requires-2 t)
-    (mark-from-is-noted-requires t)
-    (mark-from-mul-result-2 t)
-    (mark-from-add-result t)
-    (mark-from-returns-2 t)
-    (mark-from-mul-result-3 t)
-    (mark-from-returns-3 t)
-    (mark-from-returns-4 t)
-    (mark-from-returns-5 t)
-    (mark-from-returns-6 t)
++mark-from-spec =
+    close μ-mark-from λ t. mark-from-lts.spec (mark-from-calls t) (mark-from-at t) mark-from.Post
+    (λ c. mask-none _ _ _ (c .if1 .taken)) (λ c κs. search needs) (λ c κs. search needs) (search needs)
+    (search needs) (search needs) (search needs) (search needs) (search needs) (search needs) (λ c κs. search needs)
+    (mark-from-mul-result t) (search needs) (search needs) (search needs) (search needs) (search needs)
+    (λ c κs. search needs) (search needs) (λ c κs. search needs) (λ c κs. search needs) (mark-from-mul-result-2 t)
+    (mark-from-add-result t) (mark-from-returns-2 t) (mark-from-mul-result-3 t) (mark-from-returns-3 t)
+    (mark-from-returns-4 t) (mark-from-returns-5 t) (mark-from-returns-6 t)

@@ -11,9 +11,7 @@ use Rattle.judge.proofs.mark.declared_count.Tie as tie
 cast-result : tie.Need-cast-result
 cast-result c = let h = count-small _ _ (c .declared-from .ensures) in record { fits = omega arith }
 
-returns : tie.Need-returns
-unfolding declaredAt
-returns c = ap ones (c .declared-from .ensures)
-
 pub declared-count-spec : {M : Type 1} → statement M
-declared-count-spec = tie.close (tie.spec (λ c κs. search needs) cast-result returns)
+declared-count-spec =
+    tie.close (tie.spec (λ c κs. search needs) cast-result
+    (λ c. unfold declaredAt in ap ones (c .declared-from .ensures)))

@@ -14,34 +14,10 @@ Inv-loop s place j id i₀ i = (i ≤ j) × (earlier s place j id ≡ earlier s 
 abbrev μ-loop : tie.MeasureT-loop
 μ-loop s place j id i₀ i = i
 
-loop-holds : tie.Need-loop-holds Inv-loop μ-loop
-loop-holds c = (omega arith, refl)
-
-sub-i : tie.Need-sub-i Inv-loop μ-loop
-sub-i c = search needs
-
-add-byte-at : tie.Need-add-byte-at Inv-loop μ-loop
-add-byte-at c = search needs
-
-cast-byte-at : tie.Need-cast-byte-at Inv-loop μ-loop
-cast-byte-at c = search needs
-
-mul-byte-at : tie.Need-mul-byte-at Inv-loop μ-loop
-mul-byte-at c = search needs
-
-add-byte-at-2 : tie.Need-add-byte-at-2 Inv-loop μ-loop
-add-byte-at-2 c = search needs
-
-byte-at-requires : tie.Need-byte-at-requires Inv-loop μ-loop
-byte-at-requires c κs = search needs
-
 returns : tie.Need-returns Inv-loop μ-loop
 returns c =
     earlier-met _ _ _ _ _ _ (c .before .before .loop-test .taken) (c .before .byte-at .ensures) (c .if1 .taken) (c
       .before .before .before .loop .inv .1)
-
-loop-less : tie.Need-loop-less Inv-loop μ-loop
-loop-less c = search needs
 
 loop-again : tie.Need-loop-again Inv-loop μ-loop
 loop-again c =
@@ -53,5 +29,5 @@ returns-2 c = earlier-none _ _ _ _ _ (c .loop-test .left) (c .before .loop .inv 
 
 pub is-earlier-spec : {M : Type 1} → statement M
 is-earlier-spec =
-    tie.close (tie.spec Inv-loop μ-loop loop-holds sub-i add-byte-at cast-byte-at mul-byte-at add-byte-at-2
-    byte-at-requires returns loop-less loop-again returns-2)
+    tie.close (tie.spec Inv-loop μ-loop (λ c. (omega arith, refl)) (search needs) (search needs) (search needs)
+    (search needs) (search needs) (λ c κs. search needs) returns (search needs) loop-again returns-2)

@@ -28,6 +28,5 @@ returns c =
 
 pub link-spec : {M : Type 1} → statement M
 link-spec =
-    tie.close
-    (tie.spec (λ c κs. search needs) (search needs) (search needs) put-requires (search needs) (search needs)
-    put-requires-2 (search needs) returns)
+    tie.close (tie.spec (λ c κs. search needs) (search needs) (search needs) put-requires (search needs)
+    (search needs) put-requires-2 (search needs) returns)

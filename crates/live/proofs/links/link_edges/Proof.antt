@@ -169,9 +169,6 @@ loop-again-2 c =
           .before .at .ensures))
         (c .before .before .before .link-place .ensures)) (c .before .before .link .ensures)
 
-same-length : tie.Need-same-length Inv-loop μ-loop
-same-length c = c .before .loop .inv .links .len
-
 returns : tie.Need-returns Inv-loop μ-loop
 returns c = let b = bounds _ _ _ (c .before .before .before .before .before .before .before .pre .0)
     in link-last _ _ _ _ _ _ (c .before .loop .inv) (omega (arith, c .loop-test .left,
@@ -179,31 +176,7 @@ returns c = let b = bounds _ _ _ (c .before .before .before .before .before .bef
 
 pub link-edges-spec : {M : Type 1} → statement M
 link-edges-spec =
-    tie.close
-    (tie.spec
-    Inv-loop
-    μ-loop
-    mul-at
-    at-requires
-    mul-at-2
-    at-requires-2
-    loop-holds
-    mul-at-3
-    add-at
-    add-at-2
-    at-requires-3
-    add-p
-    loop-less
-    loop-again
-    mul-at-4
-    add-at-3
-    mul-at-5
-    add-at-4
-    at-requires-4
-    link-place-requires
-    link-requires
-    add-e
-    loop-less-2
-    loop-again-2
-    same-length
+    tie.close (tie.spec Inv-loop μ-loop mul-at at-requires mul-at-2 at-requires-2 loop-holds mul-at-3 add-at
+    add-at-2 at-requires-3 add-p loop-less loop-again mul-at-4 add-at-3 mul-at-5 add-at-4 at-requires-4
+    link-place-requires link-requires add-e loop-less-2 loop-again-2 (λ c. c .before .loop .inv .links .len)
     returns)

@@ -5,16 +5,8 @@ use Rattle.live.specs.inner.Links.{linkPlace}
 use Rattle.live.proofs.links.link_place.Statement.{statement}
 use Rattle.live.proofs.links.link_place.Tie as tie
 
-returns : tie.Need-returns
-unfolding linkPlace
-returns c = rw (lt-ltb _ _ (c .if1 .taken))
-
-returns-2 : tie.Need-returns-2
-unfolding linkPlace
-returns-2 c = rw (le-ltb _ _ (c .if1 .left))
-
 pub link-place-spec : {M : Type 1} → statement M
 link-place-spec =
-    tie.close
-    (tie.spec (search needs) (search needs) (search needs) returns (search needs) (search needs) (search needs)
-    (search needs) (search needs) returns-2)
+    tie.close (tie.spec (search needs) (search needs) (search needs)
+    (λ c. unfold linkPlace in rw (lt-ltb _ _ (c .if1 .taken))) (search needs) (search needs) (search needs)
+    (search needs) (search needs) (λ c. unfold linkPlace in rw (le-ltb _ _ (c .if1 .left))))

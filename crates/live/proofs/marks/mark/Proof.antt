@@ -30,9 +30,6 @@ at-requires c κs =
     (c .before .before .before .note .ensures .1) (c .before .before .before .note .ensures .0) .held) in
     omega arith
 
-loop-holds : tie.Need-loop-holds Inv-loop μ-loop
-loop-holds c = λ v U M. M
-
 add-loop : tie.Need-add-loop Inv-loop μ-loop
 add-loop c = let M = c .loop .inv _ (c .before .before .before .before .before .before .before .before .pre)
     (mark-first _ _ _ _ _ (c .before .before .before .before .before .before .before .before .pre)
@@ -94,9 +91,6 @@ loop-again c =
     λ v U M. mark-take _ _ _ _ _ _ _ _ _ _ (c .before .before .before .before .before .before .loop .inv v U M)
     (c .before .before .before .before .if1 .taken) (c .before .before .before .before .before .loop-test .taken)
     (ap (λ x. x % 16384) (c .before .before .at2 .ensures)) (ap (λ x. x / 16384) (c .at3 .ensures))
-
-sub-link-place : tie.Need-sub-link-place Inv-loop μ-loop
-sub-link-place c = omega (arith, c .before .if1 .left)
 
 link-place-requires : tie.Need-link-place-requires Inv-loop μ-loop
 link-place-requires c κs =
@@ -186,25 +180,6 @@ returns c = λ U. mark-last _ _ _ _ _ _ _ _ (U .single) (c .before .loop .inv _ 
 
 pub mark-spec : {M : Type 1} → statement M
 mark-spec =
-    tie.close
-    (tie.spec
-    Inv-loop
-    μ-loop
-    note-requires
-    mul-at
-    at-requires
-    loop-holds
-    add-loop
-    at-requires-2
-    at-requires-3
-    add-head
-    loop-less
-    loop-again
-    sub-link-place
-    link-place-requires
-    at-requires-4
-    note-requires-2
-    loop-less-2
-    loop-again-2
-    same-length
-    returns)
+    tie.close (tie.spec Inv-loop μ-loop note-requires mul-at at-requires (λ c v U M. M) add-loop at-requires-2
+    at-requires-3 add-head loop-less loop-again (λ c. omega (arith, c .before .if1 .left)) link-place-requires
+    at-requires-4 note-requires-2 loop-less-2 loop-again-2 same-length returns)

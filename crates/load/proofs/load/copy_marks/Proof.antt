@@ -13,24 +13,6 @@ Inv-loop t marks₀ i₀ marks i = (i ≤ 4096) × Copied t marks i
 abbrev μ-loop : tie.MeasureT-loop
 μ-loop t marks₀ i₀ marks i = 4096 - i
 
-loop-holds : tie.Need-loop-holds Inv-loop μ-loop
-loop-holds c = (omega arith, copied-none _ _ (c .before .before .pre))
-
-add-short-at : tie.Need-add-short-at Inv-loop μ-loop
-add-short-at c = search needs
-
-short-at-requires : tie.Need-short-at-requires Inv-loop μ-loop
-short-at-requires c κs = search needs
-
-put-requires : tie.Need-put-requires Inv-loop μ-loop
-put-requires c κs = search needs
-
-add-i : tie.Need-add-i Inv-loop μ-loop
-add-i c = search needs
-
-loop-less : tie.Need-loop-less Inv-loop μ-loop
-loop-less c = omega arith
-
 loop-again : tie.Need-loop-again Inv-loop μ-loop
 loop-again c = (omega arith, copied-more _ _ _ _ _ (c .before .before .before .before .before .before .loop .inv .1)
     (c .before .before .before .before .before .loop-test .taken) (c .before .before .before .short-at .ensures)
@@ -44,6 +26,6 @@ returns c = copied-all _ _ _ (c .loop-test .left) (c .before .loop .inv .1)
 
 pub copy-marks-spec : {M : Type 1} → statement M
 copy-marks-spec =
-    tie.close
-    (tie.spec Inv-loop μ-loop loop-holds add-short-at short-at-requires put-requires add-i loop-less loop-again
+    tie.close (tie.spec Inv-loop μ-loop (λ c. (omega arith, copied-none _ _ (c .before .before .pre)))
+    (search needs) (λ c κs. search needs) (λ c κs. search needs) (search needs) (λ c. omega arith) loop-again
     same-length returns)

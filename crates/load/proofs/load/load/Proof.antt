@@ -6,9 +6,6 @@ use Rattle.load.proofs.Loading.{judged-of, load-refused, load-sheet, sh
 use Rattle.load.proofs.load.load.Statement.{statement}
 use Rattle.load.proofs.load.load.Tie as tie
 
-judge-sheet-requires : tie.Need-judge-sheet-requires
-judge-sheet-requires c κs = blank-made 58313 refl
-
 returns : tie.Need-returns
 returns c = load-refused _ _ _ (c .before .before .before .judge-sheet .ensures) (c .before .enum-told .given .1) (c
     .refusal-of .ensures)
@@ -25,6 +22,5 @@ returns-2 c = let J = judged-of _ _ _ (c .before .before .before .before .before
 
 pub load-spec : {M : Type 1} → statement M
 load-spec =
-    tie.close
-    (tie.spec judge-sheet-requires (search needs) (search needs) (λ c κs. search needs) returns expand-root-requires
-    returns-2)
+    tie.close (tie.spec (λ c κs. blank-made 58313 refl) (search needs) (search needs) (λ c κs. search needs) returns
+    expand-root-requires returns-2)

@@ -38,37 +38,6 @@ in-args-calls t =
 
 -- in_args
 module _ (t : ℕ) where
-  in-args-returns : in-args-lts.Need-returns (in-args-calls t) (in-args-at t) in-args.Post
-  unfolding inArgs
-  in-args-returns c = rw (c .if1 .taken)
-
-  in-args-part-class-requires : in-args-lts.Need-part-class-requires (in-args-calls t) (in-args-at t) in-args.Post
-  in-args-part-class-requires c κs = search needs
-
-  in-args-part-values-requires : in-args-lts.Need-part-values-requires (in-args-calls t) (in-args-at t) in-args.Post
-  in-args-part-values-requires c κs = search needs
-
-  in-args-copies-requires : in-args-lts.Need-copies-requires (in-args-calls t) (in-args-at t) in-args.Post
-  in-args-copies-requires c κs = search needs
-
-  in-args-sum-requires : in-args-lts.Need-sum-requires (in-args-calls t) (in-args-at t) in-args.Post
-  in-args-sum-requires c κs = search needs
-
-  in-args-sub-in-args : in-args-lts.Need-sub-in-args (in-args-calls t) (in-args-at t) in-args.Post
-  in-args-sub-in-args c = search needs
-
-  in-args-sum-requires-2 : in-args-lts.Need-sum-requires-2 (in-args-calls t) (in-args-at t) in-args.Post
-  in-args-sum-requires-2 c κs = search needs
-
-  in-args-answers-requires : in-args-lts.Need-answers-requires (in-args-calls t) (in-args-at t) in-args.Post
-  in-args-answers-requires c κs = search needs
-
-  in-args-sum-requires-3 : in-args-lts.Need-sum-requires-3 (in-args-calls t) (in-args-at t) in-args.Post
-  in-args-sum-requires-3 c κs = search needs
-
-  in-args-in-args-requires : in-args-lts.Need-in-args-requires (in-args-calls t) (in-args-at t) in-args.Post
-  in-args-in-args-requires c κs = search needs
-
   in-args-returns-2 : in-args-lts.Need-returns-2 (in-args-calls t) (in-args-at t) in-args.Post
   in-args-returns-2 c =
       rw (args-step _ _ _ _ _ _ _ (c .before .before .before .before .before .before .before .before .before .if1
@@ -77,15 +46,6 @@ module _ (t : ℕ) where
       .before .before .before .copies .ensures, ← c .before .before .before .before .sum .ensures, ← c .before .before
       .before .sum2 .ensures, ← c .before .before .answers .ensures, ← c .before .sum3 .ensures, ← c .in-args
       .ensures, le-leb _ _ (c .before .before .before .before .before .if2 .taken)))
-
-  in-args-part-at-requires : in-args-lts.Need-part-at-requires (in-args-calls t) (in-args-at t) in-args.Post
-  in-args-part-at-requires c κs = search needs
-
-  in-args-part-weight-requires : in-args-lts.Need-part-weight-requires (in-args-calls t) (in-args-at t) in-args.Post
-  in-args-part-weight-requires c κs = search needs
-
-  in-args-arg-in-requires : in-args-lts.Need-arg-in-requires (in-args-calls t) (in-args-at t) in-args.Post
-  in-args-arg-in-requires c κs = search needs
 
   in-args-returns-3 : in-args-lts.Need-returns-3 (in-args-calls t) (in-args-at t) in-args.Post
   in-args-returns-3 c =
@@ -98,8 +58,8 @@ module _ (t : ℕ) where
 pub +in-args-spec : {M : Type 1} → statement M
 +in-args-spec =
     close μ-in-args
-    (λ t. in-args-lts.spec (in-args-calls t) (in-args-at t) in-args.Post (in-args-returns t)
-      (in-args-part-class-requires t) (in-args-part-values-requires t) (in-args-copies-requires t)
-      (in-args-sum-requires t) (in-args-sub-in-args t) (in-args-sum-requires-2 t) (in-args-answers-requires t)
-      (in-args-sum-requires-3 t) (in-args-in-args-requires t) (in-args-returns-2 t) (in-args-part-at-requires t)
-      (in-args-part-weight-requires t) (in-args-arg-in-requires t) (in-args-returns-3 t))
+    (λ t. in-args-lts.spec (in-args-calls t) (in-args-at t) in-args.Post (λ c. unfold inArgs in rw (c .if1 .taken))
+      (λ c κs. search needs) (λ c κs. search needs) (λ c κs. search needs) (λ c κs. search needs) (search needs)
+      (λ c κs. search needs) (λ c κs. search needs) (λ c κs. search needs) (λ c κs. search needs)
+      (in-args-returns-2 t) (λ c κs. search needs) (λ c κs. search needs) (λ c κs. search needs)
+      (in-args-returns-3 t))

@@ -34,40 +34,12 @@ reply-calls t =
 
 -- reply
 module _ (t : ℕ) where
-  reply-returns : reply-lts.Need-returns (reply-calls t) (reply-at t) reply.Post
-  unfolding replyOf
-  reply-returns c = rw (c .if1 .taken)
-
-  reply-part-class-requires : reply-lts.Need-part-class-requires (reply-calls t) (reply-at t) reply.Post
-  reply-part-class-requires c κs = search needs
-
-  reply-part-values-requires : reply-lts.Need-part-values-requires (reply-calls t) (reply-at t) reply.Post
-  reply-part-values-requires c κs = search needs
-
-  reply-answers-requires : reply-lts.Need-answers-requires (reply-calls t) (reply-at t) reply.Post
-  reply-answers-requires c κs = search needs
-
-  reply-sum-requires : reply-lts.Need-sum-requires (reply-calls t) (reply-at t) reply.Post
-  reply-sum-requires c κs = search needs
-
-  reply-sub-reply : reply-lts.Need-sub-reply (reply-calls t) (reply-at t) reply.Post
-  reply-sub-reply c = search needs
-
-  reply-reply-requires : reply-lts.Need-reply-requires (reply-calls t) (reply-at t) reply.Post
-  reply-reply-requires c κs = search needs
-
   reply-returns-2 : reply-lts.Need-returns-2 (reply-calls t) (reply-at t) reply.Post
   reply-returns-2 c =
       rw (reply-step _ _ _ _ _ _ _ (c .before .before .before .before .before .before .if1 .left)) (simp (← c .before
       .before .before .before .before .part-class .ensures, ← c .before .before .before .before .part-values .ensures,
       ← c .before .before .before .answers .ensures, ← c .before .sum .ensures, ← c .reply .ensures, le-leb _ _
       (c .before .before .if2 .taken)))
-
-  reply-sum-requires-2 : reply-lts.Need-sum-requires-2 (reply-calls t) (reply-at t) reply.Post
-  reply-sum-requires-2 c κs = search needs
-
-  reply-reply-here-requires : reply-lts.Need-reply-here-requires (reply-calls t) (reply-at t) reply.Post
-  reply-reply-here-requires c κs = search needs
 
   reply-returns-3 : reply-lts.Need-returns-3 (reply-calls t) (reply-at t) reply.Post
   reply-returns-3 c =
@@ -79,7 +51,6 @@ module _ (t : ℕ) where
 pub +reply-spec : {M : Type 1} → statement M
 +reply-spec =
     close μ-reply
-    (λ t. reply-lts.spec (reply-calls t) (reply-at t) reply.Post (reply-returns t) (reply-part-class-requires t)
-      (reply-part-values-requires t) (reply-answers-requires t) (reply-sum-requires t) (reply-sub-reply t)
-      (reply-reply-requires t) (reply-returns-2 t) (reply-sum-requires-2 t) (reply-reply-here-requires t)
-      (reply-returns-3 t))
+    (λ t. reply-lts.spec (reply-calls t) (reply-at t) reply.Post (λ c. unfold replyOf in rw (c .if1 .taken))
+      (λ c κs. search needs) (λ c κs. search needs) (λ c κs. search needs) (λ c κs. search needs) (search needs)
+      (λ c κs. search needs) (reply-returns-2 t) (λ c κs. search needs) (λ c κs. search needs) (reply-returns-3 t))

@@ -28,25 +28,6 @@ spots-calls t =
 
 -- spots
 module _ (t : ℕ) where
-  spots-returns : spots-lts.Need-returns (spots-calls t) (spots-at t) spots.Post
-  unfolding argSpots
-  spots-returns c = rw (c .if1 .taken)
-
-  spots-copies-requires : spots-lts.Need-copies-requires (spots-calls t) (spots-at t) spots.Post
-  spots-copies-requires c κs = search needs
-
-  spots-sum-requires : spots-lts.Need-sum-requires (spots-calls t) (spots-at t) spots.Post
-  spots-sum-requires c κs = search needs
-
-  spots-sub-spots : spots-lts.Need-sub-spots (spots-calls t) (spots-at t) spots.Post
-  spots-sub-spots c = search needs
-
-  spots-spots-requires : spots-lts.Need-spots-requires (spots-calls t) (spots-at t) spots.Post
-  spots-spots-requires c κs = search needs
-
-  spots-sum-requires-2 : spots-lts.Need-sum-requires-2 (spots-calls t) (spots-at t) spots.Post
-  spots-sum-requires-2 c κs = search needs
-
   spots-returns-2 : spots-lts.Need-returns-2 (spots-calls t) (spots-at t) spots.Post
   spots-returns-2 c =
       rw (spots-step _ _ _ _ (c .before .before .before .before .if1 .left)) (simp (← c .before .before .before
@@ -55,6 +36,6 @@ module _ (t : ℕ) where
 pub +spots-spec : {M : Type 1} → statement M
 +spots-spec =
     close μ-spots
-    (λ t. spots-lts.spec (spots-calls t) (spots-at t) spots.Post (spots-returns t) (spots-copies-requires t)
-      (spots-sum-requires t) (spots-sub-spots t) (spots-spots-requires t) (spots-sum-requires-2 t)
+    (λ t. spots-lts.spec (spots-calls t) (spots-at t) spots.Post (λ c. unfold argSpots in rw (c .if1 .taken))
+      (λ c κs. search needs) (λ c κs. search needs) (search needs) (λ c κs. search needs) (λ c κs. search needs)
       (spots-returns-2 t))

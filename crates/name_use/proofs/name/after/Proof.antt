@@ -4,9 +4,7 @@ use Rattle.name_use.specs.Name.{againOf}
 use Rattle.name_use.proofs.name.after.Statement.{statement}
 use Rattle.name_use.proofs.name.after.Tie as tie
 
-returns : tie.Need-returns
-unfolding againOf
-returns c = simp (← c .before .name-spent .ensures, ← c .sum .ensures)
-
 pub after-spec : {M : Type 1} → statement M
-after-spec = tie.close (tie.spec (λ c κs. search needs) (λ c κs. search needs) returns)
+after-spec =
+    tie.close (tie.spec (λ c κs. search needs) (λ c κs. search needs)
+    (λ c. unfold againOf in simp (← c .before .name-spent .ensures, ← c .sum .ensures)))

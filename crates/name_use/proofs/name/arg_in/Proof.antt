@@ -5,10 +5,6 @@ use Rattle.name_use.specs.Name.{argHere}
 use Rattle.name_use.proofs.name.arg_in.Statement.{statement}
 use Rattle.name_use.proofs.name.arg_in.Tie as tie
 
-returns : tie.Need-returns
-unfolding argHere
-returns c = simp (eq-eqb _ _ (c .if1 .taken))
-
 returns-2 : tie.Need-returns-2
 unfolding argHere
 returns-2 c =
@@ -17,5 +13,6 @@ returns-2 c =
 
 pub arg-in-spec : {M : Type 1} → statement M
 arg-in-spec =
-    tie.close (tie.spec returns (search needs) (λ c κs. search needs) (λ c κs. search needs) (λ c κs. search needs)
-    (λ c κs. search needs) (search needs) returns-2)
+    tie.close (tie.spec (λ c. unfold argHere in simp (eq-eqb _ _ (c .if1 .taken))) (search needs)
+    (λ c κs. search needs) (λ c κs. search needs) (λ c κs. search needs) (λ c κs. search needs) (search needs)
+    returns-2)

@@ -5,10 +5,6 @@ use Rattle.name_use.specs.Name.{hearQuestion}
 use Rattle.name_use.proofs.name.hear_question.Statement.{statement}
 use Rattle.name_use.proofs.name.hear_question.Tie as tie
 
-returns : tie.Need-returns
-unfolding hearQuestion
-returns c = simp (le-leb _ _ (c .if1 .taken))
-
 returns-2 : tie.Need-returns-2
 unfolding hearQuestion
 returns-2 c =
@@ -28,6 +24,6 @@ returns-3 c =
 
 pub hear-question-spec : {M : Type 1} → statement M
 hear-question-spec =
-    tie.close (tie.spec returns (λ c κs. search needs) (λ c κs. search needs) (λ c κs. search needs) returns-2
-    (λ c κs. search needs) (λ c κs. search needs) (λ c κs. search needs) (search needs) (λ c κs. search needs)
-    (λ c κs. search needs) returns-3)
+    tie.close (tie.spec (λ c. unfold hearQuestion in simp (le-leb _ _ (c .if1 .taken))) (λ c κs. search needs)
+    (λ c κs. search needs) (λ c κs. search needs) returns-2 (λ c κs. search needs) (λ c κs. search needs)
+    (λ c κs. search needs) (search needs) (λ c κs. search needs) (λ c κs. search needs) returns-3)

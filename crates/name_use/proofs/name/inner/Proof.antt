@@ -4,9 +4,7 @@ use Rattle.name_use.specs.Name.{innerOf}
 use Rattle.name_use.proofs.name.inner.Statement.{statement}
 use Rattle.name_use.proofs.name.inner.Tie as tie
 
-returns : tie.Need-returns
-unfolding innerOf
-returns c = simp (← c .before .name-spent .ensures, ← c .sum .ensures)
-
 pub inner-spec : {M : Type 1} → statement M
-inner-spec = tie.close (tie.spec (λ c κs. search needs) (λ c κs. search needs) returns)
+inner-spec =
+    tie.close (tie.spec (λ c κs. search needs) (λ c κs. search needs)
+    (λ c. unfold innerOf in simp (← c .before .name-spent .ensures, ← c .sum .ensures)))

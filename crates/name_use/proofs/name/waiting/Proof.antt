@@ -5,13 +5,10 @@ use Rattle.name_use.specs.Name.{atWait}
 use Rattle.name_use.proofs.name.waiting.Statement.{statement}
 use Rattle.name_use.proofs.name.waiting.Tie as tie
 
-returns : tie.Need-returns
-unfolding atWait
-returns c = simp (eq-eqb _ _ (c .if1 .taken))
-
 returns-2 : tie.Need-returns-2
 unfolding atWait
 returns-2 c = simp (← c .listen .ensures, ne-eqb _ _ (c .before .if1 .left))
 
 pub waiting-spec : {M : Type 1} → statement M
-waiting-spec = tie.close (tie.spec returns (λ c κs. search needs) returns-2)
+waiting-spec =
+    tie.close (tie.spec (λ c. unfold atWait in simp (eq-eqb _ _ (c .if1 .taken))) (λ c κs. search needs) returns-2)

@@ -33,9 +33,6 @@ first-edge-requires-2 c κs = let Q = c .before .before .before .before .pre in 
   meet-room _ _ _ _ _ _ _ _ (Q .counting) (Q .more) (Q .state),
 )
 
-loop-holds : tie.Need-loop-holds Inv-loop μ-loop
-loop-holds c = λ G g own head d M. M
-
 edge-target-requires : tie.Need-edge-target-requires Inv-loop μ-loop
 edge-target-requires c κs = let Q = c .before .before .before .before .before .before .before .before .pre in let M =
     c .before .before .loop .inv _ _ _ _ (Q .dead-is) (meet-first _ _ _ _ _ _ _ (Q .dead-is) _ _ _ _ (Q .counting)
@@ -93,18 +90,5 @@ returns c = λ G g own head C h q d. let M = c .before .loop .inv G g own head d
 
 pub meet-spec : {M : Type 1} → statement M
 meet-spec =
-    tie.close
-    (tie.spec
-    Inv-loop
-    μ-loop
-    first-edge-requires
-    add-first-edge
-    first-edge-requires-2
-    loop-holds
-    edge-target-requires
-    note-requires
-    add-e
-    loop-less
-    loop-again
-    same-length
-    returns)
+    tie.close (tie.spec Inv-loop μ-loop first-edge-requires add-first-edge first-edge-requires-2
+    (λ c G g own head d M. M) edge-target-requires note-requires add-e loop-less loop-again same-length returns)

@@ -22,7 +22,6 @@ returns-3 c = noted-fresh _ _ _ _ _ _
 
 pub note-spec : {M : Type 1} → statement M
 note-spec =
-    tie.close
-    (tie.spec (λ c κs. search needs) (search needs) returns (search needs) (λ c κs. search needs) (search needs)
-    returns-2 (search needs) (search needs) (λ c κs. search needs) (search needs) (search needs)
+    tie.close (tie.spec (λ c κs. search needs) (search needs) returns (search needs) (λ c κs. search needs)
+    (search needs) returns-2 (search needs) (search needs) (λ c κs. search needs) (search needs) (search needs)
     (λ c κs. search needs) (search needs) (search needs) returns-3)

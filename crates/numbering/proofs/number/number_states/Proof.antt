@@ -33,9 +33,6 @@ note-requires c κs = first-asks _ _ _ _ _
     (c .before .before .before .before .before .before .before .before .pre .1 .1 .1) _
     (c .before .before .before .zero .ensures)
 
-loop-holds : tie.Need-loop-holds Inv-loop μ-loop
-loop-holds c = ((λ G g own d S. S), refl)
-
 mul-at : tie.Need-mul-at Inv-loop μ-loop
 mul-at c = let R = count-room _ _ _ _ _
     (c .before .before .before .before .before .before .before .before .before .before .before .before .before .before
@@ -183,21 +180,6 @@ returns c = λ G g own B. let R = count-room _ _ _ _ _ B in
 
 pub number-states-spec : {M : Type 1} → statement M
 number-states-spec =
-    tie.close
-    (tie.spec
-    Inv-loop
-    μ-loop
-    sub-at
-    at-requires
-    zero-requires
-    note-requires
-    loop-holds
-    mul-at
-    add-at
-    at-requires-2
-    meet-requires
-    add-head
-    loop-less
-    loop-again
-    same-length
-    returns)
+    tie.close (tie.spec Inv-loop μ-loop sub-at at-requires zero-requires note-requires
+    (λ c. ((λ G g own d S. S), refl)) mul-at add-at at-requires-2 meet-requires add-head loop-less loop-again
+    same-length returns)

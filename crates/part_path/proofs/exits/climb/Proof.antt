@@ -19,20 +19,8 @@ Inv-loop p c left₀ out₀ left out =
 abbrev μ-loop : tie.MeasureT-loop
 μ-loop p c left₀ out₀ left out = left
 
-loop-holds : tie.Need-loop-holds Inv-loop μ-loop
-loop-holds c = (omega arith, λ N. refl)
-
-sub-left : tie.Need-sub-left Inv-loop μ-loop
-sub-left c = search needs
-
 frame-at-requires : tie.Need-frame-at-requires Inv-loop μ-loop
 frame-at-requires c κs = omega (arith, c .before .before .pre .few, c .before .loop .inv .0)
-
-goes-requires : tie.Need-goes-requires Inv-loop μ-loop
-goes-requires c κs = search needs
-
-loop-less : tie.Need-loop-less Inv-loop μ-loop
-loop-less c = search needs
 
 loop-again : tie.Need-loop-again Inv-loop μ-loop
 loop-again c = (omega (arith, c .before .before .before .loop .inv .0), λ N. climb-again _ _ _ _ _ _ _ _ (c .before
@@ -43,5 +31,6 @@ returns : tie.Need-returns Inv-loop μ-loop
 returns c = λ N. climb-last _ _ _ _ _ _ (c .loop-test .left) (c .before .loop .inv .1 N)
 
 pub climb-spec : {M : Type 1} → statement M
-climb-spec = tie.close (tie.spec Inv-loop μ-loop loop-holds sub-left frame-at-requires goes-requires loop-less
-    loop-again returns)
+climb-spec =
+    tie.close (tie.spec Inv-loop μ-loop (λ c. (omega arith, λ N. refl)) (search needs) frame-at-requires
+    (λ c κs. search needs) (search needs) loop-again returns)

@@ -16,29 +16,14 @@ Inv-loop n s p c kind value block set own up₀ answer₀ result₀ up answer re
 abbrev μ-loop : tie.MeasureT-loop
 μ-loop n s p c kind value block set own up₀ answer₀ result₀ up answer result = up
 
-block-at-requires : tie.Need-block-at-requires Inv-loop μ-loop
-block-at-requires c κs = search needs
-
-up-at-requires : tie.Need-up-at-requires Inv-loop μ-loop
-up-at-requires c κs = search needs
-
 loop-holds : tie.Need-loop-holds Inv-loop μ-loop
 loop-holds c = exit-first _ _ _ _ _ _ _ (c .before .before .pre) (c .before .block-at .ensures) _ _ _ (c .up-at
     .ensures)
-
-sub-i : tie.Need-sub-i Inv-loop μ-loop
-sub-i c = search needs
 
 frame-at-requires : tie.Need-frame-at-requires Inv-loop μ-loop
 frame-at-requires c κs = omega (arith, c .before .before .before .before .pre .few, exit-within _ _ _ _ _ _ _ (c
     .before .before .before .before .pre) (c .before .before .before .block-at .ensures) _ _ _ _
     (c .before .loop .inv), c .loop-test .taken)
-
-exits-requires : tie.Need-exits-requires Inv-loop μ-loop
-exits-requires c κs = search needs
-
-enum-known-o : tie.Need-enum-known-o Inv-loop μ-loop
-enum-known-o c = search needs
 
 led-requires : tie.Need-led-requires Inv-loop μ-loop
 led-requires c κs =
@@ -57,9 +42,6 @@ returns c = exit-leads _ _ _ _ _ _ _ (c .before .before .before .before .before 
     (c .before .before .before .before .before .frame-at .ensures) (c .before .before .before .before .exits .ensures)
         _ (c .before .before .o .given .1) (c .led .ensures _ _ refl)
 
-enum-known-o-2 : tie.Need-enum-known-o-2 Inv-loop μ-loop
-enum-known-o-2 c = search needs
-
 up-at-requires-2 : tie.Need-up-at-requires-2 Inv-loop μ-loop
 up-at-requires-2 c κs = fewer _ _ _ (c .before .before .before .before .before .before .before .before .before .pre)
     (omega (arith, exit-within _ _ _ _ _ _ _ (c .before .before .before .before .before .before .before .before
@@ -77,12 +59,6 @@ loop-again c = exit-again _ _ _ _ _ _ _ (c .before .before .before .before .befo
     (c .before .before .before .before .before .frame-at .ensures) (c .before .before .before .before .exits .ensures)
         _ (c .before .before .o2 .given .1) (c .up-at2 .ensures)
 
-enum-told : tie.Need-enum-told Inv-loop μ-loop
-enum-told c = search needs
-
-dead-requires : tie.Need-dead-requires Inv-loop μ-loop
-dead-requires c κs = search needs
-
 returns-2 : tie.Need-returns-2 Inv-loop μ-loop
 returns-2 c = absurd (exit-says _ _ _ _ _ _ _ (c .before .before .before .before .before .before .before .before
     .before .pre) (c .before .before .before .before .before .before .before .before .block-at .ensures) _ _ _ _ _ _
@@ -90,12 +66,6 @@ returns-2 c = absurd (exit-says _ _ _ _ _ _ _ (c .before .before .before .before
     .loop-test .taken)
     (c .before .before .before .before .frame-at .ensures) (c .before .before .before .exits .ensures) (c .before
         .enum-told .given .1))
-
-enum-told-2 : tie.Need-enum-told-2 Inv-loop μ-loop
-enum-told-2 c = search needs
-
-dead-requires-2 : tie.Need-dead-requires-2 Inv-loop μ-loop
-dead-requires-2 c κs = search needs
 
 returns-3 : tie.Need-returns-3 Inv-loop μ-loop
 returns-3 c = absurd (exit-hears _ _ _ _ _ _ _ (c .before .before .before .before .before .before .before .before
@@ -105,12 +75,6 @@ returns-3 c = absurd (exit-hears _ _ _ _ _ _ _ (c .before .before .before .befor
     (c .before .before .before .before .frame-at .ensures) (c .before .before .before .exits .ensures) (c .before
         .enum-told2 .given .1))
 
-enum-told-3 : tie.Need-enum-told-3 Inv-loop μ-loop
-enum-told-3 c = search needs
-
-dead-requires-3 : tie.Need-dead-requires-3 Inv-loop μ-loop
-dead-requires-3 c κs = search needs
-
 returns-4 : tie.Need-returns-4 Inv-loop μ-loop
 returns-4 c = exit-stops _ _ _ _ _ _ _ (c .before .before .before .before .before .before .before .before .before
     .pre) (c .before .before .before .before .before .before .before .before .block-at .ensures) _ _ _ _ _ _ (c
@@ -119,16 +83,14 @@ returns-4 c = exit-stops _ _ _ _ _ _ _ (c .before .before .before .before .befor
     (c .before .before .before .before .frame-at .ensures) (c .before .before .before .exits .ensures) _ (c .before
         .enum-told3 .given .1) (c .dead3 .ensures)
 
-dead-requires-4 : tie.Need-dead-requires-4 Inv-loop μ-loop
-dead-requires-4 c κs = search needs
-
 returns-5 : tie.Need-returns-5 Inv-loop μ-loop
 returns-5 c = c .dead4 .ensures ∙ exit-last _ _ _ _ _ _ _ (c .before .before .before .before .before .pre) (c .before
     .before .before .before .block-at .ensures) _ _ _ _ (c .before .before .loop .inv)
     (c .before .loop-test .left)
 
 pub exit-spec : {M : Type 1} → statement M
-exit-spec = tie.close (tie.spec Inv-loop μ-loop block-at-requires up-at-requires loop-holds sub-i frame-at-requires
-    exits-requires enum-known-o led-requires returns enum-known-o-2 up-at-requires-2 loop-less loop-again enum-told
-    dead-requires returns-2 enum-told-2 dead-requires-2 returns-3 enum-told-3 dead-requires-3 returns-4 dead-requires-4
-    returns-5)
+exit-spec =
+    tie.close (tie.spec Inv-loop μ-loop (λ c κs. search needs) (λ c κs. search needs) loop-holds (search needs)
+    frame-at-requires (λ c κs. search needs) (search needs) led-requires returns (search needs) up-at-requires-2
+    loop-less loop-again (search needs) (λ c κs. search needs) returns-2 (search needs) (λ c κs. search needs)
+    returns-3 (search needs) (λ c κs. search needs) returns-4 (λ c κs. search needs) returns-5)

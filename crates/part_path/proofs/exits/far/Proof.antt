@@ -1,6 +1,5 @@
 -- `far` leads a step where `riseAll` leads it.
 use borrow.Author.Needs.{needs}
-use native.Mathlib.Omega.{arith}
 use Rattle.part_path.proofs.PathCode.{from-first, far-leads}
 use Rattle.part_path.proofs.exits.far.Statement.{statement}
 use Rattle.part_path.proofs.exits.far.Tie as tie

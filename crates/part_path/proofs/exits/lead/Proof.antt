@@ -3,11 +3,7 @@ use borrow.Author.Needs.{needs}
 use Rattle.part_path.proofs.exits.lead.Statement.{statement}
 use Rattle.part_path.proofs.exits.lead.Tie as tie
 
-lead-at-requires : tie.Need-lead-at-requires
-lead-at-requires c κs = (c .before .pre, c .block-at .ensures)
-
-returns : tie.Need-returns
-returns c = c .lead-at .ensures
-
 pub lead-spec : {M : Type 1} → statement M
-lead-spec = tie.close (tie.spec (λ c κs. search needs) lead-at-requires returns)
+lead-spec =
+    tie.close (tie.spec (λ c κs. search needs) (λ c κs. (c .before .pre, c .block-at .ensures))
+    (λ c. c .lead-at .ensures))

@@ -6,15 +6,6 @@ use Rattle.part_path.proofs.PathSteps.{lead-plain, lead-low}
 use Rattle.part_path.proofs.exits.lead_at.Statement.{statement}
 use Rattle.part_path.proofs.exits.lead_at.Tie as tie
 
-far-requires : tie.Need-far-requires
-far-requires c κs = c .before .pre .0
-
-returns : tie.Need-returns
-returns c = c .far .ensures
-
-start-at-requires : tie.Need-start-at-requires
-start-at-requires c κs = c .before .before .pre .0
-
 add-sum : tie.Need-add-sum
 add-sum c = omega (arith, lead-low _ _ _ (c .before .before .before .pre .0) (c .start-at .ensures), c .before .before
     .if1 .left)
@@ -29,9 +20,7 @@ moved-requires : tie.Need-moved-requires
 moved-requires c κs = (c .before .before .pre .0, (c .before .if1 .left, (c .before .before .pre .1, omega (arith, c
     .if2 .left))))
 
-returns-3 : tie.Need-returns-3
-returns-3 c = c .moved .ensures
-
 pub lead-at-spec : {M : Type 1} → statement M
-lead-at-spec = tie.close (tie.spec far-requires returns start-at-requires add-sum (λ c κs. search needs) returns-2
-    moved-requires returns-3)
+lead-at-spec =
+    tie.close (tie.spec (λ c κs. c .before .pre .0) (λ c. c .far .ensures) (λ c κs. c .before .before .pre .0)
+    add-sum (λ c κs. search needs) returns-2 moved-requires (λ c. c .moved .ensures))

@@ -6,14 +6,8 @@ use Rattle.part_path.proofs.PathSteps.{lead-plain, lead-low, led-none, 
 use Rattle.part_path.proofs.exits.led.Statement.{statement}
 use Rattle.part_path.proofs.exits.led.Tie as tie
 
-lead-requires : tie.Need-lead-requires
-lead-requires c κs = c .before .pre .0
-
 returns : tie.Need-returns
 returns c = λ N s e. led-none N _ _ _ _ _ _ _ _ (c .before .if1 .taken) (c .lead .ensures N s e)
-
-start-at-requires : tie.Need-start-at-requires
-start-at-requires c κs = c .before .before .before .pre .0
 
 add-sum : tie.Need-add-sum
 add-sum c = omega (arith, lead-low _ _ _ (c .before .before .before .before .pre .0) (c .start-at .ensures), c
@@ -33,5 +27,6 @@ returns-3 : tie.Need-returns-3
 returns-3 c = λ N s e. led-own N _ _ _ _ _ _ _ _ (c .before .before .if1 .left) (c .lead-at .ensures N s e)
 
 pub led-spec : {M : Type 1} → statement M
-led-spec = tie.close (tie.spec lead-requires returns start-at-requires add-sum (λ c κs. search needs) returns-2
-    lead-at-requires returns-3)
+led-spec =
+    tie.close (tie.spec (λ c κs. c .before .pre .0) returns (λ c κs. c .before .before .before .pre .0) add-sum
+    (λ c κs. search needs) returns-2 lead-at-requires returns-3)

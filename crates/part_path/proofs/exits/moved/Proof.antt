@@ -10,9 +10,6 @@ field-requires : tie.Need-field-requires
 field-requires c κs = (omega (arith, c .pre .0 .few, block-within _ _ _ _ (c .pre .1 .1 .0) (λ z. omega (arith, c .pre
     .1 .1 .1))), omega arith)
 
-start-at-requires : tie.Need-start-at-requires
-start-at-requires c κs = c .before .pre .0
-
 add-mul-add : tie.Need-add-mul-add
 add-mul-add c = omega (arith, lead-low _ _ _ (c .before .before .pre .0)
     (c .start-at .ensures), c .before .before .pre .1
@@ -26,12 +23,6 @@ sub-mul-add : tie.Need-sub-mul-add
 sub-mul-add c = lead-within _ _ _ _ _ _ (c .before .before .before .pre .0) (c .before .before .before .pre .1 .0) (c
     .before .start-at .ensures) (c .before .before .before .pre .1 .1 .0) (λ z. omega (arith, c .before .before .before
     .pre .1 .1 .1)) _ (c .start-at2 .ensures)
-
-far-requires : tie.Need-far-requires
-far-requires c κs = c .before .before .before .before .before .pre .0
-
-returns : tie.Need-returns
-returns c = c .far .ensures
 
 start-at-requires-3 : tie.Need-start-at-requires-3
 start-at-requires-3 c κs = fewer _ _ _ (c .before .before .before .before .before .pre .0) (omega (arith, block-within _
@@ -52,6 +43,7 @@ returns-2 c = λ N s e. lead-copy N _ _ _ _ _ _ _ _ (c .before .before .before .
     .mul-add .ensures) (c .before .before .if1 .left) (c .before .start-at3 .ensures) (from-first _ _ _ _ e (c .sum .ensures))
 
 pub moved-spec : {M : Type 1} → statement M
-moved-spec = tie.close (tie.spec (search needs) field-requires start-at-requires add-mul-add start-at-requires-2
-    sub-mul-add (λ c κs. search needs) far-requires returns (search needs) start-at-requires-3 add-sum
-    (λ c κs. search needs) returns-2)
+moved-spec =
+    tie.close (tie.spec (search needs) field-requires (λ c κs. c .before .pre .0) add-mul-add start-at-requires-2
+    sub-mul-add (λ c κs. search needs) (λ c κs. c .before .before .before .before .before .pre .0)
+    (λ c. c .far .ensures) (search needs) start-at-requires-3 add-sum (λ c κs. search needs) returns-2)

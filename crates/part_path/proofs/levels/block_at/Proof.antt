@@ -12,18 +12,6 @@ Inv-loop p c block m₀ m = Looking p c block m
 abbrev μ-loop : tie.MeasureT-loop
 μ-loop p c block m₀ m = m
 
-returns : tie.Need-returns Inv-loop μ-loop
-returns c = block-zero _ _ _ (c .before .pre) (c .if1 .taken)
-
-innermost-requires : tie.Need-innermost-requires Inv-loop μ-loop
-innermost-requires c κs = search needs
-
-loop-holds : tie.Need-loop-holds Inv-loop μ-loop
-loop-holds c = look-first _ _ _ _ (c .innermost .ensures)
-
-sub-field : tie.Need-sub-field Inv-loop μ-loop
-sub-field c = search needs
-
 field-requires : tie.Need-field-requires Inv-loop μ-loop
 field-requires c κs = (omega (arith, c .before .before .before .before .pre .few, look-within _ _ _ _ (c .before .loop
     .inv), c .loop-test .taken), omega arith)
@@ -31,9 +19,6 @@ field-requires c κs = (omega (arith, c .before .before .before .before .pre .fe
 returns-2 : tie.Need-returns-2 Inv-loop μ-loop
 returns-2 c = look-found _ _ _ _ (c .before .before .before .before .before .before .pre) (c .before .before .before
     .loop .inv) (c .before .before .loop-test .taken) _ (c .before .field .ensures) (c .if2 .taken)
-
-sub-field-2 : tie.Need-sub-field-2 Inv-loop μ-loop
-sub-field-2 c = search needs
 
 field-requires-2 : tie.Need-field-requires-2 Inv-loop μ-loop
 field-requires-2 c κs = (omega (arith, c .before .before .before .before .before .before .pre .few, look-within _ _ _
@@ -53,5 +38,7 @@ returns-3 : tie.Need-returns-3 Inv-loop μ-loop
 returns-3 c = look-last _ _ _ _ (c .before .loop .inv) (c .loop-test .left)
 
 pub block-at-spec : {M : Type 1} → statement M
-block-at-spec = tie.close (tie.spec Inv-loop μ-loop returns innermost-requires loop-holds sub-field field-requires
-    returns-2 sub-field-2 field-requires-2 loop-less loop-again returns-3)
+block-at-spec =
+    tie.close (tie.spec Inv-loop μ-loop (λ c. block-zero _ _ _ (c .before .pre) (c .if1 .taken))
+    (λ c κs. search needs) (λ c. look-first _ _ _ _ (c .innermost .ensures)) (search needs) field-requires returns-2
+    (search needs) field-requires-2 loop-less loop-again returns-3)

@@ -1,8 +1,6 @@
 -- What `frame_at` gives is what `frameOf` says, case by case.
 use borrow.Author.Needs.{needs}
-use native.Mathlib.Omega.{arith}
 use Rattle.part_path.specs.Levels.{frameOf}
-use borrow.Author.Tests.{le-leb, lt-leb, lt-ltb, le-ltb, eq-eqb, ne-eqb}
 use Rattle.part_path.proofs.levels.frame_at.Statement.{statement}
 use Rattle.part_path.proofs.levels.frame_at.Tie as tie
 

@@ -5,12 +5,6 @@ use Rattle.part_path.proofs.PathSteps.{innermost-none, innermost-here, 
 use Rattle.part_path.proofs.levels.innermost.Statement.{statement}
 use Rattle.part_path.proofs.levels.innermost.Tie as tie
 
-returns : tie.Need-returns
-returns c = innermost-none _ _ (c .if1 .taken)
-
-field-requires : tie.Need-field-requires
-field-requires c κs = (omega (arith, c .before .pre .few), omega arith)
-
 returns-2 : tie.Need-returns-2
 returns-2 c = innermost-here _ _ _ (c .before .before .if1 .left) (c .before .field .ensures) (c .if2 .taken)
 
@@ -22,5 +16,6 @@ returns-3 c = innermost-outside _ _ _ _ (c .before .before .before .before .pre)
     (c .before .before .field .ensures) (c .before .if2 .left) (c .field2 .ensures)
 
 pub innermost-spec : {M : Type 1} → statement M
-innermost-spec = tie.close (tie.spec returns (search needs) field-requires returns-2 (search needs) field-requires-2
-    returns-3)
+innermost-spec =
+    tie.close (tie.spec (λ c. innermost-none _ _ (c .if1 .taken)) (search needs)
+    (λ c κs. (omega (arith, c .before .pre .few), omega arith)) returns-2 (search needs) field-requires-2 returns-3)

@@ -1,15 +1,12 @@
 -- `put_four` writes four words, one after the other.
 use borrow.Author.Needs.{needs}
-use native.Mathlib.Omega.{arith}
 use Rattle.part_path.proofs.PathWords.{four}
 use mathlib.Core.Path.{refl}
-use borrow.Author.Tests.{le-leb, lt-leb, lt-ltb, le-ltb, eq-eqb, ne-eqb}
 use Rattle.part_path.proofs.levels.put_four.Statement.{statement}
 use Rattle.part_path.proofs.levels.put_four.Tie as tie
 
-returns : tie.Need-returns
-returns c = four _ _ _ _ _ _ _ _ _ _ refl refl refl refl
-
 pub put-four-spec : {M : Type 1} → statement M
-put-four-spec = tie.close (tie.spec (search needs) (search needs) (search needs) (search needs) (search needs)
-    (search needs) (search needs) (search needs) (search needs) (search needs) (search needs) returns)
+put-four-spec =
+    tie.close (tie.spec (search needs) (search needs) (search needs) (search needs) (search needs) (search needs)
+    (search needs) (search needs) (search needs) (search needs) (search needs)
+    (λ c. four _ _ _ _ _ _ _ _ _ _ refl refl refl refl))

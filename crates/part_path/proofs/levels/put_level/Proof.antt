@@ -1,9 +1,7 @@
 -- What `put_level` leaves is what `withLevel` says.
 use borrow.Author.Needs.{needs}
-use native.Mathlib.Omega.{arith}
 use Rattle.part_path.proofs.PathWords.{thirteen}
 use mathlib.Core.Path.{refl}
-use borrow.Author.Tests.{le-leb, lt-leb, lt-ltb, le-ltb, eq-eqb, ne-eqb}
 use Rattle.part_path.proofs.levels.put_level.Statement.{statement}
 use Rattle.part_path.proofs.levels.put_level.Tie as tie
 

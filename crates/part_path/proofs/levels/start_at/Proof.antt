@@ -3,20 +3,15 @@ use borrow.Author.Needs.{needs}
 use native.Mathlib.Omega.{arith}
 use Rattle.part_path.specs.Levels.{levelAt}
 use Rattle.part_path.specs.Kept.{startOf}
-use borrow.Author.Tests.{le-leb, lt-leb, lt-ltb, le-ltb, eq-eqb, ne-eqb}
+use borrow.Author.Tests.{eq-eqb, ne-eqb}
 use Rattle.part_path.proofs.levels.start_at.Statement.{statement}
 use Rattle.part_path.proofs.levels.start_at.Tie as tie
-
-returns : tie.Need-returns
-unfolding startOf
-returns c = simp (eq-eqb _ _ (c .if1 .taken))
-
-field-requires : tie.Need-field-requires
-field-requires c κs = (omega (arith, c .before .pre .few), omega arith)
 
 returns-2 : tie.Need-returns-2
 unfolding startOf levelAt
 returns-2 c = simp (← c .field .ensures, ne-eqb _ _ (c .before .if1 .left))
 
 pub start-at-spec : {M : Type 1} → statement M
-start-at-spec = tie.close (tie.spec returns (search needs) field-requires returns-2)
+start-at-spec =
+    tie.close (tie.spec (λ c. unfold startOf in simp (eq-eqb _ _ (c .if1 .taken))) (search needs)
+    (λ c κs. (omega (arith, c .before .pre .few), omega arith)) returns-2)

@@ -4,8 +4,6 @@ use Rattle.part_path.proofs.PathCode.{child-is}
 use Rattle.part_path.proofs.Steady.{small-word}
 use denote.Ref.{now}
 use native.Mathlib.Omega.{arith}
-use Rattle.part_path.specs.Kept.{childOf}
-use borrow.Author.Tests.{le-leb, lt-leb, lt-ltb, le-ltb, eq-eqb, ne-eqb}
 use Rattle.part_path.proofs.path.child.Statement.{statement}
 use Rattle.part_path.proofs.path.child.Tie as tie
 

@@ -4,13 +4,9 @@ use native.Mathlib.Omega.{arith}
 use denote.Ref.{now}
 use Rattle.part_path.proofs.Steady.{small-word}
 use Rattle.automaton.specs.walk.Down.{inPrivate}
-use borrow.Author.Tests.{le-leb, lt-leb, lt-ltb, le-ltb, eq-eqb, ne-eqb}
+use borrow.Author.Tests.{lt-ltb, le-ltb, eq-eqb, ne-eqb}
 use Rattle.part_path.proofs.path.private_at.Statement.{statement}
 use Rattle.part_path.proofs.path.private_at.Tie as tie
-
-returns : tie.Need-returns
-unfolding inPrivate
-returns c = simp (eq-eqb _ _ (c .if1 .taken))
 
 value-at-requires : tie.Need-value-at-requires
 value-at-requires c κs = (c .before .before .before .before .pre, omega (arith, c .before .before .cell .ensures,
@@ -40,5 +36,6 @@ returns-5 c = simp (ne-eqb _ _ (c .before .before .if1 .left), ne-eqb _ _ (c .be
     .left))
 
 pub private-at-spec : {M : Type 1} → statement M
-private-at-spec = tie.close (tie.spec (λ c κs. search needs) returns value-at-requires returns-2
-    (λ c κs. search needs) (λ c κs. search needs) returns-3 returns-4 returns-5)
+private-at-spec =
+    tie.close (tie.spec (λ c κs. search needs) (λ c. unfold inPrivate in simp (eq-eqb _ _ (c .if1 .taken)))
+    value-at-requires returns-2 (λ c κs. search needs) (λ c κs. search needs) returns-3 returns-4 returns-5)

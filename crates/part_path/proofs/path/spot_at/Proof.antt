@@ -6,7 +6,7 @@ use Prim.Native.Nat.{_-_}
 use Rattle.part_path.specs.Levels.{levelAt}
 use Rattle.part_path.specs.Kept.{spotIn}
 use Rattle.part_path.proofs.PathCode.{spot-private, spot-down}
-use borrow.Author.Tests.{le-leb, lt-leb, lt-ltb, le-ltb, eq-eqb, ne-eqb}
+use borrow.Author.Tests.{eq-eqb}
 use Rattle.part_path.proofs.path.spot_at.Statement.{statement}
 use Rattle.part_path.proofs.path.spot_at.Tie as tie
 

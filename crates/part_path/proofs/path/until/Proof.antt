@@ -1,8 +1,7 @@
 -- What `until` gives is what `untilOf` says, case by case.
 use borrow.Author.Needs.{needs}
-use native.Mathlib.Omega.{arith}
 use Rattle.part_path.specs.Kept.{untilOf}
-use borrow.Author.Tests.{le-leb, lt-leb, lt-ltb, le-ltb, eq-eqb, ne-eqb}
+use borrow.Author.Tests.{le-leb, lt-leb}
 use Rattle.part_path.proofs.path.until.Statement.{statement}
 use Rattle.part_path.proofs.path.until.Tie as tie
 

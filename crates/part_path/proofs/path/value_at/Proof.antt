@@ -5,9 +5,6 @@ use Rattle.part_path.proofs.PathSteps.{value-unset, value-there, block-
 use Rattle.part_path.proofs.path.value_at.Statement.{statement}
 use Rattle.part_path.proofs.path.value_at.Tie as tie
 
-block-at-requires : tie.Need-block-at-requires
-block-at-requires c κs = c .pre .0
-
 returns : tie.Need-returns
 returns c = value-unset _ _ _ _ (c .before .block-at .ensures) (c .if1 .taken)
 
@@ -19,5 +16,5 @@ returns-2 : tie.Need-returns-2
 returns-2 c = value-there _ _ _ _ _ (c .before .before .block-at .ensures) (c .before .if1 .left) (c .field .ensures)
 
 pub value-at-spec : {M : Type 1} → statement M
-value-at-spec = tie.close (tie.spec (search needs) block-at-requires returns (search needs) field-requires
-    returns-2)
+value-at-spec =
+    tie.close (tie.spec (search needs) (λ c κs. c .pre .0) returns (search needs) field-requires returns-2)

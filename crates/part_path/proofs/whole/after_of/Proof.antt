@@ -1,6 +1,5 @@
 -- What `after_of` gives is what `afterOf` says, case by case.
 use borrow.Author.Needs.{needs}
-use borrow.Author.Tests.{le-leb, lt-leb, lt-ltb, le-ltb, eq-eqb, ne-eqb}
 use Rattle.part_path.specs.States.{afterOf}
 use Rattle.part_path.proofs.whole.after_of.Statement.{statement}
 use Rattle.part_path.proofs.whole.after_of.Tie as tie

@@ -1,13 +1,9 @@
 -- What `opened` gives is what `openedOf` says, case by case.
 use borrow.Author.Needs.{needs}
-use borrow.Author.Tests.{le-leb, lt-leb, lt-ltb, le-ltb, eq-eqb, ne-eqb}
+use borrow.Author.Tests.{eq-eqb, ne-eqb}
 use Rattle.part_path.specs.States.{openedOf}
 use Rattle.part_path.proofs.whole.opened.Statement.{statement}
 use Rattle.part_path.proofs.whole.opened.Tie as tie
-
-returns : tie.Need-returns
-unfolding openedOf
-returns c = simp (ne-eqb _ _ (c .if1 .taken))
 
 returns-2 : tie.Need-returns-2
 unfolding openedOf
@@ -29,6 +25,7 @@ returns-4 c =
     .before .before .before .before .before .if2 .left), ne-eqb _ _ (c .before .before .if3 .left))
 
 pub opened-spec : {M : Type 1} → statement M
-opened-spec = tie.close
-    (tie.spec returns returns-2 (λ c κs. search needs) (λ c κs. search needs) (λ c κs. search needs) returns-3
-    (search needs) (λ c κs. search needs) (λ c κs. search needs) returns-4)
+opened-spec =
+    tie.close (tie.spec (λ c. unfold openedOf in simp (ne-eqb _ _ (c .if1 .taken))) returns-2 (λ c κs. search needs)
+    (λ c κs. search needs) (λ c κs. search needs) returns-3 (search needs) (λ c κs. search needs)
+    (λ c κs. search needs) returns-4)

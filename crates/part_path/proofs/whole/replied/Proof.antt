@@ -1,13 +1,8 @@
 -- What `replied` gives is what `repliedOf` says, case by case.
-use borrow.Author.Needs.{needs}
-use borrow.Author.Tests.{le-leb, lt-leb, lt-ltb, le-ltb, eq-eqb, ne-eqb}
+use borrow.Author.Tests.{le-leb, lt-leb, eq-eqb, ne-eqb}
 use Rattle.part_path.specs.States.{repliedOf}
 use Rattle.part_path.proofs.whole.replied.Statement.{statement}
 use Rattle.part_path.proofs.whole.replied.Tie as tie
-
-returns : tie.Need-returns
-unfolding repliedOf
-returns c = simp (eq-eqb _ _ (c .if1 .taken))
 
 returns-2 : tie.Need-returns-2
 unfolding repliedOf
@@ -18,4 +13,4 @@ unfolding repliedOf
 returns-3 c = simp (ne-eqb _ _ (c .before .if1 .left), lt-leb _ _ (c .if2 .left))
 
 pub replied-spec : {M : Type 1} → statement M
-replied-spec = tie.close (tie.spec returns returns-2 returns-3)
+replied-spec = tie.close (tie.spec (λ c. unfold repliedOf in simp (eq-eqb _ _ (c .if1 .taken))) returns-2 returns-3)

@@ -1,8 +1,7 @@
 -- What `sheet_spot` gives is what `sheetSpot` says, case by case.
 use borrow.Author.Needs.{needs}
-use native.Mathlib.Omega.{arith}
 use Rattle.part_path.specs.Kept.{sheetSpot}
-use borrow.Author.Tests.{le-leb, lt-leb, lt-ltb, le-ltb, eq-eqb, ne-eqb}
+use borrow.Author.Tests.{lt-ltb, le-ltb, eq-eqb, ne-eqb}
 use Rattle.part_path.proofs.whole.sheet_spot.Statement.{statement}
 use Rattle.part_path.proofs.whole.sheet_spot.Tie as tie
 

@@ -1,6 +1,5 @@
 -- What `spots_of` gives is what `spotsOf` says, case by case.
 use borrow.Author.Needs.{needs}
-use borrow.Author.Tests.{le-leb, lt-leb, lt-ltb, le-ltb, eq-eqb, ne-eqb}
 use Rattle.part_path.specs.States.{spotsOf}
 use Rattle.part_path.proofs.whole.spots_of.Statement.{statement}
 use Rattle.part_path.proofs.whole.spots_of.Tie as tie

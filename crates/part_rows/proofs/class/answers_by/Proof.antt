@@ -5,10 +5,6 @@ use Rattle.part_rows.specs.Class.{answersBy}
 use Rattle.part_rows.proofs.class.answers_by.Statement.{statement}
 use Rattle.part_rows.proofs.class.answers_by.Tie as tie
 
-returns : tie.Need-returns
-unfolding answersBy
-returns c = simp (eq-eqb _ _ (c .if1 .taken))
-
 returns-2 : tie.Need-returns-2
 unfolding answersBy
 returns-2 c = simp (ne-eqb _ _ (c .before .if1 .left), eq-eqb _ _ (c .if2 .taken))
@@ -18,4 +14,6 @@ unfolding answersBy
 returns-3 c = simp (ne-eqb _ _ (c .before .if1 .left), ne-eqb _ _ (c .if2 .left))
 
 pub answers-by-spec : {M : Type 1} → statement M
-answers-by-spec = tie.close (tie.spec returns (search needs) returns-2 returns-3)
+answers-by-spec =
+    tie.close (tie.spec (λ c. unfold answersBy in simp (eq-eqb _ _ (c .if1 .taken))) (search needs) returns-2
+    returns-3)

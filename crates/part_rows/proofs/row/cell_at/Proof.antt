@@ -4,9 +4,5 @@ use Rattle.part_rows.specs.Row.{cell}
 use Rattle.part_rows.proofs.row.cell_at.Statement.{statement}
 use Rattle.part_rows.proofs.row.cell_at.Tie as tie
 
-returns : tie.Need-returns
-unfolding cell
-returns c = search needs
-
 pub cell-at-spec : {M : Type 1} → statement M
-cell-at-spec = tie.close (tie.spec (search needs) (search needs) returns)
+cell-at-spec = tie.close (tie.spec (search needs) (search needs) (λ c. unfold cell in search needs))

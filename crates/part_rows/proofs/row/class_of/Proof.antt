@@ -4,10 +4,6 @@ use Rattle.part_rows.specs.Row.{classOf}
 use Rattle.part_rows.proofs.row.class_of.Statement.{statement}
 use Rattle.part_rows.proofs.row.class_of.Tie as tie
 
-returns : tie.Need-returns
-unfolding classOf
-returns c = simp (eq-eqb _ _ (c .if1 .taken))
-
 returns-2 : tie.Need-returns-2
 unfolding classOf
 returns-2 c = simp (ne-eqb _ _ (c .before .if1 .left), lt-ltb _ _ (c .if2 .taken))
@@ -17,4 +13,4 @@ unfolding classOf
 returns-3 c = simp (ne-eqb _ _ (c .before .if1 .left), le-ltb _ _ (c .if2 .left))
 
 pub class-of-spec : {M : Type 1} → statement M
-class-of-spec = tie.close (tie.spec returns returns-2 returns-3)
+class-of-spec = tie.close (tie.spec (λ c. unfold classOf in simp (eq-eqb _ _ (c .if1 .taken))) returns-2 returns-3)

@@ -4,18 +4,6 @@ use Rattle.part_rows.specs.Row.{detail}
 use Rattle.part_rows.proofs.row.detail_of.Statement.{statement}
 use Rattle.part_rows.proofs.row.detail_of.Tie as tie
 
-returns : tie.Need-returns
-unfolding detail
-returns c = simp (c .enum-told .given .1)
-
-returns-2 : tie.Need-returns-2
-unfolding detail
-returns-2 c = simp (c .enum-told2 .given .1)
-
-returns-3 : tie.Need-returns-3
-unfolding detail
-returns-3 c = simp (c .before .enum-told3 .given .1)
-
 returns-4 : tie.Need-returns-4
 unfolding detail
 returns-4 c = simp (c .before .enum-told4 .given .1, ← c .code-of-byte .ensures)
@@ -24,42 +12,19 @@ returns-5 : tie.Need-returns-5
 unfolding detail
 returns-5 c = simp (c .before .enum-told5 .given .1, ← c .use-detail .ensures)
 
-returns-6 : tie.Need-returns-6
-unfolding detail
-returns-6 c = simp (c .enum-told6 .given .1)
-
-returns-7 : tie.Need-returns-7
-unfolding detail
-returns-7 c = simp (c .before .enum-told7 .given .1)
-
-returns-8 : tie.Need-returns-8
-unfolding detail
-returns-8 c = simp (c .enum-told8 .given .1)
-
-returns-9 : tie.Need-returns-9
-unfolding detail
-returns-9 c = simp (c .enum-told9 .given .1)
-
-returns-10 : tie.Need-returns-10
-unfolding detail
-returns-10 c = simp (c .enum-told10 .given .1)
-
-returns-11 : tie.Need-returns-11
-unfolding detail
-returns-11 c = simp (c .enum-told11 .given .1)
-
 returns-12 : tie.Need-returns-12
 unfolding detail
 returns-12 c = simp (c .before .enum-told12 .given .1, ← c .values-of .ensures .0)
-
-returns-13 : tie.Need-returns-13
-unfolding detail
-returns-13 c = simp (c .enum-told13 .given .1)
 
 pub detail-of-spec : {M : Type 1} → statement M
 detail-of-spec =
     tie.close (tie.spec (search needs) (search needs) (search needs) (search needs) (search needs)
     (λ c κs. search needs) (search needs) (λ c κs. search needs) (search needs) (search needs) (search needs)
     (search needs) (search needs) (search needs) (search needs) (search needs) (λ c κs. search needs) (search needs)
-    returns returns-2 returns-3 returns-4 returns-5 returns-6 returns-7 returns-8 returns-9 returns-10 returns-11
-    returns-12 returns-13)
+    (λ c. unfold detail in simp (c .enum-told .given .1)) (λ c. unfold detail in simp (c .enum-told2 .given .1))
+    (λ c. unfold detail in simp (c .before .enum-told3 .given .1)) returns-4 returns-5
+    (λ c. unfold detail in simp (c .enum-told6 .given .1))
+    (λ c. unfold detail in simp (c .before .enum-told7 .given .1))
+    (λ c. unfold detail in simp (c .enum-told8 .given .1)) (λ c. unfold detail in simp (c .enum-told9 .given .1))
+    (λ c. unfold detail in simp (c .enum-told10 .given .1)) (λ c. unfold detail in simp (c .enum-told11 .given .1))
+    returns-12 (λ c. unfold detail in simp (c .enum-told13 .given .1)))

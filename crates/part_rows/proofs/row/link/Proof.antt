@@ -4,9 +4,7 @@ use Rattle.part_rows.specs.Row.{linked}
 use Rattle.part_rows.proofs.row.link.Statement.{statement}
 use Rattle.part_rows.proofs.row.link.Tie as tie
 
-returns : tie.Need-returns
-unfolding linked
-returns c = c .before .before .put-cell .ensures
-
 pub link-spec : {M : Type 1} → statement M
-link-spec = tie.close (tie.spec (search needs) (search needs) (λ c κs. search needs) (search needs) returns)
+link-spec =
+    tie.close (tie.spec (search needs) (search needs) (λ c κs. search needs) (search needs)
+    (λ c. unfold linked in c .before .before .put-cell .ensures))

@@ -4,11 +4,7 @@ use Rattle.part_rows.specs.Row.{declaredDetail}
 use Rattle.part_rows.proofs.row.name_detail.Statement.{statement}
 use Rattle.part_rows.proofs.row.name_detail.Tie as tie
 
-returns : tie.Need-returns
-unfolding declaredDetail
-returns c = search needs
-
 pub name-detail-spec : {M : Type 1} → statement M
 name-detail-spec =
     tie.close (tie.spec (search needs) (search needs) (search needs) (search needs) (search needs) (search needs)
-    returns)
+    (λ c. unfold declaredDetail in search needs))

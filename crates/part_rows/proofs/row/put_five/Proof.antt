@@ -13,10 +13,7 @@ put-words-requires c κs =
 returns : tie.Need-returns
 returns c = rw (← c .before .before .before .cell-at2 .ensures) (c .before .before .put-words .ensures)
 
-returns-2 : tie.Need-returns-2
-returns-2 c = c .before .before .put-each .ensures
-
 pub put-five-spec : {M : Type 1} → statement M
 put-five-spec =
     tie.close (tie.spec (λ c κs. search needs) (λ c κs. search needs) put-words-requires (search needs) returns
-    (λ c κs. search needs) (search needs) returns-2)
+    (λ c κs. search needs) (search needs) (λ c. c .before .before .put-each .ensures))

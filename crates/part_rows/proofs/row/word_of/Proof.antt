@@ -6,8 +6,7 @@ use Rattle.part_rows.proofs.RowSteps.{word-read}
 use Rattle.part_rows.proofs.row.word_of.Statement.{statement}
 use Rattle.part_rows.proofs.row.word_of.Tie as tie
 
-returns : tie.Need-returns
-returns c = (c .short-at .ensures ∙ word-read _ _ _, omega arith)
-
 pub word-of-spec : {M : Type 1} → statement M
-word-of-spec = tie.close (tie.spec (search needs) (search needs) (λ c κs. search needs) (search needs) returns)
+word-of-spec =
+    tie.close (tie.spec (search needs) (search needs) (λ c κs. search needs) (search needs)
+    (λ c. (c .short-at .ensures ∙ word-read _ _ _, omega arith)))

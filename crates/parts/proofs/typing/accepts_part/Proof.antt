@@ -14,29 +14,9 @@ unfolding acceptsPart
 returns-2 c =
     simp (c .before .before .enum-told10 .given .1, ne-eqb _ _ (c .before .if3 .left), eq-eqb _ _ (c .if4 .taken))
 
-returns-3 : tie.Need-returns-3
-unfolding acceptsPart
-returns-3 c = simp (c .enum-told .given .1)
-
-returns-4 : tie.Need-returns-4
-unfolding acceptsPart
-returns-4 c = simp (c .enum-told2 .given .1)
-
-returns-5 : tie.Need-returns-5
-unfolding acceptsPart
-returns-5 c = simp (c .enum-told3 .given .1)
-
-returns-6 : tie.Need-returns-6
-unfolding acceptsPart
-returns-6 c = simp (c .enum-told4 .given .1)
-
 returns-7 : tie.Need-returns-7
 unfolding acceptsPart
 returns-7 c = simp (c .before .enum-told5 .given .1, ← c .argument-of .ensures)
-
-returns-8 : tie.Need-returns-8
-unfolding acceptsPart
-returns-8 c = simp (c .enum-told6 .given .1)
 
 returns-9 : tie.Need-returns-9
 unfolding acceptsPart
@@ -71,10 +51,6 @@ returns-16 : tie.Need-returns-16
 unfolding acceptsPart
 returns-16 c = simp (c .before .enum-told11 .given .1, ne-eqb _ _ (c .if5 .left))
 
-returns-17 : tie.Need-returns-17
-unfolding acceptsPart
-returns-17 c = simp (c .enum-told12 .given .1)
-
 returns-18 : tie.Need-returns-18
 unfolding acceptsPart
 returns-18 c =
@@ -90,5 +66,10 @@ accepts-part-spec =
     tie.close (tie.spec (search needs) (search needs) (search needs) (search needs) (search needs)
     (λ c κs. search needs) (search needs) (search needs) (λ c κs. search needs) (search needs) (search needs)
     (search needs) (search needs) returns returns-2 (search needs) (search needs) (search needs) (search needs)
-    (λ c κs. search needs) returns-3 returns-4 returns-5 returns-6 returns-7 returns-8 returns-9 returns-10
-    returns-11 returns-12 returns-13 returns-14 returns-15 returns-16 returns-17 returns-18 returns-19)
+    (λ c κs. search needs) (λ c. unfold acceptsPart in simp (c .enum-told .given .1))
+    (λ c. unfold acceptsPart in simp (c .enum-told2 .given .1))
+    (λ c. unfold acceptsPart in simp (c .enum-told3 .given .1))
+    (λ c. unfold acceptsPart in simp (c .enum-told4 .given .1)) returns-7
+    (λ c. unfold acceptsPart in simp (c .enum-told6 .given .1)) returns-9 returns-10 returns-11 returns-12
+    returns-13 returns-14 returns-15 returns-16 (λ c. unfold acceptsPart in simp (c .enum-told12 .given .1))
+    returns-18 returns-19)

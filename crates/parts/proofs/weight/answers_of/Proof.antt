@@ -6,24 +6,11 @@ use Rattle.parts.specs.Rule.{answers}
 use Rattle.parts.proofs.weight.answers_of.Statement.{statement}
 use Rattle.parts.proofs.weight.answers_of.Tie as tie
 
-returns : tie.Need-returns
-unfolding answers
-returns c = simp (eq-eqb _ _ (c .if1 .taken))
-
-cast-result : tie.Need-cast-result
-cast-result c = omega (arith, c .values-of .ensures .1)
-
 returns-2 : tie.Need-returns-2
 unfolding answers
 returns-2 c =
     simp
     (ne-eqb _ _ (c .before .before .if1 .left), lt-ltb _ _ (c .before .if2 .taken), ← c .values-of .ensures .0)
-
-cast-result-2 : tie.Need-cast-result-2
-cast-result-2 c = omega (arith, c .values-of2 .ensures .1)
-
-mul-result : tie.Need-mul-result
-mul-result c = omega (arith, c .values-of2 .ensures .1)
 
 returns-3 : tie.Need-returns-3
 unfolding answers
@@ -33,5 +20,6 @@ returns-3 c =
 
 pub answers-of-spec : {M : Type 1} → statement M
 answers-of-spec =
-    tie.close (tie.spec returns (λ c κs. search needs) cast-result returns-2 (λ c κs. search needs) cast-result-2
-    mul-result returns-3)
+    tie.close (tie.spec (λ c. unfold answers in simp (eq-eqb _ _ (c .if1 .taken))) (λ c κs. search needs)
+    (λ c. omega (arith, c .values-of .ensures .1)) returns-2 (λ c κs. search needs)
+    (λ c. omega (arith, c .values-of2 .ensures .1)) (λ c. omega (arith, c .values-of2 .ensures .1)) returns-3)

@@ -4,12 +4,6 @@ use native.Mathlib.Nat.{le-mul-of-pos-right, mul-comm, mul-le-mul, mul-zero, zer
 use Rattle.parts.proofs.weight.sat_mul.Statement.{statement}
 use Rattle.parts.proofs.weight.sat_mul.Tie as tie
 
-returns : tie.Need-returns
-returns c = rw (c .if1 .taken, zero-mul)
-
-returns-2 : tie.Need-returns-2
-returns-2 c = rw (c .if2 .taken, mul-zero)
-
 returns-3 : tie.Need-returns-3
 returns-3 c =
     let a = c .before .before .before .args in
@@ -25,11 +19,7 @@ mul-c c =
     let a = c .before .before .before .before .args in
     omega (arith, mul-le-mul {n₁ = a .a} {m₁ = a .b} {n₂ = 4096} {m₂ = 4096} (omega arith) (omega arith))
 
-returns-5 : tie.Need-returns-5
-returns-5 c = omega arith
-
-returns-6 : tie.Need-returns-6
-returns-6 c = omega arith
-
 pub sat-mul-spec : {M : Type 1} → statement M
-sat-mul-spec = tie.close (tie.spec returns returns-2 returns-3 returns-4 mul-c returns-5 returns-6)
+sat-mul-spec =
+    tie.close (tie.spec (λ c. rw (c .if1 .taken, zero-mul)) (λ c. rw (c .if2 .taken, mul-zero)) returns-3 returns-4
+    mul-c (λ c. omega arith) (λ c. omega arith))

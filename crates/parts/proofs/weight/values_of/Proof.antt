@@ -7,14 +7,6 @@ use Rattle.parts.specs.Rule.{values}
 use Rattle.parts.proofs.weight.values_of.Statement.{statement}
 use Rattle.parts.proofs.weight.values_of.Tie as tie
 
-returns : tie.Need-returns
-unfolding values
-returns c = (simp (c .match .keys1), omega arith)
-
-returns-2 : tie.Need-returns-2
-unfolding values
-returns-2 c = (simp (c .match .keys2), omega arith)
-
 returns-3 : tie.Need-returns-3
 unfolding values
 returns-3 c = (
@@ -23,4 +15,6 @@ returns-3 c = (
 )
 
 pub values-of-spec : {M : Type 1} → statement M
-values-of-spec = tie.close (tie.spec (λ c κs. search needs) returns returns-2 returns-3)
+values-of-spec =
+    tie.close (tie.spec (λ c κs. search needs) (λ c. unfold values in (simp (c .match .keys1), omega arith))
+    (λ c. unfold values in (simp (c .match .keys2), omega arith)) returns-3)

@@ -8,9 +8,7 @@ returns : tie.Need-returns
 returns c = (argument-read _ _ _ _ _ _ _ (c .before .before .if1 .taken) (c .before .word-of .ensures .0) (c .come-at
     .ensures .0), c .come-at .ensures .1)
 
-returns-2 : tie.Need-returns-2
-returns-2 c = argument-past _ _ _ _ _ (c .if1 .left)
-
 pub argument-of-spec : {M : Type 1} → statement M
 argument-of-spec =
-    tie.close (tie.spec (search needs) (λ c κs. search needs) (λ c κs. search needs) returns returns-2)
+    tie.close (tie.spec (search needs) (λ c κs. search needs) (λ c κs. search needs) returns
+    (λ c. argument-past _ _ _ _ _ (c .if1 .left)))

@@ -4,9 +4,6 @@ use Rattle.plans.proofs.Leaves.{through-none, through-outer, through-ow
 use Rattle.plans.proofs.mark.through_of.Statement.{statement}
 use Rattle.plans.proofs.mark.through_of.Tie as tie
 
-returns : tie.Need-returns
-returns c = through-none _ _ _ _ _ _ (c .if1 .taken)
-
 returns-2 : tie.Need-returns-2
 returns-2 c = (through-outer _ _ _ _ _ _ (c .before .if1 .left) (c .if2 .taken), c .before .before .before .pre .2)
 
@@ -16,5 +13,5 @@ returns-3 c = (through-own _ _ _ _ _ _ _ (c .before .before .if1 .left) (c .befo
 
 pub through-of-spec : {M : Type 1} → statement M
 through-of-spec =
-    tie.close (tie.spec returns (search needs) returns-2 (search needs) (search needs) (λ c κs. search needs)
-    returns-3)
+    tie.close (tie.spec (λ c. through-none _ _ _ _ _ _ (c .if1 .taken)) (search needs) returns-2 (search needs)
+    (search needs) (λ c κs. search needs) returns-3)

@@ -9,9 +9,6 @@ returns : tie.Need-returns
 unfolding extraOf
 returns c = simp (← c .answers-at .ensures, eq-eqb _ _ (c .before .if1 .taken))
 
-returns-2 : tie.Need-returns-2
-unfolding extraOf
-returns-2 c = simp (ne-eqb _ _ (c .if1 .left))
-
 pub extra-of-spec : {M : Type 1} → statement M
-extra-of-spec = tie.close (tie.spec (λ c κs. search needs) returns returns-2)
+extra-of-spec =
+    tie.close (tie.spec (λ c κs. search needs) returns (λ c. unfold extraOf in simp (ne-eqb _ _ (c .if1 .left))))

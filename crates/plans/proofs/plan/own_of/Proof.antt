@@ -5,10 +5,6 @@ use Rattle.weighing.specs.Plan.{ownOf}
 use Rattle.plans.proofs.plan.own_of.Statement.{statement}
 use Rattle.plans.proofs.plan.own_of.Tie as tie
 
-returns : tie.Need-returns
-unfolding ownOf
-returns c = simp (lt-ltb _ _ (c .if1 .taken))
-
 returns-2 : tie.Need-returns-2
 unfolding ownOf
 returns-2 c = simp (le-ltb _ _ (c .before .if1 .left), eq-eqb _ _ (c .if2 .taken))
@@ -24,4 +20,6 @@ returns-4 c =
     simp (le-ltb _ _ (c .before .before .if1 .left), ne-eqb _ _ (c .before .if2 .left), ne-eqb _ _ (c .if3 .left))
 
 pub own-of-spec : {M : Type 1} → statement M
-own-of-spec = tie.close (tie.spec returns (search needs) (search needs) returns-2 returns-3 returns-4)
+own-of-spec =
+    tie.close (tie.spec (λ c. unfold ownOf in simp (lt-ltb _ _ (c .if1 .taken))) (search needs) (search needs)
+    returns-2 returns-3 returns-4)

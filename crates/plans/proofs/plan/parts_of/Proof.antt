@@ -5,10 +5,6 @@ use Rattle.weighing.specs.Plan.{partsOf}
 use Rattle.plans.proofs.plan.parts_of.Statement.{statement}
 use Rattle.plans.proofs.plan.parts_of.Tie as tie
 
-returns : tie.Need-returns
-unfolding partsOf
-returns c = simp (lt-ltb _ _ (c .if1 .taken))
-
 returns-2 : tie.Need-returns-2
 unfolding partsOf
 returns-2 c = simp (le-ltb _ _ (c .before .before .if1 .left), eq-eqb _ _ (c .before .if2 .taken)) (c .least .ensures)
@@ -60,5 +56,6 @@ returns-9 c = rw (le-ltb _ _ (c .before .before .before .before .before .before 
     (c .before .before .if6 .left), ne-eqb _ _ (c .before .if7 .left), ne-eqb _ _ (c .if8 .left))
 
 pub parts-of-spec : {M : Type 1} → statement M
-parts-of-spec = tie.close (tie.spec returns (λ c κs. search needs) returns-2 returns-3 returns-4 returns-5 returns-6
-    returns-7 (λ c κs. search needs) returns-8 returns-9)
+parts-of-spec =
+    tie.close (tie.spec (λ c. unfold partsOf in simp (lt-ltb _ _ (c .if1 .taken))) (λ c κs. search needs) returns-2
+    returns-3 returns-4 returns-5 returns-6 returns-7 (λ c κs. search needs) returns-8 returns-9)

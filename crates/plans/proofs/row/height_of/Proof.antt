@@ -6,8 +6,7 @@ use Rattle.plans.proofs.Leaves.{height-read}
 use Rattle.plans.proofs.row.height_of.Statement.{statement}
 use Rattle.plans.proofs.row.height_of.Tie as tie
 
-returns : tie.Need-returns
-returns c = (c .short-at .ensures ∙ height-read _, omega arith)
-
 pub height-of-spec : {M : Type 1} → statement M
-height-of-spec = tie.close (tie.spec (λ c κs. search needs) (search needs) returns)
+height-of-spec =
+    tie.close (tie.spec (λ c κs. search needs) (search needs)
+    (λ c. (c .short-at .ensures ∙ height-read _, omega arith)))

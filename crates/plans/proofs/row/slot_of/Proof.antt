@@ -6,8 +6,7 @@ use Rattle.plans.proofs.Leaves.{slot-read}
 use Rattle.plans.proofs.row.slot_of.Statement.{statement}
 use Rattle.plans.proofs.row.slot_of.Tie as tie
 
-returns : tie.Need-returns
-returns c = (c .short-at .ensures ∙ slot-read _ _, omega arith)
-
 pub slot-of-spec : {M : Type 1} → statement M
-slot-of-spec = tie.close (tie.spec (search needs) (λ c κs. search needs) (search needs) returns)
+slot-of-spec =
+    tie.close (tie.spec (search needs) (λ c κs. search needs) (search needs)
+    (λ c. (c .short-at .ensures ∙ slot-read _ _, omega arith)))

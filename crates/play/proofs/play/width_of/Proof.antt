@@ -13,9 +13,5 @@ returns-2 : tie.Need-returns-2
 unfolding widthOf
 returns-2 c = simp (le-ltb _ _ (c .before .if1 .left), lt-ltb _ _ (c .if2 .taken))
 
-returns-3 : tie.Need-returns-3
-unfolding widthOf
-returns-3 c = simp (le-ltb _ _ (c .if2 .left))
-
 pub width-of-spec : {M : Type 1} → statement M
-width-of-spec = tie.close (tie.spec returns returns-2 returns-3)
+width-of-spec = tie.close (tie.spec returns returns-2 (λ c. unfold widthOf in simp (le-ltb _ _ (c .if2 .left))))

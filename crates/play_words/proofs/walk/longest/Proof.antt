@@ -18,30 +18,9 @@ abbrev μ-loop : tie.MeasureT-loop
 loop-holds : tie.Need-loop-holds Inv-loop μ-loop
 loop-holds c = search-first _ _ _ _ (c .before .before .pre .0) (c .before .before .pre .1)
 
-sub-first-letter : tie.Need-sub-first-letter Inv-loop μ-loop
-sub-first-letter c = let h = c .before .loop .inv .walked .within in search needs
-
-part-first-letter-start : tie.Need-part-first-letter-start Inv-loop μ-loop
-part-first-letter-start c = let h = c .before .loop .inv .walked .within in search needs
-
-part-first-letter-end : tie.Need-part-first-letter-end Inv-loop μ-loop
-part-first-letter-end c = let h = c .before .loop .inv .walked .within in search needs
-
-first-letter-requires : tie.Need-first-letter-requires Inv-loop μ-loop
-first-letter-requires c κs = search needs
-
 next-state-requires : tie.Need-next-state-requires Inv-loop μ-loop
 next-state-requires c κs = (c .before .before .before .before .before .before .pre .0, c .before .before .before .loop
     .inv .walked .below)
-
-byte-at-requires : tie.Need-byte-at-requires Inv-loop μ-loop
-byte-at-requires c κs = search needs
-
-cast-width-of : tie.Need-cast-width-of Inv-loop μ-loop
-cast-width-of c = search needs
-
-width-of-requires : tie.Need-width-of-requires Inv-loop μ-loop
-width-of-requires c κs = search needs
 
 add-at : tie.Need-add-at Inv-loop μ-loop
 add-at c =
@@ -51,9 +30,6 @@ add-at c =
         .ensures) (c .before .before .next-state .ensures) (c .before .byte-at .ensures)
         (c .width-of .ensures) .within in
     omega (arith, h, c .before .before .before .before .before .before .before .before .before .good)
-
-add-i : tie.Need-add-i Inv-loop μ-loop
-add-i c = search needs
 
 is-marked-requires : tie.Need-is-marked-requires Inv-loop μ-loop
 is-marked-requires c κs =
@@ -99,24 +75,9 @@ returns c = search-last _ _ _ _ _ _ _ _ (c .before .loop .inv) (c .loop-test .le
 
 pub longest-spec : {M : Type 1} → statement M
 longest-spec =
-    tie.close
-    (tie.spec
-    Inv-loop
-    μ-loop
-    loop-holds
-    sub-first-letter
-    part-first-letter-start
-    part-first-letter-end
-    first-letter-requires
-    next-state-requires
-    byte-at-requires
-    cast-width-of
-    width-of-requires
-    add-at
-    add-i
-    is-marked-requires
-    loop-less
-    loop-again
-    loop-less-2
-    loop-again-2
-    returns)
+    tie.close (tie.spec Inv-loop μ-loop loop-holds
+    (λ c. let h = c .before .loop .inv .walked .within in search needs)
+    (λ c. let h = c .before .loop .inv .walked .within in search needs)
+    (λ c. let h = c .before .loop .inv .walked .within in search needs) (λ c κs. search needs) next-state-requires
+    (λ c κs. search needs) (search needs) (λ c κs. search needs) add-at (search needs) is-marked-requires loop-less
+    loop-again loop-less-2 loop-again-2 returns)

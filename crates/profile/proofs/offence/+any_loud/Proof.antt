@@ -100,19 +100,8 @@ any-loud-returns-4 t c =
     (omega (arith, c .before .before .if3 .left)) (c .before .word-of2 .ensures .0) refl (c .any-loud .ensures)
 
 pub +any-loud-spec : {M : Type 1} → statement M
-+any-loud-spec = close μ-any-loud λ t. any-loud-lts.spec (
-  word-of-reads.Asked,
-  word-of-reads.Learnt,
-  any-loud-below t,
-  any-loud.Post,
-)
-    (any-loud-at t)
-    any-loud.Post
-    (any-loud-returns t)
-    (any-loud-returns-2 t)
-    (any-loud-word-of-requires t)
-    (any-loud-returns-3 t)
-    (any-loud-word-of-requires-2 t)
-    (any-loud-sub-any-loud t)
-    (any-loud-any-loud-requires t)
-    (any-loud-returns-4 t)
++any-loud-spec =
+    close μ-any-loud λ t. any-loud-lts.spec
+    (word-of-reads.Asked, word-of-reads.Learnt, any-loud-below t, any-loud.Post) (any-loud-at t) any-loud.Post
+    (any-loud-returns t) (any-loud-returns-2 t) (any-loud-word-of-requires t) (any-loud-returns-3 t)
+    (any-loud-word-of-requires-2 t) (any-loud-sub-any-loud t) (any-loud-any-loud-requires t) (any-loud-returns-4 t)

@@ -17,15 +17,6 @@ abbrev μ-loop : tie.MeasureT-loop
 loop-holds : tie.Need-loop-holds Inv-loop μ-loop
 loop-holds c = (omega arith, walks-first (c .before .args .s .now) (c .before .args .t .now) _)
 
-byte-at-requires : tie.Need-byte-at-requires Inv-loop μ-loop
-byte-at-requires c κs = search needs
-
-reach-requires : tie.Need-reach-requires Inv-loop μ-loop
-reach-requires c κs = search needs
-
-offends-requires : tie.Need-offends-requires Inv-loop μ-loop
-offends-requires c κs = search needs
-
 returns : tie.Need-returns Inv-loop μ-loop
 returns c =
     let b = c .before .before .before .before .before in
@@ -33,18 +24,6 @@ returns c =
     walks-found (a .s .now) (a .t .now) (a .root) _ _ _ _ 0 0 (b .before .before .loop .inv .1)
       (b .before .loop-test .taken) (b .byte-at .ensures) (c .before .before .before .reach .ensures) _
       (c .before .offends .ensures) (c .if1 .taken)
-
-body-of-requires : tie.Need-body-of-requires Inv-loop μ-loop
-body-of-requires c κs = search needs
-
-add-at : tie.Need-add-at Inv-loop μ-loop
-add-at c = search needs
-
-add-at-2 : tie.Need-add-at-2 Inv-loop μ-loop
-add-at-2 c = search needs
-
-loop-less : tie.Need-loop-less Inv-loop μ-loop
-loop-less c = search needs
 
 loop-again : tie.Need-loop-again Inv-loop μ-loop
 loop-again c =
@@ -63,18 +42,6 @@ returns-2 c =
 
 pub first-offence-spec : {M : Type 1} → statement M
 first-offence-spec =
-    tie.close
-    (tie.spec
-    Inv-loop
-    μ-loop
-    loop-holds
-    byte-at-requires
-    reach-requires
-    offends-requires
-    returns
-    body-of-requires
-    add-at
-    add-at-2
-    loop-less
-    loop-again
+    tie.close (tie.spec Inv-loop μ-loop loop-holds (λ c κs. search needs) (λ c κs. search needs)
+    (λ c κs. search needs) returns (λ c κs. search needs) (search needs) (search needs) (search needs) loop-again
     returns-2)

@@ -2,9 +2,6 @@ use borrow.Author.Needs.{needs}
 use Rattle.profile.proofs.Leaves.{reach-inside, reach-opens, reach-outside}
 use Rattle.profile.proofs.offence.reach.Statement.{statement}
 use Rattle.profile.proofs.offence.reach.Tie as tie
-use Rattle.profile.proofs.offence.reach.Reads as reads
-use Rattle.profile.proofs.offence.reach.Lts as lts
-use Rattle.part_rows.proofs.row.word_of.Reads as word-of-reads
 
 -- src/offence.rt:82:9
 returns : tie.Need-returns

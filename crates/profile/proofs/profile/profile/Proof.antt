@@ -6,9 +6,6 @@ use Rattle.profile.proofs.Profiling.{profiled-refused, profiled-quiet, 
 use Rattle.profile.proofs.profile.profile.Statement.{statement}
 use Rattle.profile.proofs.profile.profile.Tie as tie
 
-judge-sheet-requires : tie.Need-judge-sheet-requires
-judge-sheet-requires c κs = blank-made 58313 refl
-
 returns : tie.Need-returns
 returns c =
     profiled-refused _ _ (c .before .before .before .before .judge-sheet .ensures) (c .before .before .enum-told
@@ -33,7 +30,6 @@ returns-3 c =
 
 pub profile-spec : {M : Type 1} → statement M
 profile-spec =
-    tie.close
-    (tie.spec judge-sheet-requires (search needs) (search needs) (λ c κs. search needs) (λ c κs. search needs)
-    returns first-offence-requires (search needs) (search needs) (λ c κs. search needs) (λ c κs. search needs)
-    returns-2 returns-3)
+    tie.close (tie.spec (λ c κs. blank-made 58313 refl) (search needs) (search needs) (λ c κs. search needs)
+    (λ c κs. search needs) returns first-offence-requires (search needs) (search needs) (λ c κs. search needs)
+    (λ c κs. search needs) returns-2 returns-3)

@@ -4,9 +4,7 @@ use Rattle.records.specs.Standing.{declaredStanding}
 use Rattle.records.proofs.standing.declared_standing.Statement.{statement}
 use Rattle.records.proofs.standing.declared_standing.Tie as tie
 
-returns : tie.Need-returns
-unfolding declaredStanding
-returns c = search needs
-
 pub declared-standing-spec : {M : Type 1} → statement M
-declared-standing-spec = tie.close (tie.spec (search needs) (search needs) (search needs) (search needs) returns)
+declared-standing-spec =
+    tie.close (tie.spec (search needs) (search needs) (search needs) (search needs)
+    (λ c. unfold declaredStanding in search needs))

@@ -4,9 +4,7 @@ use Rattle.records.specs.Standing.{parameterStanding}
 use Rattle.records.proofs.standing.parameter_standing.Statement.{statement}
 use Rattle.records.proofs.standing.parameter_standing.Tie as tie
 
-returns : tie.Need-returns
-unfolding parameterStanding
-returns c = search needs
-
 pub parameter-standing-spec : {M : Type 1} → statement M
-parameter-standing-spec = tie.close (tie.spec (search needs) (search needs) (search needs) returns)
+parameter-standing-spec =
+    tie.close (tie.spec (search needs) (search needs) (search needs)
+    (λ c. unfold parameterStanding in search needs))

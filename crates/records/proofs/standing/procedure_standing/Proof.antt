@@ -4,9 +4,7 @@ use Rattle.records.specs.Standing.{procedureStanding}
 use Rattle.records.proofs.standing.procedure_standing.Statement.{statement}
 use Rattle.records.proofs.standing.procedure_standing.Tie as tie
 
-returns : tie.Need-returns
-unfolding procedureStanding
-returns c = search needs
-
 pub procedure-standing-spec : {M : Type 1} → statement M
-procedure-standing-spec = tie.close (tie.spec (search needs) (search needs) (search needs) (search needs) returns)
+procedure-standing-spec =
+    tie.close (tie.spec (search needs) (search needs) (search needs) (search needs)
+    (λ c. unfold procedureStanding in search needs))

@@ -4,9 +4,6 @@ use Rattle.records.specs.Standing.{variableStanding}
 use Rattle.records.proofs.standing.variable_standing.Statement.{statement}
 use Rattle.records.proofs.standing.variable_standing.Tie as tie
 
-returns : tie.Need-returns
-unfolding variableStanding
-returns c = search needs
-
 pub variable-standing-spec : {M : Type 1} → statement M
-variable-standing-spec = tie.close (tie.spec (search needs) (search needs) (search needs) returns)
+variable-standing-spec =
+    tie.close (tie.spec (search needs) (search needs) (search needs) (λ c. unfold variableStanding in search needs))

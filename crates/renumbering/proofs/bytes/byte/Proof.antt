@@ -4,8 +4,5 @@ use borrow.Author.Needs.{needs}
 use Rattle.renumbering.proofs.bytes.byte.Statement.{statement}
 use Rattle.renumbering.proofs.bytes.byte.Tie as tie
 
-returns : tie.Need-returns
-returns c = (c .byte-at .ensures, omega arith)
-
 pub byte-spec : {M : Type 1} → statement M
-byte-spec = tie.close (tie.spec (λ c κs. search needs) (search needs) returns)
+byte-spec = tie.close (tie.spec (λ c κs. search needs) (search needs) (λ c. (c .byte-at .ensures, omega arith)))

@@ -14,23 +14,11 @@ Inv-loop from to₀ n i₀ to i = (i ≤ n) × (to ≡ take i from ++ drop i to�
 abbrev μ-loop : tie.MeasureT-loop
 μ-loop from to₀ n i₀ to i = n - i
 
-loop-holds : tie.Need-loop-holds Inv-loop μ-loop
-loop-holds c = (omega arith, refl)
-
-shared-slice-read-to : tie.Need-shared-slice-read-to Inv-loop μ-loop
-shared-slice-read-to c = omega arith
-
 slice-write-to : tie.Need-slice-write-to Inv-loop μ-loop
 slice-write-to c =
     copied-inside (c .before .before .before .args .from .now) (c .before .before .before .args .to .now) (c .before
     .before .loop .to) (c .before .before .loop .i) (c .before .before .before .args .n)
     (c .before .before .before .pre) (c .before .loop-test .taken) (c .before .before .loop .inv .1)
-
-add-i : tie.Need-add-i Inv-loop μ-loop
-add-i c = omega arith
-
-loop-less : tie.Need-loop-less Inv-loop μ-loop
-loop-less c = omega arith
 
 loop-again : tie.Need-loop-again Inv-loop μ-loop
 loop-again c =
@@ -52,15 +40,5 @@ returns c =
 
 pub copy-spec : {M : Type 1} → statement M
 copy-spec =
-    tie.close
-    (tie.spec
-    Inv-loop
-    μ-loop
-    loop-holds
-    shared-slice-read-to
-    slice-write-to
-    add-i
-    loop-less
-    loop-again
-    same-length
-    returns)
+    tie.close (tie.spec Inv-loop μ-loop (λ c. (omega arith, refl)) (λ c. omega arith) slice-write-to
+    (λ c. omega arith) (λ c. omega arith) loop-again same-length returns)

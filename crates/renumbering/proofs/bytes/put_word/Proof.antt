@@ -3,8 +3,6 @@ use borrow.Author.Needs.{needs}
 use Rattle.renumbering.proofs.bytes.put_word.Statement.{statement}
 use Rattle.renumbering.proofs.bytes.put_word.Tie as tie
 
-returns : tie.Need-returns
-returns c = c .before .before .put .ensures
-
 pub put-word-spec : {M : Type 1} → statement M
-put-word-spec = tie.close (tie.spec (search needs) (λ c κs. search needs) (search needs) returns)
+put-word-spec =
+    tie.close (tie.spec (search needs) (λ c κs. search needs) (search needs) (λ c. c .before .before .put .ensures))

@@ -4,8 +4,5 @@ use borrow.Author.Needs.{needs}
 use Rattle.renumbering.proofs.bytes.word.Statement.{statement}
 use Rattle.renumbering.proofs.bytes.word.Tie as tie
 
-returns : tie.Need-returns
-returns c = (c .short-at .ensures, omega arith)
-
 pub word-spec : {M : Type 1} → statement M
-word-spec = tie.close (tie.spec (λ c κs. search needs) (search needs) returns)
+word-spec = tie.close (tie.spec (λ c κs. search needs) (search needs) (λ c. (c .short-at .ensures, omega arith)))

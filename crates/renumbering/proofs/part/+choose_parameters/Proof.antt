@@ -45,26 +45,6 @@ choose-parameters-calls t =
 
 -- choose_parameters
 module _ (t : ℕ) where
-  choose-parameters-returns : choose-parameters-lts.Need-returns (choose-parameters-calls t) (choose-parameters-at t)
-      choose-parameters.Post
-  choose-parameters-returns c = parameters-none _ _ _ _ _ _ _ _ _ (c .if1 .taken)
-
-  choose-parameters-byte-requires : choose-parameters-lts.Need-byte-requires (choose-parameters-calls t)
-      (choose-parameters-at t) choose-parameters.Post
-  choose-parameters-byte-requires c κs = search needs
-
-  choose-parameters-choose-id-requires : choose-parameters-lts.Need-choose-id-requires (choose-parameters-calls t)
-      (choose-parameters-at t) choose-parameters.Post
-  choose-parameters-choose-id-requires c κs = search needs
-
-  choose-parameters-enum-told : choose-parameters-lts.Need-enum-told (choose-parameters-calls t)
-      (choose-parameters-at t) choose-parameters.Post
-  choose-parameters-enum-told c = search needs
-
-  choose-parameters-enum-known-x : choose-parameters-lts.Need-enum-known-x (choose-parameters-calls t)
-      (choose-parameters-at t) choose-parameters.Post
-  choose-parameters-enum-known-x c = search needs
-
   choose-parameters-put-requires : choose-parameters-lts.Need-put-requires (choose-parameters-calls t)
       (choose-parameters-at t) choose-parameters.Post
   choose-parameters-put-requires c κs =
@@ -76,18 +56,6 @@ module _ (t : ℕ) where
   choose-parameters-bound-entry-requires c κs =
       (omega (arith, within-value _ _ _ _ _ (c .before .before .before .before .before .before .choose-id .ensures
       .within) (c .before .before .before .before .x .given .1)), omega arith)
-
-  choose-parameters-enter-requires : choose-parameters-lts.Need-enter-requires (choose-parameters-calls t)
-      (choose-parameters-at t) choose-parameters.Post
-  choose-parameters-enter-requires c κs = search needs
-
-  choose-parameters-add-choose-parameters : choose-parameters-lts.Need-add-choose-parameters
-      (choose-parameters-calls t) (choose-parameters-at t) choose-parameters.Post
-  choose-parameters-add-choose-parameters c = search needs
-
-  choose-parameters-sub-choose-parameters : choose-parameters-lts.Need-sub-choose-parameters
-      (choose-parameters-calls t) (choose-parameters-at t) choose-parameters.Post
-  choose-parameters-sub-choose-parameters c = search needs
 
   choose-parameters-choose-parameters-requires : choose-parameters-lts.Need-choose-parameters-requires
       (choose-parameters-calls t) (choose-parameters-at t) choose-parameters.Post
@@ -116,19 +84,9 @@ module _ (t : ℕ) where
       (c .before .before .before .before .before .enter .ensures) refl refl (c .choose-parameters .ensures)
 
 pub +choose-parameters-spec : {M : Type 1} → statement M
-+choose-parameters-spec = close μ-choose-parameters λ t. choose-parameters-lts.spec (choose-parameters-calls t)
-    (choose-parameters-at t)
-    choose-parameters.Post
-    (choose-parameters-returns t)
-    (choose-parameters-byte-requires t)
-    (choose-parameters-choose-id-requires t)
-    (choose-parameters-enum-told t)
-    (choose-parameters-enum-known-x t)
-    (choose-parameters-put-requires t)
-    (choose-parameters-bound-entry-requires t)
-    (choose-parameters-enter-requires t)
-    (choose-parameters-add-choose-parameters t)
-    (choose-parameters-sub-choose-parameters t)
-    (choose-parameters-choose-parameters-requires t)
-    (choose-parameters-returns-2 t)
-    (choose-parameters-returns-3 t)
++choose-parameters-spec =
+    close μ-choose-parameters λ t. choose-parameters-lts.spec (choose-parameters-calls t) (choose-parameters-at t)
+    choose-parameters.Post (λ c. parameters-none _ _ _ _ _ _ _ _ _ (c .if1 .taken)) (λ c κs. search needs)
+    (λ c κs. search needs) (search needs) (search needs) (choose-parameters-put-requires t)
+    (choose-parameters-bound-entry-requires t) (λ c κs. search needs) (search needs) (search needs)
+    (choose-parameters-choose-parameters-requires t) (choose-parameters-returns-2 t) (choose-parameters-returns-3 t)

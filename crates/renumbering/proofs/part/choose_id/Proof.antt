@@ -28,6 +28,5 @@ returns-3 c =
 
 pub choose-id-spec : {M : Type 1} → statement M
 choose-id-spec =
-    tie.close
-    (tie.spec (λ c κs. search needs) (λ c κs. search needs) returns (λ c κs. search needs) returns-2
+    tie.close (tie.spec (λ c κs. search needs) (λ c κs. search needs) returns (λ c κs. search needs) returns-2
     (λ c κs. search needs) (λ c κs. search needs) (search needs) returns-3)

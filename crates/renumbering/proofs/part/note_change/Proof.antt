@@ -11,6 +11,5 @@ returns c =
 
 pub note-change-spec : {M : Type 1} → statement M
 note-change-spec =
-    tie.close
-    (tie.spec (search needs) (λ c κs. search needs) (search needs) (λ c κs. search needs) (search needs)
+    tie.close (tie.spec (search needs) (λ c κs. search needs) (search needs) (λ c κs. search needs) (search needs)
     (λ c κs. search needs) (search needs) (λ c κs. search needs) returns)

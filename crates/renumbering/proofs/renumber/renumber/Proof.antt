@@ -47,7 +47,6 @@ returns-4 c = service-done (c .before .before .before .before .before .before .b
 
 pub renumber-spec : {M : Type 1} → statement M
 renumber-spec =
-    tie.close
-    (tie.spec (λ c κs. search needs) (search needs) (search needs) (λ c κs. search needs) (λ c κs. search needs) returns
-    (λ c κs. search needs) returns-2 (λ c κs. search needs) returns-3 renumber-accepted-requires (search needs)
-    (search needs) returns-4)
+    tie.close (tie.spec (λ c κs. search needs) (search needs) (search needs) (λ c κs. search needs)
+    (λ c κs. search needs) returns (λ c κs. search needs) returns-2 (λ c κs. search needs) returns-3
+    renumber-accepted-requires (search needs) (search needs) returns-4)

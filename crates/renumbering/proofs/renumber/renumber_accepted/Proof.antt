@@ -86,7 +86,6 @@ returns-2 c =
 
 pub renumber-accepted-spec : {M : Type 1} → statement M
 renumber-accepted-spec =
-    tie.close
-    (tie.spec renumber-copy-requires (search needs) (λ c κs. search needs) (λ c κs. search needs) (search needs)
-    slice-aggregate-copy copy-requires slice-aggregate-copy-2 mul-copy copy-requires-2 cast-t25 returns
-    (search needs) (search needs) returns-2)
+    tie.close (tie.spec renumber-copy-requires (search needs) (λ c κs. search needs) (λ c κs. search needs)
+    (search needs) slice-aggregate-copy copy-requires slice-aggregate-copy-2 mul-copy copy-requires-2 cast-t25
+    returns (search needs) (search needs) returns-2)

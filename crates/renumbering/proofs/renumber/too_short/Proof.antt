@@ -2,8 +2,7 @@ use borrow.Author.Needs.{needs}
 use Rattle.renumbering.proofs.renumber.too_short.Statement.{statement}
 use Rattle.renumbering.proofs.renumber.too_short.Tie as tie
 
-returns : tie.Need-returns
-returns c = simp (c .of-sheet .ensures, c .before .refuse .ensures)
-
 pub too-short-spec : {M : Type 1} → statement M
-too-short-spec = tie.close (tie.spec (λ c κs. search needs) (λ c κs. search needs) returns)
+too-short-spec =
+    tie.close (tie.spec (λ c κs. search needs) (λ c κs. search needs)
+    (λ c. simp (c .of-sheet .ensures, c .before .refuse .ensures)))

@@ -5,9 +5,5 @@ use Rattle.renumbering.specs.Work.{argumentsIn}
 use Rattle.renumbering.proofs.scope.arguments.Statement.{statement}
 use Rattle.renumbering.proofs.scope.arguments.Tie as tie
 
-returns : tie.Need-returns
-unfolding argumentsIn
-returns c = (refl, omega arith)
-
 pub arguments-spec : {M : Type 1} → statement M
-arguments-spec = tie.close (tie.spec returns)
+arguments-spec = tie.close (tie.spec (λ c. unfold argumentsIn in (refl, omega arith)))

@@ -4,11 +4,7 @@ use Rattle.renumbering.proofs.Leaves.{becomes-held, becomes-free}
 use Rattle.renumbering.proofs.scope.becomes.Statement.{statement}
 use Rattle.renumbering.proofs.scope.becomes.Tie as tie
 
-returns : tie.Need-returns
-returns c = becomes-held _ _ (c .if1 .taken)
-
-returns-2 : tie.Need-returns-2
-returns-2 c = (becomes-free _ _ (c .if1 .left), omega arith)
-
 pub becomes-spec : {M : Type 1} → statement M
-becomes-spec = tie.close (tie.spec returns returns-2)
+becomes-spec =
+    tie.close (tie.spec (λ c. becomes-held _ _ (c .if1 .taken))
+    (λ c. (becomes-free _ _ (c .if1 .left), omega arith)))

@@ -6,9 +6,7 @@ use borrow.Author.Needs.{needs}
 use Rattle.renumbering.proofs.scope.bound_entry.Statement.{statement}
 use Rattle.renumbering.proofs.scope.bound_entry.Tie as tie
 
-returns : tie.Need-returns
-unfolding boundEntry
-returns c = (refl, omega arith)
-
 pub bound-entry-spec : {M : Type 1} → statement M
-bound-entry-spec = tie.close (tie.spec (search needs) (search needs) (search needs) returns)
+bound-entry-spec =
+    tie.close (tie.spec (search needs) (search needs) (search needs)
+    (λ c. unfold boundEntry in (refl, omega arith)))

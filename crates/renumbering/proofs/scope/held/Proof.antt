@@ -4,9 +4,5 @@ use Rattle.renumbering.specs.Work.{heldIn}
 use Rattle.renumbering.proofs.scope.held.Statement.{statement}
 use Rattle.renumbering.proofs.scope.held.Tie as tie
 
-returns : tie.Need-returns
-unfolding heldIn
-returns c = refl
-
 pub held-spec : {M : Type 1} → statement M
-held-spec = tie.close (tie.spec returns)
+held-spec = tie.close (tie.spec (λ c. unfold heldIn in refl))

@@ -6,9 +6,5 @@ use borrow.Author.Needs.{needs}
 use Rattle.renumbering.proofs.scope.named_entry.Statement.{statement}
 use Rattle.renumbering.proofs.scope.named_entry.Tie as tie
 
-returns : tie.Need-returns
-unfolding namedEntry
-returns c = (refl, omega arith)
-
 pub named-entry-spec : {M : Type 1} → statement M
-named-entry-spec = tie.close (tie.spec (search needs) returns)
+named-entry-spec = tie.close (tie.spec (search needs) (λ c. unfold namedEntry in (refl, omega arith)))

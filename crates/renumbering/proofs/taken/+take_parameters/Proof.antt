@@ -38,30 +38,6 @@ take-parameters-calls t =
 
 -- take_parameters
 module _ (t : ℕ) where
-  take-parameters-returns : take-parameters-lts.Need-returns (take-parameters-calls t) (take-parameters-at t)
-      take-parameters.Post
-  take-parameters-returns c = took-none _ _ _ _ (c .if1 .taken)
-
-  take-parameters-byte-requires : take-parameters-lts.Need-byte-requires (take-parameters-calls t)
-      (take-parameters-at t) take-parameters.Post
-  take-parameters-byte-requires c κs = search needs
-
-  take-parameters-put-requires : take-parameters-lts.Need-put-requires (take-parameters-calls t)
-      (take-parameters-at t) take-parameters.Post
-  take-parameters-put-requires c κs = search needs
-
-  take-parameters-add-take-parameters : take-parameters-lts.Need-add-take-parameters (take-parameters-calls t)
-      (take-parameters-at t) take-parameters.Post
-  take-parameters-add-take-parameters c = search needs
-
-  take-parameters-sub-take-parameters : take-parameters-lts.Need-sub-take-parameters (take-parameters-calls t)
-      (take-parameters-at t) take-parameters.Post
-  take-parameters-sub-take-parameters c = search needs
-
-  take-parameters-take-parameters-requires : take-parameters-lts.Need-take-parameters-requires
-      (take-parameters-calls t) (take-parameters-at t) take-parameters.Post
-  take-parameters-take-parameters-requires c κs = search needs
-
   take-parameters-returns-2 : take-parameters-lts.Need-returns-2 (take-parameters-calls t) (take-parameters-at t)
       take-parameters.Post
   take-parameters-returns-2 c =
@@ -69,13 +45,7 @@ module _ (t : ℕ) where
       .before .byte .ensures .0) (c .before .before .put .ensures) (c .take-parameters .ensures)
 
 pub +take-parameters-spec : {M : Type 1} → statement M
-+take-parameters-spec = close μ-take-parameters λ t. take-parameters-lts.spec (take-parameters-calls t)
-    (take-parameters-at t)
-    take-parameters.Post
-    (take-parameters-returns t)
-    (take-parameters-byte-requires t)
-    (take-parameters-put-requires t)
-    (take-parameters-add-take-parameters t)
-    (take-parameters-sub-take-parameters t)
-    (take-parameters-take-parameters-requires t)
-    (take-parameters-returns-2 t)
++take-parameters-spec =
+    close μ-take-parameters λ t. take-parameters-lts.spec (take-parameters-calls t) (take-parameters-at t)
+    take-parameters.Post (λ c. took-none _ _ _ _ (c .if1 .taken)) (λ c κs. search needs) (λ c κs. search needs)
+    (search needs) (search needs) (λ c κs. search needs) (take-parameters-returns-2 t)

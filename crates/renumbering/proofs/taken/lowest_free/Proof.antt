@@ -15,23 +15,11 @@ Inv-loop taken id₀ id = (id ≤ 255) × (lowest (marked taken) ≡ lowestFrom 
 abbrev μ-loop : tie.MeasureT-loop
 μ-loop taken id₀ id = 255 - id
 
-loop-holds : tie.Need-loop-holds Inv-loop μ-loop
-loop-holds c = (omega arith, lowest-first (c .before .args .taken .now))
-
-byte-requires : tie.Need-byte-requires Inv-loop μ-loop
-byte-requires c κs = search needs
-
 returns : tie.Need-returns Inv-loop μ-loop
 returns c =
     (lowest-here (c .before .before .before .before .before .args .taken .now) (c .before .before .before .loop .id)
     _ (c .before .before .loop-test .taken) (c .before .before .before .loop .inv .1) (c .before .byte .ensures .0)
     (c .if1 .taken), omega arith)
-
-add-id : tie.Need-add-id Inv-loop μ-loop
-add-id c = omega arith
-
-loop-less : tie.Need-loop-less Inv-loop μ-loop
-loop-less c = omega arith
 
 loop-again : tie.Need-loop-again Inv-loop μ-loop
 loop-again c =
@@ -46,14 +34,5 @@ returns-2 c =
 
 pub lowest-free-spec : {M : Type 1} → statement M
 lowest-free-spec =
-    tie.close
-    (tie.spec
-    Inv-loop
-    μ-loop
-    loop-holds
-    byte-requires
-    returns
-    add-id
-    loop-less
-    loop-again
-    returns-2)
+    tie.close (tie.spec Inv-loop μ-loop (λ c. (omega arith, lowest-first (c .before .args .taken .now)))
+    (λ c κs. search needs) returns (λ c. omega arith) (λ c. omega arith) loop-again returns-2)

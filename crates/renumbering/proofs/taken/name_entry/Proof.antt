@@ -5,11 +5,9 @@ use borrow.Author.Needs.{needs}
 use Rattle.renumbering.proofs.taken.name_entry.Statement.{statement}
 use Rattle.renumbering.proofs.taken.name_entry.Tie as tie
 
-returns : tie.Need-returns
-returns c = (entry-retired _ _ (c .if1 .taken), omega arith)
-
 returns-2 : tie.Need-returns-2
 returns-2 c = (entry-declared _ _ _ (c .before .if1 .left) (c .named-entry .ensures .0), c .named-entry .ensures .1)
 
 pub name-entry-spec : {M : Type 1} → statement M
-name-entry-spec = tie.close (tie.spec returns (λ c κs. search needs) returns-2)
+name-entry-spec =
+    tie.close (tie.spec (λ c. (entry-retired _ _ (c .if1 .taken), omega arith)) (λ c κs. search needs) returns-2)

@@ -14,27 +14,6 @@ Inv-loop s root taken₀ at₀ taken at = (at ≤ max root 8192) × Bounds s roo
 abbrev μ-loop : tie.MeasureT-loop
 μ-loop s root taken₀ at₀ taken at = length s - at
 
-loop-holds : tie.Need-loop-holds Inv-loop μ-loop
-loop-holds c = (omega arith, bounds-first (c .before .args .s .now) _ _)
-
-byte-at-requires : tie.Need-byte-at-requires Inv-loop μ-loop
-byte-at-requires c κs = search needs
-
-take-ids-requires : tie.Need-take-ids-requires Inv-loop μ-loop
-take-ids-requires c κs = search needs
-
-body-of-requires : tie.Need-body-of-requires Inv-loop μ-loop
-body-of-requires c κs = search needs
-
-add-at : tie.Need-add-at Inv-loop μ-loop
-add-at c = search needs
-
-add-at-2 : tie.Need-add-at-2 Inv-loop μ-loop
-add-at-2 c = search needs
-
-loop-less : tie.Need-loop-less Inv-loop μ-loop
-loop-less c = search needs
-
 loop-again : tie.Need-loop-again Inv-loop μ-loop
 loop-again c =
     (omega (arith, c .body-of .ensures .1), bounds-again (c .before .before .before .before .before .before .before
@@ -50,16 +29,6 @@ returns c =
 
 pub take-bound-spec : {M : Type 1} → statement M
 take-bound-spec =
-    tie.close
-    (tie.spec
-    Inv-loop
-    μ-loop
-    loop-holds
-    byte-at-requires
-    take-ids-requires
-    body-of-requires
-    add-at
-    add-at-2
-    loop-less
-    loop-again
-    returns)
+    tie.close (tie.spec Inv-loop μ-loop (λ c. (omega arith, bounds-first (c .before .args .s .now) _ _))
+    (λ c κs. search needs) (λ c κs. search needs) (λ c κs. search needs) (search needs) (search needs)
+    (search needs) loop-again returns)

@@ -25,7 +25,6 @@ returns-3 c =
 
 pub take-ids-spec : {M : Type 1} → statement M
 take-ids-spec =
-    tie.close
-    (tie.spec (search needs) (λ c κs. search needs) (λ c κs. search needs) returns (search needs)
+    tie.close (tie.spec (search needs) (λ c κs. search needs) (λ c κs. search needs) returns (search needs)
     (λ c κs. search needs) (λ c κs. search needs) (λ c κs. search needs) (search needs) (λ c κs. search needs)
     returns-2 returns-3)

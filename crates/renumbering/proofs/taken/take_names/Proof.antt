@@ -13,45 +13,6 @@ Inv-loop s root taken₀ scope₀ at₀ taken scope at = (at ≤ 8192) × Named 
 abbrev μ-loop : tie.MeasureT-loop
 μ-loop s root taken₀ scope₀ at₀ taken scope at = root - at
 
-loop-holds : tie.Need-loop-holds Inv-loop μ-loop
-loop-holds c = (omega arith, named-first (c .before .args .s .now) _ _ _)
-
-byte-at-requires : tie.Need-byte-at-requires Inv-loop μ-loop
-byte-at-requires c κs = search needs
-
-add-byte : tie.Need-add-byte Inv-loop μ-loop
-add-byte c = search needs
-
-byte-requires : tie.Need-byte-requires Inv-loop μ-loop
-byte-requires c κs = search needs
-
-put-requires : tie.Need-put-requires Inv-loop μ-loop
-put-requires c κs = search needs
-
-add-byte-2 : tie.Need-add-byte-2 Inv-loop μ-loop
-add-byte-2 c = search needs
-
-byte-requires-2 : tie.Need-byte-requires-2 Inv-loop μ-loop
-byte-requires-2 c κs = search needs
-
-name-entry-requires : tie.Need-name-entry-requires Inv-loop μ-loop
-name-entry-requires c κs = search needs
-
-put-word-requires : tie.Need-put-word-requires Inv-loop μ-loop
-put-word-requires c κs = search needs
-
-body-of-requires : tie.Need-body-of-requires Inv-loop μ-loop
-body-of-requires c κs = search needs
-
-add-at : tie.Need-add-at Inv-loop μ-loop
-add-at c = search needs
-
-add-at-2 : tie.Need-add-at-2 Inv-loop μ-loop
-add-at-2 c = search needs
-
-loop-less : tie.Need-loop-less Inv-loop μ-loop
-loop-less c = search needs
-
 loop-again : tie.Need-loop-again Inv-loop μ-loop
 loop-again c =
     (omega (arith, c .body-of .ensures .1), named-again (c .before .before .before .before .before .before .before
@@ -71,22 +32,7 @@ returns c =
 
 pub take-names-spec : {M : Type 1} → statement M
 take-names-spec =
-    tie.close
-    (tie.spec
-    Inv-loop
-    μ-loop
-    loop-holds
-    byte-at-requires
-    add-byte
-    byte-requires
-    put-requires
-    add-byte-2
-    byte-requires-2
-    name-entry-requires
-    put-word-requires
-    body-of-requires
-    add-at
-    add-at-2
-    loop-less
-    loop-again
-    returns)
+    tie.close (tie.spec Inv-loop μ-loop (λ c. (omega arith, named-first (c .before .args .s .now) _ _ _))
+    (λ c κs. search needs) (search needs) (λ c κs. search needs) (λ c κs. search needs) (search needs)
+    (λ c κs. search needs) (λ c κs. search needs) (λ c κs. search needs) (λ c κs. search needs) (search needs)
+    (search needs) (search needs) loop-again returns)

@@ -17,31 +17,17 @@ Inv-loop out₀ at count list next₀ i₀ out next i =
 abbrev μ-loop : tie.MeasureT-loop
 μ-loop out₀ at count list next₀ i₀ out next i = count - i
 
-loop-holds : tie.Need-loop-holds Inv-loop μ-loop
-loop-holds c = (search needs, (refl, changes-start _ _ _))
-
-change-at-requires : tie.Need-change-at-requires Inv-loop μ-loop
-change-at-requires c κs = search needs
-
-add-i : tie.Need-add-i Inv-loop μ-loop
-add-i c = search needs
-
-loop-less : tie.Need-loop-less Inv-loop μ-loop
-loop-less c = search needs
-
 loop-again : tie.Need-loop-again Inv-loop μ-loop
 loop-again c =
     (search needs, (search needs, changes-again _ _ (c .before .before .before .before .before .loop .i) _ _ (c
         .before .before .before .before .before .loop .inv .1 .1) _ (c .before .before .before .before .loop-test
         .taken) (c .before .before .change-at .ensures)))
 
-same-length : tie.Need-same-length Inv-loop μ-loop
-same-length c = c .before .loop .inv .1 .0
-
 returns : tie.Need-returns Inv-loop μ-loop
 returns c = changes-end _ _ (c .before .loop .i) _ _ (c .before .loop .inv .1 .1) (c .before .loop .inv .0) (c
         .loop-test .left)
 
 pub changes-spec : {M : Type 1} → statement M
-changes-spec = tie.close
-    (tie.spec Inv-loop μ-loop loop-holds change-at-requires add-i loop-less loop-again same-length returns)
+changes-spec =
+    tie.close (tie.spec Inv-loop μ-loop (λ c. (search needs, (refl, changes-start _ _ _))) (λ c κs. search needs)
+    (search needs) (search needs) loop-again (λ c. c .before .loop .inv .1 .0) returns)

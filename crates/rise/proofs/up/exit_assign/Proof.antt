@@ -4,13 +4,7 @@ use Rattle.rise.specs.Up.{exitAssign}
 use Rattle.rise.proofs.up.exit_assign.Statement.{statement}
 use Rattle.rise.proofs.up.exit_assign.Tie as tie
 
-returns : tie.Need-returns
-unfolding exitAssign
-returns c = simp (eq-eqb _ _ (c .if1 .taken))
-
-returns-2 : tie.Need-returns-2
-unfolding exitAssign
-returns-2 c = simp (ne-eqb _ _ (c .if1 .left))
-
 pub exit-assign-spec : {M : Type 1} → statement M
-exit-assign-spec = tie.close (tie.spec returns returns-2)
+exit-assign-spec =
+    tie.close (tie.spec (λ c. unfold exitAssign in simp (eq-eqb _ _ (c .if1 .taken)))
+    (λ c. unfold exitAssign in simp (ne-eqb _ _ (c .if1 .left))))

@@ -25,11 +25,8 @@ returns-3 : tie.Need-returns-3
 unfolding exitOperate
 returns-3 c = simp (eq-eqb _ _ (c .before .before .if1 .taken), le-ltb _ _ (c .if2 .left))
 
-returns-4 : tie.Need-returns-4
-unfolding exitOperate
-returns-4 c = simp (ne-eqb _ _ (c .if1 .left))
-
 pub exit-operate-spec : {M : Type 1} → statement M
 exit-operate-spec =
     tie.close (tie.spec (search needs) (search needs) (search needs) (λ c κs. search needs) (search needs)
-    (search needs) (search needs) returns returns-2 returns-3 returns-4)
+    (search needs) (search needs) returns returns-2 returns-3
+    (λ c. unfold exitOperate in simp (ne-eqb _ _ (c .if1 .left))))

@@ -25,9 +25,7 @@ unfolding exitTruth
 returns-4 c =
     simp (eq-eqb _ _ (c .before .before .if1 .taken), ne-eqb _ _ (c .before .if2 .left), ne-eqb _ _ (c .if3 .left))
 
-returns-5 : tie.Need-returns-5
-unfolding exitTruth
-returns-5 c = simp (ne-eqb _ _ (c .if1 .left))
-
 pub exit-truth-spec : {M : Type 1} → statement M
-exit-truth-spec = tie.close (tie.spec returns returns-2 returns-3 returns-4 returns-5)
+exit-truth-spec =
+    tie.close (tie.spec returns returns-2 returns-3 returns-4
+    (λ c. unfold exitTruth in simp (ne-eqb _ _ (c .if1 .left))))

@@ -14,9 +14,7 @@ returns-2 : tie.Need-returns-2
 unfolding exitValue
 returns-2 c = simp (eq-eqb _ _ (c .before .before .if1 .taken), le-ltb _ _ (c .if2 .left))
 
-returns-3 : tie.Need-returns-3
-unfolding exitValue
-returns-3 c = simp (ne-eqb _ _ (c .if1 .left))
-
 pub exit-value-spec : {M : Type 1} → statement M
-exit-value-spec = tie.close (tie.spec (λ c κs. search needs) returns returns-2 returns-3)
+exit-value-spec =
+    tie.close (tie.spec (λ c κs. search needs) returns returns-2
+    (λ c. unfold exitValue in simp (ne-eqb _ _ (c .if1 .left))))

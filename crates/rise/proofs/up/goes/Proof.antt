@@ -15,10 +15,7 @@ unfolding goesOf
 returns-2 c = simp (← c .sum .ensures, eq-eqb _ _ (c .before .before .before .before .if1 .taken), ne-eqb _ _
     (c .before .if2 .left))
 
-returns-3 : tie.Need-returns-3
-unfolding goesOf
-returns-3 c = simp (← c .sum2 .ensures, ne-eqb _ _ (c .before .if1 .left))
-
 pub goes-spec : {M : Type 1} → statement M
-goes-spec = tie.close (tie.spec (λ c κs. search needs) returns (λ c κs. search needs) returns-2
-    (λ c κs. search needs) returns-3)
+goes-spec =
+    tie.close (tie.spec (λ c κs. search needs) returns (λ c κs. search needs) returns-2 (λ c κs. search needs)
+    (λ c. unfold goesOf in simp (← c .sum2 .ensures, ne-eqb _ _ (c .before .if1 .left))))

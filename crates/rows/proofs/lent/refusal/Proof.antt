@@ -4,9 +4,7 @@ use Rattle.report.proofs.Fits.{counts}
 use Rattle.rows.proofs.lent.refusal.Statement.{statement}
 use Rattle.rows.proofs.lent.refusal.Tie as tie
 
-returns : tie.Need-returns
-returns c =
-    counts _ _ _ _ (c .before .before .refused .ensures)
-
 pub refusal-spec : {M : Type 1} → statement M
-refusal-spec = tie.close (tie.spec (λ c κs. search needs) (search needs) returns)
+refusal-spec =
+    tie.close (tie.spec (λ c κs. search needs) (search needs)
+    (λ c. counts _ _ _ _ (c .before .before .refused .ensures)))

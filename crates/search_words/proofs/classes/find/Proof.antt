@@ -1,5 +1,4 @@
 -- `find` keeps what `Found` says.
-use borrow.Author.Needs.{needs}
 use native.Mathlib.Omega.{arith}
 use mathlib.Core.Path.{_≡_, sym, _∙_}
 use lib.ListN.{getD}
@@ -13,9 +12,6 @@ Inv-loop work₀ x y₀ p₀ work y p = Finding x work₀ work y × (p ≡ getD 
 
 abbrev μ-loop : tie.MeasureT-loop
 μ-loop work₀ x y₀ p₀ work y p = y
-
-at-requires : tie.Need-at-requires Inv-loop μ-loop
-at-requires c κs = omega (arith, c .before .before .pre .inside)
 
 loop-holds : tie.Need-loop-holds Inv-loop μ-loop
 loop-holds c = (find-first _ _ (c .before .before .before .pre), c .at .ensures)
@@ -62,25 +58,11 @@ loop-again c = (find-again _ _ (c .before .before .before .before .before .befor
     (c .before .before .before .before .before .before .at2 .ensures)
     (c .before .before .before .before .put .ensures), c .at3 .ensures)
 
-same-length : tie.Need-same-length Inv-loop μ-loop
-same-length c = c .before .loop .inv .0 .len
-
 returns : tie.Need-returns Inv-loop μ-loop
 returns c = λ n w h. find-last n _ _ _ _ (c .before .loop .inv .0) (sym (c .before .loop .inv .1)
     ∙ c .loop-test .left) w h
 
 pub find-spec : {M : Type 1} → statement M
 find-spec =
-    tie.close
-    (tie.spec
-    Inv-loop
-    μ-loop
-    at-requires
-    loop-holds
-    at-requires-2
-    put-requires
-    at-requires-3
-    loop-less
-    loop-again
-    same-length
-    returns)
+    tie.close (tie.spec Inv-loop μ-loop (λ c κs. omega (arith, c .before .before .pre .inside)) loop-holds
+    at-requires-2 put-requires at-requires-3 loop-less loop-again (λ c. c .before .loop .inv .0 .len) returns)

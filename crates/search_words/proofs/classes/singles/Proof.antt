@@ -14,39 +14,12 @@ Inv-loop work₀ n i₀ work i = (i ≤ n) × ((length work ≡ length work₀) 
 abbrev μ-loop : tie.MeasureT-loop
 μ-loop work₀ n i₀ work i = n - i
 
-loop-holds : tie.Need-loop-holds Inv-loop μ-loop
-loop-holds c = search needs
-
-put-requires : tie.Need-put-requires Inv-loop μ-loop
-put-requires c κs = search needs
-
-add-i : tie.Need-add-i Inv-loop μ-loop
-add-i c = search needs
-
-loop-less : tie.Need-loop-less Inv-loop μ-loop
-loop-less c = search needs
-
 loop-again : tie.Need-loop-again Inv-loop μ-loop
 loop-again c = (search needs, (search needs, single-more (c .before .before .before .before .before .loop .work) _
     (c .before .before .before .before .before .loop .i) (search needs) (c .before .before .put .ensures)
     (c .before .before .before .before .before .loop .inv .1 .1)))
 
-same-length : tie.Need-same-length Inv-loop μ-loop
-same-length c = search needs
-
-returns : tie.Need-returns Inv-loop μ-loop
-returns c = λ x h. c .before .loop .inv .1 .1 x (omega arith)
-
 pub singles-spec : {M : Type 1} → statement M
 singles-spec =
-    tie.close
-    (tie.spec
-    Inv-loop
-    μ-loop
-    loop-holds
-    put-requires
-    add-i
-    loop-less
-    loop-again
-    same-length
-    returns)
+    tie.close (tie.spec Inv-loop μ-loop (search needs) (λ c κs. search needs) (search needs) (search needs)
+    loop-again (search needs) (λ c x h. c .before .loop .inv .1 .1 x (omega arith)))

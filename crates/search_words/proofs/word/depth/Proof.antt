@@ -17,18 +17,6 @@ abbrev μ-loop : tie.MeasureT-loop
 loop-holds : tie.Need-loop-holds Inv-loop μ-loop
 loop-holds c = (omega arith, λ u s. record { left = u; spelled = s; total = omega arith })
 
-mul-at : tie.Need-mul-at Inv-loop μ-loop
-mul-at c = let t = c .before .before .before .pre in omega arith
-
-add-at : tie.Need-add-at Inv-loop μ-loop
-add-at c = let t = c .before .before .before .pre in omega arith
-
-add-at-2 : tie.Need-add-at-2 Inv-loop μ-loop
-add-at-2 c = let t = c .before .before .before .pre in omega arith
-
-at-requires : tie.Need-at-requires Inv-loop μ-loop
-at-requires c κs = let t = c .before .before .before .pre in omega arith
-
 add-d : tie.Need-add-d Inv-loop μ-loop
 add-d c = let t = c .before .before .before .before .pre in omega arith
 
@@ -46,16 +34,7 @@ returns c = λ u s. count-last _ _ _ _ _ (c .loop-test .left) (c .before .loop .
 
 pub depth-spec : {M : Type 1} → statement M
 depth-spec =
-    tie.close
-    (tie.spec
-    Inv-loop
-    μ-loop
-    loop-holds
-    mul-at
-    add-at
-    add-at-2
-    at-requires
-    add-d
-    loop-less
-    loop-again
-    returns)
+    tie.close (tie.spec Inv-loop μ-loop loop-holds (λ c. let t = c .before .before .before .pre in omega arith)
+    (λ c. let t = c .before .before .before .pre in omega arith)
+    (λ c. let t = c .before .before .before .pre in omega arith)
+    (λ c κs. let t = c .before .before .before .pre in omega arith) add-d loop-less loop-again returns)

@@ -13,9 +13,6 @@ Inv-loop words₀ n k base d i₀ e₀ words i e = Spells n k d words₀ words i
 abbrev μ-loop : tie.MeasureT-loop
 μ-loop words₀ n k base d i₀ e₀ words i e = e
 
-mul-base : tie.Need-mul-base Inv-loop μ-loop
-mul-base c = let t = c .before .pre .0 in omega arith
-
 depth-requires : tie.Need-depth-requires Inv-loop μ-loop
 depth-requires c κs = trail-wide (c .before .before .args .n) (c .before .before .args .words .now) _
     (omega (arith, c .before .before .pre .1)) (c .before .before .pre .0)
@@ -113,9 +110,6 @@ loop-again c = spells-again (c .before .before .before .before .before .before .
     (c .before .before .before .before .before .before .at .ensures) (c .before .before .before .before .put .ensures)
     (c .at2 .ensures)
 
-same-length : tie.Need-same-length Inv-loop μ-loop
-same-length c = c .before .loop .inv .len
-
 returns : tie.Need-returns Inv-loop μ-loop
 returns c = spells-last (c .before .before .before .before .before .args .n) _
     (c .before .before .before .before .before .args .words .now) (c .before .before .before .before .before .pre .0)
@@ -123,25 +117,6 @@ returns c = spells-last (c .before .before .before .before .before .args .n) _
 
 pub spell-spec : {M : Type 1} → statement M
 spell-spec =
-    tie.close
-    (tie.spec
-    Inv-loop
-    μ-loop
-    mul-base
-    depth-requires
-    loop-holds
-    sub-i
-    mul-at
-    add-at
-    add-at-2
-    at-requires
-    add-put
-    put-requires
-    mul-at-2
-    add-at-3
-    add-at-4
-    at-requires-2
-    loop-less
-    loop-again
-    same-length
-    returns)
+    tie.close (tie.spec Inv-loop μ-loop (λ c. let t = c .before .pre .0 in omega arith) depth-requires loop-holds
+    sub-i mul-at add-at add-at-2 at-requires add-put put-requires mul-at-2 add-at-3 add-at-4 at-requires-2 loop-less
+    loop-again (λ c. c .before .loop .inv .len) returns)

@@ -58,46 +58,12 @@ read-names-calls t =
 
 -- read_after
 module _ (t : ℕ) where
-  read-after-refuse-requires : read-after-lts.Need-refuse-requires (read-after-calls t) (read-after-at t)
-    read-after.Post
-  read-after-refuse-requires c κs = search needs
-
   read-after-returns : read-after-lts.Need-returns (read-after-calls t) (read-after-at t) read-after.Post
   read-after-returns c = λ name. rw (c .refuse .ensures) (after-full _ _ _ _ _ _ _ _ _ name (c .before .if1 .taken))
-
-  read-after-enum-known-judged : read-after-lts.Need-enum-known-judged (read-after-calls t) (read-after-at t)
-    read-after.Post
-  read-after-enum-known-judged c = search needs
-
-  read-after-enum-told : read-after-lts.Need-enum-told (read-after-calls t) (read-after-at t) read-after.Post
-  read-after-enum-told c = search needs
-
-  read-after-registered-requires : read-after-lts.Need-registered-requires (read-after-calls t) (read-after-at t)
-    read-after.Post
-  read-after-registered-requires c κs = search needs
-
-  read-after-sub-read-names : read-after-lts.Need-sub-read-names (read-after-calls t) (read-after-at t)
-    read-after.Post
-  read-after-sub-read-names c = search needs
-
-  read-after-add-read-names : read-after-lts.Need-add-read-names (read-after-calls t) (read-after-at t)
-    read-after.Post
-  read-after-add-read-names c = search needs
-
-  read-after-add-read-names-2 : read-after-lts.Need-add-read-names-2 (read-after-calls t) (read-after-at t)
-    read-after.Post
-  read-after-add-read-names-2 c = search needs
-
-  read-after-read-names-requires : read-after-lts.Need-read-names-requires (read-after-calls t) (read-after-at t)
-    read-after.Post
-  read-after-read-names-requires c κs = search needs
 
   read-after-returns-2 : read-after-lts.Need-returns-2 (read-after-calls t) (read-after-at t) read-after.Post
   read-after-returns-2 c =
       λ name. after-bad _ _ _ _ _ _ _ _ _ name (c .before .before .before .if1 .left) (c .before .judged .given .1)
-
-  read-after-same-length : read-after-lts.Need-same-length (read-after-calls t) (read-after-at t) read-after.Post
-  read-after-same-length c = search needs
 
   read-after-returns-3 : read-after-lts.Need-returns-3 (read-after-calls t) (read-after-at t) read-after.Post
   read-after-returns-3 c =
@@ -108,66 +74,8 @@ module _ (t : ℕ) where
 
 -- read_names
 module _ (t : ℕ) where
-  read-names-refuse-requires : read-names-lts.Need-refuse-requires (read-names-calls t) (read-names-at t)
-    read-names.Post
-  read-names-refuse-requires c κs = search needs
-
   read-names-returns : read-names-lts.Need-returns (read-names-calls t) (read-names-at t) read-names.Post
   read-names-returns c = rw (c .refuse .ensures) (names-short _ _ _ _ _ _ (c .before .if1 .taken))
-
-  read-names-shared-slice-read-kind : read-names-lts.Need-shared-slice-read-kind (read-names-calls t)
-    (read-names-at t) read-names.Post
-  read-names-shared-slice-read-kind c = search needs
-
-  read-names-shape-of-requires : read-names-lts.Need-shape-of-requires (read-names-calls t) (read-names-at t)
-    read-names.Post
-  read-names-shape-of-requires c κs = search needs
-
-  read-names-enum-told : read-names-lts.Need-enum-told (read-names-calls t) (read-names-at t) read-names.Post
-  read-names-enum-told c = search needs
-
-  read-names-refuse-requires-2 : read-names-lts.Need-refuse-requires-2 (read-names-calls t) (read-names-at t)
-    read-names.Post
-  read-names-refuse-requires-2 c κs = search needs
-
-  read-names-enum-told-2 : read-names-lts.Need-enum-told-2 (read-names-calls t) (read-names-at t) read-names.Post
-  read-names-enum-told-2 c = search needs
-
-  read-names-read-term-requires : read-names-lts.Need-read-term-requires (read-names-calls t) (read-names-at t)
-    read-names.Post
-  read-names-read-term-requires c κs = search needs
-
-  read-names-enum-known-shape : read-names-lts.Need-enum-known-shape (read-names-calls t) (read-names-at t)
-    read-names.Post
-  read-names-enum-known-shape c = search needs
-
-  read-names-judge-declare-requires : read-names-lts.Need-judge-declare-requires (read-names-calls t)
-    (read-names-at t) read-names.Post
-  read-names-judge-declare-requires c κs = search needs
-
-  read-names-declared-standing-requires : read-names-lts.Need-declared-standing-requires (read-names-calls t)
-    (read-names-at t) read-names.Post
-  read-names-declared-standing-requires c κs = search needs
-
-  read-names-read-after-requires : read-names-lts.Need-read-after-requires (read-names-calls t) (read-names-at t)
-    read-names.Post
-  read-names-read-after-requires c κs = search needs
-
-  read-names-enum-known-shape-2 : read-names-lts.Need-enum-known-shape-2 (read-names-calls t) (read-names-at t)
-    read-names.Post
-  read-names-enum-known-shape-2 c = search needs
-
-  read-names-add-judge-fresh : read-names-lts.Need-add-judge-fresh (read-names-calls t) (read-names-at t)
-    read-names.Post
-  read-names-add-judge-fresh c = search needs
-
-  read-names-judge-fresh-requires : read-names-lts.Need-judge-fresh-requires (read-names-calls t) (read-names-at t)
-    read-names.Post
-  read-names-judge-fresh-requires c κs = search needs
-
-  read-names-read-after-requires-2 : read-names-lts.Need-read-after-requires-2 (read-names-calls t) (read-names-at t)
-    read-names.Post
-  read-names-read-after-requires-2 c κs = search needs
 
   read-names-returns-2 : read-names-lts.Need-returns-2 (read-names-calls t) (read-names-at t) read-names.Post
   read-names-returns-2 c =
@@ -175,17 +83,11 @@ module _ (t : ℕ) where
       (names-unknown _ _ _ _ _ _ (c .before .before .before .before .before .if1 .left) (sym (c .before .before
         .before .shape-of .ensures) ∙ c .before .enum-told .given .1))
 
-  read-names-same-length : read-names-lts.Need-same-length (read-names-calls t) (read-names-at t) read-names.Post
-  read-names-same-length c = search needs
-
   read-names-returns-3 : read-names-lts.Need-returns-3 (read-names-calls t) (read-names-at t) read-names.Post
   read-names-returns-3 c =
       names-term _ _ _ _ _ _ (c .before .before .before .before .before .before .before .before .if1 .left) (sym
       (c .before .before .before .before .before .before .shape-of .ensures) ∙ c .before .before .before .before
         .enum-told2 .given .1) (c .before .before .read-term .ensures)
-
-  read-names-same-length-2 : read-names-lts.Need-same-length-2 (read-names-calls t) (read-names-at t) read-names.Post
-  read-names-same-length-2 c = search needs
 
   read-names-returns-4 : read-names-lts.Need-returns-4 (read-names-calls t) (read-names-at t) read-names.Post
   read-names-returns-4 c =
@@ -195,9 +97,6 @@ module _ (t : ℕ) where
         .before .before .before .before .before .before .shape .given .1) (c .before .before .before .before .before
         .judge-declare .ensures) (c .before .before .before .before .declared-standing .ensures) (c .before .before
         .read-after .ensures)
-
-  read-names-same-length-3 : read-names-lts.Need-same-length-3 (read-names-calls t) (read-names-at t) read-names.Post
-  read-names-same-length-3 c = search needs
 
   read-names-returns-5 : read-names-lts.Need-returns-5 (read-names-calls t) (read-names-at t) read-names.Post
   read-names-returns-5 c =
@@ -210,16 +109,12 @@ module _ (t : ℕ) where
 pub +read-after+read-names-spec : {M : Type 1} → statement M
 +read-after+read-names-spec =
     close μ-read-after μ-read-names
-    (λ t. read-after-lts.spec (read-after-calls t) (read-after-at t) read-after.Post (read-after-refuse-requires t)
-      (read-after-returns t) (read-after-enum-known-judged t) (read-after-enum-told t)
-      (read-after-registered-requires t) (read-after-sub-read-names t) (read-after-add-read-names t)
-      (read-after-add-read-names-2 t) (read-after-read-names-requires t) (read-after-returns-2 t)
-      (read-after-same-length t) (read-after-returns-3 t))
-    (λ t. read-names-lts.spec (read-names-calls t) (read-names-at t) read-names.Post (read-names-refuse-requires t)
-      (read-names-returns t) (read-names-shared-slice-read-kind t) (read-names-shape-of-requires t)
-      (read-names-enum-told t) (read-names-refuse-requires-2 t) (read-names-enum-told-2 t)
-      (read-names-read-term-requires t) (read-names-enum-known-shape t) (read-names-judge-declare-requires t)
-      (read-names-declared-standing-requires t) (read-names-read-after-requires t) (read-names-enum-known-shape-2 t)
-      (read-names-add-judge-fresh t) (read-names-judge-fresh-requires t) (read-names-read-after-requires-2 t)
-      (read-names-returns-2 t) (read-names-same-length t) (read-names-returns-3 t) (read-names-same-length-2 t)
-      (read-names-returns-4 t) (read-names-same-length-3 t) (read-names-returns-5 t))
+    (λ t. read-after-lts.spec (read-after-calls t) (read-after-at t) read-after.Post (λ c κs. search needs)
+      (read-after-returns t) (search needs) (search needs) (λ c κs. search needs) (search needs) (search needs)
+      (search needs) (λ c κs. search needs) (read-after-returns-2 t) (search needs) (read-after-returns-3 t))
+    (λ t. read-names-lts.spec (read-names-calls t) (read-names-at t) read-names.Post (λ c κs. search needs)
+      (read-names-returns t) (search needs) (λ c κs. search needs) (search needs) (λ c κs. search needs)
+      (search needs) (λ c κs. search needs) (search needs) (λ c κs. search needs) (λ c κs. search needs)
+      (λ c κs. search needs) (search needs) (search needs) (λ c κs. search needs) (λ c κs. search needs)
+      (read-names-returns-2 t) (search needs) (read-names-returns-3 t) (search needs) (read-names-returns-4 t)
+      (search needs) (read-names-returns-5 t))

@@ -14,10 +14,7 @@ returns-2 : tie.Need-returns-2
 returns-2 c =
     note-other _ _ (c .before .before .if1 .taken) (c .before .is-declared .ensures) (c .if2 .left)
 
-returns-3 : tie.Need-returns-3
-returns-3 c = note-kind _ _ (c .if1 .left)
-
 pub note-use-spec : {M : Type 1} → statement M
 note-use-spec =
     tie.close (tie.spec (λ c κs. search needs) (search needs) (search needs) (λ c κs. search needs) (search needs)
-    returns returns-2 returns-3)
+    returns returns-2 (λ c. note-kind _ _ (c .if1 .left)))

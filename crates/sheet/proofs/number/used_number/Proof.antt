@@ -7,8 +7,7 @@ use Rattle.sheet.proofs.number.used_number.Tie as tie
 returns : tie.Need-returns
 returns c = (number-used _ (c .before .if1 .taken) (c .number-in .ensures), search needs)
 
-returns-2 : tie.Need-returns-2
-returns-2 c = (number-none _ (c .if1 .left), search needs)
-
 pub used-number-spec : {M : Type 1} → statement M
-used-number-spec = tie.close (tie.spec (λ c κs. search needs) (search needs) returns returns-2)
+used-number-spec =
+    tie.close (tie.spec (λ c κs. search needs) (search needs) returns
+    (λ c. (number-none _ (c .if1 .left), search needs)))

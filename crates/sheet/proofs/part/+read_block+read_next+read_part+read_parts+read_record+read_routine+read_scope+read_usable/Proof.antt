@@ -161,20 +161,6 @@ read-usable-calls t =
 
 -- read_block
 module _ (t : ℕ) where
-  read-block-enter-requires : block-lts.Need-enter-requires (read-block-calls t) (read-block-at t) read-block.Post
-  read-block-enter-requires c κs =
-      c .before .before .before .before .pre .1 .4
-
-  read-block-add-read-parts : block-lts.Need-add-read-parts (read-block-calls t) (read-block-at t) read-block.Post
-  read-block-add-read-parts c = search needs
-
-  read-block-read-parts-requires : block-lts.Need-read-parts-requires (read-block-calls t) (read-block-at t)
-    read-block.Post
-  read-block-read-parts-requires c κs = search needs
-
-  read-block-same-length : block-lts.Need-same-length (read-block-calls t) (read-block-at t) read-block.Post
-  read-block-same-length c = search needs
-
   read-block-returns : block-lts.Need-returns (read-block-calls t) (read-block-at t) read-block.Post
   read-block-returns c =
       let x = c .before .before .before .before .before .before .before .before .before .before .args in
@@ -183,18 +169,6 @@ module _ (t : ℕ) where
 
 -- read_next
 module _ (t : ℕ) where
-  read-next-read-part-requires : next-lts.Need-read-part-requires (read-next-calls t) (read-next-at t) read-next.Post
-  read-next-read-part-requires c κs = search needs
-
-  read-next-enum-known-p : next-lts.Need-enum-known-p (read-next-calls t) (read-next-at t) read-next.Post
-  read-next-enum-known-p c = search needs
-
-  read-next-enum-told : next-lts.Need-enum-told (read-next-calls t) (read-next-at t) read-next.Post
-  read-next-enum-told c = search needs
-
-  read-next-same-length : next-lts.Need-same-length (read-next-calls t) (read-next-at t) read-next.Post
-  read-next-same-length c = search needs
-
   read-next-returns : next-lts.Need-returns (read-next-calls t) (read-next-at t) read-next.Post
   unfolding bare
   read-next-returns c =
@@ -203,22 +177,12 @@ module _ (t : ℕ) where
       next-refused _ _ _ (bare (x .place) (x .rule) (x .a) (x .b)) _ _ _ _ (λ e. omega (arith, e, o))
       (c .before .before .before .before .read-part .ensures .0) (c .enum-told .given .1)
 
-  read-next-bare-record-requires : next-lts.Need-bare-record-requires (read-next-calls t) (read-next-at t)
-    read-next.Post
-  read-next-bare-record-requires c κs = search needs
-
   read-next-accepts-part-requires : next-lts.Need-accepts-part-requires (read-next-calls t) (read-next-at t)
     read-next.Post
   unfolding bare
   read-next-accepts-part-requires c κs =
       rw (c .bare-record .ensures) (omega (arith, c .before .before .before .before .before .before .before .before
         .before .before .pre .1 .2))
-
-  read-next-refuse-requires : next-lts.Need-refuse-requires (read-next-calls t) (read-next-at t) read-next.Post
-  read-next-refuse-requires c κs = search needs
-
-  read-next-same-length-2 : next-lts.Need-same-length-2 (read-next-calls t) (read-next-at t) read-next.Post
-  read-next-same-length-2 c = search needs
 
   read-next-returns-2 : next-lts.Need-returns-2 (read-next-calls t) (read-next-at t) read-next.Post
   unfolding bare
@@ -254,9 +218,6 @@ module _ (t : ℕ) where
         .before .pre in
       omega (arith, h, q .0, q .1 .0, q .1 .1, q .1 .2, q .1 .3, q .1 .4)
 
-  read-next-same-length-3 : next-lts.Need-same-length-3 (read-next-calls t) (read-next-at t) read-next.Post
-  read-next-same-length-3 c = search needs
-
   read-next-returns-3 : next-lts.Need-returns-3 (read-next-calls t) (read-next-at t) read-next.Post
   unfolding bare
   read-next-returns-3 c =
@@ -273,15 +234,6 @@ module _ (t : ℕ) where
 
 -- read_part
 module _ (t : ℕ) where
-  read-part-head-at-requires : part-lts.Need-head-at-requires (read-part-calls t) (read-part-at t) read-part.Post
-  read-part-head-at-requires c κs = search needs
-
-  read-part-enum-known-h : part-lts.Need-enum-known-h (read-part-calls t) (read-part-at t) read-part.Post
-  read-part-enum-known-h c = search needs
-
-  read-part-enum-known-h-2 : part-lts.Need-enum-known-h-2 (read-part-calls t) (read-part-at t) read-part.Post
-  read-part-enum-known-h-2 c = search needs
-
   read-part-sub-read-record : part-lts.Need-sub-read-record (read-part-calls t) (read-part-at t) read-part.Post
   read-part-sub-read-record c =
       let e = sym (c .before .before .before .before .head-at .ensures) ∙ c .before .before .h2 .given .1 in
@@ -305,9 +257,6 @@ module _ (t : ℕ) where
       let R = part-bad _ _ _ _ _ _ _ (sym (c .before .before .before .head-at .ensures) ∙ c .before .h .given .1) in
       (R, part-beyond _ _ _ _ _ _ _ (R .answer))
 
-  read-part-same-length : part-lts.Need-same-length (read-part-calls t) (read-part-at t) read-part.Post
-  read-part-same-length c = search needs
-
   read-part-returns-2 : part-lts.Need-returns-2 (read-part-calls t) (read-part-at t) read-part.Post
   read-part-returns-2 c =
       let e = sym (c .before .before .before .before .before .before .before .head-at .ensures)
@@ -323,16 +272,6 @@ module _ (t : ℕ) where
       let x = c .before .before .before .args in
       parts-none _ _ _ (bare (x .place) (x .rule) (x .a) (x .b)) _ _ _ _ (c .if1 .taken)
 
-  read-parts-link-requires : parts-lts.Need-link-requires (read-parts-calls t) (read-parts-at t) read-parts.Post
-  read-parts-link-requires c κs = search needs
-
-  read-parts-read-next-requires : parts-lts.Need-read-next-requires (read-parts-calls t) (read-parts-at t)
-    read-parts.Post
-  read-parts-read-next-requires c κs = search needs
-
-  read-parts-same-length : parts-lts.Need-same-length (read-parts-calls t) (read-parts-at t) read-parts.Post
-  read-parts-same-length c = search needs
-
   read-parts-returns-2 : parts-lts.Need-returns-2 (read-parts-calls t) (read-parts-at t) read-parts.Post
   unfolding bare
   read-parts-returns-2 c =
@@ -343,19 +282,12 @@ module _ (t : ℕ) where
 
 -- read_record
 module _ (t : ℕ) where
-  read-record-read-scope-requires : record-lts.Need-read-scope-requires (read-record-calls t) (read-record-at t)
-    read-record.Post
-  read-record-read-scope-requires c κs = search needs
-
   read-record-close-record-requires : record-lts.Need-close-record-requires (read-record-calls t) (read-record-at t)
     read-record.Post
   read-record-close-record-requires c κs =
       let q = c .before .before .before .before .before .before .before .pre .1 in
       (q .2, ends-further _ _ _ (q .0) (scope-ends _ _ _ _ _ _ _ (q .3) (c .before .before .before .read-scope .ensures
         .answer)))
-
-  read-record-same-length : record-lts.Need-same-length (read-record-calls t) (read-record-at t) read-record.Post
-  read-record-same-length c = search needs
 
   read-record-returns : record-lts.Need-returns (read-record-calls t) (read-record-at t) read-record.Post
   read-record-returns c =
@@ -364,10 +296,6 @@ module _ (t : ℕ) where
 
 -- read_routine
 module _ (t : ℕ) where
-  read-routine-cast-count : routine-lts.Need-cast-count (read-routine-calls t) (read-routine-at t) read-routine.Post
-  read-routine-cast-count c =
-      search (needs, c .before .before .before .pre .1 .4)
-
   read-routine-enter-parameters-requires : routine-lts.Need-enter-parameters-requires (read-routine-calls t)
     (read-routine-at t)
     read-routine.Post
@@ -387,16 +315,6 @@ module _ (t : ℕ) where
       let q = c .before .before .before .before .before .before .before .before .pre in
       omega (arith, q .0, q .1 .0, q .1 .1, q .1 .2, q .1 .3, q .1 .4)
 
-  read-routine-enum-known-own : routine-lts.Need-enum-known-own (read-routine-calls t) (read-routine-at t)
-    read-routine.Post
-  read-routine-enum-known-own c = search needs
-
-  read-routine-enum-told : routine-lts.Need-enum-told (read-routine-calls t) (read-routine-at t) read-routine.Post
-  read-routine-enum-told c = search needs
-
-  read-routine-same-length : routine-lts.Need-same-length (read-routine-calls t) (read-routine-at t) read-routine.Post
-  read-routine-same-length c = search needs
-
   read-routine-returns : routine-lts.Need-returns (read-routine-calls t) (read-routine-at t) read-routine.Post
   read-routine-returns c =
       routine-refused _ _ _ _ _ _ (rw (← c .before .before .before .before .before .before .before .enter-parameters
@@ -412,10 +330,6 @@ module _ (t : ℕ) where
         .before .read-parts .ensures .answer)) (c .before .before .own .given .1) in
       omega (arith, h, q .0, q .1 .0, q .1 .1, q .1 .2, q .1 .3, q .1 .4)
 
-  read-routine-same-length-2 : routine-lts.Need-same-length-2 (read-routine-calls t) (read-routine-at t)
-    read-routine.Post
-  read-routine-same-length-2 c = search needs
-
   read-routine-returns-2 : routine-lts.Need-returns-2 (read-routine-calls t) (read-routine-at t) read-routine.Post
   read-routine-returns-2 c =
       routine-more _ _ _ _ _ _ (rw (← c .before .before .before .before .before .before .before .before .before
@@ -425,29 +339,12 @@ module _ (t : ℕ) where
 
 -- read_scope
 module _ (t : ℕ) where
-  read-scope-opens-of-requires : scope-lts.Need-opens-of-requires (read-scope-calls t) (read-scope-at t)
-    read-scope.Post
-  read-scope-opens-of-requires c κs = search needs
-
-  read-scope-enum-told : scope-lts.Need-enum-told (read-scope-calls t) (read-scope-at t) read-scope.Post
-  read-scope-enum-told c = search needs
-
-  read-scope-read-parts-requires : scope-lts.Need-read-parts-requires (read-scope-calls t) (read-scope-at t)
-    read-scope.Post
-  read-scope-read-parts-requires c κs = search needs
-
-  read-scope-enum-told-2 : scope-lts.Need-enum-told-2 (read-scope-calls t) (read-scope-at t) read-scope.Post
-  read-scope-enum-told-2 c = search needs
-
   read-scope-read-block-requires : scope-lts.Need-read-block-requires (read-scope-calls t) (read-scope-at t)
     read-scope.Post
   read-scope-read-block-requires c κs =
       let q = c .before .before .before .before .before .before .pre in
       let h = q .1 .4 (sym (c .before .before .before .opens-of .ensures) ∙ c .before .enum-told2 .given .1) in
       (omega (arith, q .0), (q .1 .0, q .1 .1, q .1 .2, q .1 .3, h))
-
-  read-scope-enum-told-3 : scope-lts.Need-enum-told-3 (read-scope-calls t) (read-scope-at t) read-scope.Post
-  read-scope-enum-told-3 c = search needs
 
   read-scope-read-routine-requires : scope-lts.Need-read-routine-requires (read-scope-calls t) (read-scope-at t)
     read-scope.Post
@@ -456,24 +353,15 @@ module _ (t : ℕ) where
       let h = q .1 .5 (sym (c .before .before .before .opens-of .ensures) ∙ c .before .enum-told3 .given .1) in
       (omega (arith, q .0), (q .1 .0, q .1 .1, q .1 .2, q .1 .3, h))
 
-  read-scope-same-length : scope-lts.Need-same-length (read-scope-calls t) (read-scope-at t) read-scope.Post
-  read-scope-same-length c = search needs
-
   read-scope-returns : scope-lts.Need-returns (read-scope-calls t) (read-scope-at t) read-scope.Post
   read-scope-returns c =
       scope-nothing _ _ _ _ _ _ (sym (c .before .before .before .before .before .before .opens-of .ensures) ∙ c
         .before .before .before .before .enum-told .given .1) (c .before .before .read-parts .ensures)
 
-  read-scope-same-length-2 : scope-lts.Need-same-length-2 (read-scope-calls t) (read-scope-at t) read-scope.Post
-  read-scope-same-length-2 c = search needs
-
   read-scope-returns-2 : scope-lts.Need-returns-2 (read-scope-calls t) (read-scope-at t) read-scope.Post
   read-scope-returns-2 c =
       scope-block _ _ _ _ _ _ (sym (c .before .before .before .before .before .before .opens-of .ensures) ∙ c .before
         .before .before .before .enum-told2 .given .1) (c .before .before .read-block .ensures)
-
-  read-scope-same-length-3 : scope-lts.Need-same-length-3 (read-scope-calls t) (read-scope-at t) read-scope.Post
-  read-scope-same-length-3 c = search needs
 
   read-scope-returns-3 : scope-lts.Need-returns-3 (read-scope-calls t) (read-scope-at t) read-scope.Post
   read-scope-returns-3 c =
@@ -482,22 +370,6 @@ module _ (t : ℕ) where
 
 -- read_usable
 module _ (t : ℕ) where
-  read-usable-enter-procedure-requires : usable-lts.Need-enter-procedure-requires (read-usable-calls t)
-    (read-usable-at t)
-    read-usable.Post
-  read-usable-enter-procedure-requires c κs = search needs
-
-  read-usable-add-read-parts : usable-lts.Need-add-read-parts (read-usable-calls t) (read-usable-at t)
-    read-usable.Post
-  read-usable-add-read-parts c = search needs
-
-  read-usable-read-parts-requires : usable-lts.Need-read-parts-requires (read-usable-calls t) (read-usable-at t)
-    read-usable.Post
-  read-usable-read-parts-requires c κs = search needs
-
-  read-usable-same-length : usable-lts.Need-same-length (read-usable-calls t) (read-usable-at t) read-usable.Post
-  read-usable-same-length c = search needs
-
   read-usable-returns : usable-lts.Need-returns (read-usable-calls t) (read-usable-at t) read-usable.Post
   read-usable-returns c =
       let x = c .before .before .before .before .before .before .before .before .before .before .args in
@@ -509,33 +381,28 @@ pub +read-block+read-next+read-part+read-parts+read-record+read-routine+read-sco
   statement M
 +read-block+read-next+read-part+read-parts+read-record+read-routine+read-scope+read-usable-spec =
     close μ-read-block μ-read-next μ-read-part μ-read-parts μ-read-record μ-read-routine μ-read-scope μ-read-usable
-    (λ t. block-lts.spec (read-block-calls t) (read-block-at t) read-block.Post (read-block-enter-requires t)
-      (read-block-add-read-parts t) (read-block-read-parts-requires t) (read-block-same-length t)
+    (λ t. block-lts.spec (read-block-calls t) (read-block-at t) read-block.Post
+      (λ c κs. c .before .before .before .before .pre .1 .4) (search needs) (λ c κs. search needs) (search needs)
       (read-block-returns t))
-    (λ t. next-lts.spec (read-next-calls t) (read-next-at t) read-next.Post (read-next-read-part-requires t)
-      (read-next-enum-known-p t) (read-next-enum-told t) (read-next-same-length t) (read-next-returns t)
-      (read-next-bare-record-requires t) (read-next-accepts-part-requires t) (read-next-refuse-requires t)
-      (read-next-same-length-2 t) (read-next-returns-2 t) (read-next-sub-read-parts t) (read-next-add-read-parts t)
-      (read-next-read-parts-requires t) (read-next-same-length-3 t) (read-next-returns-3 t))
-    (λ t. part-lts.spec (read-part-calls t) (read-part-at t) read-part.Post (read-part-head-at-requires t)
-      (read-part-enum-known-h t) (read-part-enum-known-h-2 t) (read-part-sub-read-record t)
-      (read-part-read-record-requires t) (read-part-returns t) (read-part-same-length t) (read-part-returns-2 t))
+    (λ t. next-lts.spec (read-next-calls t) (read-next-at t) read-next.Post (λ c κs. search needs) (search needs)
+      (search needs) (search needs) (read-next-returns t) (λ c κs. search needs) (read-next-accepts-part-requires t)
+      (λ c κs. search needs) (search needs) (read-next-returns-2 t) (read-next-sub-read-parts t)
+      (read-next-add-read-parts t) (read-next-read-parts-requires t) (search needs) (read-next-returns-3 t))
+    (λ t. part-lts.spec (read-part-calls t) (read-part-at t) read-part.Post (λ c κs. search needs) (search needs)
+      (search needs) (read-part-sub-read-record t) (read-part-read-record-requires t) (read-part-returns t)
+      (search needs) (read-part-returns-2 t))
     (λ t. parts-lts.spec (read-parts-calls t) (read-parts-at t) read-parts.Post (read-parts-returns t)
-      (read-parts-link-requires t) (read-parts-read-next-requires t) (read-parts-same-length t)
-      (read-parts-returns-2 t))
-    (λ t. record-lts.spec (read-record-calls t) (read-record-at t) read-record.Post
-      (read-record-read-scope-requires t) (read-record-close-record-requires t) (read-record-same-length t)
-      (read-record-returns t))
-    (λ t. routine-lts.spec (read-routine-calls t) (read-routine-at t) read-routine.Post (read-routine-cast-count t)
-      (read-routine-enter-parameters-requires t) (read-routine-add-read-parts t) (read-routine-read-parts-requires t)
-      (read-routine-enum-known-own t) (read-routine-enum-told t) (read-routine-same-length t)
-      (read-routine-returns t) (read-routine-read-usable-requires t) (read-routine-same-length-2 t)
+      (λ c κs. search needs) (λ c κs. search needs) (search needs) (read-parts-returns-2 t))
+    (λ t. record-lts.spec (read-record-calls t) (read-record-at t) read-record.Post (λ c κs. search needs)
+      (read-record-close-record-requires t) (search needs) (read-record-returns t))
+    (λ t. routine-lts.spec (read-routine-calls t) (read-routine-at t) read-routine.Post
+      (λ c. search (needs, c .before .before .before .pre .1 .4)) (read-routine-enter-parameters-requires t)
+      (read-routine-add-read-parts t) (read-routine-read-parts-requires t) (search needs) (search needs)
+      (search needs) (read-routine-returns t) (read-routine-read-usable-requires t) (search needs)
       (read-routine-returns-2 t))
-    (λ t. scope-lts.spec (read-scope-calls t) (read-scope-at t) read-scope.Post (read-scope-opens-of-requires t)
-      (read-scope-enum-told t) (read-scope-read-parts-requires t) (read-scope-enum-told-2 t)
-      (read-scope-read-block-requires t) (read-scope-enum-told-3 t) (read-scope-read-routine-requires t)
-      (read-scope-same-length t) (read-scope-returns t) (read-scope-same-length-2 t) (read-scope-returns-2 t)
-      (read-scope-same-length-3 t) (read-scope-returns-3 t))
-    (λ t. usable-lts.spec (read-usable-calls t) (read-usable-at t) read-usable.Post
-      (read-usable-enter-procedure-requires t) (read-usable-add-read-parts t) (read-usable-read-parts-requires t)
-      (read-usable-same-length t) (read-usable-returns t))
+    (λ t. scope-lts.spec (read-scope-calls t) (read-scope-at t) read-scope.Post (λ c κs. search needs)
+      (search needs) (λ c κs. search needs) (search needs) (read-scope-read-block-requires t) (search needs)
+      (read-scope-read-routine-requires t) (search needs) (read-scope-returns t) (search needs)
+      (read-scope-returns-2 t) (search needs) (read-scope-returns-3 t))
+    (λ t. usable-lts.spec (read-usable-calls t) (read-usable-at t) read-usable.Post (λ c κs. search needs)
+      (search needs) (λ c κs. search needs) (search needs) (read-usable-returns t))

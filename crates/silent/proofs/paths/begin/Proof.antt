@@ -12,9 +12,6 @@ Inv-loop words₀ n p₀ words p = Begun n words₀ words p
 abbrev μ-loop : tie.MeasureT-loop
 μ-loop words₀ n p₀ words p = n - p
 
-loop-holds : tie.Need-loop-holds Inv-loop μ-loop
-loop-holds c = begin-first _ _
-
 own-path-requires : tie.Need-own-path-requires Inv-loop μ-loop
 own-path-requires c κs = (omega (arith, c .before .before .before .before .pre .room,
     c .before .before .loop .inv .only .len), omega (arith, c .before .before .before .before .pre .few))
@@ -31,9 +28,6 @@ put-requires c κs = (omega (arith, c .before .before .before .before .before .b
 add-p : tie.Need-add-p Inv-loop μ-loop
 add-p c = omega (arith, c .before .before .before .before .before .before .before .before .before .pre .few)
 
-loop-less : tie.Need-loop-less Inv-loop μ-loop
-loop-less c = omega arith
-
 loop-again : tie.Need-loop-again Inv-loop μ-loop
 loop-again c = begin-again _ _ _ _ _ _
     (c .before .before .before .before .before .before .before .before .before .pre)
@@ -41,24 +35,10 @@ loop-again c = begin-again _ _ _ _ _ _
     (c .before .before .before .before .before .before .loop-test .taken)
     (c .before .before .before .before .own-path .ensures) (c .before .before .put .ensures)
 
-same-length : tie.Need-same-length Inv-loop μ-loop
-same-length c = c .before .loop .inv .only .len
-
 returns : tie.Need-returns Inv-loop μ-loop
 returns c = begin-last _ _ _ _ (c .before .loop .inv) (c .loop-test .left)
 
 pub begin-spec : {M : Type 1} → statement M
 begin-spec =
-    tie.close
-    (tie.spec
-    Inv-loop
-    μ-loop
-    loop-holds
-    own-path-requires
-    add-put
-    put-requires
-    add-p
-    loop-less
-    loop-again
-    same-length
-    returns)
+    tie.close (tie.spec Inv-loop μ-loop (λ c. begin-first _ _) own-path-requires add-put put-requires add-p
+    (λ c. omega arith) loop-again (λ c. c .before .loop .inv .only .len) returns)

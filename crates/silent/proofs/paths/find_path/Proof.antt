@@ -33,6 +33,5 @@ returns-2 c = found-other _ _ _ _ _ _
 
 pub find-path-spec : {M : Type 1} → statement M
 find-path-spec =
-    tie.close
-    (tie.spec (λ c κs. search needs) (search needs) (λ c κs. search needs) (search needs) returns replace-requires-2
-    (search needs) returns-2)
+    tie.close (tie.spec (λ c κs. search needs) (search needs) (λ c κs. search needs) (search needs) returns
+    replace-requires-2 (search needs) returns-2)

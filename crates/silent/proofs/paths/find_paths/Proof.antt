@@ -12,38 +12,20 @@ Inv-loop words₀ n p₀ words p = Through n words₀ words p
 abbrev μ-loop : tie.MeasureT-loop
 μ-loop words₀ n p₀ words p = n - p
 
-loop-holds : tie.Need-loop-holds Inv-loop μ-loop
-loop-holds c = through-first _ _ (c .before .pre)
-
 find-path-requires : tie.Need-find-path-requires Inv-loop μ-loop
 find-path-requires c κs = (c .before .before .loop .inv .paths, c .before .loop-test .taken)
 
 add-p : tie.Need-add-p Inv-loop μ-loop
 add-p c = omega (arith, c .before .before .before .before .before .before .before .pre .steps .few)
 
-loop-less : tie.Need-loop-less Inv-loop μ-loop
-loop-less c = omega arith
-
 loop-again : tie.Need-loop-again Inv-loop μ-loop
 loop-again c = through-again _ _ _ _ _ (c .before .before .before .before .before .loop .inv)
     (c .before .before .before .before .loop-test .taken) (c .before .before .find-path .ensures)
-
-same-length : tie.Need-same-length Inv-loop μ-loop
-same-length c = c .before .loop .inv .only .len
 
 returns : tie.Need-returns Inv-loop μ-loop
 returns c = through-last _ _ _ _ (c .before .loop .inv) (c .loop-test .left)
 
 pub find-paths-spec : {M : Type 1} → statement M
 find-paths-spec =
-    tie.close
-    (tie.spec
-    Inv-loop
-    μ-loop
-    loop-holds
-    find-path-requires
-    add-p
-    loop-less
-    loop-again
-    same-length
-    returns)
+    tie.close (tie.spec Inv-loop μ-loop (λ c. through-first _ _ (c .before .pre)) find-path-requires add-p
+    (λ c. omega arith) loop-again (λ c. c .before .loop .inv .only .len) returns)

@@ -12,9 +12,6 @@ Inv-loop words₀ n p old new x₀ words x = Replacing n p old new x words₀ wo
 abbrev μ-loop : tie.MeasureT-loop
 μ-loop words₀ n p old new x₀ words x = unlike words n new n
 
-loop-holds : tie.Need-loop-holds Inv-loop μ-loop
-loop-holds c = replace-first _ _ _ _ _ (c .before .pre .1 .0)
-
 add-at : tie.Need-add-at Inv-loop μ-loop
 add-at c = omega (arith, c .before .before .before .pre .0 .few, c .before .loop .inv .below)
 
@@ -58,25 +55,11 @@ loop-again c = replace-again _ _ _ _ _ _ _ _
     c .before .before .before .before .before .before .if1 .taken) (c .before .before .before .before .put .ensures) _
     (c .silent-step .ensures)
 
-same-length : tie.Need-same-length Inv-loop μ-loop
-same-length c = c .before .before .before .loop .inv .only .len
-
 returns : tie.Need-returns Inv-loop μ-loop
 returns c = (c .before .before .before .loop .inv, λ e. c .if1 .left (c .before .at .ensures ∙ e))
 
 pub replace-spec : {M : Type 1} → statement M
 replace-spec =
-    tie.close
-    (tie.spec
-    Inv-loop
-    μ-loop
-    loop-holds
-    add-at
-    at-requires
-    add-put
-    put-requires
-    silent-step-requires
-    loop-less
-    loop-again
-    same-length
-    returns)
+    tie.close (tie.spec Inv-loop μ-loop (λ c. replace-first _ _ _ _ _ (c .before .pre .1 .0)) add-at at-requires
+    add-put put-requires silent-step-requires loop-less loop-again
+    (λ c. c .before .before .before .loop .inv .only .len) returns)

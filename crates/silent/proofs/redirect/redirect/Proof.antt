@@ -117,9 +117,6 @@ add-i c = let s = scan (c .before .before .before .before .before .before .befor
     .before .before .before .good, c .before .before .before .before .before .before .before .before .before
     .before .at2 .ensures)
 
-loop-less : tie.Need-loop-less Inv-loop μ-loop
-loop-less c = omega arith
-
 loop-again : tie.Need-loop-again Inv-loop μ-loop
 loop-again c = redirect-again _ _ _ _ _ _ _
     (c .before .before .before .before .before .before .before .before .before .before .before .before .before .before
@@ -128,35 +125,11 @@ loop-again c = redirect-again _ _ _ _ _ _ _
     (c .before .before .before .before .before .before .at3 .ensures)
     (c .before .before .before .before .settled-at .ensures) (c .before .before .put .ensures)
 
-same-length : tie.Need-same-length Inv-loop μ-loop
-same-length c = c .before .loop .inv .len
-
 returns : tie.Need-returns Inv-loop μ-loop
 returns c = redirect-last _ _ _ _ (c .before .loop .inv) (omega (arith, c .before .before .at2 .ensures))
 
 pub redirect-spec : {M : Type 1} → statement M
 redirect-spec =
-    tie.close
-    (tie.spec
-    Inv-loop
-    μ-loop
-    mul-base
-    add-base
-    mul-at
-    at-requires
-    at-requires-2
-    loop-holds
-    add-at
-    mul-at-2
-    add-at-2
-    at-requires-3
-    settled-at-requires
-    add-put
-    mul-put
-    add-put-2
-    put-requires
-    add-i
-    loop-less
-    loop-again
-    same-length
-    returns)
+    tie.close (tie.spec Inv-loop μ-loop mul-base add-base mul-at at-requires at-requires-2 loop-holds add-at
+    mul-at-2 add-at-2 at-requires-3 settled-at-requires add-put mul-put add-put-2 put-requires add-i
+    (λ c. omega arith) loop-again (λ c. c .before .loop .inv .len) returns)

@@ -10,8 +10,6 @@ sub-result : tie.Need-sub-result
 sub-result c = omega (arith, c .at .ensures, c .before .before .pre .0 .some (c .before .before .args .x)
     (c .before .before .pre .1))
 
-returns : tie.Need-returns
-returns c = ap (λ z. z - 1) (c .at .ensures)
-
 pub settled-at-spec : {M : Type 1} → statement M
-settled-at-spec = tie.close (tie.spec (search needs) (λ c κs. search needs) sub-result returns)
+settled-at-spec =
+    tie.close (tie.spec (search needs) (λ c κs. search needs) sub-result (λ c. ap (λ z. z - 1) (c .at .ensures)))

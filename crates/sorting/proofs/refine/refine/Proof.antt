@@ -115,24 +115,10 @@ loop-again c = (
           c .before .before .before .before .before .before .before .before .before .before .before .before .before .loop .inv .1),
 )
 
-same-length : tie.Need-same-length Inv-loop μ-loop
-same-length c = c .before .loop .inv .1
-
 returns : tie.Need-returns Inv-loop μ-loop
 returns c = λ G f R. refine-last _ _ _ (R .single) (R .low) _ _ _ _ (c .before .loop .inv .0 G f R) (c .loop-test .left)
 
 pub refine-spec : {M : Type 1} → statement M
 refine-spec =
-    tie.close
-    (tie.spec
-    Inv-loop
-    μ-loop
-    loop-holds
-    touch-all-requires
-    split-all-requires
-    rename-requires
-    add-s
-    loop-less
-    loop-again
-    same-length
-    returns)
+    tie.close (tie.spec Inv-loop μ-loop loop-holds touch-all-requires split-all-requires rename-requires add-s
+    loop-less loop-again (λ c. c .before .loop .inv .1) returns)

@@ -39,7 +39,6 @@ returns c =
 
 pub first-classes-spec : {M : Type 1} → statement M
 first-classes-spec =
-    tie.close
-    (tie.spec (λ c κs. search needs) (λ c κs. search needs) (search needs) exchange-requires (λ c κs. search needs)
-    (search needs) (λ c κs. search needs) (search needs) (λ c κs. search needs) (λ c κs. search needs)
-    (search needs) returns)
+    tie.close (tie.spec (λ c κs. search needs) (λ c κs. search needs) (search needs) exchange-requires
+    (λ c κs. search needs) (search needs) (λ c κs. search needs) (search needs) (λ c κs. search needs)
+    (λ c κs. search needs) (search needs) returns)

@@ -14,9 +14,6 @@ Inv-loop words₀ n p₀ words p = (p ≤ n) × Placed n p words₀ words
 abbrev μ-loop : tie.MeasureT-loop
 μ-loop words₀ n p₀ words p = n - p
 
-loop-holds : tie.Need-loop-holds Inv-loop μ-loop
-loop-holds c = (omega arith, placed-first _ _)
-
 put-requires : tie.Need-put-requires Inv-loop μ-loop
 put-requires c κs = let I = c .before .before .loop .inv in (omega (arith, c .before .loop-test .taken,
     c .before .before .before .before .pre .1, I .1 .len), omega arith)
@@ -80,9 +77,6 @@ loop-again c = let I =
           (c .before .before .before .before .before .before .put2 .ensures) (c .before .before .put3 .ensures),
 )
 
-same-length : tie.Need-same-length Inv-loop μ-loop
-same-length c = let I = c .before .loop .inv in I .1 .len
-
 returns : tie.Need-returns Inv-loop μ-loop
 returns c = let I = c .before .loop .inv in
     subst (λ k. Placed (c .before .before .before .args .n) k (c .before .before .before .args .words .now)
@@ -91,19 +85,6 @@ returns c = let I = c .before .loop .inv in
 
 pub place-states-spec : {M : Type 1} → statement M
 place-states-spec =
-    tie.close
-    (tie.spec
-    Inv-loop
-    μ-loop
-    loop-holds
-    put-requires
-    add-put
-    put-requires-2
-    mul-put
-    add-put-2
-    put-requires-3
-    add-p
-    loop-less
-    loop-again
-    same-length
+    tie.close (tie.spec Inv-loop μ-loop (λ c. (omega arith, placed-first _ _)) put-requires add-put put-requires-2
+    mul-put add-put-2 put-requires-3 add-p loop-less loop-again (λ c. let I = c .before .loop .inv in I .1 .len)
     returns)

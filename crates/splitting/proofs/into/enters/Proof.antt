@@ -6,9 +6,6 @@ use Rattle.splitting.proofs.laws.Into.{entering-low, entering-room, ent
 use Rattle.splitting.proofs.into.enters.Statement.{statement}
 use Rattle.splitting.proofs.into.enters.Tie as tie
 
-edge-target-requires : tie.Need-edge-target-requires
-edge-target-requires c κs = entering-room _ _ _ _ _ (c .before .pre .1 .1)
-
 at-requires : tie.Need-at-requires
 at-requires c κs = entering-low _ _ _ _ _ (c .before .before .pre .1 .1) _ (c .edge-target .ensures)
 
@@ -19,4 +16,4 @@ returns c = λ G g E.
     ((λ h. sym (c .at .ensures ∙ t) ∙ eqb-true _ _ h), (λ h. eq-eqb _ _ (c .at .ensures ∙ t ∙ h)))
 
 pub enters-spec : {M : Type 1} → statement M
-enters-spec = tie.close (tie.spec edge-target-requires at-requires returns)
+enters-spec = tie.close (tie.spec (λ c κs. entering-room _ _ _ _ _ (c .before .pre .1 .1)) at-requires returns)

@@ -58,14 +58,4 @@ returns-2 c = λ G g S. skipped-end _ _ _ _ (S .some) (S .dead) _ _ _ (c .before
 
 pub next-into-spec : {M : Type 1} → statement M
 next-into-spec =
-    tie.close
-    (tie.spec
-    Inv-loop
-    μ-loop
-    loop-holds
-    enters-requires
-    returns
-    add-i
-    loop-less
-    loop-again
-    returns-2)
+    tie.close (tie.spec Inv-loop μ-loop loop-holds enters-requires returns add-i loop-less loop-again returns-2)

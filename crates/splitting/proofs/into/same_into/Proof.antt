@@ -1,8 +1,7 @@
 -- `same_into` goes through the edges into the class side by side.
-use mathlib.Core.Bool.{false, true}
 use mathlib.Core.List.{List}
 use mathlib.Core.Path.{_∙_, sym}
-use Prim.Native.Nat.{_+_, _-_, ℕ}
+use Prim.Native.Nat.{_-_, ℕ}
 use native.Mathlib.Omega.{arith}
 use borrow.Author.Tests.{leb-false, leb-true}
 use Rattle.class_words.specs.Places.{classAt}
@@ -64,9 +63,6 @@ next-into-requires-2 c κs = (
         (c .before .before .before .first-edge2 .ensures),
   ),
 )
-
-loop-holds : tie.Need-loop-holds Inv-loop μ-loop
-loop-holds c = λ G g C I. I
 
 returns : tie.Need-returns Inv-loop μ-loop
 returns c = λ G g C. let I = c .before .before .loop .inv G g C (started _ _ _ _ _ _ _ C _ _ _ _ _ _
@@ -255,27 +251,7 @@ returns-3 c = λ G g C. let I = c .before .loop .inv G g C (started _ _ _ _ _ _ 
 
 pub same-into-spec : {M : Type 1} → statement M
 same-into-spec =
-    tie.close
-    (tie.spec
-    Inv-loop
-    μ-loop
-    add-first-edge
-    first-edge-requires
-    add-first-edge-2
-    first-edge-requires-2
-    first-edge-requires-3
-    next-into-requires
-    first-edge-requires-4
-    next-into-requires-2
-    loop-holds
-    returns
-    edge-letter-requires
-    edge-letter-requires-2
-    returns-2
-    add-next-into
-    next-into-requires-3
-    add-next-into-2
-    next-into-requires-4
-    loop-less
-    loop-again
-    returns-3)
+    tie.close (tie.spec Inv-loop μ-loop add-first-edge first-edge-requires add-first-edge-2 first-edge-requires-2
+    first-edge-requires-3 next-into-requires first-edge-requires-4 next-into-requires-2 (λ c G g C I. I) returns
+    edge-letter-requires edge-letter-requires-2 returns-2 add-next-into next-into-requires-3 add-next-into-2
+    next-into-requires-4 loop-less loop-again returns-3)

@@ -1,5 +1,4 @@
 -- `rename` goes through the new classes.
-use mathlib.Core.List.{List}
 use Prim.Native.Nat.{_-_, _≤_, ℕ}
 use native.Mathlib.Omega.{arith}
 use Rattle.class_words.specs.Parted.{Parted}
@@ -15,9 +14,6 @@ Inv-loop words₀ n count k c₀ words c = (own : ℕ → ℕ) → Parted n word
 
 abbrev μ-loop : tie.MeasureT-loop
 μ-loop words₀ n count k c₀ words c = k - c
-
-loop-holds : tie.Need-loop-holds Inv-loop μ-loop
-loop-holds c = λ own P. (omega arith, upto-first _ _ _ _ P _)
 
 rename-one-requires : tie.Need-rename-one-requires Inv-loop μ-loop
 rename-one-requires c κs = let Q = c .before .before .before .before .pre in let I = c .before .before .loop .inv _
@@ -55,14 +51,5 @@ returns c = λ own P. let I = c .before .loop .inv own P in upto-last _ _ _ _ P 
 
 pub rename-spec : {M : Type 1} → statement M
 rename-spec =
-    tie.close
-    (tie.spec
-    Inv-loop
-    μ-loop
-    loop-holds
-    rename-one-requires
-    add-c
-    loop-less
-    loop-again
-    same-length
-    returns)
+    tie.close (tie.spec Inv-loop μ-loop (λ c own P. (omega arith, upto-first _ _ _ _ P _)) rename-one-requires add-c
+    loop-less loop-again same-length returns)

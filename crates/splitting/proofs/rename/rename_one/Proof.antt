@@ -1,10 +1,9 @@
 -- `rename_one` goes through the places of a class.
-use mathlib.Core.List.{List}
 use mathlib.Core.Path.{_≡_}
 use Prim.Native.Nat.{_-_, _<_, _≤_, ℕ}
 use native.Mathlib.Omega.{arith}
 use Rattle.class_words.specs.Parted.{Parted}
-use Rattle.class_words.specs.Places.{fromAt, toAt}
+use Rattle.class_words.specs.Places.{fromAt}
 use Rattle.splitting.specs.inner.Renaming.{RenamedTo}
 use Rattle.splitting.proofs.laws.Renaming.{p-low, rename-asks, renamed-again, renamed-first, renamed-last}
 use Rattle.splitting.proofs.laws.Renaming.{to-top}
@@ -17,12 +16,6 @@ Inv-loop words₀ n c start end i₀ words i = (own : ℕ → ℕ) (count : ℕ)
 
 abbrev μ-loop : tie.MeasureT-loop
 μ-loop words₀ n c start end i₀ words i = end - i
-
-from-requires : tie.Need-from-requires Inv-loop μ-loop
-from-requires c κs = rename-asks _ _ _ (c .before .before .pre)
-
-to-requires : tie.Need-to-requires Inv-loop μ-loop
-to-requires c κs = rename-asks _ _ _ (c .before .before .before .before .pre)
 
 loop-holds : tie.Need-loop-holds Inv-loop μ-loop
 loop-holds c = λ own count P l e. (omega arith, renamed-first _ _ _ _ _ P l _ e)
@@ -82,17 +75,6 @@ returns c = λ own count P l. let I = c .before .loop .inv own count P l
 
 pub rename-one-spec : {M : Type 1} → statement M
 rename-one-spec =
-    tie.close
-    (tie.spec
-    Inv-loop
-    μ-loop
-    from-requires
-    to-requires
-    loop-holds
-    member-requires
-    put-requires
-    add-i
-    loop-less
-    loop-again
-    same-length
-    returns)
+    tie.close (tie.spec Inv-loop μ-loop (λ c κs. rename-asks _ _ _ (c .before .before .pre))
+    (λ c κs. rename-asks _ _ _ (c .before .before .before .before .pre)) loop-holds member-requires put-requires
+    add-i loop-less loop-again same-length returns)

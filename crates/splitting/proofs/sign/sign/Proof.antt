@@ -27,9 +27,6 @@ first-edge-requires-2 : tie.Need-first-edge-requires-2 Inv-loop μ-loop
 first-edge-requires-2 c κs = let S = c .before .before .pre .1 .1 .1 in (omega (arith, S .low), signing-room _ _ _ _ _ _
     S)
 
-loop-holds : tie.Need-loop-holds Inv-loop μ-loop
-loop-holds c = (omega arith, λ G g cls S L. L)
-
 enters-requires : tie.Need-enters-requires Inv-loop μ-loop
 enters-requires c κs = let S = c .before .before .before .before .before .pre .1 .1 .1 in let L =
     c .before .loop .inv .1 _ _ _ S (sign-first _ _ _ _ _ _ S _ _ _
@@ -42,9 +39,6 @@ edge-letter-requires c κs = let S = c .before .before .before .before .before .
     (c .before .before .before .before .first-edge2 .ensures)
         (c .before .before .before .before .before .first-edge .ensures)) in sign-room _ _ _ _ _ _ S _ _ _ _ L
         (c .before .before .loop-test .taken)
-
-mix-requires : tie.Need-mix-requires Inv-loop μ-loop
-mix-requires c κs = c .before .before .before .before .loop .inv .0
 
 add-i : tie.Need-add-i Inv-loop μ-loop
 add-i c = let S = c .before .before .before .before .before .before .before .before .before .pre .1 .1 .1 in let L =
@@ -108,21 +102,7 @@ returns c = (
 
 pub sign-spec : {M : Type 1} → statement M
 sign-spec =
-    tie.close
-    (tie.spec
-    Inv-loop
-    μ-loop
-    add-first-edge
-    first-edge-requires
-    first-edge-requires-2
-    loop-holds
-    enters-requires
-    edge-letter-requires
-    mix-requires
-    add-i
-    loop-less
-    loop-again
-    add-i-2
-    loop-less-2
-    loop-again-2
-    returns)
+    tie.close (tie.spec Inv-loop μ-loop add-first-edge first-edge-requires first-edge-requires-2
+    (λ c. (omega arith, λ G g cls S L. L)) enters-requires edge-letter-requires
+    (λ c κs. c .before .before .before .before .loop .inv .0) add-i loop-less loop-again add-i-2 loop-less-2
+    loop-again-2 returns)

@@ -5,12 +5,6 @@ use borrow.Author.Needs.{needs}
 use Rattle.splitting.proofs.split.carve.Statement.{statement}
 use Rattle.splitting.proofs.split.carve.Tie as tie
 
-returns : tie.Need-returns
-returns c = front refl (cc)
-
-returns-2 : tie.Need-returns-2
-returns-2 c = front refl (cc)
-
 returns-3 : tie.Need-returns-3
 returns-3 c = rear refl
     (c .before .before .before .before .before .before .before .before .before .before .before .before .before .if1 .left)
@@ -18,8 +12,7 @@ returns-3 c = rear refl
 
 pub carve-spec : {M : Type 1} → statement M
 carve-spec =
-    tie.close
-    (tie.spec (λ c κs. search needs) (λ c κs. search needs) (λ c κs. search needs) (search needs) returns
-    (search needs) (search needs) (λ c κs. search needs) (λ c κs. search needs) (λ c κs. search needs)
-    (search needs) returns-2 (λ c κs. search needs) (λ c κs. search needs) (λ c κs. search needs) (search needs)
-    returns-3)
+    tie.close (tie.spec (λ c κs. search needs) (λ c κs. search needs) (λ c κs. search needs) (search needs)
+    (λ c. front refl (cc)) (search needs) (search needs) (λ c κs. search needs) (λ c κs. search needs)
+    (λ c κs. search needs) (search needs) (λ c. front refl (cc)) (λ c κs. search needs) (λ c κs. search needs)
+    (λ c κs. search needs) (search needs) returns-3)

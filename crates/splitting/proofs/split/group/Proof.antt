@@ -212,28 +212,6 @@ returns c = λ G own count k A Q. group-last _ _ _ _ _ _ _ _ _ _ A _ _ _ (c .bef
 
 pub group-spec : {M : Type 1} → statement M
 group-spec =
-    tie.close
-    (tie.spec
-    Inv-loop
-    μ-loop
-    member-requires
-    copied-requires
-    add-end
-    add-i
-    loop-holds
-    member-requires-2
-    copied-requires-2
-    alike-requires
-    exchange-requires
-    add-end-2
-    add-i-2
-    loop-less
-    loop-again
-    add-i-3
-    loop-less-2
-    loop-again-2
-    add-i-4
-    loop-less-3
-    loop-again-3
-    same-length
-    returns)
+    tie.close (tie.spec Inv-loop μ-loop member-requires copied-requires add-end add-i loop-holds member-requires-2
+    copied-requires-2 alike-requires exchange-requires add-end-2 add-i-2 loop-less loop-again add-i-3 loop-less-2
+    loop-again-2 add-i-4 loop-less-3 loop-again-3 same-length returns)

@@ -16,9 +16,6 @@ Inv-loop words₀ n g s m x₀ words x = (G : List ℕ) (cls : ℕ → ℕ) (cou
 abbrev μ-loop : tie.MeasureT-loop
 μ-loop words₀ n g s m x₀ words x = m - x
 
-loop-holds : tie.Need-loop-holds Inv-loop μ-loop
-loop-holds c = λ G cls count T. signs-first _ _ _ _ _ _ _ _ T
-
 listed-requires : tie.Need-listed-requires Inv-loop μ-loop
 listed-requires c κs = let T = c .before .before .before .before .pre .1 .touched in
     signs-listed _ _ _ _ _ _ _ _ T _ _ (c .before .before .loop .inv _ _ _ T) (c .before .loop-test .taken)
@@ -90,18 +87,5 @@ returns c = λ G cls count T. signs-last _ _ _ _ _ _ _ _ T _ _ (c .before .loop 
 
 pub sign-all-spec : {M : Type 1} → statement M
 sign-all-spec =
-    tie.close
-    (tie.spec
-    Inv-loop
-    μ-loop
-    loop-holds
-    listed-requires
-    from-requires
-    touched-requires
-    add-till
-    sign-places-requires
-    add-x
-    loop-less
-    loop-again
-    same-length
-    returns)
+    tie.close (tie.spec Inv-loop μ-loop (λ c G cls count T. signs-first _ _ _ _ _ _ _ _ T) listed-requires
+    from-requires touched-requires add-till sign-places-requires add-x loop-less loop-again same-length returns)

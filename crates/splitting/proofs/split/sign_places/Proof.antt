@@ -1,6 +1,5 @@
 -- `sign_places` goes from place to place.
 use mathlib.Core.List.{List}
-use mathlib.Core.Path.{_∙_, subst}
 use Prim.Native.Nat.{_-_, _<_, _≤_, ℕ}
 use native.Mathlib.Omega.{arith}
 use Rattle.splitting.specs.inner.Signs.{Signable, SignedTo}
@@ -102,19 +101,5 @@ returns c = λ G cls A. places-last _ _ _ _ _ _ _ _ A _ _ (c .before .loop .inv 
 
 pub sign-places-spec : {M : Type 1} → statement M
 sign-places-spec =
-    tie.close
-    (tie.spec
-    Inv-loop
-    μ-loop
-    loop-holds
-    member-requires
-    sign-requires
-    mul-put
-    add-put
-    add-put-2
-    put-requires
-    add-i
-    loop-less
-    loop-again
-    same-length
-    returns)
+    tie.close (tie.spec Inv-loop μ-loop loop-holds member-requires sign-requires mul-put add-put add-put-2
+    put-requires add-i loop-less loop-again same-length returns)

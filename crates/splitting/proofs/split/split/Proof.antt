@@ -1,6 +1,6 @@
 -- `split` carves the groups off a class, one after the other.
 use mathlib.Core.List.{List}
-use mathlib.Core.Path.{_∙_, _≡_, ap}
+use mathlib.Core.Path.{_∙_, ap}
 use lib.ListN.{length, length-set}
 use Prim.Native.Nat.{_-_, ℕ}
 use native.Mathlib.Omega.{arith}
@@ -43,9 +43,6 @@ add-till c = let Q = c .before .before .before .before .before .before .before .
 set-touched-requires : tie.Need-set-touched-requires Inv-loop μ-loop
 set-touched-requires c κs = let Q = c .before .before .before .before .before .before .before .before .pre in zero-asks
     _ _ _ _ _ _ _ _ _ (Q .splitting) _ (Q .low) (Q .some)
-
-loop-holds : tie.Need-loop-holds Inv-loop μ-loop
-loop-holds c = λ G cls count S Z. S
 
 group-requires : tie.Need-group-requires Inv-loop μ-loop
 group-requires c κs = let Q =
@@ -224,22 +221,6 @@ returns c = λ G cls count cur T Z l t. let S = c .before .loop .inv G cls count
 
 pub split-spec : {M : Type 1} → statement M
 split-spec =
-    tie.close
-    (tie.spec
-    Inv-loop
-    μ-loop
-    from-requires
-    to-requires
-    touched-requires
-    add-till
-    set-touched-requires
-    loop-holds
-    group-requires
-    carve-requires
-    add-m
-    loop-less
-    loop-again
-    loop-less-2
-    loop-again-2
-    same-length
-    returns)
+    tie.close (tie.spec Inv-loop μ-loop from-requires to-requires touched-requires add-till set-touched-requires
+    (λ c G cls count S Z. S) group-requires carve-requires add-m loop-less loop-again loop-less-2 loop-again-2
+    same-length returns)

@@ -17,12 +17,6 @@ Inv-loop words₀ n g s m count k₀ x₀ words k x = (G : List ℕ) (cls : ℕ 
 abbrev μ-loop : tie.MeasureT-loop
 μ-loop words₀ n g s m count k₀ x₀ words k x = m - x
 
-sign-all-requires : tie.Need-sign-all-requires Inv-loop μ-loop
-sign-all-requires c κs = (c .before .before .args .count, c .before .before .pre)
-
-loop-holds : tie.Need-loop-holds Inv-loop μ-loop
-loop-holds c = λ G cls T Z. split-first _ _ _ _ _ _ _ _ T Z
-
 listed-requires : tie.Need-listed-requires Inv-loop μ-loop
 listed-requires c κs = let A = c .before .before .before .before .before .sign-all .ensures _ _ _
     (c .before .before .before .before .before .before .before .before .pre .touched) in
@@ -85,16 +79,6 @@ returns c = λ G cls T. let A = c .before .before .before .before .sign-all .ens
 
 pub split-all-spec : {M : Type 1} → statement M
 split-all-spec =
-    tie.close
-    (tie.spec
-    Inv-loop
-    μ-loop
-    sign-all-requires
-    loop-holds
-    listed-requires
-    split-requires
-    add-x
-    loop-less
-    loop-again
-    same-length
-    returns)
+    tie.close (tie.spec Inv-loop μ-loop (λ c κs. (c .before .before .args .count, c .before .before .pre))
+    (λ c G cls T Z. split-first _ _ _ _ _ _ _ _ T Z) listed-requires split-requires add-x loop-less loop-again
+    same-length returns)

@@ -6,14 +6,8 @@ use native.Mathlib.Omega.{arith}
 use Rattle.table_bytes.proofs.arc.position_of.Statement.{statement}
 use Rattle.table_bytes.proofs.arc.position_of.Tie as tie
 
-at-requires : tie.Need-at-requires
-at-requires c κs = omega (arith, c .before .pre .1)
-
-returns : tie.Need-returns
-returns c = omega (arith, c .before .at .ensures, c .if1 .taken)
-
-returns-2 : tie.Need-returns-2
-returns-2 c = ap (λ k. k - 1) (c .before .at .ensures)
-
 pub position-of-spec : {M : Type 1} → statement M
-position-of-spec = tie.close (tie.spec (search needs) at-requires returns (search needs) returns-2)
+position-of-spec =
+    tie.close (tie.spec (search needs) (λ c κs. omega (arith, c .before .pre .1))
+    (λ c. omega (arith, c .before .at .ensures, c .if1 .taken)) (search needs)
+    (λ c. ap (λ k. k - 1) (c .before .at .ensures)))

@@ -5,9 +5,6 @@ use Rattle.table_bytes.proofs.laws.Moves.{move-done, record-end}
 use Rattle.table_bytes.proofs.arc.write_move.Statement.{statement}
 use Rattle.table_bytes.proofs.arc.write_move.Tie as tie
 
-write-record-requires : tie.Need-write-record-requires
-write-record-requires c κs = omega (arith, c .before .before .pre)
-
 sub-move-kind : tie.Need-sub-move-kind
 sub-move-kind c = let w = record-end _ _ _ (c .before .before .before .write-record .ensures .0) in omega (arith, w .0)
 
@@ -37,5 +34,6 @@ returns c =
 
 pub write-move-spec : {M : Type 1} → statement M
 write-move-spec =
-    tie.close (tie.spec (search needs) write-record-requires sub-move-kind sub-move-kind-2 (λ c κs. search needs)
-    (λ c κs. search needs) (λ c κs. search needs) add-put (λ c κs. search needs) add-result (search needs) returns)
+    tie.close (tie.spec (search needs) (λ c κs. omega (arith, c .before .before .pre)) sub-move-kind sub-move-kind-2
+    (λ c κs. search needs) (λ c κs. search needs) (λ c κs. search needs) add-put (λ c κs. search needs) add-result
+    (search needs) returns)

@@ -53,13 +53,10 @@ loop-again c = edging-again _ _ _ _ _ _ _ _ _ (c .before .before .before .before
     (c .before .before .before .before .loop-test .taken) _ _ (c .before .before .write-edge .ensures .0)
     (c .before .before .write-edge .ensures .1)
 
-same-length : tie.Need-same-length Inv-loop μ-loop
-same-length c = c .before .loop .inv .laying .same-length
-
 returns : tie.Need-returns Inv-loop μ-loop
 returns c = edging-last _ _ _ _ _ _ _ _ _ (c .before .loop .inv) (c .loop-test .left)
 
 pub write-edges-spec : {M : Type 1} → statement M
 write-edges-spec =
     tie.close (tie.spec Inv-loop μ-loop first-edge-requires add-first-edge first-edge-requires-2 loop-holds
-    write-edge-requires add-e loop-less loop-again same-length returns)
+    write-edge-requires add-e loop-less loop-again (λ c. c .before .loop .inv .laying .same-length) returns)

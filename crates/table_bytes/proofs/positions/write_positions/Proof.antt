@@ -12,9 +12,6 @@ Inv-loop words n f count s₀ place k₀ i₀ s k i = Placing words n f count s�
 abbrev μ-loop : tie.MeasureT-loop
 μ-loop words n f count s₀ place k₀ i₀ s k i = count - k
 
-loop-holds : tie.Need-loop-holds Inv-loop μ-loop
-loop-holds c = placing-first _ _ _ _ _ _
-
 mul-at : tie.Need-mul-at Inv-loop μ-loop
 mul-at c = let L = c .before .before .before .before .pre .0 in omega (arith, L .few)
 
@@ -52,13 +49,10 @@ loop-again c = placing-again _ _ _ _ _ _ _ _ _ (c .before .before .before .befor
     (c .before .before .before .before .before .loop-test .taken) _ (c .before .before .before .before .at .ensures) _ _
     (c .before .before .write-position .ensures .0) (c .before .before .write-position .ensures .1)
 
-same-length : tie.Need-same-length Inv-loop μ-loop
-same-length c = c .before .loop .inv .laying .same-length
-
 returns : tie.Need-returns Inv-loop μ-loop
 returns c = placing-last _ _ _ _ _ _ _ _ _ (c .before .loop .inv) (c .loop-test .left)
 
 pub write-positions-spec : {M : Type 1} → statement M
 write-positions-spec =
-    tie.close (tie.spec Inv-loop μ-loop loop-holds mul-at add-at at-requires write-position-requires add-k loop-less
-    loop-again same-length returns)
+    tie.close (tie.spec Inv-loop μ-loop (λ c. placing-first _ _ _ _ _ _) mul-at add-at at-requires
+    write-position-requires add-k loop-less loop-again (λ c. c .before .loop .inv .laying .same-length) returns)

@@ -22,12 +22,7 @@ cast-result c =
     omega (arith, c .shared-slice-known .given
     (9 * c .before .before .before .args .at + c .before .before .before .args .i))
 
-returns-3 : tie.Need-returns-3
-unfolding word cell
-returns-3 c = refl
-
 pub cell-spec : {M : Type 1} → statement M
 cell-spec =
-    tie.close
-    (tie.spec returns (search needs) (search needs) returns-2 (search needs) (search needs) (search needs)
-    cast-result returns-3)
+    tie.close (tie.spec returns (search needs) (search needs) returns-2 (search needs) (search needs) (search needs)
+    cast-result (λ c. unfold word cell in refl))

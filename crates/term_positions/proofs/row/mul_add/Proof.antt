@@ -30,9 +30,7 @@ returns-3 : tie.Need-returns-3
 unfolding mulAddOf
 returns-3 c = simp (lt-ltb _ _ (c .before .if1 .taken), le-ltb _ _ (c .if2 .left))
 
-returns-4 : tie.Need-returns-4
-unfolding mulAddOf
-returns-4 c = simp (le-ltb _ _ (c .if1 .left))
-
 pub mul-add-spec : {M : Type 1} → statement M
-mul-add-spec = tie.close (tie.spec mul-result add-result returns returns-2 returns-3 returns-4)
+mul-add-spec =
+    tie.close (tie.spec mul-result add-result returns returns-2 returns-3
+    (λ c. unfold mulAddOf in simp (le-ltb _ _ (c .if1 .left))))

@@ -4,9 +4,5 @@ use Rattle.term_positions.specs.Row.{nameCount}
 use Rattle.term_positions.proofs.row.name_count.Statement.{statement}
 use Rattle.term_positions.proofs.row.name_count.Tie as tie
 
-returns : tie.Need-returns
-unfolding nameCount
-returns c = simp (← c .cell .ensures)
-
 pub name-count-spec : {M : Type 1} → statement M
-name-count-spec = tie.close (tie.spec (λ c κs. search needs) returns)
+name-count-spec = tie.close (tie.spec (λ c κs. search needs) (λ c. unfold nameCount in simp (← c .cell .ensures)))

@@ -4,9 +4,5 @@ use Rattle.term_positions.specs.Row.{nameId}
 use Rattle.term_positions.proofs.row.name_id.Statement.{statement}
 use Rattle.term_positions.proofs.row.name_id.Tie as tie
 
-returns : tie.Need-returns
-unfolding nameId
-returns c = simp (← c .cell .ensures)
-
 pub name-id-spec : {M : Type 1} → statement M
-name-id-spec = tie.close (tie.spec (λ c κs. search needs) returns)
+name-id-spec = tie.close (tie.spec (λ c κs. search needs) (λ c. unfold nameId in simp (← c .cell .ensures)))

@@ -4,9 +4,5 @@ use Rattle.term_positions.specs.Row.{nameSpent}
 use Rattle.term_positions.proofs.row.name_spent.Statement.{statement}
 use Rattle.term_positions.proofs.row.name_spent.Tie as tie
 
-returns : tie.Need-returns
-unfolding nameSpent
-returns c = simp (← c .cell .ensures)
-
 pub name-spent-spec : {M : Type 1} → statement M
-name-spent-spec = tie.close (tie.spec (λ c κs. search needs) returns)
+name-spent-spec = tie.close (tie.spec (λ c κs. search needs) (λ c. unfold nameSpent in simp (← c .cell .ensures)))

@@ -18,8 +18,5 @@ returns-2 c =
     past (now (c .before .before .before .args .t)) (c .before .before .before .args .at)
     (5 + c .before .before .before .args .j) (omega arith)
 
-returns-3 : tie.Need-returns-3
-returns-3 c = c .cell .ensures
-
 pub part-at-spec : {M : Type 1} → statement M
-part-at-spec = tie.close (tie.spec returns returns-2 (search needs) (λ c κs. search needs) returns-3)
+part-at-spec = tie.close (tie.spec returns returns-2 (search needs) (λ c κs. search needs) (λ c. c .cell .ensures))

@@ -4,9 +4,7 @@ use Rattle.term_positions.specs.Row.{partClass}
 use Rattle.term_positions.proofs.row.part_class.Statement.{statement}
 use Rattle.term_positions.proofs.row.part_class.Tie as tie
 
-returns : tie.Need-returns
-unfolding partClass
-returns c = simp (← c .before .part-at .ensures, ← c .cell .ensures)
-
 pub part-class-spec : {M : Type 1} → statement M
-part-class-spec = tie.close (tie.spec (λ c κs. search needs) (λ c κs. search needs) returns)
+part-class-spec =
+    tie.close (tie.spec (λ c κs. search needs) (λ c κs. search needs)
+    (λ c. unfold partClass in simp (← c .before .part-at .ensures, ← c .cell .ensures)))

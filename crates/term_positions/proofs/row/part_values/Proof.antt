@@ -4,9 +4,7 @@ use Rattle.term_positions.specs.Row.{partValues}
 use Rattle.term_positions.proofs.row.part_values.Statement.{statement}
 use Rattle.term_positions.proofs.row.part_values.Tie as tie
 
-returns : tie.Need-returns
-unfolding partValues
-returns c = simp (← c .before .part-at .ensures, ← c .cell .ensures)
-
 pub part-values-spec : {M : Type 1} → statement M
-part-values-spec = tie.close (tie.spec (λ c κs. search needs) (λ c κs. search needs) returns)
+part-values-spec =
+    tie.close (tie.spec (λ c κs. search needs) (λ c κs. search needs)
+    (λ c. unfold partValues in simp (← c .before .part-at .ensures, ← c .cell .ensures)))

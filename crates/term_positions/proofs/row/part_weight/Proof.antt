@@ -4,9 +4,7 @@ use Rattle.term_positions.specs.Row.{partWeight}
 use Rattle.term_positions.proofs.row.part_weight.Statement.{statement}
 use Rattle.term_positions.proofs.row.part_weight.Tie as tie
 
-returns : tie.Need-returns
-unfolding partWeight
-returns c = simp (← c .before .part-at .ensures, ← c .cell .ensures)
-
 pub part-weight-spec : {M : Type 1} → statement M
-part-weight-spec = tie.close (tie.spec (λ c κs. search needs) (λ c κs. search needs) returns)
+part-weight-spec =
+    tie.close (tie.spec (λ c κs. search needs) (λ c κs. search needs)
+    (λ c. unfold partWeight in simp (← c .before .part-at .ensures, ← c .cell .ensures)))

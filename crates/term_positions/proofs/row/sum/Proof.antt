@@ -13,9 +13,6 @@ returns-2 : tie.Need-returns-2
 unfolding sumOf
 returns-2 c = simp (lt-ltb _ _ (c .before .if1 .taken), le-ltb _ _ (c .if2 .left))
 
-returns-3 : tie.Need-returns-3
-unfolding sumOf
-returns-3 c = simp (le-ltb _ _ (c .if1 .left))
-
 pub sum-spec : {M : Type 1} → statement M
-sum-spec = tie.close (tie.spec (search needs) returns returns-2 returns-3)
+sum-spec =
+    tie.close (tie.spec (search needs) returns returns-2 (λ c. unfold sumOf in simp (le-ltb _ _ (c .if1 .left))))

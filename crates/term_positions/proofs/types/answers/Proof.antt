@@ -5,10 +5,6 @@ use Rattle.term_positions.specs.Types.{answersOf}
 use Rattle.term_positions.proofs.types.answers.Statement.{statement}
 use Rattle.term_positions.proofs.types.answers.Tie as tie
 
-returns : tie.Need-returns
-unfolding answersOf
-returns c = simp (eq-eqb _ _ (c .if1 .taken))
-
 returns-2 : tie.Need-returns-2
 unfolding answersOf
 returns-2 c = simp (ne-eqb _ _ (c .before .if1 .left), eq-eqb _ _ (c .if2 .taken))
@@ -18,4 +14,6 @@ unfolding answersOf
 returns-3 c = simp (← c .sum .ensures, ne-eqb _ _ (c .before .before .if1 .left), ne-eqb _ _ (c .before .if2 .left))
 
 pub answers-spec : {M : Type 1} → statement M
-answers-spec = tie.close (tie.spec returns returns-2 (λ c κs. search needs) returns-3)
+answers-spec =
+    tie.close (tie.spec (λ c. unfold answersOf in simp (eq-eqb _ _ (c .if1 .taken))) returns-2
+    (λ c κs. search needs) returns-3)

@@ -4,10 +4,6 @@ use Rattle.term_positions.specs.Types.{questionKind}
 use Rattle.term_positions.proofs.types.question_kind.Statement.{statement}
 use Rattle.term_positions.proofs.types.question_kind.Tie as tie
 
-returns : tie.Need-returns
-unfolding questionKind
-returns c = simp (eq-eqb _ _ (c .if1 .taken))
-
 returns-2 : tie.Need-returns-2
 unfolding questionKind
 returns-2 c = simp (ne-eqb _ _ (c .before .if1 .left), eq-eqb _ _ (c .if2 .taken))
@@ -23,4 +19,6 @@ returns-4 c =
     simp (ne-eqb _ _ (c .before .before .if1 .left), ne-eqb _ _ (c .before .if2 .left), ne-eqb _ _ (c .if3 .left))
 
 pub question-kind-spec : {M : Type 1} → statement M
-question-kind-spec = tie.close (tie.spec returns returns-2 returns-3 returns-4)
+question-kind-spec =
+    tie.close (tie.spec (λ c. unfold questionKind in simp (eq-eqb _ _ (c .if1 .taken))) returns-2 returns-3
+    returns-4)

@@ -1,6 +1,5 @@
 -- What `question_limit` gives is what `questionLimit` says, case by case.
-use borrow.Author.Needs.{needs}
-use borrow.Author.Tests.{le-leb, lt-leb, lt-ltb, le-ltb, eq-eqb, ne-eqb}
+use borrow.Author.Tests.{eq-eqb, ne-eqb}
 use Rattle.term_positions.specs.Types.{questionLimit}
 use Rattle.term_positions.proofs.types.question_limit.Statement.{statement}
 use Rattle.term_positions.proofs.types.question_limit.Tie as tie

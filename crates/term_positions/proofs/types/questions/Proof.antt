@@ -5,13 +5,8 @@ use Rattle.term_positions.specs.Types.{questionsOf}
 use Rattle.term_positions.proofs.types.questions.Statement.{statement}
 use Rattle.term_positions.proofs.types.questions.Tie as tie
 
-returns : tie.Need-returns
-unfolding questionsOf
-returns c = simp (← c .sum .ensures, eq-eqb _ _ (c .before .if1 .taken))
-
-returns-2 : tie.Need-returns-2
-unfolding questionsOf
-returns-2 c = simp (ne-eqb _ _ (c .if1 .left))
-
 pub questions-spec : {M : Type 1} → statement M
-questions-spec = tie.close (tie.spec (λ c κs. search needs) returns returns-2)
+questions-spec =
+    tie.close (tie.spec (λ c κs. search needs)
+    (λ c. unfold questionsOf in simp (← c .sum .ensures, eq-eqb _ _ (c .before .if1 .taken)))
+    (λ c. unfold questionsOf in simp (ne-eqb _ _ (c .if1 .left))))

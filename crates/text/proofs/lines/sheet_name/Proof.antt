@@ -17,6 +17,5 @@ returns-3 c =
 
 pub sheet-name-spec : {M : Type 1} → statement M
 sheet-name-spec =
-    tie.close
-    (tie.spec (search needs) (λ c κs. search needs) (search needs) returns (search needs) (λ c κs. search needs)
-    (search needs) returns-2 (search needs) (λ c κs. search needs) (search needs) returns-3)
+    tie.close (tie.spec (search needs) (λ c κs. search needs) (search needs) returns (search needs)
+    (λ c κs. search needs) (search needs) returns-2 (search needs) (λ c κs. search needs) (search needs) returns-3)

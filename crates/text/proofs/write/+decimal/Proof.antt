@@ -25,36 +25,9 @@ abbrev decimal-calls : ℕ → decimal-lts.Claims
 decimal-calls t = (push-reads.Asked, push-reads.Learnt, decimal-below t, decimal.Post)
 
 module _ (t : ℕ) where
-  decimal-cast-push : decimal-lts.Need-cast-push (decimal-calls t) (decimal-at t) decimal.Post
-  decimal-cast-push c = search needs
-
-  decimal-add-push : decimal-lts.Need-add-push (decimal-calls t) (decimal-at t) decimal.Post
-  decimal-add-push c = search needs
-
-  decimal-push-requires : decimal-lts.Need-push-requires (decimal-calls t) (decimal-at t) decimal.Post
-  decimal-push-requires c κs = search needs
-
-  decimal-same-length : decimal-lts.Need-same-length (decimal-calls t) (decimal-at t) decimal.Post
-  decimal-same-length c = search needs
-
   decimal-returns : decimal-lts.Need-returns (decimal-calls t) (decimal-at t) decimal.Post
   decimal-returns c =
       decimal-one _ _ (c .before .before .before .before .if1 .taken) (c .before .before .push .ensures)
-
-  decimal-decimal-requires : decimal-lts.Need-decimal-requires (decimal-calls t) (decimal-at t) decimal.Post
-  decimal-decimal-requires c κs = search needs
-
-  decimal-cast-push-2 : decimal-lts.Need-cast-push-2 (decimal-calls t) (decimal-at t) decimal.Post
-  decimal-cast-push-2 c = search needs
-
-  decimal-add-push-2 : decimal-lts.Need-add-push-2 (decimal-calls t) (decimal-at t) decimal.Post
-  decimal-add-push-2 c = search needs
-
-  decimal-push-requires-2 : decimal-lts.Need-push-requires-2 (decimal-calls t) (decimal-at t) decimal.Post
-  decimal-push-requires-2 c κs = search needs
-
-  decimal-same-length-2 : decimal-lts.Need-same-length-2 (decimal-calls t) (decimal-at t) decimal.Post
-  decimal-same-length-2 c = search needs
 
   decimal-returns-2 : decimal-lts.Need-returns-2 (decimal-calls t) (decimal-at t) decimal.Post
   decimal-returns-2 c =
@@ -64,7 +37,6 @@ module _ (t : ℕ) where
 pub +decimal-spec : {M : Type 1} → statement M
 +decimal-spec =
     close μ-decimal
-    (λ t. decimal-lts.spec (decimal-calls t) (decimal-at t) decimal.Post (decimal-cast-push t) (decimal-add-push t)
-      (decimal-push-requires t) (decimal-same-length t) (decimal-returns t) (decimal-decimal-requires t)
-      (decimal-cast-push-2 t) (decimal-add-push-2 t) (decimal-push-requires-2 t) (decimal-same-length-2 t)
-      (decimal-returns-2 t))
+    (λ t. decimal-lts.spec (decimal-calls t) (decimal-at t) decimal.Post (search needs) (search needs)
+      (λ c κs. search needs) (search needs) (decimal-returns t) (λ c κs. search needs) (search needs) (search needs)
+      (λ c κs. search needs) (search needs) (decimal-returns-2 t))

@@ -4,11 +4,7 @@ use Rattle.text.proofs.Pages.{pushed-room, pushed-full}
 use Rattle.text.proofs.write.push.Statement.{statement}
 use Rattle.text.proofs.write.push.Tie as tie
 
-returns : tie.Need-returns
-returns c = pushed-room _ _ _ (c .if1 .taken)
-
-returns-2 : tie.Need-returns-2
-returns-2 c = pushed-full _ _ _ (c .if1 .left)
-
 pub push-spec : {M : Type 1} → statement M
-push-spec = tie.close (tie.spec (search needs) (search needs) (search needs) returns returns-2)
+push-spec =
+    tie.close (tie.spec (search needs) (search needs) (search needs) (λ c. pushed-room _ _ _ (c .if1 .taken))
+    (λ c. pushed-full _ _ _ (c .if1 .left)))

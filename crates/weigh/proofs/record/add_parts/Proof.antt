@@ -17,15 +17,6 @@ Inv-loop t₀ kind detail k at first row n j₀ t j =
 abbrev μ-loop : tie.MeasureT-loop
 μ-loop t₀ kind detail k at first row n j₀ t j = n - j
 
-loop-holds : tie.Need-loop-holds Inv-loop μ-loop
-loop-holds c = (refl, parts-first _ _ _ _ _ _ _ _)
-
-add-part-requires : tie.Need-add-part-requires Inv-loop μ-loop
-add-part-requires c κs = search needs
-
-add-j : tie.Need-add-j Inv-loop μ-loop
-add-j c = search needs
-
 loop-less : tie.Need-loop-less Inv-loop μ-loop
 loop-less c = omega (arith, c .before .before .before .before .loop-test .taken)
 
@@ -34,12 +25,10 @@ loop-again c = (search needs, parts-again _ _ _ _ _ _ _ _ _ _ _ _ (c .before .be
     .taken) (omega arith) (c .before .before .add-part .ensures) (c .before .before .before .before .before .loop .inv
     .1))
 
-same-length : tie.Need-same-length Inv-loop μ-loop
-same-length c = c .before .loop .inv .0
-
 returns : tie.Need-returns Inv-loop μ-loop
 returns c = parts-last _ _ _ _ _ _ _ _ _ _ (c .loop-test .left) (c .before .loop .inv .1)
 
 pub add-parts-spec : {M : Type 1} → statement M
 add-parts-spec =
-    tie.close (tie.spec Inv-loop μ-loop loop-holds add-part-requires add-j loop-less loop-again same-length returns)
+    tie.close (tie.spec Inv-loop μ-loop (λ c. (refl, parts-first _ _ _ _ _ _ _ _)) (λ c κs. search needs)
+    (search needs) loop-less loop-again (λ c. c .before .loop .inv .0) returns)
