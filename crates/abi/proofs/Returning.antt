@@ -4,18 +4,18 @@ use mathlib.Core.Path.{_≡_}
 use mathlib.Core.List.{List}
 use lib.ListN.{length}
 use borrow.Author.Tests.{le-ltb}
-use Rattle.judge.specs.declared.check.Checked.{Checked}
-use Rattle.comparer.specs.Promise.{FollowPromise, ComparePromise}
-use Rattle.comparer.specs.Look.{LookPromise}
-use Rattle.comparer.specs.declared.Following.{Following}
-use Rattle.comparer.specs.declared.Comparison.{Comparison}
-use Rattle.comparer.specs.declared.Looking.{Looking}
-use Rattle.renumbering.specs.Outcome.{RenumberPromise}
-use Rattle.renumbering.specs.declared.renumber.Renumbered.{Renumbered}
-use Rattle.cards.specs.Promise.{CardPromise}
-use Rattle.cards.specs.declared.Carding.{Carding}
-use Rattle.answers.specs.Words.{answer-words, checkWords, followWords, compareWords, lookWords, renumberWords}
-use Rattle.answers.specs.Words.{cardWords, answered, status}
+use Rattle.sheet_judge.specs.declared.check.Checked.{Checked}
+use Rattle.serve_compare.specs.Promise.{FollowPromise, ComparePromise}
+use Rattle.serve_compare.specs.Look.{LookPromise}
+use Rattle.serve_compare.specs.declared.Following.{Following}
+use Rattle.serve_compare.specs.declared.Comparison.{Comparison}
+use Rattle.serve_compare.specs.declared.Looking.{Looking}
+use Rattle.serve_renumber.specs.Outcome.{RenumberPromise}
+use Rattle.serve_renumber.specs.declared.renumber.Renumbered.{Renumbered}
+use Rattle.serve_card.specs.Promise.{CardPromise}
+use Rattle.serve_card.specs.declared.Carding.{Carding}
+use Rattle.abi_words.specs.Words.{answer-words, checkWords, followWords, compareWords, lookWords, renumberWords}
+use Rattle.abi_words.specs.Words.{cardWords, answered, status}
 use Rattle.abi.specs.Returned.{FollowReturned, CompareReturned, LookReturned, RenumberReturned, CardReturned}
 use Rattle.abi.specs.Returned.{answers}
 

@@ -5,16 +5,16 @@ use mathlib.Core.Path.{_≡_}
 use mathlib.Core.List.{List, _++_}
 use Prim.Native.Nat.{ℕ, _≤_, _<_}
 use lib.ListN.{length, drop}
-use Rattle.comparer.specs.Promise.{FollowPromise, ComparePromise}
-use Rattle.comparer.specs.Look.{LookPromise}
-use Rattle.comparer.specs.declared.Following.{Following}
-use Rattle.comparer.specs.declared.Comparison.{Comparison}
-use Rattle.comparer.specs.declared.Looking.{Looking}
-use Rattle.renumbering.specs.Outcome.{RenumberPromise}
-use Rattle.renumbering.specs.declared.renumber.Renumbered.{Renumbered}
-use Rattle.cards.specs.Promise.{CardPromise}
-use Rattle.cards.specs.declared.Carding.{Carding}
-use Rattle.answers.specs.Words.{answer-words, followWords, compareWords, lookWords, renumberWords, cardWords}
+use Rattle.serve_compare.specs.Promise.{FollowPromise, ComparePromise}
+use Rattle.serve_compare.specs.Look.{LookPromise}
+use Rattle.serve_compare.specs.declared.Following.{Following}
+use Rattle.serve_compare.specs.declared.Comparison.{Comparison}
+use Rattle.serve_compare.specs.declared.Looking.{Looking}
+use Rattle.serve_renumber.specs.Outcome.{RenumberPromise}
+use Rattle.serve_renumber.specs.declared.renumber.Renumbered.{Renumbered}
+use Rattle.serve_card.specs.Promise.{CardPromise}
+use Rattle.serve_card.specs.declared.Carding.{Carding}
+use Rattle.abi_words.specs.Words.{answer-words, followWords, compareWords, lookWords, renumberWords, cardWords}
 
 pub data FollowReturned (s play ws out : List ℕ) (r : ℕ) (ws′ out′ : List ℕ) : Type 0 where
   no-room : length out < answer-words → r ≡ 0 → ws′ ≡ ws → out′ ≡ out → FollowReturned s play ws out r ws′ out′

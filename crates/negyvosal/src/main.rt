@@ -27,6 +27,6 @@ fn main() {
     let mut words = [0u32; WORDS];
     let mut space = [0u8; SPACE];
     let mut out = [0u8; TEXT];
-    let count = report::report(&old[..n], &new[..m], &mut words, &mut space, &mut out);
+    let count = print_report::report(&old[..n], &new[..m], &mut words, &mut space, &mut out);
     print(&out[..count]);
 }

@@ -12,8 +12,8 @@ use Rattle.dfa.specs.Live.{Live}
 use Rattle.dfa.specs.Reading.{walk}
 use Rattle.dfa.proofs.laws.Look.{δ-lt}
 use Rattle.dfa.proofs.laws.SameEdges.{same-walk}
-use Rattle.play.specs.Records.{moves, parse}
-use Rattle.play.specs.Bytes.{firstLetter}
+use Rattle.play_records.specs.Records.{moves, parse}
+use Rattle.play_records.specs.Bytes.{firstLetter}
 use Rattle.play_words.specs.Walk.{AtLeast, stateAfter, Marked, Reached}
 use Rattle.play_words.proofs.WalkingPlays.{Walked, walked-first, walked-state}
 

@@ -8,16 +8,16 @@ use lib.Dec.{eqb}
 use borrow.Author.Tests.{eq-eqb, ne-eqb}
 use Rattle.language.specs.Choice.{pick}
 use Rattle.dfa.specs.Graph.{rest}
-use Rattle.search_words.specs.Spelled.{Trail, Spelled, Spelling}
+use Rattle.dfa_search.specs.Spelled.{Trail, Spelled, Spelling}
 use Rattle.dfa.specs.Reading.{reversed}
 use Rattle.dfa.proofs.laws.Reading.{reversed-length, reversed-reversed}
-use Rattle.search_words.proofs.Spell.{written-take, spelled-length}
+use Rattle.dfa_search.proofs.Spell.{written-take, spelled-length}
 use Rattle.dfa.proofs.laws.Rest.{rest-is, rest-length}
-use Rattle.search_words.proofs.Trace.{trail-spelled}
+use Rattle.dfa_search.proofs.Trace.{trail-spelled}
 use Rattle.play_words.specs.Shown.{Shown}
 use Rattle.play_words.specs.declared.Decision.the-variants.{Apart}
 use lib.Seq.{sets}
-use Rattle.play.specs.Bytes.{recordsBy}
+use Rattle.play_records.specs.Bytes.{recordsBy}
 
 module _ (n k r : ℕ) (ws ws′ : List ℕ) (t : Trail n (take (5 * n) ws) k) (s : Spelling n k ws ws′ r) where
   -- the word has fewer letters than there are states

@@ -8,10 +8,10 @@ use lib.Seq.{take-all}
 use Rattle.dfa.specs.Graph.{δ, Graph}
 use Rattle.dfa.specs.Reading.{walk}
 use Rattle.dfa.proofs.laws.Look.{δ-lt}
-use Rattle.play.specs.Records.{moves, parse}
-use Rattle.play.specs.Bytes.{widthOf, firstLetter}
+use Rattle.play_records.specs.Records.{moves, parse}
+use Rattle.play_records.specs.Bytes.{widthOf, firstLetter}
 use Rattle.play_words.specs.Walk.{AtLeast, stateAfter}
-use Rattle.play.proofs.ParsingSteps.{first-record}
+use Rattle.play_records.proofs.ParsingSteps.{first-record}
 
 -- after i records, of k at least, the state is p, and the records that are left stand from `at` on
 pub record Walked (G : List ℕ) (n : ℕ) (play : List ℕ) (k p at i : ℕ) : Type 0 where

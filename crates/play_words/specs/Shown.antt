@@ -7,8 +7,8 @@ use lib.Dec.{eqb}
 use lib.Seq.{sets}
 use Rattle.language.specs.Choice.{pick}
 use Rattle.dfa.specs.Reading.{reversed}
-use Rattle.search_words.specs.Spelled.{Spelled}
-use Rattle.play.specs.Bytes.{recordsBy}
+use Rattle.dfa_search.specs.Spelled.{Spelled}
+use Rattle.play_records.specs.Bytes.{recordsBy}
 use Rattle.play_words.specs.declared.Decision.{Decision}
 use Rattle.play_words.specs.declared.Decision.the-variants.{Apart}
 

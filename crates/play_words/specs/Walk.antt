@@ -6,11 +6,11 @@ use Prim.Native.Nat.{ℕ, _*_, _<_, _≤_}
 use lib.ListN.{length, take}
 use Rattle.dfa.specs.Graph.{δ, rest, Graph, SameEdges}
 use Rattle.dfa.specs.Live.{Live}
-use Rattle.live.specs.Marks.{Marks}
+use Rattle.dfa_live.specs.Marks.{Marks}
 use Rattle.dfa.specs.Reading.{walk}
-use Rattle.play.specs.Records.{moves, parse}
+use Rattle.play_records.specs.Records.{moves, parse}
 use Rattle.play_words.specs.declared.walk.Reach.{Reach}
-use Rattle.play.specs.Bytes.{firstLetter}
+use Rattle.play_records.specs.Bytes.{firstLetter}
 
 -- the play has at least k records
 pub record AtLeast (play : List ℕ) (k : ℕ) : Type 0 where

@@ -1,12 +1,12 @@
 // The play of an entry of the search, written as records, and which sheet has it.
 use crate::Decision;
-use play::play::write_play;
-use records::refusal::NEW_SHEET;
-use records::refusal::OLD_SHEET;
-use search_words::word::spell;
+use dfa_search::word::spell;
+use play_records::play::write_play;
+use sheet_records::refusal::NEW_SHEET;
+use sheet_records::refusal::OLD_SHEET;
 ghost use Prim.Native.Nat.{_*_, _≤_};
 ghost use lib.ListN.{length, take};
-ghost use Rattle.search_words.specs.Spelled.{Trail};
+ghost use Rattle.dfa_search.specs.Spelled.{Trail};
 ghost use Rattle.play_words.specs.Shown.{Shown};
 
 // Writes the play of entry k: its number of moves, and which sheet has it. The old sheet has it where it ends at f.

@@ -1,15 +1,15 @@
 // A play's records walked through an automaton.
 use dfa::graph::next_state;
-use live::is_marked;
-use play::play::first_letter;
-use play::play::width_of;
-use records::read::byte_at;
+use dfa_live::is_marked;
+use play_records::play::first_letter;
+use play_records::play::width_of;
+use sheet_records::read::byte_at;
 ghost use mathlib.Core.Path.{_≡_};
 ghost use mathlib.Core.List.{List};
 ghost use Prim.Native.Nat.{ℕ, _*_};
 ghost use lib.ListN.{length};
 ghost use Rattle.dfa.specs.Graph.{Graph, rest};
-ghost use Rattle.play.specs.Records.{moves, parse};
+ghost use Rattle.play_records.specs.Records.{moves, parse};
 ghost use Rattle.play_words.specs.Walk.{AtLeast, Marked, Reached};
 
 // How many moves begin a complete play, and the state after the last move.

@@ -6,7 +6,7 @@ use files::Read;
 use files::print;
 use files::read_sheet;
 use files::write_sheet;
-use report::changes::report_changes;
+use print_report::changes::report_changes;
 
 // One byte more than a sheet may have, so that a longer file is refused.
 const LONGEST: usize = 4097;

@@ -1,6 +1,0 @@
--- A number in two words is given whole.
-use native.Mathlib.Omega.{arith}
-use Rattle.answers.specs.Words.{GivenWhole}
-
-pub given-whole : GivenWhole
-given-whole v = omega arith

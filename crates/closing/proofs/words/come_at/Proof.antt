@@ -1,8 +1,0 @@
--- The lower part of the mark.
-use Rattle.closing.specs.Close.{comeOf}
-use borrow.Author.Needs.{needs}
-use Rattle.closing.proofs.words.come_at.Statement.{statement}
-use Rattle.closing.proofs.words.come_at.Tie as tie
-
-pub come-at-spec : {M : Type 1} → statement M
-come-at-spec = tie.close (tie.spec (λ c κs. search needs) (λ c. unfold comeOf in simp (← c .mark-at .ensures)))

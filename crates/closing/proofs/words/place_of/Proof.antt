@@ -1,9 +1,0 @@
--- Nine words a row.
-use Rattle.part_rows.specs.Row.{cell}
-use native.Mathlib.Omega.{arith}
-use borrow.Author.Needs.{needs}
-use Rattle.closing.proofs.words.place_of.Statement.{statement}
-use Rattle.closing.proofs.words.place_of.Tie as tie
-
-pub place-of-spec : {M : Type 1} → statement M
-place-of-spec = tie.close (tie.spec (search needs) (search needs) (λ c. unfold cell in omega arith))

@@ -1,8 +1,0 @@
--- The upper part of the mark.
-use Rattle.closing.specs.Close.{usedOf}
-use borrow.Author.Needs.{needs}
-use Rattle.closing.proofs.words.used_at.Statement.{statement}
-use Rattle.closing.proofs.words.used_at.Tie as tie
-
-pub used-at-spec : {M : Type 1} → statement M
-used-at-spec = tie.close (tie.spec (λ c κs. search needs) (λ c. unfold usedOf in simp (← c .mark-at .ensures)))

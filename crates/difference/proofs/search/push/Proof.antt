@@ -1,9 +1,0 @@
--- What `push` leaves is what `pushed` says.
-use borrow.Author.Needs.{needs}
-use Rattle.difference.proofs.search.push.Statement.{statement}
-use Rattle.difference.proofs.search.push.Tie as tie
-
-pub push-spec : {M : Type 1} → statement M
-push-spec =
-    tie.close (tie.spec (search needs) (search needs) (λ c κs. search needs) (search needs) (λ c κs. search needs)
-    (search needs) (λ c κs. search needs) (search needs) (λ c κs. search needs) (search needs) (λ c. cc))

@@ -1,1 +1,0 @@
-// Theory: rows of words that represent a term.

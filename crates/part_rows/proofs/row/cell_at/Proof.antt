@@ -1,8 +1,0 @@
--- Nine words for each place.
-use borrow.Author.Needs.{needs}
-use Rattle.part_rows.specs.Row.{cell}
-use Rattle.part_rows.proofs.row.cell_at.Statement.{statement}
-use Rattle.part_rows.proofs.row.cell_at.Tie as tie
-
-pub cell-at-spec : {M : Type 1} → statement M
-cell-at-spec = tie.close (tie.spec (search needs) (search needs) (λ c. unfold cell in search needs))

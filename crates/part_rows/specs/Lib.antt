@@ -1,3 +1,0 @@
-pub mod PartKind
-pub mod Class
-pub mod Row

@@ -1,7 +1,0 @@
--- Enclosing binders have the standings from those of variables on.
-use Rattle.records.proofs.StandingLaws.{held-below, held-from}
-use Rattle.records.proofs.standing.is_held.Statement.{statement}
-use Rattle.records.proofs.standing.is_held.Tie as tie
-
-pub is-held-spec : {M : Type 1} → statement M
-is-held-spec = tie.close (tie.spec (λ c. held-from _ (c .if1 .taken)) (λ c. held-below _ (c .if1 .left)))

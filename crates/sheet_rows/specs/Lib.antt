@@ -1,0 +1,4 @@
+pub mod PartKind
+pub mod Class
+pub mod Row
+pub mod Rep

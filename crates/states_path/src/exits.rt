@@ -1,0 +1,236 @@
+// Where a step of the innermost part of a path leads in the whole sheet.
+use crate::Site;
+use crate::levels::B;
+use crate::levels::PATH_WORDS;
+use crate::levels::block_at;
+use crate::levels::field;
+use crate::levels::frame_at;
+use crate::levels::start_at;
+use crate::levels::up_at;
+use language::Numbers;
+use states_positions::Out;
+use states_positions::Silent;
+use states_positions::row::mul_add;
+use states_positions::row::sum;
+use states_rise::up::exits;
+use states_rise::up::goes;
+ghost use mathlib.Core.Path.{_≡_};
+ghost use Prim.Native.Nat.{_-_, _≤_, _<_};
+ghost use Rattle.states_positions.specs.declared.Out.the-variants.{Go, Exit};
+ghost use Rattle.language.specs.declared.Numbers.{Numbers};
+ghost use Rattle.states_path.specs.declared.Site.{Site};
+ghost use Rattle.states_path.specs.Path.{riseAll, blockIn, leftOf};
+ghost use Rattle.states_path.specs.Levels.{framesOf, Sound};
+ghost use Rattle.states_path.specs.States.{targetOf};
+
+// A number below this is added to the first state of a part without becoming too large.
+const FAR: usize = 4294901760;
+
+// The dead state of n.
+pub fn dead(n: usize) -> usize
+    ensures { λ r. ⌜ r ≡ n - 1 ⌝ }
+{
+    if n == 0 {
+        return 0;
+    }
+    n - 1
+}
+
+// A silent step inside c levels, seen in the whole sheet, level by level.
+fn climb(p: &[usize; PATH_WORDS], c: usize, g: Silent) -> Silent
+    requires { ⌜ Sound (now p) c ⌝ }
+    ensures { λ r. ⌜ ((N : Numbers) → Go (r .next) (r .block) (r .set)
+        ≡ riseAll N (framesOf (now (p .entry)) c) (Go (g .next) (g .block) (g .set))) ⌝ }
+{
+    let mut left = c;
+    let mut out = g;
+    while 0 < left {
+        left -= 1;
+        out = goes(frame_at(p, left), out);
+    }
+    out
+}
+
+// Where a silent step inside c levels leads, level by level, in a sheet whose states begin at `first`. Nothing else of the
+// site matters to a silent step, and a number is handed on more cheaply than the site.
+fn far(
+    first: usize,
+    p: &[usize; PATH_WORDS],
+    c: usize,
+    next: usize,
+    block: usize,
+    set: usize,
+) -> usize
+    requires { ⌜ Sound (now p) c ⌝ }
+    ensures { λ r. ⌜ ((N : Numbers) (s : Site) → s .o ≡ first → r
+        ≡ targetOf s (riseAll N (framesOf (now (p .entry)) c) (Go next block set))) ⌝ }
+{
+    let o = climb(p, c, Silent { next, block, set });
+    sum(first, o.next)
+}
+
+// Where it leads that writes the variable of the block at the level m - 1: its state is counted from the first state of
+// the block's copy of the value written; level by level where the number may be too large.
+fn moved(
+    first: usize,
+    p: &[usize; PATH_WORDS],
+    c: usize,
+    next: usize,
+    block: usize,
+    set: usize,
+    m: usize,
+) -> usize
+    requires { ⌜ Sound (now p) c × ((next < 4294901760) × ((m ≡ blockIn (framesOf (now p) c) block) × (0 < m))) ⌝ }
+    ensures { λ r. ⌜ ((N : Numbers) (s : Site) → s .o ≡ first → r
+        ≡ targetOf s (riseAll N (framesOf (now (p .entry)) c) (Go next block set))) ⌝ }
+{
+    let copy = mul_add(
+        set,
+        field(p, m - 1, B),
+        start_at(p, c) + next - start_at(p, m),
+    );
+    if FAR <= copy {
+        return far(first, p, c, next, block, set);
+    }
+    sum(first, start_at(p, m - 1) + copy)
+}
+
+// Where a silent step inside c levels leads that writes the variable of the block at the level m - 1, or no block's where m
+// is 0: its state is counted from the first state of the innermost, or of the block's copy of the value written.
+fn lead_at(
+    first: usize,
+    p: &[usize; PATH_WORDS],
+    c: usize,
+    next: usize,
+    block: usize,
+    set: usize,
+    m: usize,
+) -> usize
+    requires { ⌜ Sound (now p) c × (m ≡ blockIn (framesOf (now p) c) block) ⌝ }
+    ensures { λ r. ⌜ ((N : Numbers) (s : Site) → s .o ≡ first → r
+        ≡ targetOf s (riseAll N (framesOf (now (p .entry)) c) (Go next block set))) ⌝ }
+{
+    if FAR <= next {
+        return far(first, p, c, next, block, set);
+    }
+    if m == 0 {
+        return sum(first, start_at(p, c) + next);
+    }
+    moved(first, p, c, next, block, set, m)
+}
+
+// Where a silent step inside c levels leads.
+pub fn lead(
+    first: usize,
+    p: &[usize; PATH_WORDS],
+    c: usize,
+    next: usize,
+    block: usize,
+    set: usize,
+) -> usize
+    requires { ⌜ Sound (now p) c ⌝ }
+    ensures { λ r. ⌜ ((N : Numbers) (s : Site) → s .o ≡ first → r
+        ≡ targetOf s (riseAll N (framesOf (now (p .entry)) c) (Go next block set))) ⌝ }
+{
+    lead_at(first, p, c, next, block, set, block_at(p, c, block))
+}
+
+// Where a silent step inside i levels leads that follows an exit: what it writes is forgotten where the block of the
+// variable, at the level own - 1, is left. Most exits write nothing, and their steps are led from here.
+fn led(
+    first: usize,
+    p: &[usize; PATH_WORDS],
+    i: usize,
+    next: usize,
+    own: usize,
+    block: usize,
+    set: usize,
+) -> usize
+    requires { ⌜ Sound (now p) i × (own ≤ i → own ≡ blockIn (framesOf (now p) i) block) ⌝ }
+    ensures { λ r. ⌜ ((N : Numbers) (s : Site) → s .o ≡ first → r
+        ≡ targetOf s (riseAll N (framesOf (now (p .entry)) i) (Go next (leftOf i own block) (leftOf i own set)))) ⌝ }
+{
+    if i < own {
+        return lead(first, p, i, next, 0, 0);
+    }
+    if own == 0 {
+        if next < FAR {
+            return sum(first, start_at(p, i) + next);
+        }
+    }
+    lead_at(first, p, i, next, block, set, own)
+}
+
+// Where an exit of what is inside c levels leads: a frame that does not pass it on hands on what is written as it is.
+pub fn exit(
+    n: Numbers,
+    s: Site,
+    p: &[usize; PATH_WORDS],
+    c: usize,
+    kind: usize,
+    value: usize,
+    block: usize,
+    set: usize,
+) -> usize
+    requires { ⌜ Sound (now p) c ⌝ }
+    ensures { λ r. ⌜ r ≡ targetOf s (riseAll n (framesOf (now (p .entry)) c) (Exit kind value block set)) ⌝ }
+{
+    let own = block_at(p, c, block);
+    let mut up = up_at(p, c);
+    let mut answer = kind;
+    let mut result = value;
+    while 0 < up {
+        let i = up - 1;
+        let o = exits(n, frame_at(p, i), answer, result, 0, 0);
+        match o {
+            Out::Go {
+                next,
+                block: _,
+                set: _,
+            } => return led(s.o, p, i, next, own, block, set),
+            Out::Exit {
+                kind: k,
+                value: x,
+                block: _,
+                set: _,
+            } => {
+                answer = k;
+                result = x;
+                up = up_at(p, i);
+            }
+            Out::Say { said: _, next: _ } => return dead(s.n),
+            Out::Hear {
+                at: _,
+                kind: _,
+                value: _,
+                count: _,
+            } => return dead(s.n),
+            Out::Stuck => return dead(s.n),
+        }
+    }
+    dead(s.n)
+}
+
+// Where a step inside c levels leads.
+pub fn reach(n: Numbers, s: Site, p: &[usize; PATH_WORDS], c: usize, o: Out) -> usize
+    requires { ⌜ Sound (now p) c ⌝ }
+    ensures { λ r. ⌜ r ≡ targetOf s (riseAll n (framesOf (now (p .entry)) c) o) ⌝ }
+{
+    match o {
+        Out::Go { next, block, set } => lead(s.o, p, c, next, block, set),
+        Out::Exit {
+            kind,
+            value,
+            block,
+            set,
+        } => exit(n, s, p, c, kind, value, block, set),
+        Out::Say { said: _, next: _ } => dead(s.n),
+        Out::Hear {
+            at: _,
+            kind: _,
+            value: _,
+            count: _,
+        } => dead(s.n),
+        Out::Stuck => dead(s.n),
+    }
+}

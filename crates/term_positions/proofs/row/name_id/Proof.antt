@@ -1,8 +1,0 @@
--- What `name_id` gives is what `nameId` says, case by case.
-use borrow.Author.Needs.{needs}
-use Rattle.term_positions.specs.Row.{nameId}
-use Rattle.term_positions.proofs.row.name_id.Statement.{statement}
-use Rattle.term_positions.proofs.row.name_id.Tie as tie
-
-pub name-id-spec : {M : Type 1} → statement M
-name-id-spec = tie.close (tie.spec (λ c κs. search needs) (λ c. unfold nameId in simp (← c .cell .ensures)))

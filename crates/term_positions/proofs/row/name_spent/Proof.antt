@@ -1,8 +1,0 @@
--- What `name_spent` gives is what `nameSpent` says, case by case.
-use borrow.Author.Needs.{needs}
-use Rattle.term_positions.specs.Row.{nameSpent}
-use Rattle.term_positions.proofs.row.name_spent.Statement.{statement}
-use Rattle.term_positions.proofs.row.name_spent.Tie as tie
-
-pub name-spent-spec : {M : Type 1} → statement M
-name-spent-spec = tie.close (tie.spec (λ c κs. search needs) (λ c. unfold nameSpent in simp (← c .cell .ensures)))
