@@ -168,7 +168,7 @@ renumber-places s room space x o = go (readEarlier s) refl
     of S A true a r e = omega (arith, refused-place (cause 14 2 0) x e)
     of S A false (none-left p) r e =
         let h : ℕ = headingWidth S in
-        let w : Within h (h + width (S .term)) (none-left p) =
+        let w : Within {X = Written} h (h + width (S .term)) (none-left p) =
             subst (λ (y : Renumbering Written). Within h (h + width (S .term)) y) r (within-sheet S (A .ordered)) in
         omega (arith, refused-place (cause 17 0 p) x e, w .1, sheet-end S, A .short)
     of S A false (renumbered W cs then) r e = clash x (encodeSheet (withTerm S W)) cs (sym e)

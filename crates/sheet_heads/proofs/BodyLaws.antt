@@ -21,7 +21,7 @@ use Rattle.sheet_heads.specs.declared.head.Record.{Record}
 use Rattle.sheet_heads.specs.declared.head.Head.the-variants.{Good}
 use Rattle.sheet_judgements.specs.declared.judgement.Judged.{Judged}
 use Rattle.sheet_judgements.specs.declared.judgement.Judged.the-variants.{Good as Fine, Refused as Bad}
-use Rattle.sheet_records.proofs.KindLaws.{bytesOf}
+use Rattle.sheet_records.specs.Kind.{bytesOf}
 use Rattle.sheet_judgements.proofs.JudgeLaws.{procedure-inside}
 use Rattle.sheet_judgements.proofs.Tests.{pick-false, pick-true}
 use Rattle.sheet_heads.proofs.ByteLaws.{bad-good, good-same, byte-good}

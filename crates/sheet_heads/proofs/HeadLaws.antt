@@ -7,7 +7,7 @@ use lib.ListN.{length, getD}
 use lib.Dec.{leb, eqb}
 use borrow.Author.Tests.{leb-false, eqb-false}
 use Rattle.language.specs.declared.Numbers.{Numbers}
-use Rattle.sheet_records.specs.Kind.{shapeOf}
+use Rattle.sheet_records.specs.Kind.{bytesOf, shapeOf}
 use Rattle.sheet_heads.specs.Head.{headOfShape, bodyOf, blank, headOf}
 use Rattle.sheet_records.specs.declared.edition.Edition.{Edition}
 use Rattle.sheet_records.specs.declared.kind.Rule.{Rule}
@@ -16,7 +16,7 @@ use Rattle.sheet_records.specs.declared.kind.Shape.the-variants.{Part, Declare,
 use Rattle.sheet_heads.specs.declared.head.Record.{Record}
 use Rattle.sheet_heads.specs.declared.head.Head.{Head}
 use Rattle.sheet_heads.specs.declared.head.Head.the-variants.{Good}
-use Rattle.sheet_records.proofs.KindLaws.{kindOf, bytesOf, partsOf, Fits, shape-known, shape-of-kind}
+use Rattle.sheet_records.proofs.KindLaws.{kindOf, partsOf, Fits, shape-known, shape-of-kind}
 use Rattle.sheet_judgements.proofs.Tests.{pick-false}
 use Rattle.sheet_heads.proofs.ByteLaws.{bad-good}
 use Rattle.sheet_heads.proofs.BodyLaws.{Kept, body-kept}

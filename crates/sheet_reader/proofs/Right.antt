@@ -240,9 +240,9 @@ module _ (S : Sheet) (A : AcceptedUnder Earlier S) (s : List ℕ) (b : s ≡ enc
   names-refused : Hides (hiding [] (headingWidth S) (S .term)) (namesOf Present 32 (S .numbers) s nothing 2)
   unfolding headingWidth
   names-refused =
-      names-hide (S .numbers) s places (S .names) (S .term) (A .ordered .fine-term) (A .ordered .shallow) (S .names) 32
-        [] nothing 2 (matches-nothing s places (read-short Earlier S A s b)) (extends-first (S .names))
-        (A .ordered .fine-names) (A .ordered .few-names) (read-rest Earlier S A s b)
+      names-hide (S .numbers) s places (S .names) (S .term) (A .ordered .in-order .fine-term) (A .ordered .shallow)
+        (S .names) 32 [] nothing 2 (matches-nothing s places (read-short Earlier S A s b)) (extends-first (S .names))
+        (A .ordered .in-order .fine-names) (A .ordered .few-names) (read-rest Earlier S A s b)
 
   whole-refused : (h : Hiding) (hs : List Hiding) → hiding [] (headingWidth S) (S .term) ≡ h ∷ hs →
       wholeOf Present s ≡ refused id-enclosed (h .place)
@@ -253,8 +253,9 @@ module _ (S : Sheet) (A : AcceptedUnder Earlier S) (s : List ℕ) (b : s ≡ enc
       rw
         (read-first Earlier S A s b, read-second Earlier S A s b,
         le-ltb 4096 (length s) (read-short Earlier S A s b), lt-leb (length s) 0 (omega arith),
-        ne-eqb (S .numbers .z) 0 (λ z. omega (arith, O .z-above)), le-ltb greatest-z (S .numbers .z) (O .z-below),
-        lt-leb (length s) 1 l, le-ltb greatest-rule (S .numbers .rule) (O .rule-below),
+        ne-eqb (S .numbers .z) 0 (λ z. omega (arith, O .in-order .z-above)),
+        le-ltb greatest-z (S .numbers .z) (O .in-order .z-below), lt-leb (length s) 1 l,
+        le-ltb greatest-rule (S .numbers .rule) (O .rule-below),
         names-refused .stops h hs e) refl
 
 -- THEOREM: what the earlier rule accepted, and in which some binder hides another, the present one refuses by 16 at the

@@ -6,7 +6,7 @@ use mathlib.Core.Bool.{Bool, true, false}
 use lib.Dec.{eqb}
 use borrow.Author.Tests.{eqb-true}
 use Rattle.language.specs.Choice.{pick}
-use Rattle.sheet_records.specs.Kind.{shapeOf, bodyIn, partsIn}
+use Rattle.sheet_records.specs.Kind.{bytesOf, shapeOf, bodyIn, partsIn}
 use Rattle.sheet_records.specs.declared.kind.Rule.{Rule}
 use Rattle.sheet_records.specs.declared.kind.Rule.the-variants.{Skip, Diverge, Truth, Number, Use, Fetch}
 use Rattle.sheet_records.specs.declared.kind.Rule.the-variants.{Operate, Assign, Sequence, If, While, New, Procedure}
@@ -28,22 +28,6 @@ kindOf If = 25
 kindOf While = 26
 kindOf New = 27
 kindOf Procedure = 28
-
--- how many bytes their body has
-abbrev pub bytesOf : Rule → ℕ
-bytesOf Skip = 0
-bytesOf Diverge = 1
-bytesOf Truth = 1
-bytesOf Number = 1
-bytesOf Use = 1
-bytesOf Fetch = 0
-bytesOf Operate = 1
-bytesOf Assign = 0
-bytesOf Sequence = 0
-bytesOf If = 0
-bytesOf While = 0
-bytesOf New = 2
-bytesOf Procedure = 11
 
 -- how many parts they have, a use's not counted
 abbrev pub partsOf : Rule → ℕ

@@ -8,6 +8,8 @@ use mathlib.Core.Bool.{Bool, false, _||_}
 use mathlib.Core.List.{List, [], _∷_, _++_}
 use lib.Dec.{eqb}
 use Rattle.language.specs.Choice.{pick}
+use Rattle.sheet_records.specs.Kind.{recordWidth}
+use Rattle.sheet_records.specs.declared.kind.Rule.the-variants.{Use, Operate, New, Procedure}
 use Rattle.sheet_written.specs.Written.{Written, skip, diverge, truth, number, call, fetch, operate, assign}
 use Rattle.sheet_written.specs.Written.{sequence, while, choose, new, procedure, Parameter, Writtens, none, more}
 use Rattle.sheet_written.specs.Written.{Sheet}
@@ -76,18 +78,20 @@ unfoldable mutual
   hiding bs at (diverge ty) = []
   hiding bs at (truth b) = []
   hiding bs at (number b) = []
-  hiding bs at (call id ws) = allHiding bs (2 + at) ws
+  hiding bs at (call id ws) = allHiding bs (recordWidth Use + at) ws
   hiding bs at (fetch v) = hiding bs (1 + at) v
-  hiding bs at (operate op x y) = hiding bs (2 + at) x ++ hiding bs (2 + at + width x) y
+  hiding bs at (operate op x y) =
+      hiding bs (recordWidth Operate + at) x ++ hiding bs (recordWidth Operate + at + width x) y
   hiding bs at (assign x y) = hiding bs (1 + at) x ++ hiding bs (1 + at + width x) y
   hiding bs at (sequence x y) = hiding bs (1 + at) x ++ hiding bs (1 + at + width x) y
   hiding bs at (choose b x y) =
       hiding bs (1 + at) b ++ (hiding bs (1 + at + width b) x ++ hiding bs (1 + at + width b + width x) y)
   hiding bs at (while x y) = hiding bs (1 + at) x ++ hiding bs (1 + at + width x) y
-  hiding bs at (new id d c) = hidingId bs (1 + at) id ++ hiding (a-block id d ∷ bs) (3 + at) c
+  hiding bs at (new id d c) = hidingId bs (1 + at) id ++ hiding (a-block id d ∷ bs) (recordWidth New + at) c
   hiding bs at (procedure id ty ps x y) =
       hidingId bs (1 + at) id ++ (hidingParameters bs (4 + at) ps
-        ++ (hiding (inside ps bs) (12 + at) x ++ hiding (after id ty ps bs) (12 + at + width x) y))
+        ++ (hiding (inside ps bs) (recordWidth Procedure + at) x
+          ++ hiding (after id ty ps bs) (recordWidth Procedure + at + width x) y))
 
   pub allHiding : List Binder → ℕ → Writtens → List Hiding
   allHiding bs at none = []

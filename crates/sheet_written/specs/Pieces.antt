@@ -2,6 +2,9 @@
 -- is one byte of kind and a body whose length the kind fixes"; document 02 [1] for procedures.
 use Prim.Native.Nat.{ℕ}
 use mathlib.Core.List.{List, [], _∷_}
+use Rattle.sheet_records.specs.Kind.{recordWidth}
+use Rattle.sheet_records.specs.declared.kind.Rule.the-variants.{Skip, Diverge, Truth, Number, Use, Fetch, Operate, Assign}
+use Rattle.sheet_records.specs.declared.kind.Rule.the-variants.{Sequence, If, While, New, Procedure}
 use Rattle.sheet_written.specs.Written.{Written, skip, diverge, truth, number, call, fetch, operate, assign}
 use Rattle.sheet_written.specs.Written.{sequence, while, choose, new, procedure, Writtens, none, more}
 use Rattle.sheet_written.specs.Meaning.{Binder, a-block, inside, after}
@@ -37,16 +40,16 @@ pieces bs (procedure id ty ps x y) = piece (inside ps bs) x ∷ piece (after id 
 
 -- how many bytes a record has before its parts
 unfoldable pub ownWidth : Written → ℕ
-ownWidth skip = 1
-ownWidth (diverge ty) = 2
-ownWidth (truth b) = 2
-ownWidth (number b) = 2
-ownWidth (call id ws) = 2
-ownWidth (fetch v) = 1
-ownWidth (operate op x y) = 2
-ownWidth (assign x y) = 1
-ownWidth (sequence x y) = 1
-ownWidth (choose b x y) = 1
-ownWidth (while x y) = 1
-ownWidth (new id d c) = 3
-ownWidth (procedure id ty ps x y) = 12
+ownWidth skip = recordWidth Skip
+ownWidth (diverge ty) = recordWidth Diverge
+ownWidth (truth b) = recordWidth Truth
+ownWidth (number b) = recordWidth Number
+ownWidth (call id ws) = recordWidth Use
+ownWidth (fetch v) = recordWidth Fetch
+ownWidth (operate op x y) = recordWidth Operate
+ownWidth (assign x y) = recordWidth Assign
+ownWidth (sequence x y) = recordWidth Sequence
+ownWidth (choose b x y) = recordWidth If
+ownWidth (while x y) = recordWidth While
+ownWidth (new id d c) = recordWidth New
+ownWidth (procedure id ty ps x y) = recordWidth Procedure

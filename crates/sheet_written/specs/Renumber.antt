@@ -8,6 +8,8 @@ use mathlib.Core.Bool.{Bool, true, false, _||_}
 use mathlib.Core.List.{List, [], _∷_, _++_}
 use lib.Dec.{eqb, ltb}
 use Rattle.language.specs.Choice.{pick}
+use Rattle.sheet_records.specs.Kind.{recordWidth}
+use Rattle.sheet_records.specs.declared.kind.Rule.the-variants.{Use, Operate, New, Procedure}
 use Rattle.sheet_records.specs.Limits.{ids}
 use Rattle.sheet_written.specs.Written.{Written, skip, diverge, truth, number, call, fetch, operate, assign}
 use Rattle.sheet_written.specs.Written.{sequence, while, choose, new, procedure, Parameter, Writtens, none, more}
@@ -129,10 +131,11 @@ unfoldable mutual
   renumber bs f taken at (diverge ty) = renumbered (diverge ty) [] taken
   renumber bs f taken at (truth b) = renumbered (truth b) [] taken
   renumber bs f taken at (number b) = renumbered (number b) [] taken
-  renumber bs f taken at (call id ws) = over (call (f id)) (renumberAll bs f taken (2 + at) ws)
+  renumber bs f taken at (call id ws) = over (call (f id)) (renumberAll bs f taken (recordWidth Use + at) ws)
   renumber bs f taken at (fetch v) = over fetch (renumber bs f taken (1 + at) v)
   renumber bs f taken at (operate op x y) =
-      next (renumber bs f taken (2 + at) x) (λ x′ then. over (operate op x′) (renumber bs f then (2 + at + width x) y))
+      next (renumber bs f taken (recordWidth Operate + at) x) (λ x′ then.
+        over (operate op x′) (renumber bs f then (recordWidth Operate + at + width x) y))
   renumber bs f taken at (assign x y) =
       next (renumber bs f taken (1 + at) x) (λ x′ then. over (assign x′) (renumber bs f then (1 + at + width x) y))
   renumber bs f taken at (sequence x y) =
@@ -144,13 +147,13 @@ unfoldable mutual
       next (renumber bs f taken (1 + at) x) (λ x′ then. over (while x′) (renumber bs f then (1 + at + width x) y))
   renumber bs f taken at (new id d c) =
       next (renumberId bs taken (1 + at) id) (λ id′ then.
-        over (new id′ d) (renumber (a-block id d ∷ bs) (put id id′ f) then (3 + at) c))
+        over (new id′ d) (renumber (a-block id d ∷ bs) (put id id′ f) then (recordWidth New + at) c))
   renumber bs f taken at (procedure id ty ps x y) =
       next (renumberId bs taken (1 + at) id) (λ id′ then.
         next (renumberParameters bs then (4 + at) ps) (λ qs then′.
-          next (renumber (inside ps bs) (mapInside f ps qs) then′ (12 + at) x) (λ x′ then″.
+          next (renumber (inside ps bs) (mapInside f ps qs) then′ (recordWidth Procedure + at) x) (λ x′ then″.
             over (procedure id′ ty qs x′)
-              (renumber (after id ty ps bs) (put id id′ f) then″ (12 + at + width x) y))))
+              (renumber (after id ty ps bs) (put id id′ f) then″ (recordWidth Procedure + at + width x) y))))
 
   pub renumberAll : List Binder → (ℕ → ℕ) → (ℕ → Bool) → ℕ → Writtens → Renumbering Writtens
   renumberAll bs f taken at none = renumbered none [] taken
