@@ -13,7 +13,7 @@ use Rattle.language.specs.declared.Numbers.{Numbers}
 use Rattle.serve_conditions.specs.Lent.{words-asked}
 use Rattle.serve_conditions.proofs.Figures.{asked-low}
 use Rattle.language.specs.Choice.{pick}
-use Rattle.sheet_reader.specs.Encoding.{headingLength}
+use Rattle.sheet_written.specs.Width.{headingWidth}
 use Rattle.sheet_records.specs.declared.edition.Edition.the-variants.{Present}
 use Rattle.sheet_records.specs.declared.refusal.Cause.{Cause}
 use Rattle.sheet_reader.specs.Reader.{Checks, accepted, rejected, readSheet}
@@ -58,7 +58,7 @@ bounded old new = go (readSheet old) (readSheet new) refl refl
         Bounded (sizeIn A + sizeIn B)
           (onRead A 0 (λ N root ty n. onRead B 1 (λ M other b m. judged N root ty n other b m)))
     go (accepted S ty n) (accepted T b m) e f =
-        lent (S .numbers) (matching old new (headingLength S) (headingLength T) ty b) _ _ (n + m) refl refl
+        lent (S .numbers) (matching old new (headingWidth S) (headingWidth T) ty b) _ _ (n + m) refl refl
     go (accepted S ty n) (rejected k p) e f =
         let r = check-refused Present new f in
         let k = from-check (r .known) in

@@ -16,7 +16,7 @@ use Rattle.sheet_records.specs.declared.refusal.Cause.{Cause}
 use Rattle.sheet_records.specs.declared.refusal.Refusal.{Refusal as Wrong}
 use Rattle.sheet_written.specs.Meaning.{termOf, tyOf}
 use Rattle.sheet_written.specs.Written.{Sheet}
-use Rattle.sheet_reader.specs.Encoding.{headingLength}
+use Rattle.sheet_written.specs.Width.{headingWidth}
 use Rattle.sheet_reader.specs.Reader.{readSheet, rejected}
 use Rattle.sheet_records.specs.declared.edition.Edition.the-variants.{Present}
 use Rattle.sheet_judge.specs.declared.mark.Uses.{Uses}
@@ -53,11 +53,11 @@ refuses-sheet s ws space {z = z} h e c = refuses s ws space {x = cause (z .numbe
 
 -- the heading of a sheet that is loaded
 pub rooted : {s : List ℕ} {root row ty all : ℕ} {v : Uses} {t : List ℕ} → load.Ready s root row ty all v t
-    → {N : Numbers} {k : ℕ} (F : Fit N k s row all t) → root ≡ headingLength (F .sheet)
+    → {N : Numbers} {k : ℕ} (F : Fit N k s row all t) → root ≡ headingWidth (F .sheet)
 rooted b F =
     let e = sym (b .accepts) ∙ F .reads in
     let f : b .sheet ≡ F .sheet = cc in
-    b .rooted ∙ ap headingLength f
+    b .rooted ∙ ap headingWidth f
 
 -- it is within the bytes, and short
 pub heading-in : {s : List ℕ} {root row ty all : ℕ} {v : Uses} {t : List ℕ} → load.Ready s root row ty all v t
@@ -129,7 +129,7 @@ module _ {N : Numbers} {ty : ℕ} {s : List ℕ} {row all : ℕ} {t : List ℕ} 
       }
 
       -- the automaton is built, and the heading and the type are written: the positions can be
-      pub card-drawable : (root place : ℕ) (ws′ : List ℕ) → root ≡ headingLength (F .sheet) → place ≡ root + 1
+      pub card-drawable : (root place : ℕ) (ws′ : List ℕ) → root ≡ headingWidth (F .sheet) → place ≡ root + 1
           → length ws′ ≡ length ws
           → ((R : OneReady N t row all ws) → OneBuilt N (R .type) (R .term) (all + 1) ws′) → Drawable s ty all place ws′
       card-drawable root place ws′ r p len B = record {
@@ -155,7 +155,7 @@ module _ {N : Numbers} {ty : ℕ} {s : List ℕ} {row all : ℕ} {t : List ℕ} 
       fits-space {k} C = omega (arith, card-fits s k C, space-enough, same-space C)
 
       -- the card is written: heading and type up to the place, then the bytes of the positions
-      pub carded : (root place r : ℕ) (ws₁ space₁ space₂ ws′ : List ℕ) → root ≡ headingLength (F .sheet)
+      pub carded : (root place r : ℕ) (ws₁ space₁ space₂ ws′ : List ℕ) → root ≡ headingWidth (F .sheet)
           → root ≤ length s → place ≡ root + 1 → length ws₁ ≡ length ws
           → ((R : OneReady N t row all ws) → OneBuilt N (R .type) (R .term) (all + 1) ws₁)
           → space₁ ≡ sets space 0 (take root s ++ (ty ∷ []))

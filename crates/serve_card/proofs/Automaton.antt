@@ -21,7 +21,7 @@ use Rattle.states_words.proofs.Ranges.{sheet-range, sheet-small, type-in}
 use Rattle.play_records.specs.Spell.{letters}
 use Rattle.sheet_written.specs.Written.{Sheet}
 use Rattle.sheet_written.specs.Meaning.{termOf, tyOf, typeOf}
-use Rattle.sheet_reader.specs.Encoding.{headingLength}
+use Rattle.sheet_written.specs.Width.{headingWidth}
 use Rattle.sheet_reader.specs.Fine.{Accepted}
 use Rattle.sheet_reader.specs.Reader as reader
 use Rattle.sheet_reader.specs.Reader.{readSheet}
@@ -104,7 +104,7 @@ module _ (S : Sheet) (A : Accepted S) (n : ℕ) (ws : List ℕ)
 
   -- THEOREM: the heading, the type and these bytes are the card
   pub card-of-built : (s : List ℕ) (ty size : ℕ) → readSheet s ≡ reader.accepted S ty size → (P : List Place)
-      → Smallest Led P → CardOf s (take (headingLength S) s ++ (ty ∷ placesBytes P))
+      → Smallest Led P → CardOf s (take (headingWidth S) s ++ (ty ∷ placesBytes P))
   unfolding cardBytes
   card-of-built s ty size r P M = record {
     sheet = S;
@@ -113,5 +113,5 @@ module _ (S : Sheet) (A : Accepted S) (n : ℕ) (ws : List ℕ)
     reads = r;
     table = positionsOf (S .numbers) (few S A) P;
     positions = table-of-built P M;
-    bytes = ap (λ (x : List ℕ). take (headingLength S) s ++ (ty ∷ x)) (sym (bytes-of-built P M));
+    bytes = ap (λ (x : List ℕ). take (headingWidth S) s ++ (ty ∷ x)) (sym (bytes-of-built P M));
   }

@@ -14,7 +14,7 @@ use Rattle.dfa.specs.Graph.{rest}
 use Rattle.dfa.specs.Live.{Single}
 use Rattle.sheet_records.specs.declared.edition.Edition.the-variants.{Present}
 use Rattle.sheet_written.specs.Meaning.{termOf, tyOf, typeOf}
-use Rattle.sheet_reader.specs.Encoding.{headingLength}
+use Rattle.sheet_written.specs.Width.{headingWidth}
 use Rattle.sheet_reader.specs.Fine.{Accepted}
 use Rattle.sheet_reader.proofs.Right.{gives}
 use Rattle.states_words.proofs.Filled.{most-edges}
@@ -109,11 +109,11 @@ module _ (s : List ℕ) (ty all place : ℕ) (ws : List ℕ) (D : Drawable s ty 
       drawn-states = states G n (6 * n + 1 + 2 * getD G n 0) (O .own) count ws₂ M
 
       -- THEOREM: the heading, the type and the bytes of the positions are the card
-      drawn-card : CardOf s (take (headingLength (D .sheet)) s ++ (ty ∷ positionsBytes ws₂ n f count 0))
+      drawn-card : CardOf s (take (headingWidth (D .sheet)) s ++ (ty ∷ positionsBytes ws₂ n f count 0))
       drawn-card =
           let e = places-are G n (6 * n + 1 + 2 * getD G n 0) (O .own) count ws₂ M f count 0 (omega arith) in
           let low : f < n = omega (arith, drawn-some) in
-          subst (λ (x : List ℕ). CardOf s (take (headingLength (D .sheet)) s ++ (ty ∷ x))) (sym e)
+          subst (λ (x : List ℕ). CardOf s (take (headingWidth (D .sheet)) s ++ (ty ∷ x))) (sym e)
             (card-of-built (D .sheet) fine n ws (D .built) f end-at s ty all (D .reads) Q
               (table-smallest G n f single low (O .own) (O .classes) count (stateAt n ws₂) (numberAt n ws₂)
                 (M .numbered)))
@@ -121,7 +121,7 @@ module _ (s : List ℕ) (ty all place : ℕ) (ws : List ℕ) (D : Drawable s ty 
       -- the place after them is within what a word can count
       pub drawn-room : place + length (positionsBytes ws₂ n f count 0) ≤ 4294967296
       drawn-room =
-          let h = take (headingLength (D .sheet)) s in
+          let h = take (headingWidth (D .sheet)) s in
           let a = length-append h (ty ∷ positionsBytes ws₂ n f count 0) in
           let b = heading-short (D .sheet) fine in
           omega (arith, card-fits s _ drawn-card, space-most (drawn-card .sheet .numbers) (drawn-card .size), a, b,

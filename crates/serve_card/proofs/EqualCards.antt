@@ -12,7 +12,7 @@ use Rattle.language.specs.Choice.{pick}
 use Rattle.sheet_records.specs.Refusal.{both-sheets, headings-differ}
 use Rattle.sheet_records.specs.declared.edition.Edition.the-variants.{Present}
 use Rattle.sheet_records.specs.declared.refusal.Cause.{Cause}
-use Rattle.sheet_reader.specs.Encoding.{headingLength}
+use Rattle.sheet_written.specs.Width.{headingWidth}
 use Rattle.sheet_reader.proofs.Right.{gives}
 use Rattle.serve_conditions.specs.Lent.{bytes-asked, words-asked}
 use Rattle.serve_compare.specs.Refusals.{compareRefusal, onRead}
@@ -58,8 +58,8 @@ later false false x e n = let z : _≡_ {A = ℕ} 0 1 = cc in absurd (omega arit
 pub equal-cards : EqualCards
 unfolding compareRefusal onRead
 equal-cards old new c d C D e =
-    let h = headingLength (C .sheet) in
-    let k = headingLength (D .sheet) in
+    let h = headingWidth (C .sheet) in
+    let k = headingWidth (D .sheet) in
     let o = other-heading old new c d C D e in
     let m : matching old new h k (C .type) (D .type) ≡ true = match old new h k (C .type) (D .type)
           (heading-within old (C .sheet) (gives Present old (C .sheet) (C .type) (C .size) (C .reads) .0))

@@ -2,7 +2,7 @@
 use mathlib.Core.Bool.{Bool, cond, false, true}
 use mathlib.Core.List.{List, [], _++_, _∷_, append-assoc}
 use mathlib.Core.Path.{_∙_, _≡_, ap, ap₂, refl, subst, sym}
-use Prim.Native.Nat.{_+_, _<_, _≤_, suc, ℕ}
+use Prim.Native.Nat.{_<_, _≤_, suc, ℕ}
 use native.Mathlib.Omega.{arith}
 use lib.ListN.{length, take}
 use Rattle.language.specs.Move.{Word, record-of}
@@ -10,15 +10,17 @@ use Rattle.language.specs.Term.{freely, once}
 use Rattle.sheet_records.specs.declared.edition.Edition.the-variants.{Present}
 use Rattle.sheet_written.specs.Fine.{FineNames}
 use Rattle.sheet_written.specs.Written.{Name, Sheet, declare, retire}
-use Rattle.sheet_reader.specs.Encoding.{declareKind, encode, encodeName, encodeNames, encodeSheet, headingLength}
+use Rattle.sheet_written.specs.Width.{headingWidth}
+use Rattle.sheet_reader.specs.Encoding.{declareKind, encode, encodeName, encodeNames, encodeSheet}
+use Rattle.sheet_reader.proofs.Padding.{padded-length}
 use Rattle.sheet_reader.proofs.Right.{gives}
+use Rattle.sheet_reader.proofs.Widths.{wide-heading}
 use Rattle.serve_compare.specs.Plays.{CompletePlay}
 use Rattle.card_bytes.specs.Kinds.{filed, moveKind}
 use Rattle.card_bytes.proofs.laws.Kinds.{kind-least}
 use Rattle.serve_card.specs.Card.{arcBytes, arcsBytes, cardBytes, tableBytes}
 use Rattle.serve_card.specs.Positions.{Among, Arc, Beginning, Position, Table}
 use Rattle.serve_card.specs.Rules.{OtherHeading}
-use Rattle.serve_card.proofs.Length.{padded-length}
 use Rattle.serve_card.proofs.Lists.{head-same, none-some, split-same, tail-same}
 use Rattle.serve_card.proofs.Plays.{leading-first}
 
@@ -137,12 +139,11 @@ take-front (x ∷ xs) ys = ap (λ (z : List ℕ). x ∷ z) (take-front xs ys)
 
 -- the heading: range, rule and name records
 heading-bytes : (s : List ℕ) (S : Sheet) → s ≡ encodeSheet S
-    → take (headingLength S) s ≡ S .numbers .z ∷ S .numbers .rule ∷ encodeNames (S .names)
-unfolding encodeSheet headingLength
+    → take (headingWidth S) s ≡ S .numbers .z ∷ S .numbers .rule ∷ encodeNames (S .names)
+unfolding encodeSheet
 heading-bytes s S e =
-    ap (take (2 + length (encodeNames (S .names)))) e
-    ∙ ap (λ k. take k (S .numbers .z ∷ S .numbers .rule ∷ (encodeNames (S .names) ++ encode (S .term))))
-      {x = 2 + length (encodeNames (S .names))} {y = suc (suc (length (encodeNames (S .names))))} (omega arith)
+    let k : headingWidth S ≡ suc (suc (length (encodeNames (S .names)))) = omega (arith, wide-heading S) in
+    ap₂ (λ (n : ℕ) (x : List ℕ). take n x) k e
     ∙ ap (λ (x : List ℕ). S .numbers .z ∷ S .numbers .rule ∷ x) (take-front (encodeNames (S .names)) (encode (S .term)))
 
 same-three : {x y u v : ℕ} {xs ys : List ℕ} → x ≡ y → u ≡ v → xs ≡ ys → x ∷ u ∷ xs ≡ y ∷ v ∷ ys

@@ -1,6 +1,6 @@
 -- How long a card is, by its positions and moves, and that it fits where the sheet's size is 5 or more.
 use mathlib.Core.List.{List, [], _∷_}
-use mathlib.Core.Path.{_≡_, ap, refl}
+use mathlib.Core.Path.{_≡_, refl}
 use mathlib.Core.Bool.{Bool, false, true}
 use Prim.Native.Nat.{_%_, _*_, _+_, _/_, _<_, _≤_, suc, zero, ℕ}
 use native.Mathlib.Decide.{decLt}
@@ -17,7 +17,7 @@ use Rattle.sheet_records.specs.Limits.{earlier-z}
 use Rattle.language.specs.Ty.{ask, done, ok, read, run, value, write}
 use Rattle.language.specs.Move.{Event, Move, answer, at, bytes, move, private, question, record-of, valueOf}
 use Rattle.sheet_written.specs.Written.{Name, Sheet, declare, retire}
-use Rattle.sheet_reader.specs.Encoding.{encodeName, encodeNames, headingLength, padded}
+use Rattle.sheet_written.specs.Width.{nameWidth, namesWidth, headingWidth}
 use Rattle.sheet_reader.specs.Fine.{Accepted}
 use Rattle.card_bytes.specs.Kinds.{filed}
 use Rattle.serve_card.specs.Positions.{Arc, Position}
@@ -65,27 +65,19 @@ table-length N (p ∷ T) =
     let h = table-length N T in
     omega (arith, h, arcs-length N (p .arcs), length-append (arcsBytes N (p .arcs)) (tableBytes N T))
 
-pub padded-length : (n : ℕ) (tys : List ℕ) → length (padded n tys) ≡ n
-unfolding padded
-padded-length zero tys = refl
-padded-length (suc n) [] = ap suc (padded-length n [])
-padded-length (suc n) (ty ∷ tys) = ap suc (padded-length n tys)
+name-short : (n : Name) → nameWidth n ≤ 8
+unfolding nameWidth
+name-short (declare often id ty tys) = omega arith
+name-short (retire id) = omega arith
 
-name-length : (n : Name) → length (encodeName n) ≤ 8
-unfolding encodeName
-name-length (declare often id ty tys) = omega (arith, padded-length 4 tys)
-name-length (retire id) = omega arith
+names-short : (ns : List Name) → namesWidth ns ≤ 8 * length ns
+unfolding namesWidth
+names-short [] = omega arith
+names-short (n ∷ ns) = omega (arith, name-short n, names-short ns)
 
-names-length : (ns : List Name) → length (encodeNames ns) ≤ 8 * length ns
-unfolding encodeNames
-names-length [] = omega arith
-names-length (n ∷ ns) =
-    let h = names-length ns in
-    omega (arith, h, name-length n, length-append (encodeName n) (encodeNames ns))
-
-pub heading-short : (S : Sheet) → Accepted S → headingLength S ≤ 258
-unfolding headingLength
-heading-short S A = omega (arith, names-length (S .names), A .ordered .few-names)
+pub heading-short : (S : Sheet) → Accepted S → headingWidth S ≤ 258
+unfolding headingWidth
+heading-short S A = omega (arith, names-short (S .names), A .ordered .few-names)
 
 take-length : (n : ℕ) (s : List ℕ) → length (take n s) ≤ n
 take-length zero s = omega arith
@@ -126,15 +118,15 @@ space-more N size h = rw (lt-ltb earlier-z (N .z) h) refl
 -- THEOREM: a card of at most S positions and (1 + K) / 2 × S moves fits where S is 5 or more
 pub fits : (S : Sheet) → Accepted S → (s : List ℕ) (ty size : ℕ) (T : List Position) → 5 ≤ size → length T ≤ size
     → 2 * allMoves T ≤ (1 + numbers (S .numbers)) * size
-    → length (cardBytes s (headingLength S) ty (S .numbers) T) ≤ space-for (S .numbers) size
+    → length (cardBytes s (headingWidth S) ty (S .numbers) T) ≤ space-for (S .numbers) size
 fits S A s ty size T h k m = by (decLt earlier-z (S .numbers .z))
   where
-    long : length (cardBytes s (headingLength S) ty (S .numbers) T)
-        ≤ headingLength S + 1 + 2 * length T + 7 * allMoves T
-    long = card-length s (headingLength S) ty (S .numbers) T
+    long : length (cardBytes s (headingWidth S) ty (S .numbers) T)
+        ≤ headingWidth S + 1 + 2 * length T + 7 * allMoves T
+    long = card-length s (headingWidth S) ty (S .numbers) T
 
     by : Dec (earlier-z < S .numbers .z)
-        → length (cardBytes s (headingLength S) ty (S .numbers) T) ≤ space-for (S .numbers) size
+        → length (cardBytes s (headingWidth S) ty (S .numbers) T) ≤ space-for (S .numbers) size
     by (yes l) =
         let most : 1 + numbers (S .numbers) ≤ 67 =
               omega (arith, numbers-within (S .numbers), A .ordered .in-order .z-below) in

@@ -20,7 +20,7 @@ use Rattle.states_words.specs.Letter.{letter}
 use Rattle.states_words.proofs.LetterLaws.{letter-order}
 use Rattle.sheet_written.specs.Meaning.{termOf}
 use Rattle.sheet_written.specs.Written.{Sheet}
-use Rattle.sheet_reader.specs.Encoding.{headingLength}
+use Rattle.sheet_written.specs.Width.{headingWidth}
 use Rattle.sheet_reader.specs.Fine.{Accepted}
 use Rattle.serve_compare.specs.Plays.{reckoned, wholeType}
 use Rattle.serve_card.specs.Positions.{Among, Arc, Ascending, Position, Table, no-position}
@@ -136,18 +136,18 @@ size-some T M = omega (arith, positive M, some-times (questions T) 0 (weight M) 
 -- THEOREM: a card of at most S positions and (1 + K) / 2 × S moves fits
 pub fits-any : (S : Sheet) → Accepted S → (s : List ℕ) (ty : ℕ) (T : List Position) → Table S T
     → length T ≤ reckoned S → 2 * allMoves T ≤ (1 + numbers (S .numbers)) * reckoned S
-    → length (cardBytes s (headingLength S) ty (S .numbers) T) ≤ space-for (S .numbers) (reckoned S)
+    → length (cardBytes s (headingWidth S) ty (S .numbers) T) ≤ space-for (S .numbers) (reckoned S)
 fits-any S A s ty T B k m = by (decLt 0 (length T)) (decLt 4 (reckoned S))
   where
     room : 128 * reckoned S ≤ space-for (S .numbers) (reckoned S)
     room = space-least (S .numbers) (reckoned S)
 
-    long : length (cardBytes s (headingLength S) ty (S .numbers) T)
-        ≤ headingLength S + 1 + 2 * length T + 7 * allMoves T
-    long = card-length s (headingLength S) ty (S .numbers) T
+    long : length (cardBytes s (headingWidth S) ty (S .numbers) T)
+        ≤ headingWidth S + 1 + 2 * length T + 7 * allMoves T
+    long = card-length s (headingWidth S) ty (S .numbers) T
 
     by : Dec (0 < length T) → Dec (4 < reckoned S)
-        → length (cardBytes s (headingLength S) ty (S .numbers) T) ≤ space-for (S .numbers) (reckoned S)
+        → length (cardBytes s (headingWidth S) ty (S .numbers) T) ≤ space-for (S .numbers) (reckoned S)
     by d (yes l) = fits S A s ty (reckoned S) T l k m
     by (no e) (no l) =
         let n : allMoves T ≤ 0 = no-moves T (omega arith) in

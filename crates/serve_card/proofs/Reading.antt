@@ -15,7 +15,7 @@ use Rattle.states_words.proofs.LetterLaws.{event-again}
 use Rattle.play_records.specs.Bytes.{firstLetter, letterFrom}
 use Rattle.play_records.proofs.WritingPlays.{record-letter}
 use Rattle.sheet_records.specs.declared.edition.Edition.the-variants.{Present}
-use Rattle.sheet_reader.specs.Encoding.{headingLength}
+use Rattle.sheet_written.specs.Width.{headingWidth}
 use Rattle.sheet_reader.specs.Fine.{Accepted}
 use Rattle.sheet_reader.proofs.Right.{gives}
 use Rattle.card_bytes.specs.Kinds.{filed, moveKind}
@@ -153,7 +153,7 @@ card-reads s c C =
     let S = C .sheet in
     let g = gives Present s S (C .type) (C .size) (C .reads) in
     let A : Accepted S = g .1 in
-    let h = headingLength S in
+    let h = headingWidth S in
     let e : readTable (S .numbers) (drop (h + 1) c) ≡ C .table =
           ap (λ (x : List ℕ). readTable (S .numbers) (drop (h + 1) x)) (C .bytes)
           ∙ ap (readTable (S .numbers)) (after-type s h (C .type) (S .numbers) (C .table) (heading-within s S (g .0)))

@@ -15,9 +15,11 @@ use Rattle.language.specs.Move.{Word}
 use Rattle.sheet_records.specs.declared.edition.Edition.the-variants.{Present}
 use Rattle.sheet_records.specs.declared.refusal.Cause.{Cause}
 use Rattle.sheet_written.specs.Written.{Sheet}
-use Rattle.sheet_reader.specs.Encoding.{encode, encodeNames, encodeSheet, headingLength}
+use Rattle.sheet_written.specs.Width.{headingWidth}
+use Rattle.sheet_reader.specs.Encoding.{encode, encodeNames, encodeSheet}
 use Rattle.sheet_reader.specs.Reader.{accepted, numbersAt}
 use Rattle.sheet_reader.proofs.Right.{gives}
+use Rattle.sheet_reader.proofs.Widths.{wide-heading}
 use Rattle.serve_compare.specs.Plays.{Alike}
 use Rattle.serve_compare.specs.Refusals.{compareRefusal, onRead}
 use Rattle.serve_conditions.specs.Pair.{matching, pairRefusal, sameFirst}
@@ -70,9 +72,9 @@ longer [] ys = omega arith
 longer (x ∷ xs) ys = let h = longer xs ys in omega arith
 
 -- the heading is within the bytes
-pub heading-within : (s : List ℕ) (S : Sheet) → s ≡ encodeSheet S → headingLength S ≤ length s
-unfolding encodeSheet headingLength
-heading-within s S e = rw e (omega (arith, longer (encodeNames (S .names)) (encode (S .term))))
+pub heading-within : (s : List ℕ) (S : Sheet) → s ≡ encodeSheet S → headingWidth S ≤ length s
+unfolding encodeSheet
+heading-within s S e = rw e (omega (arith, wide-heading S, longer (encodeNames (S .names)) (encode (S .term))))
 
 -- two cards of sheets that match
 module _ (old new : List ℕ) (C : (c : List ℕ) × CardOf old c) (D : (d : List ℕ) × CardOf new d) where
@@ -90,50 +92,50 @@ module _ (old new : List ℕ) (C : (c : List ℕ) × CardOf old c) (D : (d : Lis
 
   -- what is not refused matches
   matches : (words space : ℕ) → compareRefusal old new words space ≡ none
-      → Matched old new (headingLength S) (headingLength S′) (C .1 .type) (D .1 .type)
+      → Matched old new (headingWidth S) (headingWidth S′) (C .1 .type) (D .1 .type)
   unfolding compareRefusal onRead
-  matches words space h = by (matching old new (headingLength S) (headingLength S′) (C .1 .type) (D .1 .type)) refl k
+  matches words space h = by (matching old new (headingWidth S) (headingWidth S′) (C .1 .type) (D .1 .type)) refl k
     where
-      k : pairRefusal (matching old new (headingLength S) (headingLength S′) (C .1 .type) (D .1 .type))
+      k : pairRefusal (matching old new (headingWidth S) (headingWidth S′) (C .1 .type) (D .1 .type))
           (S .numbers) words space (C .1 .size + D .1 .size) ≡ none
       k = rw (C .1 .reads, D .1 .reads) at h
 
-      by : (b : Bool) → matching old new (headingLength S) (headingLength S′) (C .1 .type) (D .1 .type) ≡ b
+      by : (b : Bool) → matching old new (headingWidth S) (headingWidth S′) (C .1 .type) (D .1 .type) ≡ b
           → pairRefusal b (S .numbers) words space (C .1 .size + D .1 .size) ≡ none
-          → Matched old new (headingLength S) (headingLength S′) (C .1 .type) (D .1 .type)
+          → Matched old new (headingWidth S) (headingWidth S′) (C .1 .type) (D .1 .type)
       by true d k =
-          matched old new (headingLength S) (headingLength S′) (C .1 .type) (D .1 .type) (two-first S) d
+          matched old new (headingWidth S) (headingWidth S′) (C .1 .type) (D .1 .type) (two-first S) d
       by false d k = let z : _≡_ {A = ℕ} 0 1 = cc in absurd (omega arith)
 
-  module _ (M : Matched old new (headingLength S) (headingLength S′) (C .1 .type) (D .1 .type)) where
+  module _ (M : Matched old new (headingWidth S) (headingWidth S′) (C .1 .type) (D .1 .type)) where
     same-numbers : S .numbers ≡ S′ .numbers
     same-numbers = held-numbers held ∙ M .numbers ∙ sym (held-numbers held′)
 
-    same-heading : take (headingLength S) old ≡ take (headingLength S′) new
+    same-heading : take (headingWidth S) old ≡ take (headingWidth S′) new
     same-heading =
         let h = heading-within old S (gives Present old S (C .1 .type) (C .1 .size) (C .1 .reads) .0) in
         let k = heading-within new S′ (gives Present new S′ (D .1 .type) (D .1 .size) (D .1 .reads) .0) in
-        take-same (headingLength S) old new h (omega (arith, k, M .roots)) (M .bytes)
+        take-same (headingWidth S) old new h (omega (arith, k, M .roots)) (M .bytes)
         ∙ ap (λ n. take n new) (M .roots)
 
     -- the second card by the type and the numbers of the first sheet
-    second : D .0 ≡ cardBytes new (headingLength S′) (C .1 .type) (S .numbers) (D .1 .table)
+    second : D .0 ≡ cardBytes new (headingWidth S′) (C .1 .type) (S .numbers) (D .1 .table)
     second = D .1 .bytes
-        ∙ ap₂ (λ t N. cardBytes new (headingLength S′) t N (D .1 .table)) (sym (M .types)) (sym same-numbers)
+        ∙ ap₂ (λ t N. cardBytes new (headingWidth S′) t N (D .1 .table)) (sym (M .types)) (sym same-numbers)
 
     second-small : SmallTable (S .numbers) (D .1 .table)
     second-small = subst (λ N. SmallTable N (D .1 .table)) (sym same-numbers)
         (table-small S′ (held-accepted held′) (D .1 .table) (D .1 .positions))
 
     tables-same : C .0 ≡ D .0 → C .1 .table ≡ D .1 .table
-    tables-same e = bytes-card (S .numbers) (few S (held-accepted held)) old new (headingLength S) (headingLength S′)
+    tables-same e = bytes-card (S .numbers) (few S (held-accepted held)) old new (headingWidth S) (headingWidth S′)
         (C .1 .type) (C .1 .table) (D .1 .table) same-heading
         (table-small S (held-accepted held) (C .1 .table) (C .1 .positions)) second-small
         (sym (C .1 .bytes) ∙ e ∙ second)
 
     same-tables : C .1 .table ≡ D .1 .table → C .0 ≡ D .0
     same-tables e = C .1 .bytes
-        ∙ card-bytes (S .numbers) (few S (held-accepted held)) old new (headingLength S) (headingLength S′) (C .1 .type)
+        ∙ card-bytes (S .numbers) (few S (held-accepted held)) old new (headingWidth S) (headingWidth S′) (C .1 .type)
           (C .1 .table) (D .1 .table) same-heading e
         ∙ sym second
 
@@ -200,7 +202,7 @@ one-card s c d C D =
     one-type e = cc
 
     same : (S T : Sheet) (t u : ℕ) (A B : List Position) → S ≡ T → t ≡ u → A ≡ B
-        → cardBytes s (headingLength S) t (S .numbers) A ≡ cardBytes s (headingLength T) u (T .numbers) B
+        → cardBytes s (headingWidth S) t (S .numbers) A ≡ cardBytes s (headingWidth T) u (T .numbers) B
     same S T t u A B e f g = rw (e, f, g)
 
 -- THEOREM: what card promises allows one answer and one state of everything lent

@@ -11,7 +11,7 @@ use Rattle.sheet_records.specs.Limits.{earlier-z}
 use Rattle.sheet_records.specs.Refusal.{both-sheets, old-sheet, space-too-short, too-few-words}
 use Rattle.sheet_records.specs.declared.refusal.Cause.{Cause}
 use Rattle.sheet_written.specs.Written.{Sheet}
-use Rattle.sheet_reader.specs.Encoding.{headingLength}
+use Rattle.sheet_written.specs.Width.{headingWidth}
 use Rattle.sheet_reader.specs.Reader.{accepted, readSheet}
 use Rattle.serve_conditions.specs.Lent.{words-asked}
 use Rattle.serve_compare.specs.Promise.{Cleared}
@@ -46,7 +46,7 @@ pub record CardOf (s : List ℕ) (c : List ℕ) : Type 0 where
   pub reads : readSheet s ≡ accepted sheet type size
   pub table : List Position
   pub positions : Table sheet table
-  pub bytes : c ≡ cardBytes s (headingLength sheet) type (sheet .numbers) table
+  pub bytes : c ≡ cardBytes s (headingWidth sheet) type (sheet .numbers) table
 
 -- the answer to an accepted call: the card at the start of the space, the rest of it untouched, all words 0
 pub record Carded (s ws space : List ℕ) (r : Carding) (ws′ space′ : List ℕ) : Type 0 where

@@ -9,8 +9,8 @@ use Rattle.language.specs.Move.{Move, Word}
 use Rattle.sheet_records.specs.Refusal.{both-sheets, cause, old-sheet, headings-differ, space-too-short, too-few-words}
 use Rattle.sheet_records.specs.declared.refusal.Cause.{Cause}
 use Rattle.sheet_written.specs.Written.{Sheet}
+use Rattle.sheet_written.specs.Width.{headingWidth}
 use Rattle.sheet_judge.specs.declared.mark.Uses.{Uses}
-use Rattle.sheet_reader.specs.Encoding.{headingLength}
 use Rattle.sheet_reader.specs.Reader.{accepted, readSheet, rejected}
 use Rattle.states_words.specs.Letter.{Small}
 use Rattle.serve_compare.specs.Demands.{CheckNumber}
@@ -61,18 +61,18 @@ abbrev pub CardTells : Type 0
 CardTells = (s c : List ℕ) (C : CardOf s c) (U : List Position)
     → ((k : ℕ) → k < length U → (m : Move) (j : ℕ) → Among (getD U k no-position .arcs) m j
       → Small (C .sheet .numbers) m)
-    → c ≡ cardBytes s (headingLength (C .sheet)) (C .type) (C .sheet .numbers) U → HasPlays (C .sheet) U
+    → c ≡ cardBytes s (headingWidth (C .sheet)) (C .type) (C .sheet .numbers) U → HasPlays (C .sheet) U
 
 -- what is read from a card after the heading and the type is its table, which has exactly the complete plays
 abbrev pub CardReads : Type 0
 CardReads = (s c : List ℕ) (C : CardOf s c)
-    → (readTable (C .sheet .numbers) (drop (headingLength (C .sheet) + 1) c) ≡ C .table)
-      × HasPlays (C .sheet) (readTable (C .sheet .numbers) (drop (headingLength (C .sheet) + 1) c))
+    → (readTable (C .sheet .numbers) (drop (headingWidth (C .sheet) + 1) c) ≡ C .table)
+      × HasPlays (C .sheet) (readTable (C .sheet .numbers) (drop (headingWidth (C .sheet) + 1) c))
 
 -- "A routine without plays has no positions"
 abbrev pub NoPositions : Type 0
 NoPositions = (s c : List ℕ) (C : CardOf s c) → ((u : Word) → CompletePlay (C .sheet) u → ⊥)
-    → c ≡ take (headingLength (C .sheet)) s ++ (C .type ∷ [])
+    → c ≡ take (headingWidth (C .sheet)) s ++ (C .type ∷ [])
 
 -- "Refused: the sheet's own, then 13, then 14": the sheet's own is check's
 pub record SheetRefused (s : List ℕ) (x : Cause) : Type 0 where
@@ -98,7 +98,7 @@ CardNumbers = (s : List ℕ) (words space : ℕ) (x : Cause) → cardRefusal s w
 -- sheets with other headings or types have other cards
 abbrev pub OtherHeading : Type 0
 OtherHeading = (old new c d : List ℕ) (C : CardOf old c) (D : CardOf new d) → c ≡ d
-    → (take (headingLength (C .sheet)) old ≡ take (headingLength (D .sheet)) new) × (C .type ≡ D .type)
+    → (take (headingWidth (C .sheet)) old ≡ take (headingWidth (D .sheet)) new) × (C .type ≡ D .type)
 
 -- so any two sheets with equal cards are not refused by 12, whatever is lent, and have the same complete plays
 abbrev pub EqualCards : Type 0

@@ -14,7 +14,7 @@ use Rattle.serve_conditions.specs.Lent.{words-asked}
 use Rattle.language.specs.Choice.{pick}
 use Rattle.sheet_records.specs.declared.edition.Edition.the-variants.{Present}
 use Rattle.sheet_records.specs.declared.refusal.Cause.{Cause}
-use Rattle.sheet_reader.specs.Encoding.{headingLength}
+use Rattle.sheet_written.specs.Width.{headingWidth}
 use Rattle.sheet_reader.specs.Reader.{Checks, accepted, rejected, readSheet}
 use Rattle.sheet_judge.proofs.Places.{check-refused}
 use Rattle.sheet_judge.specs.declared.mark.Uses.{Uses}
@@ -41,7 +41,7 @@ unfolding onRead Among
 on-read P f s sheet k g = go (readSheet s) refl
   where
     go : (A : Checks) → readSheet s ≡ A → Among P (onRead A sheet k)
-    go (accepted S ty size) e = g (S .numbers) (headingLength S) ty size
+    go (accepted S ty size) e = g (S .numbers) (headingWidth S) ty size
     go (rejected number place) e = f number (from-check s number place e)
 
 choice : (P : ℕ → Type 0) (t : Bool) (a b : Option Cause) → Among P a → Among P b → Among P (pick t a b)

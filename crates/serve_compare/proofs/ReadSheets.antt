@@ -13,8 +13,8 @@ use Rattle.sheet_records.specs.Limits.{greatest-z}
 use Rattle.sheet_records.specs.declared.refusal.Refusal.{Refusal}
 use Rattle.sheet_written.specs.Written.{Sheet}
 use Rattle.sheet_written.specs.Meaning.{tyOf, termOf, typeOf}
+use Rattle.sheet_written.specs.Width.{headingWidth}
 use Rattle.sheet_rows.specs.Rep.{Rep}
-use Rattle.sheet_reader.specs.Encoding.{headingLength}
 use Rattle.sheet_reader.specs.Fine.{Accepted}
 use Rattle.sheet_records.specs.declared.edition.Edition.the-variants.{Present}
 use Rattle.sheet_reader.specs.Reader.{numbersAt, readSheet, accepted, rejected}
@@ -43,8 +43,8 @@ unfolding LoadedBy
 taken s u L e = rw e at L
 
 -- a term stands after the first two bytes
-pub two-first : (S : Sheet) → 2 ≤ headingLength S
-unfolding headingLength
+pub two-first : (S : Sheet) → 2 ≤ headingWidth S
+unfolding headingWidth
 two-first S = omega arith
 
 pub heading-after : {s : List ℕ} {root row ty all : ℕ} {v : Uses} {t : List ℕ} → Ready s root row ty all v t →

@@ -14,8 +14,8 @@ use Rattle.language.specs.Move.{Word, Before}
 use Rattle.states_words.specs.Letter.{AllSmall}
 use Rattle.states_words.proofs.Ranges.{sheet-small}
 use Rattle.sheet_written.specs.Written.{Sheet}
+use Rattle.sheet_written.specs.Width.{headingWidth}
 use Rattle.sheet_reader.specs.Fine.{Accepted}
-use Rattle.sheet_reader.specs.Encoding.{headingLength}
 use Rattle.sheet_reader.specs.Reader.{Answer, got, refused, Whole, whole, sizeIn, numbersAt, wholeOf, sheetIn, checks, written}
 use Rattle.sheet_records.specs.declared.edition.Edition.the-variants.{Present}
 use Rattle.sheet_reader.specs.Reader.{accepted, rejected, readSheet, readUnder}
@@ -64,11 +64,11 @@ same-heading : (old new : List ℕ) (words space : ℕ) {S T : Sheet} {ty b n m 
     readSheet new ≡ accepted T b m → compareRefusal old new words space ≡ none → AsOne old new ty b
 unfolding compareRefusal onRead
 same-heading old new words space {S} {T} {ty} {b} {n} {m} e f h =
-    by (matching old new (headingLength S) (headingLength T) ty b) refl (rw (e, f) at h)
+    by (matching old new (headingWidth S) (headingWidth T) ty b) refl (rw (e, f) at h)
   where
-    by : (c : Bool) → matching old new (headingLength S) (headingLength T) ty b ≡ c →
+    by : (c : Bool) → matching old new (headingWidth S) (headingWidth T) ty b ≡ c →
         pairRefusal c (S .numbers) words space (n + m) ≡ none → AsOne old new ty b
-    by true d k = as-one (headingLength T) (two-first S) (sym d) refl
+    by true d k = as-one (headingWidth T) (two-first S) (sym d) refl
     by false d k = let z : _≡_ {A = ℕ} 0 1 = cc in absurd (omega arith)
 
 -- THEOREM: they can be compared

@@ -9,7 +9,7 @@ use Rattle.language.specs.Choice.{pick}
 use Rattle.language.specs.declared.Numbers.{Numbers}
 use Rattle.sheet_records.specs.Refusal.{old-sheet, new-sheet, both-sheets, too-few-words}
 use Rattle.sheet_records.specs.declared.refusal.Cause.{Cause}
-use Rattle.sheet_reader.specs.Encoding.{headingLength}
+use Rattle.sheet_written.specs.Width.{headingWidth}
 use Rattle.sheet_reader.specs.Reader.{Checks, accepted, rejected, readSheet}
 use Rattle.play_records.specs.Records.{Given, moves, bad, parse}
 use Rattle.serve_conditions.specs.Lent.{words-asked}
@@ -19,7 +19,7 @@ use Rattle.sheet_records.specs.Refusal.{bad-play}
 -- what an accepted sheet goes on to, by its range and rule, the length of its heading, its type and its size; or its
 -- refusal
 unfoldable pub onRead : Checks → ℕ → (Numbers → ℕ → ℕ → ℕ → Option Cause) → Option Cause
-onRead (accepted S ty size) sheet k = k (S .numbers) (headingLength S) ty size
+onRead (accepted S ty size) sheet k = k (S .numbers) (headingWidth S) ty size
 onRead (rejected number place) sheet k = refusing number sheet place
 
 unfoldable pub onGiven : Given → Option Cause

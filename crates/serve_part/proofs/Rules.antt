@@ -16,8 +16,8 @@ use Rattle.sheet_records.specs.declared.refusal.Cause.{Cause}
 use Rattle.sheet_records.specs.declared.edition.Edition.the-variants.{Present}
 use Rattle.sheet_written.specs.Written.{Written, Name, Sheet}
 use Rattle.sheet_written.specs.Meaning.{tyOf, typed, no-terms, resolve, termOf, typeOf}
+use Rattle.sheet_written.specs.Width.{headingWidth}
 use Rattle.sheet_written.proofs.WellTyped.{fine-known}
-use Rattle.sheet_reader.specs.Encoding.{headingLength}
 use Rattle.sheet_reader.specs.Fine.{Accepted}
 use Rattle.sheet_reader.proofs.Right.{gives}
 use Rattle.sheet_judge.specs.Mark.{usesOf}
@@ -96,13 +96,13 @@ one-type : (old new : List ℕ) (words space : ℕ) {S T : Sheet} → Holds old 
     compareRefusal old new words space ≡ none → typeOf S ≡ typeOf T
 unfolding compareRefusal onRead
 one-type old new words space {S} {T} h k e =
-    by (matching old new (headingLength S) (headingLength T) (h .type) (k .type)) refl (rw (h .reads, k .reads) at e)
+    by (matching old new (headingWidth S) (headingWidth T) (h .type) (k .type)) refl (rw (h .reads, k .reads) at e)
   where
-    by : (c : Bool) → matching old new (headingLength S) (headingLength T) (h .type) (k .type) ≡ c →
+    by : (c : Bool) → matching old new (headingWidth S) (headingWidth T) (h .type) (k .type) ≡ c →
         pairRefusal c (S .numbers) words space (h .size + k .size) ≡ none → typeOf S ≡ typeOf T
     by true d f =
         sym (gives Present old S (h .type) (h .size) (h .reads) .2)
-        ∙ as-one (headingLength T) (two-first S) (sym d) refl .types
+        ∙ as-one (headingWidth T) (two-first S) (sym d) refl .types
         ∙ gives Present new T (k .type) (k .size) (k .reads) .2
     by false d f = let z : _≡_ {A = ℕ} 0 1 = cc in absurd (omega arith)
 

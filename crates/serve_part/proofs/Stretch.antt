@@ -6,7 +6,8 @@ use mathlib.Core.List.{List, [], _∷_, _++_, append-nil, append-assoc}
 use lib.ListN.{length, length-append}
 use Rattle.language.specs.declared.Numbers.{Numbers}
 use Rattle.sheet_written.specs.Written.{Written, Name, Sheet}
-use Rattle.sheet_reader.specs.Encoding.{encode, encodes, encodeNames, encodeSheet, headingLength}
+use Rattle.sheet_reader.specs.Encoding.{encode, encodes, encodeNames, encodeSheet}
+use Rattle.sheet_reader.proofs.Widths.{wide-heading}
 use Rattle.serve_part.specs.Around.{Around, whole, in-call, in-fetch, in-left, in-right, in-target, in-source}
 use Rattle.serve_part.specs.Around.{in-first, in-second, in-test, in-round, in-if, in-then, in-else, in-new}
 use Rattle.serve_part.specs.Around.{Among, in-this, in-later, filled, allFilled}
@@ -70,7 +71,7 @@ heading S = S .numbers .z ∷ S .numbers .rule ∷ encodeNames (S .names)
 
 -- THEOREM: the bytes are the same before and after the part, which stands at one place in both
 pub bytes-differ : BytesDiffer
-unfolding encodeSheet heading headingLength
+unfolding encodeSheet heading
 bytes-differ S T C m n d =
     let F = put-before (heading S) refl (frame C) in
     (record {
@@ -80,7 +81,7 @@ bytes-differ S T C m n d =
         of-new = ap₂ (λ (N : Numbers) (ns : List Name). N .z ∷ N .rule ∷ (encodeNames ns ++ encode (T .term)))
             (sym (d .numbers)) (sym (d .names))
           ∙ ap (λ W. heading S ++ encode W) (d .second) ∙ F .around n },
-      record { term = d .first; here = omega (arith, F .here) },
+      record { term = d .first; here = omega (arith, F .here, wide-heading S) },
       record {
         term = d .second;
-        here = omega (arith, F .here, ap (λ (ns : List Name). length (encodeNames ns)) (d .names)) })
+        here = omega (arith, F .here, wide-heading T, ap (λ (ns : List Name). length (encodeNames ns)) (d .names)) })

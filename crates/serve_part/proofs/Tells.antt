@@ -12,10 +12,11 @@ use Rattle.sheet_records.specs.Limits.{greatest-depth}
 use Rattle.sheet_records.specs.declared.edition.Edition.the-variants.{Present}
 use Rattle.sheet_written.specs.Written.{Written, Name, declare, retire, Sheet}
 use Rattle.sheet_written.specs.Fine.{FineNames}
-use Rattle.sheet_reader.specs.Encoding.{encode, declareKind, encodeName, encodeNames, encodeSheet, headingLength}
+use Rattle.sheet_reader.specs.Encoding.{encode, declareKind, encodeName, encodeNames, encodeSheet}
 use Rattle.sheet_reader.specs.Heading.{declareAt, retireAt}
 use Rattle.sheet_reader.proofs.NameBytes.{declared-there, declared-is, declared-past}
 use Rattle.sheet_reader.proofs.Right.{gives}
+use Rattle.sheet_reader.proofs.Widths.{wide-heading}
 use Rattle.serve_compare.specs.Promise.{Holds}
 use Rattle.serve_compare.proofs.Unique.{held-accepted}
 use Rattle.serve_part.specs.Around.{Around, filled}
@@ -82,12 +83,12 @@ same-names (a ∷ ns) (b ∷ ms) e e′ X Y x y f g h =
 module _ (s : List ℕ) (S : Sheet) (C : Around) (m : Written) (h : Holds s S) where
   sheet-hole : (front rest : List ℕ) → s ≡ front ++ (encode m ++ rest) → StandsAt S C m (length front) →
       front ++ (encode hole ++ rest) ≡ heading S ++ encode (filled C hole)
-  unfolding encodeSheet heading headingLength
+  unfolding encodeSheet heading
   sheet-hole front rest e st =
       with-hole m front rest (put-before (heading S) refl (frame C))
         (ap (λ W. heading S ++ encode W) (sym (st .term)) ∙ sym (gives Present s S (h .type) (h .size) (h .reads) .0)
           ∙ e)
-        (omega (arith, st .here))
+        (omega (arith, st .here, wide-heading S))
 
   sheet-read : (n : Written) → S .term ≡ filled C m →
       read (S .names) n greatest-depth [] (encode (filled C hole)) ≡ found (filled C n) []

@@ -3,7 +3,8 @@ use Prim.Native.Nat.{ℕ, _+_}
 use mathlib.Core.Path.{_≡_}
 use lib.ListN.{length}
 use Rattle.sheet_written.specs.Written.{Written, Sheet}
-use Rattle.sheet_reader.specs.Encoding.{encode, headingLength}
+use Rattle.sheet_written.specs.Width.{headingWidth}
+use Rattle.sheet_reader.specs.Encoding.{encode}
 use Rattle.serve_part.specs.Around.{Around, whole, in-call, in-fetch, in-left, in-right, in-target, in-source}
 use Rattle.serve_part.specs.Around.{in-first, in-second, in-test, in-round, in-if, in-then, in-else, in-new}
 use Rattle.serve_part.specs.Around.{Among, in-this, in-later, filled}
@@ -34,4 +35,4 @@ unfoldable mutual
 -- m is a part of S, in the gap of C, and its kind byte is at a place
 pub record StandsAt (S : Sheet) (C : Around) (m : Written) (place : ℕ) : Type 0 where
   pub term : S .term ≡ filled C m
-  pub here : place ≡ headingLength S + bytesBefore C
+  pub here : place ≡ headingWidth S + bytesBefore C

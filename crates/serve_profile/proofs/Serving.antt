@@ -10,7 +10,7 @@ use Rattle.sheet_records.specs.declared.edition.Edition.the-variants.{Present}
 use Rattle.sheet_records.specs.declared.refusal.Cause.{Cause}
 use Rattle.sheet_written.specs.Written.{Sheet}
 use Rattle.sheet_written.specs.Width.{width, headingWidth}
-use Rattle.sheet_reader.specs.Encoding.{encode, encodeNames, encodeSheet, headingLength}
+use Rattle.sheet_reader.specs.Encoding.{encode, encodeNames, encodeSheet}
 use Rattle.sheet_reader.specs.Reader.{Checks, accepted, rejected, readSheet}
 use Rattle.sheet_reader.proofs.Right.{gives}
 use Rattle.sheet_judge.specs.Check.{checkedOf}
@@ -90,7 +90,7 @@ first-below p ps low high r = omega (arith, rising-below ps (suc p) high (r .1))
 -- a place of the term is one of the sheet
 term-within : (s : List ℕ) (S : Sheet) (ty size : ℕ) → readSheet s ≡ accepted S ty size →
     headingWidth S + width (S .term) ≤ 4096
-unfolding encodeSheet headingLength
+unfolding encodeSheet
 term-within s S ty size r =
     let g = gives Present s S ty size r in
     omega (arith, g .1 .short, wide-heading S, wide (S .term),

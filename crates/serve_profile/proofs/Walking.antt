@@ -14,8 +14,8 @@ use Rattle.sheet_records.specs.declared.edition.Edition.the-variants.{Present}
 use Rattle.sheet_written.specs.Written.{Written, Name, Sheet}
 use Rattle.sheet_written.specs.Meaning.{Binder}
 use Rattle.sheet_written.specs.Fine.{Fine}
-use Rattle.sheet_written.specs.Width.{width}
-use Rattle.sheet_reader.specs.Encoding.{encode, encodeNames, encodeSheet, headingLength}
+use Rattle.sheet_written.specs.Width.{width, headingWidth}
+use Rattle.sheet_reader.specs.Encoding.{encode, encodeNames, encodeSheet}
 use Rattle.sheet_reader.specs.Reader.{readSheet, accepted}
 use Rattle.sheet_reader.proofs.Right.{gives}
 use Rattle.sheet_reader.proofs.Widths.{wide, wide-heading, width-some}
@@ -145,20 +145,20 @@ module _ (S : Sheet) (s t : List ℕ) (until at kind body next : ℕ) (G : Walki
   walk-found m = sym (ap firstOf (O .found ∙ ap (λ (b : Bool). pick b (at ∷ []) [] ++ O .rest) (offends-here m)))
 
 -- the whole term, and nothing more
-walk-first : (S : Sheet) (s t : List ℕ) (root ty n : ℕ) → readSheet s ≡ accepted S ty n → root ≡ headingLength S →
+walk-first : (S : Sheet) (s t : List ℕ) (root ty n : ℕ) → readSheet s ≡ accepted S ty n → root ≡ headingWidth S →
     Seated (S .names) t [] root (S .term) → Walking S s t 0 root
-unfolding encodeSheet headingLength bytesOf offs offences
+unfolding encodeSheet bytesOf offs offences
 walk-first S s t root ty n e r Z =
     let g = gives Present s S ty n e in
     let H : List ℕ = S .numbers .z ∷ S .numbers .rule ∷ encodeNames (S .names) in
-    let h : root ≡ length H = omega (arith, r) in
+    let h : root ≡ length H = omega (arith, r, wide-heading S) in
     let b : encode (S .term) ++ [] ≡ encode (S .term) = append-nil (encode (S .term)) in
     record {
       pending = record { around = []; term = S .term; inner = false } ∷ [];
       ready = one-more (g .1 .ordered .in-order .fine-term) Z (outer (omega arith)) no-more;
       lies = ap₂ (λ (x : ℕ) (y : List ℕ). drop x y) h (g .0) ∙ drop-append-seam H (encode (S .term)) ∙ sym b;
       ends = omega (arith, h, ap length b, ap length (g .0), length-append (encodeNames (S .names)) (encode (S .term)));
-      all = ap (λ (k : ℕ). offending (S .names) [] false k (S .term)) (sym (r ∙ wide-heading S))
+      all = ap (λ (k : ℕ). offending (S .names) [] false k (S .term)) (sym r)
         ∙ sym (append-nil (offending (S .names) [] false root (S .term))) }
 
 item-some : (x : Item) (xs : List Item) → 0 < length (bytesOf (x ∷ xs))
@@ -179,7 +179,7 @@ walk-last S s t until at G h = go (G .pending) (G .ends) (G .all)
 -- what the loop keeps
 abbrev pub Walks : List ℕ → List ℕ → ℕ → ℕ → ℕ → Type 0
 Walks s t root until at =
-    (S : Sheet) (ty n : ℕ) → readSheet s ≡ accepted S ty n → root ≡ headingLength S →
+    (S : Sheet) (ty n : ℕ) → readSheet s ≡ accepted S ty n → root ≡ headingWidth S →
       Seated (S .names) t [] root (S .term) → Walking S s t until at
 
 pub walks-first : (s t : List ℕ) (root : ℕ) → Walks s t root 0 root

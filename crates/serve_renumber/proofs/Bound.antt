@@ -13,9 +13,10 @@ use Rattle.sheet_written.specs.Written.{Written, skip, diverge, truth, number, 
 use Rattle.sheet_written.specs.Written.{while, choose, new, procedure, Parameter, Writtens, none, more, Name, Sheet}
 use Rattle.sheet_written.specs.Meaning.{Binder, a-block, inside, after, meaning}
 use Rattle.sheet_written.specs.Fine.{Fine}
+use Rattle.sheet_written.specs.Width.{headingWidth}
 use Rattle.sheet_written.specs.Renumber.{holds-id, put, isNamed, isBound, isBoundIn, takenAtFirst}
 use Rattle.sheet_written.proofs.Tests.{by-test}
-use Rattle.sheet_reader.specs.Encoding.{pairs, encode, encodes, encodeNames, encodeSheet, headingLength}
+use Rattle.sheet_reader.specs.Encoding.{pairs, encode, encodes, encodeNames, encodeSheet}
 use Rattle.sheet_reader.specs.Reader.{accepted}
 use Rattle.sheet_records.specs.declared.edition.Edition.the-variants.{Earlier}
 use Rattle.sheet_reader.proofs.Right.{gives}
@@ -25,7 +26,7 @@ use Rattle.serve_renumber.specs.Found.{AllFine, Taken}
 use Rattle.serve_renumber.proofs.Leaves.{took-new, took-procedure, took-nothing}
 use Rattle.serve_renumber.proofs.Lists.{lies-get, lies-head, lies-after, lies-first}
 use Rattle.sheet_reader.proofs.Pairs.{pairs-length}
-use Rattle.sheet_reader.proofs.Widths.{wide, width-some}
+use Rattle.sheet_reader.proofs.Widths.{wide, wide-heading, width-some}
 use Rattle.serve_renumber.proofs.Entries.{takes-put, takes-same}
 use Rattle.serve_renumber.proofs.Steps.{use-arity}
 use Rattle.serve_renumber.proofs.Plain.{one-bytes, two-bytes, three-bytes}
@@ -295,14 +296,14 @@ bound-again S s k k′ at kind body next G h e u i z =
             ∙ or-assoc (G .taken id) (isBound w id) (isBoundIn ws id) ∙ A id }
 
 -- the term, and nothing more
-bound-first : (S : Sheet) (s k : List ℕ) (root ty n : ℕ) → readEarlier s ≡ accepted S ty n → root ≡ headingLength
+bound-first : (S : Sheet) (s k : List ℕ) (root ty n : ℕ) → readEarlier s ≡ accepted S ty n → root ≡ headingWidth
     S →
     Takes k (isNamed (S .names)) → Bounding S s k root
-unfolding encodeSheet headingLength encodes isBoundIn takenAtFirst
+unfolding encodeSheet encodes isBoundIn takenAtFirst
 bound-first S s k root ty n e r T =
     let g = gives Earlier s S ty n e in
     let H : List ℕ = S .numbers .z ∷ S .numbers .rule ∷ encodeNames (S .names) in
-    let h : root ≡ length H = omega (arith, r) in
+    let h : root ≡ length H = omega (arith, r, wide-heading S) in
     let b : encode (S .term) ++ [] ≡ encode (S .term) = append-nil (encode (S .term)) in
     record {
       pending = more (S .term) none;
@@ -329,7 +330,7 @@ bound-last S s k at G h = go (G .pending) (G .ends) (G .all)
 -- what the loop keeps
 abbrev pub Bounds : List ℕ → ℕ → List ℕ → List ℕ → ℕ → Type 0
 Bounds s root k₀ k at =
-    (S : Sheet) (ty n : ℕ) → readEarlier s ≡ accepted S ty n → root ≡ headingLength S → Takes k₀ (isNamed (S .names)) →
+    (S : Sheet) (ty n : ℕ) → readEarlier s ≡ accepted S ty n → root ≡ headingWidth S → Takes k₀ (isNamed (S .names)) →
       Bounding S s k at
 
 pub bounds-first : (s : List ℕ) (root : ℕ) (k : List ℕ) → Bounds s root k k root

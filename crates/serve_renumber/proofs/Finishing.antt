@@ -19,7 +19,7 @@ use Rattle.sheet_written.specs.Width.{width, headingWidth}
 use Rattle.sheet_written.specs.Renumber.{Change, Renumbering, renumbered, none-left, renumber, renumberSheet, takenAtFirst}
 use Rattle.sheet_written.proofs.Renumbering.{renumber-rule}
 use Rattle.sheet_written.specs.Renumbering.{RenumberRule}
-use Rattle.sheet_reader.specs.Encoding.{encode, encodeNames, encodeSheet, headingLength}
+use Rattle.sheet_reader.specs.Encoding.{encode, encodeNames, encodeSheet}
 use Rattle.sheet_reader.specs.Reader.{accepted, rejected}
 use Rattle.sheet_records.specs.declared.edition.Edition.the-variants.{Earlier as Former}
 use Rattle.sheet_reader.proofs.Right.{gives}
@@ -54,7 +54,7 @@ scoped-nothing = record {
     counts = λ id l. ap argumentsIn (getD-replicate 255 id 0 0 l) }
 
 -- an accepted sheet
-module _ (S : Sheet) (s : List ℕ) (root ty n : ℕ) (e : readEarlier s ≡ accepted S ty n) (r : root ≡ headingLength S)
+module _ (S : Sheet) (s : List ℕ) (root ty n : ℕ) (e : readEarlier s ≡ accepted S ty n) (r : root ≡ headingWidth S)
     where
   -- the bytes before the term
   heading : List ℕ
@@ -69,8 +69,8 @@ module _ (S : Sheet) (s : List ℕ) (root ty n : ℕ) (e : readEarlier s ≡ acc
   own-bytes = gives Former s S ty n e .0
 
   heading-long : length heading ≡ root
-  unfolding heading headingLength
-  heading-long = omega (arith, r)
+  unfolding heading
+  heading-long = omega (arith, r, wide-heading S)
 
   long : length s ≡ root + width (S .term)
   long = omega (arith, ap length own-bytes, length-append heading (encode (S .term)), heading-long, wide (S .term))
@@ -101,7 +101,7 @@ module _ (S : Sheet) (s : List ℕ) (root ty n : ℕ) (e : readEarlier s ≡ acc
           l′ k′ =
         subst (λ (a : ℕ). Found (Wrote root (S .term) b₁) (renumber [] (λ id. id) (takenAtFirst S) a (S .term)) 0 l x
             b′ l′
-            k′) (r ∙ wide-heading S) F in
+            k′) r F in
       let R : List ℕ = drop (length s) b in
       let start : b₁ ≡ heading ++ (encode (S .term) ++ R) =
         c ∙ ap (λ (y : List ℕ). y ++ R) (take-length s ∙ own-bytes) ∙ append-assoc heading (encode (S .term)) R in
@@ -150,7 +150,7 @@ pub record Finished (S : Sheet) (s b l b′ l′ : List ℕ) (n : ℕ) : Type 0 
   pub list : l′ ≡ listed changes ++ drop (4 * n) l
 
 finished-so : (S : Sheet) (s b l b′ l′ : List ℕ) (root ty m v n : ℕ) (x : Step) → readEarlier s ≡ accepted S ty m →
-    root ≡ headingLength S → Worked s root b l x b′ l′ → x ≡ Done v n → length s ≤ length b → 1020 ≤ length l →
+    root ≡ headingWidth S → Worked s root b l x b′ l′ → x ≡ Done v n → length s ≤ length b → 1020 ≤ length l →
     Finished S s b l b′ l′ n
 unfolding Found RenumberRule
 finished-so S s b l b′ l′ root ty m v n x e r W d h g = go (renumberSheet S) refl (W .does S ty m e r h)

@@ -14,10 +14,10 @@ use Rattle.sheet_written.specs.Written.{Name, declare, retire, Sheet}
 use Rattle.sheet_written.specs.Meaning.{Meaning, private, argument, routine, named, retired, free, declared, meaning}
 use Rattle.sheet_written.specs.Fine.{FineNames}
 use Rattle.sheet_written.specs.Hiding.{isHeld}
-use Rattle.sheet_written.specs.Width.{nameWidth}
+use Rattle.sheet_written.specs.Width.{nameWidth, headingWidth}
 use Rattle.sheet_written.specs.Renumber.{put, isNamed}
 use Rattle.sheet_written.proofs.Lowest.{by-id, put-here, put-past}
-use Rattle.sheet_reader.specs.Encoding.{encode, declareKind, encodeName, encodeNames, encodeSheet, headingLength}
+use Rattle.sheet_reader.specs.Encoding.{encode, declareKind, encodeName, encodeNames, encodeSheet}
 use Rattle.sheet_reader.specs.Reader.{accepted}
 use Rattle.sheet_records.specs.declared.edition.Edition.the-variants.{Earlier}
 use Rattle.sheet_reader.proofs.Right.{gives}
@@ -27,7 +27,7 @@ use Rattle.serve_renumber.specs.Work.{Scoped}
 use Rattle.serve_renumber.specs.Work.{Lies}
 use Rattle.serve_renumber.specs.Found.{Headed}
 use Rattle.serve_renumber.proofs.Lists.{lies-get, lies-head, lies-after}
-use Rattle.sheet_reader.proofs.Widths.{wide-name}
+use Rattle.sheet_reader.proofs.Widths.{wide-name, wide-heading}
 use Rattle.serve_renumber.proofs.Entries.{takes-put, takes-same}
 
 -- what is meant by the first that means something
@@ -197,14 +197,14 @@ name-again S s root k scope k′ scope′ at kind id c e body next G h i j u v w
 
 -- the first name, and none more
 name-first : (S : Sheet) (s : List ℕ) (root ty n : ℕ) (k scope : List ℕ) → readEarlier s ≡ accepted S ty n →
-    root ≡ headingLength S → Takes k (λ id. false) → Scoped [] [] (λ id. id) scope → Naming S s root k scope 2
-unfolding encodeSheet headingLength isNamed declared orElse
+    root ≡ headingWidth S → Takes k (λ id. false) → Scoped [] [] (λ id. id) scope → Naming S s root k scope 2
+unfolding encodeSheet isNamed declared orElse
 name-first S s root ty n k scope e r T C =
     let g = gives Earlier s S ty n e in
     record {
       earlier = []; rest = S .names; fine = g .1 .ordered .in-order .fine-names;
       lies = record { rest = encode (S .term); here = ap (λ (x : List ℕ). drop 2 x) (g .0) };
-      ends = sym r;
+      ends = wide-heading S ∙ sym r;
       takes = takes-same k (λ id. false) (isNamed []) (λ j. refl) T;
       scoped = C; named-all = λ j. refl; means-all = λ j. refl }
 
@@ -235,7 +235,7 @@ name-last S s root k scope at G h = go (G .earlier) (G .rest) (G .ends) (G .take
 -- what the loop keeps: where the sheet is accepted, the names before the place are dealt with
 abbrev pub Named : List ℕ → ℕ → List ℕ → List ℕ → List ℕ → List ℕ → ℕ → Type 0
 Named s root k₀ scope₀ k scope at =
-    (S : Sheet) (ty n : ℕ) → readEarlier s ≡ accepted S ty n → root ≡ headingLength S →
+    (S : Sheet) (ty n : ℕ) → readEarlier s ≡ accepted S ty n → root ≡ headingWidth S →
       Takes k₀ (λ id. false) → Scoped [] [] (λ id. id) scope₀ → Naming S s root k scope at
 
 pub named-first : (s : List ℕ) (root : ℕ) (k scope : List ℕ) → Named s root k scope k scope 2

@@ -21,7 +21,7 @@ use Rattle.sheet_written.specs.Width.{width, headingWidth}
 use Rattle.sheet_written.specs.Renumber.{Change, Renumbering, renumbered, none-left, renumberSheet, takenAtFirst}
 use Rattle.sheet_written.specs.Renumbering.{Renumbered, RenumberRule, UnalteredRule, GivenRule}
 use Rattle.sheet_written.proofs.Renumbering.{renumber-rule, unaltered-rule, given-rule, within-sheet}
-use Rattle.sheet_reader.specs.Encoding.{encode, encodeNames, encodeSheet, headingLength}
+use Rattle.sheet_reader.specs.Encoding.{encode, encodeNames, encodeSheet}
 use Rattle.sheet_reader.specs.Fine as fine
 use Rattle.sheet_reader.specs.Reader.{Checks, accepted, rejected, readUnder}
 use Rattle.sheet_judge.specs.Check.{NumberOf}
@@ -155,7 +155,7 @@ refused-place : (x y : Cause) → refused x ≡ refused y → x .place ≡ y .pl
 refused-place x y e = let f : x ≡ y = cc in ap (λ (z : Cause). z .place) f
 
 sheet-end : (S : Sheet) → length (encodeSheet S) ≡ headingWidth S + width (S .term)
-unfolding encodeSheet headingLength
+unfolding encodeSheet
 sheet-end S =
     omega (arith, wide-heading S, wide (S .term), length-append (encodeNames (S .names)) (encode (S .term)))
 

@@ -11,11 +11,11 @@ use Rattle.sheet_written.specs.Written.{Written, call, new, procedure, Paramete
 use Rattle.sheet_written.specs.Rules.{withTerm}
 use Rattle.sheet_written.specs.Meaning.{Binder, inside}
 use Rattle.sheet_written.specs.Fine.{Fine, FineParameters, depth, depths}
-use Rattle.sheet_written.specs.Width.{width, widths}
+use Rattle.sheet_written.specs.Width.{width, widths, headingWidth}
 use Rattle.sheet_written.specs.Renumber.{mapInside}
 use Rattle.sheet_written.specs.Renumber.{Change, Renumbering, renumbered, none-left, renumberId, renumberParameters}
 use Rattle.sheet_written.specs.Renumber.{renumber, renumberAll, renumberSheet, isNamed, takenAtFirst}
-use Rattle.sheet_reader.specs.Encoding.{pairs, encode, encodes, encodeSheet, headingLength}
+use Rattle.sheet_reader.specs.Encoding.{pairs, encode, encodes, encodeSheet}
 use Rattle.sheet_reader.specs.Reader.{accepted, rejected}
 use Rattle.sheet_judge.specs.declared.judge.Judgement.{Judgement}
 use Rattle.sheet_judge.specs.declared.judge.Judgement.the-variants as judged
@@ -155,7 +155,7 @@ pub record AcceptedAt (s : List ℕ) (root : ℕ) : Type 0 where
   pub type : ℕ
   pub size : ℕ
   pub reads : readEarlier s ≡ accepted sheet type size
-  pub rooted : root ≡ headingLength sheet
+  pub rooted : root ≡ headingWidth sheet
 
 unfoldable pub EarlierJudged : List ℕ → Judgement → Type 0
 EarlierJudged s (judged.Sheet root ty size uses) = AcceptedAt s root
@@ -163,13 +163,13 @@ EarlierJudged s (judged.Refused x) = readEarlier s ≡ rejected (x .number) (x .
 
 -- the heading: the ids of its names are taken, and the scope has their arguments
 pub record Headed (s : List ℕ) (root : ℕ) (k scope k′ scope′ : List ℕ) : Type 0 where
-  pub does : (S : Sheet) (ty n : ℕ) → readEarlier s ≡ accepted S ty n → root ≡ headingLength S →
+  pub does : (S : Sheet) (ty n : ℕ) → readEarlier s ≡ accepted S ty n → root ≡ headingWidth S →
       Takes k (λ id. false) → Scoped [] [] (λ id. id) scope →
       Takes k′ (isNamed (S .names)) × Scoped (S .names) [] (λ id. id) scope′
 
 -- all ids taken that a sheet declares, retires or binds
 pub record Taken (s : List ℕ) (root : ℕ) (k k′ : List ℕ) : Type 0 where
-  pub does : (S : Sheet) (ty n : ℕ) → readEarlier s ≡ accepted S ty n → root ≡ headingLength S →
+  pub does : (S : Sheet) (ty n : ℕ) → readEarlier s ≡ accepted S ty n → root ≡ headingWidth S →
       Takes k (isNamed (S .names)) → Takes k′ (takenAtFirst S)
 
 -- the whole sheet: the bytes of it at the start of b, the changes at the start of l
@@ -180,10 +180,10 @@ pub record WroteSheet (S : Sheet) (b : List ℕ) (W : Written) (value : ℕ) (b�
 pub record Worked (s : List ℕ) (root : ℕ) (b l : List ℕ) (r : Step) (b′ l′ : List ℕ) : Type 0 where
   pub taken : List ℕ
   pub few : Onward r
-  pub does : (S : Sheet) (ty n : ℕ) → readEarlier s ≡ accepted S ty n → root ≡ headingLength S →
+  pub does : (S : Sheet) (ty n : ℕ) → readEarlier s ≡ accepted S ty n → root ≡ headingWidth S →
       length s ≤ length b → Found (WroteSheet S b) (renumberSheet S) 0 l r b′ l′ taken
 
 -- the service, but for what reading and the lengths refuse
 pub record Renumbers (s : List ℕ) (root : ℕ) (r : Renumbered) (out out′ list list′ : List ℕ) : Type 0 where
-  pub does : (S : Sheet) (ty n : ℕ) → readEarlier s ≡ accepted S ty n → root ≡ headingLength S →
+  pub does : (S : Sheet) (ty n : ℕ) → readEarlier s ≡ accepted S ty n → root ≡ headingWidth S →
       RenumberedBy (written S (renumberSheet S)) r out out′ list list′

@@ -11,7 +11,7 @@ use Rattle.sheet_written.specs.Written as written
 use Rattle.sheet_written.specs.Context.{whole}
 use Rattle.sheet_written.specs.Table.{Shown}
 use Rattle.sheet_written.specs.Marks.{Marked}
-use Rattle.sheet_reader.specs.Encoding.{headingLength}
+use Rattle.sheet_written.specs.Width.{headingWidth}
 use Rattle.sheet_reader.specs.Reader.{numbersAt, readUnder, accepted, rejected}
 use Rattle.sheet_judge.specs.Mark.{usesOf}
 use Rattle.sheet_table.specs.inner.Seats.{Seated}
@@ -28,7 +28,7 @@ pub record Judged (ed : Edition) (s : List ℕ) (root ty size : ℕ) (uses : Use
   pub end : ℕ
   pub accepts : readUnder ed s ≡ accepted sheet ty size
   pub numbered : sheet .numbers ≡ numbersAt s
-  pub rooted : root ≡ headingLength sheet
+  pub rooted : root ≡ headingWidth sheet
   pub shown : Shown (numbersAt s) (sheet .names) u whole places root end (sheet .term)
   pub seats : Seated (sheet .names) u [] root (sheet .term)
   pub used : uses ≡ usesOf sheet

@@ -1,5 +1,5 @@
 -- The widths of records are the lengths of their bytes.
-use Prim.Native.Nat.{_<_}
+use Prim.Native.Nat.{_+_, _<_}
 use native.Mathlib.Omega.{arith}
 use mathlib.Core.Path.{_≡_, refl}
 use mathlib.Core.List.{List, [], _∷_, _++_}
@@ -8,7 +8,7 @@ use Rattle.sheet_written.specs.Written.{Written, skip, diverge, truth, number, 
 use Rattle.sheet_written.specs.Written.{while, choose, new, procedure, Writtens, none, more, Name, declare}
 use Rattle.sheet_written.specs.Written.{retire, Sheet}
 use Rattle.sheet_written.specs.Width.{width, widths, nameWidth, namesWidth, headingWidth}
-use Rattle.sheet_reader.specs.Encoding.{pairs, encode, encodes, encodeName, encodeNames, headingLength}
+use Rattle.sheet_reader.specs.Encoding.{pairs, encode, encodes, encodeName, encodeNames}
 use Rattle.sheet_reader.proofs.Padding.{padded-length}
 use Rattle.sheet_reader.proofs.Pairs.{pairs-length}
 
@@ -64,6 +64,6 @@ unfolding encodeNames namesWidth
 wide-names [] = refl
 wide-names (n ∷ ns) = omega (arith, length-append (encodeName n) (encodeNames ns), wide-name n, wide-names ns)
 
-pub wide-heading : (S : Sheet) → headingLength S ≡ headingWidth S
-unfolding headingLength headingWidth
+pub wide-heading : (S : Sheet) → 2 + length (encodeNames (S .names)) ≡ headingWidth S
+unfolding headingWidth
 wide-heading S = omega (arith, wide-names (S .names))

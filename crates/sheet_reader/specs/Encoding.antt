@@ -1,6 +1,6 @@
 -- The bytes of a sheet. Document 01, "The sheet, byte by byte", the table; document 02 [1] for procedures, [5] for
 -- names that ask once. SHEETS 2.
-use Prim.Native.Nat.{ℕ, zero, suc, _+_}
+use Prim.Native.Nat.{ℕ, zero, suc}
 use mathlib.Core.List.{List, [], _∷_, _++_}
 use lib.ListN.{length}
 use Rattle.language.specs.Term.{Often, freely, once}
@@ -56,7 +56,3 @@ encodeNames (n ∷ ns) = encodeName n ++ encodeNames ns
 
 unfoldable pub encodeSheet : Sheet → List ℕ
 encodeSheet S = S .numbers .z ∷ S .numbers .rule ∷ (encodeNames (S .names) ++ encode (S .term))
-
--- "All bytes up to the term are the heading"
-unfoldable pub headingLength : Sheet → ℕ
-headingLength S = 2 + length (encodeNames (S .names))

@@ -7,7 +7,7 @@ use mathlib.Core.List.{List, []}
 use lib.ListN.{length, drop, length-append, length-drop}
 use Rattle.sheet_records.specs.declared.edition.Edition.{Edition}
 use Rattle.sheet_written.specs.Meaning.{typeOf}
-use Rattle.sheet_reader.specs.Encoding.{encodeNames, headingLength}
+use Rattle.sheet_reader.specs.Encoding.{encodeNames}
 use Rattle.sheet_reader.specs.Reader.{Answer, got, Whole, whole, numbersAt, wholeOf, sheetIn, sizeIn, checks}
 use Rattle.sheet_reader.specs.Reader.{readUnder}
 use Rattle.sheet_reader.specs.table.Fill.{eraseSheet, LeavesSheet, ReadsSheet}
@@ -18,6 +18,7 @@ use Rattle.sheet_reader.proofs.Answers.{All, one, none′}
 use Rattle.sheet_reader.proofs.NameList.{NamesRead, names-read, extends-first}
 use Rattle.sheet_reader.proofs.Right.{SheetRead, sheet-all}
 use Rattle.sheet_reader.proofs.Sound.{sound}
+use Rattle.sheet_reader.proofs.Widths.{wide-heading}
 use Rattle.sheet_table.proofs.Shows.{shows-whole}
 use Rattle.sheet_table.proofs.Seating.{seats-whole}
 use Rattle.sheet_table.proofs.Noting.{notes-whole}
@@ -28,7 +29,7 @@ module _ (ed : Edition) (s t u : List ℕ) (blank : Blank t) where
       {x : Whole} {ty end : ℕ} → wholeOf ed s ≡ got x ty end → SheetRead ed s places x ty end →
       NamesRead ed (numbersAt s) s places 32 [] 2 x ty end → LeavesSheet (numbersAt s) (got x ty end) t u →
       TabledBy ed s (eraseSheet (got x ty end)) u
-  unfolding TabledBy eraseSheet LeavesSheet readUnder checks sheetIn sizeIn typeOf headingLength
+  unfolding TabledBy eraseSheet LeavesSheet readUnder checks sheetIn sizeIn typeOf
   tabled-whole {ty = ty} e R (names-read {ns = ns} {root = root} {t = x} few fine bytes parsed) l =
       let p = parsed ns (extends-first ns) in
       let S = sound (numbersAt s) s ns 32 p in
@@ -46,8 +47,8 @@ module _ (ed : Edition) (s t u : List ℕ) (blank : Blank t) where
         types = S .types;
         known = S .known;
         shallow = S .shallow;
-        rooted = omega (arith, R .long, S .forward, S .inside, length-drop root s,
-          sym (length-drop 2 s) ∙ ap length bytes ∙ length-append (encodeNames ns) (drop root s));
+        rooted = omega (arith, wide-heading (sheetIn s (whole ns root x)), R .long, S .forward, S .inside,
+          length-drop root s, sym (length-drop 2 s) ∙ ap length bytes ∙ length-append (encodeNames ns) (drop root s));
         shown = shows-whole (numbersAt s) s ns (R .short) p t (blank .long);
         seats = seats-whole (numbersAt s) s ns (R .short) p t (blank .long);
         notes = λ id h. notes-whole (numbersAt s) s ns (R .short) id h p t blank;

@@ -21,7 +21,7 @@ use Rattle.sheet_written.specs.Held.{held}
 use Rattle.sheet_written.specs.Marks.{Marked}
 use Rattle.weight_theory.specs.Stack.{marksIn, formWord}
 use Rattle.sheet_written.specs.Uses.{uses}
-use Rattle.sheet_reader.specs.Encoding.{headingLength}
+use Rattle.sheet_written.specs.Width.{headingWidth}
 use Rattle.sheet_reader.specs.Reader.{numbersAt, readUnder, accepted, rejected}
 use Rattle.sheet_reader.specs.table.Notes.{isNoted}
 use Rattle.sheet_table.specs.inner.Seats.{Seated}
@@ -50,7 +50,7 @@ pub record Tabled (ed : Edition) (s : List ℕ) (root ty next : ℕ) (u : List �
   pub types : typeOf sheet ≡ ty
   pub known : ty < 5
   pub shallow : depth (sheet .term) ≤ 32
-  pub rooted : root ≡ headingLength sheet
+  pub rooted : root ≡ headingWidth sheet
   pub shown : Shown (numbersAt s) (sheet .names) u whole places root next (sheet .term)
   pub seats : Seated (sheet .names) u [] root (sheet .term)
   pub notes : (id : ℕ) → id < 256 → isNoted u id ≡ uses (sheet .names) id [] (sheet .term)

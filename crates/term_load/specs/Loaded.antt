@@ -8,9 +8,9 @@ use Rattle.sheet_records.specs.Limits.{most-bytes}
 use Rattle.weight_theory.specs.Stack.{marksIn}
 use Rattle.sheet_written.specs.Written as written
 use Rattle.sheet_written.specs.Meaning.{tyOf, termOf}
+use Rattle.sheet_written.specs.Width.{headingWidth}
 use Rattle.sheet_rows.specs.Rep.{DEPTH, Rep}
 use Rattle.term_expand.specs.Contract.{Readied, Top}
-use Rattle.sheet_reader.specs.Encoding.{headingLength}
 use Rattle.sheet_reader.specs.Reader.{numbersAt, readSheet, accepted, rejected}
 use Rattle.sheet_judge.specs.Mark.{usesOf}
 use Rattle.sheet_judge.specs.declared.mark.Uses.{Uses}
@@ -39,7 +39,7 @@ pub record Ready (s : List ℕ) (root row ty size : ℕ) (uses : Uses) (u : List
   pub sheet : written.Sheet
   pub accepts : readSheet s ≡ accepted sheet ty size
   pub numbered : sheet .numbers ≡ numbersAt s
-  pub rooted : root ≡ headingLength sheet
+  pub rooted : root ≡ headingWidth sheet
   pub used : uses ≡ usesOf sheet
   pub represents : Rep (numbersAt s) u DEPTH row [] [] (termOf sheet) (tyOf (numbersAt s) ty)
 

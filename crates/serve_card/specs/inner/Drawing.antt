@@ -6,7 +6,7 @@ use lib.ListN.{length, take}
 use lib.Seq.{sets}
 use Rattle.sheet_written.specs.Meaning.{termOf, tyOf, typeOf}
 use Rattle.sheet_written.specs.Written.{Sheet}
-use Rattle.sheet_reader.specs.Encoding.{headingLength}
+use Rattle.sheet_written.specs.Width.{headingWidth}
 use Rattle.sheet_reader.specs.Reader.{accepted, readSheet}
 use Rattle.states_build.specs.inner.Built.{OneBuilt}
 use Rattle.serve_conditions.specs.Lent.{words-asked}
@@ -16,7 +16,7 @@ use Rattle.serve_card.specs.Promise.{CardOf}
 pub record Drawable (s : List ℕ) (ty all place : ℕ) (ws : List ℕ) : Type 0 where
   pub sheet : Sheet
   pub reads : readSheet s ≡ accepted sheet ty all
-  pub after : place ≡ headingLength sheet + 1
+  pub after : place ≡ headingWidth sheet + 1
   pub room : words-asked (sheet .numbers) all ≤ length ws
   pub built : OneBuilt (sheet .numbers) (tyOf (sheet .numbers) (typeOf sheet)) (termOf sheet) (all + 1) ws
 
@@ -24,6 +24,6 @@ pub record Drawable (s : List ℕ) (ty all place : ℕ) (ws : List ℕ) : Type 0
 pub record Drawn (s : List ℕ) (ty : ℕ) (sheet : Sheet) (place : ℕ) (space : List ℕ) (r : ℕ) (space′ : List ℕ) :
     Type 0 where
   pub bytes : List ℕ
-  pub is : CardOf s (take (headingLength sheet) s ++ (ty ∷ bytes))
+  pub is : CardOf s (take (headingWidth sheet) s ++ (ty ∷ bytes))
   pub returned : r ≡ place + length bytes
   pub written : space′ ≡ sets space place bytes

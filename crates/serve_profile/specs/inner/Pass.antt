@@ -9,7 +9,7 @@ use Rattle.sheet_rows.specs.Class.{EXPRESSIONS}
 use Rattle.sheet_rows.specs.Row.{word}
 use Rattle.sheet_rows.specs.PartKind.{NAME, SEQUENCE, PROCEDURE, END, CLASS}
 use Rattle.sheet_written.specs.Written.{Sheet}
-use Rattle.sheet_reader.specs.Encoding.{headingLength}
+use Rattle.sheet_written.specs.Width.{headingWidth}
 use Rattle.sheet_reader.specs.Reader.{readSheet, accepted}
 use Rattle.sheet_table.specs.inner.Seats.{Seated}
 use Rattle.serve_profile.specs.Offence.{offences}
@@ -48,5 +48,5 @@ firstOf (p ∷ ps) = At p
 
 -- the first offending record of an accepted sheet whose term is at a place and whose rows are in the table
 pub record Finds (s t : List ℕ) (root : ℕ) (r : Offence) : Type 0 where
-  pub does : (S : Sheet) (ty n : ℕ) → readSheet s ≡ accepted S ty n → root ≡ headingLength S →
+  pub does : (S : Sheet) (ty n : ℕ) → readSheet s ≡ accepted S ty n → root ≡ headingWidth S →
       Seated (S .names) t [] root (S .term) → r ≡ firstOf (offences S)
