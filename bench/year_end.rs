@@ -2,7 +2,7 @@
 //! answers to each other. The exit status is 0 only if all agree.
 
 #[allow(dead_code)]
-#[path = "../include/negyvosal.rs"]
+#[path = "../bindings/rust/src/boundary.rs"]
 mod boundary;
 mod peer;
 

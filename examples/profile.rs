@@ -1,20 +1,9 @@
 //! Holds two routines to the profile of quiet expressions: 1 + d(!x), and d(x := 1), where d takes a command.
 
-/// How many words an answer has, and the kind of one that accepts.
-const WORDS: usize = 11;
-const ACCEPTED: u32 = 1;
-
-extern "C" {
-    fn negyvosal_profile(sheet: *const u8, sheet_length: usize, out: *mut u32, out_length: usize) -> u32;
-}
-
 fn profile(sheet: &[u8]) -> String {
-    let mut out = [0; WORDS];
-    // SAFETY: every pointer comes with the length of its slice, and the slices do not overlap.
-    unsafe { negyvosal_profile(sheet.as_ptr(), sheet.len(), out.as_mut_ptr(), out.len()) };
-    match out {
-        [ACCEPTED, kind, size, ..] => format!("type {kind} size {size}"),
-        [_, number, _, low, high, ..] => format!("refused {number} at {}", u64::from(high) << 32 | u64::from(low)),
+    match negyvosal::profile(sheet) {
+        Ok(accepted) => format!("type {} size {}", accepted.kind as u32, accepted.size),
+        Err(refused) => format!("refused {} at {}", refused.number, refused.place),
     }
 }
 

@@ -1,5 +1,5 @@
 /* Negyvosal: checks, profiles, follows, compares, looks through and renumbers routines written as sheets, and makes a
- * card for each. For C and C++; link libabi.a. */
+ * card for each. For C and C++; link libnegyvosal. */
 #ifndef NEGYVOSAL_H
 #define NEGYVOSAL_H
 

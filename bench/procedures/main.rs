@@ -2,7 +2,7 @@
 //! into the folder. The exit status is 0 only if the answers are as they should be.
 
 #[allow(dead_code)]
-#[path = "../../include/negyvosal.rs"]
+#[path = "../../bindings/rust/src/boundary.rs"]
 mod boundary;
 mod chains;
 #[allow(dead_code)]

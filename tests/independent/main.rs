@@ -14,7 +14,7 @@
 //! all sizes to make cards of, and pairs of sheets that may have one card.
 
 #[allow(dead_code)]
-#[path = "../../include/negyvosal.rs"]
+#[path = "../../bindings/rust/src/boundary.rs"]
 mod boundary;
 mod card;
 mod cases;

@@ -1,5 +1,5 @@
-//! The boundary of the library for the Rust programs here, as `negyvosal.h` has it for C: the words of an answer and the
-//! services. A program takes it in as a module of its own.
+//! The boundary of the library, as `negyvosal.h` has it for C: the words of an answer and the services. The tests and
+//! benches here, which lend what they please, take it in as a module of their own.
 
 /// How many words an answer has: word 0 is its kind, the next four are its values, and the rest tell which names its
 /// sheets use.
@@ -47,6 +47,10 @@ pub const fn card_space(z: u8, size: usize) -> usize {
 pub const POSITION: u8 = 40;
 pub const MOVE: u8 = 41;
 pub const VALUED_MOVE: u8 = 42;
+
+/// The bytes of the list that renumber needs, and how many of them a change has.
+pub const LIST: usize = 1020;
+pub const CHANGE: usize = 4;
 
 extern "C" {
     pub fn negyvosal_check(sheet: *const u8, sheet_length: usize, out: *mut u32, out_length: usize) -> u32;
