@@ -171,7 +171,7 @@ static void expect(const uint32_t *out, uint32_t kind) {
 }
 
 static struct times timed(const struct sheet *s) {
-    struct times least = {1e9, 1e9, 0};
+    struct times least = {NEVER, NEVER, 0};
     unsigned size = accepted_size(s);
     for (int run = 0; run < RUNS; run++) {
         uint32_t out[NEGYVOSAL_WORDS];
@@ -179,8 +179,8 @@ static struct times timed(const struct sheet *s) {
         expect(out, NEGYVOSAL_FOLLOWS);
         double card = call(s, size, 1, out);
         expect(out, NEGYVOSAL_CARD);
-        if (card < least.card) least.card = card;
-        if (follow < least.follow) least.follow = follow;
+        keep_least(&least.card, card);
+        keep_least(&least.follow, follow);
         least.length = NEGYVOSAL_WHOLE(out[2], out[3]);
     }
     return least;
@@ -194,18 +194,6 @@ static void print(struct times t) {
 static void time_sheet(const char *what, struct range r, struct sheet s) {
     printf("%-16s Z %2d rule %d size %4u", what, r.z, r.rule, accepted_size(&s));
     print(timed(&s));
-}
-
-static struct sheet read_sheet(const char *name) {
-    struct sheet s = {{0}, 0};
-    FILE *file = fopen(name, "rb");
-    if (!file) {
-        perror(name);
-        exit(1);
-    }
-    s.length = fread(s.bytes, 1, sizeof s.bytes, file);
-    fclose(file);
-    return s;
 }
 
 /* The sheets of the files: the sums of all, the sheet whose card takes longest, and that which takes longest beside
@@ -229,8 +217,8 @@ static void time_files(int count, char **names) {
 }
 
 static void time_all(void) {
-    static const struct range ranges[] = {{1, 0}, {7, 0}, {7, 2}, {31, 0}, {31, 2}}, around[] = {{31, 1}, {21, 1}};
-    for (int r = 0; r < 5; r++)
+    static const struct range around[] = {{31, 1}, {21, 1}};
+    for (size_t r = 0; r < RANGES; r++)
         for (int size = LARGEST / 4; size <= LARGEST; size *= 2)
             time_sheet("loops", ranges[r], loops(ranges[r], size - 16, 1));
     for (int count = 300; count <= 1200; count *= 2) time_sheet("chain", ranges[0], chain(ranges[0], 0, 0, count));
@@ -246,6 +234,7 @@ static void time_all(void) {
 }
 
 int main(int count, char **arguments) {
+    warm_up();
     if (count > 1)
         time_files(count - 1, arguments + 1);
     else

@@ -1,5 +1,6 @@
-/* Times the service follow on long plays, at Z = 1 and Z = 7: complete plays of up to a million moves; the same with
- * one move halfway that no play has there; and plays that go on just as long where no complete play goes. */
+/* Times the service follow on long plays, at Z = 1, 7 and 31, and under rule 2: complete plays of up to a million
+ * moves; the same with one move halfway that no play has there; and plays that go on just as long where no complete
+ * play goes. With just the words that each sheet needs; processor time, the least of some runs. */
 #include <stdio.h>
 #include <stdlib.h>
 
@@ -10,7 +11,6 @@
 #define RUNS 5
 #define MOST_MOVES 1000000
 #define SIZE 4080
-#define WORDS (sizeof words / sizeof *words)
 
 enum { RUN = 0, DONE = 1, ASK = 2, VALUE = 5, WHOLE = 255, NOBODY = 77 };
 enum { SKIP = 16, DIVERGE = 17, IF = 25 };
@@ -20,7 +20,7 @@ struct play {
     size_t length, moves;
 };
 
-static uint32_t words[NEGYVOSAL_FOLLOW_WORDS(7, 4096)];
+static uint32_t words[NEGYVOSAL_FOLLOW_WORDS(31, 4096)];
 
 /* if b then skip else (the statements; diverge): no complete play goes into the statements. */
 static struct sheet dead_end(struct range r, int size) {
@@ -101,19 +101,23 @@ static size_t spoil(struct play *p) {
     return moves;
 }
 
+static void expect(const uint32_t *out, size_t count, uint32_t whole) {
+    if (out[0] == NEGYVOSAL_FOLLOWS && out[1] == whole && NEGYVOSAL_WHOLE(out[2], out[3]) == count) return;
+    fprintf(stderr, "follow answers %u %u %u %u\n", (unsigned)out[0], (unsigned)out[1], (unsigned)out[2],
+            (unsigned)out[3]);
+    exit(1);
+}
+
 /* The least time of some runs, all of which have to give that answer. */
 static double timed(const struct sheet *s, const struct play *p, size_t count, uint32_t whole) {
-    double least = 1e9;
+    double least = NEVER;
+    size_t lent = NEGYVOSAL_FOLLOW_WORDS(s->bytes[0], size_of(s));
     for (int run = 0; run < RUNS; run++) {
         uint32_t out[NEGYVOSAL_WORDS];
         double start = now();
-        negyvosal_follow(s->bytes, s->length, p->bytes, p->length, words, WORDS, out, NEGYVOSAL_WORDS);
-        double time = now() - start;
-        if (time < least) least = time;
-        if (out[0] != NEGYVOSAL_FOLLOWS || out[1] != whole || NEGYVOSAL_WHOLE(out[2], out[3]) != count) {
-            fprintf(stderr, "follow answers %u %u %u %u\n", (unsigned)out[0], (unsigned)out[1], (unsigned)out[2], (unsigned)out[3]);
-            exit(1);
-        }
+        negyvosal_follow(s->bytes, s->length, p->bytes, p->length, words, lent, out, NEGYVOSAL_WORDS);
+        keep_least(&least, now() - start);
+        expect(out, count, whole);
     }
     return least;
 }
@@ -121,7 +125,7 @@ static double timed(const struct sheet *s, const struct play *p, size_t count, u
 static void time_plays(struct range r, size_t most) {
     struct sheet through = loops(r, SIZE, 1), dead = dead_end(r, SIZE);
     struct play p = complete((size_t)loops_of(r, SIZE), most), astray = lost(most);
-    printf("Z %d size %d  follow %7zu moves", r.z, SIZE, p.moves);
+    printf("Z %2d rule %d size %u  follow %7zu moves", r.z, r.rule, (unsigned)size_of(&through), p.moves);
     printf("  complete %8.3f ms", timed(&through, &p, p.moves, 1));
     size_t before = spoil(&p);
     printf("  wrong halfway %8.3f ms", timed(&through, &p, before, 0));
@@ -131,8 +135,8 @@ static void time_plays(struct range r, size_t most) {
 }
 
 int main(void) {
-    static const struct range ranges[] = {{1, 0}, {7, 0}};
-    for (int r = 0; r < 2; r++)
+    warm_up();
+    for (size_t r = 0; r < RANGES; r++)
         for (size_t most = MOST_MOVES / 4; most <= MOST_MOVES; most *= 2) time_plays(ranges[r], most);
     return 0;
 }

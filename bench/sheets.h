@@ -15,14 +15,18 @@ struct range {
     int z, rule;
 };
 
+/* The ranges on which services are timed. */
+static const struct range ranges[] = {{1, 0}, {7, 0}, {7, INFINITIES}, {31, 0}, {31, INFINITIES}};
+#define RANGES (sizeof ranges / sizeof *ranges)
+
 struct sheet {
     uint8_t bytes[4096];
     size_t length;
 };
 
-static void put(struct sheet *s, int byte) { s->bytes[s->length++] = (uint8_t)byte; }
+static inline void put(struct sheet *s, int byte) { s->bytes[s->length++] = (uint8_t)byte; }
 
-static void declare(struct sheet *s, int id, int type) {
+static inline void declare(struct sheet *s, int id, int type) {
     int record[] = {DECLARE, id, type, 0, 255, 255, 255, 255};
     for (int i = 0; i < 8; i++) put(s, record[i]);
 }
@@ -39,7 +43,7 @@ static inline struct sheet headed(struct range r) {
 }
 
 /* `count` statements, halved as long as there are more than `group`, then one after the other. */
-static void statements(struct sheet *s, int count, int group) {
+static inline void statements(struct sheet *s, int count, int group) {
     static const int loop[] = {WHILE, OPERATE, EQUAL, USE, E, USE, E, USE, C};
     if (count == 1) {
         for (int i = 0; i < 9; i++) put(s, loop[i]);
@@ -58,7 +62,7 @@ static inline int numbers_of(struct range r) { return 2 * r.z + (r.rule == INFIN
 static inline int loops_of(struct range r, int size) { return (size - 3) / (2 * numbers_of(r) + 4); }
 
 /* The sheet of at most `size` states; sheets with other groups have the same plays. */
-static struct sheet loops(struct range r, int size, int group) {
+static inline struct sheet loops(struct range r, int size, int group) {
     struct sheet s = {{0}, 0};
     put(&s, r.z);
     put(&s, r.rule);

@@ -4,9 +4,11 @@
 #[allow(dead_code)]
 #[path = "../bindings/rust/src/boundary.rs"]
 mod boundary;
+mod clock;
 mod peer;
 
 use boundary::{negyvosal_check, negyvosal_compare, state_words, ACCEPTED, APART, OLD_MARK, SAME, WORDS};
+use clock::now;
 use peer::{Answer, Peer};
 use std::path::Path;
 use std::process::ExitCode;
@@ -15,28 +17,9 @@ const RUNS: usize = 15;
 const IN_OLD: u32 = 0;
 /// What play space is filled with, so that what the library leaves is seen.
 const UNTOUCHED: u8 = 0;
-const THREAD_TIME: i32 = 3;
 
 /// The classes on which a table of all pairs of positions fills up.
 const EXPLODING: [&str; 2] = ["dead-privates", "endless"];
-
-#[repr(C)]
-struct Time {
-    seconds: i64,
-    nanoseconds: i64,
-}
-
-extern "C" {
-    fn clock_gettime(clock: i32, time: *mut Time) -> i32;
-}
-
-/// The processor time of this thread so far, in microseconds.
-fn now() -> f64 {
-    let mut time = Time { seconds: 0, nanoseconds: 0 };
-    // SAFETY: the pointer is to a time as the C library has it.
-    unsafe { clock_gettime(THREAD_TIME, &mut time) };
-    time.seconds as f64 * 1e6 + time.nanoseconds as f64 / 1e3
-}
 
 /// A pair of sheets and what the library is lent for it.
 struct Pair {

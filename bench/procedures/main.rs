@@ -5,6 +5,8 @@
 #[path = "../../bindings/rust/src/boundary.rs"]
 mod boundary;
 mod chains;
+#[path = "../clock.rs"]
+mod clock;
 #[allow(dead_code)]
 #[path = "../../tests/independent/reader.rs"]
 mod reader;
@@ -17,10 +19,10 @@ mod terms;
 mod weigh;
 
 use boundary::{negyvosal_check, negyvosal_compare, state_words, ACCEPTED, OLD_MARK, REFUSED, SAME, WORDS};
+use clock::now;
 use sheets::Hard;
 use std::path::Path;
 use std::process::ExitCode;
-use std::time::Instant;
 
 const RUNS: usize = 21;
 const TOO_LARGE: u32 = 11;
@@ -57,17 +59,16 @@ fn compare(sheet: &[u8], words: &mut [u32], space: &mut [u8]) -> [u32; WORDS] {
     out
 }
 
-/// The answer of so many runs, which is always the same, and their median time in milliseconds.
+/// The answer of so many runs, which is always the same, and their least processor time in milliseconds.
 fn timed(run: &mut dyn FnMut() -> [u32; WORDS]) -> ([u32; WORDS], f64) {
     let answer = run();
-    let mut times = [0.0; RUNS];
-    for time in &mut times {
-        let start = Instant::now();
+    let mut least = f64::INFINITY;
+    for _ in 0..RUNS {
+        let start = now();
         run();
-        *time = start.elapsed().as_secs_f64() * 1e3;
+        least = least.min((now() - start) / 1e3);
     }
-    times.sort_by(f64::total_cmp);
-    (answer, times[RUNS / 2])
+    (answer, least)
 }
 
 /// Times a sheet and prints its line: whether its answers are right, and whether both times are within the limits.
