@@ -1,4 +1,4 @@
-// The services for callers in C and Rust. Each has its answer written as words (crate answers).
+// The services for callers in C and Rust. Each has its answer written as words (crate abi_words).
 use abi_words::card::answer_card;
 use abi_words::check::answer_check;
 use abi_words::compare::answer_compare;

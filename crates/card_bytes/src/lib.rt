@@ -1,4 +1,4 @@
-// The bytes of a table of positions, written from the words of numbered classes (crate numbering). Document 02, [12].
+// The bytes of a table of positions, written from the words of numbered classes (crate dfa_numbering). Document 02, [12].
 
 // A move of a position.
 mod arc;

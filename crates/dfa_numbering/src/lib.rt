@@ -1,3 +1,3 @@
 // The classes of an automaton numbered breadth first, and the table of positions that they are. The words are those of
-// crate class_words, of which the members and the places are no longer needed.
+// crate dfa_classes, of which the members and the places are no longer needed.
 pub mod number;

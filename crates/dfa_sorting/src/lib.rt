@@ -1,5 +1,5 @@
 // The classes of the states of an automaton in lent words: two states are in one class exactly if they accept the same
-// words. The words are those of crate class_words.
+// words. The words are those of crate dfa_classes.
 ghost use Prim.Native.Nat.{_*_};
 ghost use Rattle.dfa.specs.Graph.{rest};
 ghost use Rattle.dfa_sorting.specs.Sorted.{Sortable, Sorted};

@@ -1,4 +1,4 @@
-// Classes of states split by the letters that lead into one class. The words are those of crate class_words; in place of
+// Classes of states split by the letters that lead into one class. The words are those of crate dfa_classes; in place of
 // the copy stand the signs of states, word g + 3 n + p that of the state p.
 
 // By which letters a state goes into a class.

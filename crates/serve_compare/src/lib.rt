@@ -1,4 +1,4 @@
-// The services: check (crate judge), follow, compare and look.
+// The services: check (crate sheet_judge), follow, compare and look.
 use play_words::Decision;
 use sheet_judge::mark::Uses;
 use sheet_records::refusal::Cause;

@@ -1,4 +1,4 @@
--- What the pass over the bytes of a term promises: it does what `renumber` of the crate procedures says. Only inner
+-- What the pass over the bytes of a term promises: it does what `renumber` of the crate sheet_written says. Only inner
 -- contracts cite it.
 use Prim.Native.Nat.{ℕ, suc, _+_, _≤_, _<_}
 use mathlib.Core.Path.{_≡_}
