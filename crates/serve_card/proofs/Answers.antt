@@ -123,6 +123,7 @@ module _ {N : Numbers} {ty : ℕ} {s : List ℕ} {row all : ℕ} {t : List ℕ} 
       ready = record {
         type = tyOf N ty;
         term = termOf (F .sheet);
+        long = F .long;
         ready = fit-ready F;
         sized = F .sized;
         room = words-enough;

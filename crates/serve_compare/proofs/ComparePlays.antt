@@ -176,8 +176,9 @@ module _ {N : Numbers} {old new : List ℕ} {row other all more : ℕ} {v w : Us
   -- what build_two asks for
   pub two-ready : (ws : List ℕ) → words-asked N (all + more) ≤ length ws → TwoReady N t u row other all more ws
   two-ready ws h = record
-    { type = tyOf N ty; term = termOf (F .sheet); other-term = termOf (F′ .sheet); ready = fit-ready F
-    ; other-ready = fit-ready F′; sized = F .sized; other-sized = F′ .sized; room = h }
+    { type = tyOf N ty; term = termOf (F .sheet); other-term = termOf (F′ .sheet); long = F .long
+    ; other-long = F′ .long; ready = fit-ready F; other-ready = fit-ready F′; sized = F .sized
+    ; other-sized = F′ .sized; room = h }
 
   -- what decide asks for
   pub deciding : (ws ws₁ space : List ℕ) (h : words-asked N (all + more) ≤ length ws) → length ws₁ ≡ length ws →

@@ -110,7 +110,7 @@ module _ {N : Numbers} {ty : ℕ} {s : List ℕ} {row all : ℕ} {t : List ℕ} 
   -- THEOREM: an accepted sheet is ready for its automaton
   pub one-ready : (ws : List ℕ) → words-asked N all ≤ length ws → OneReady N t row all ws
   one-ready ws h = record
-    { type = tyOf N ty; term = termOf (F .sheet); ready = fit-ready F; sized = F .sized; room = h }
+    { type = tyOf N ty; term = termOf (F .sheet); long = F .long; ready = fit-ready F; sized = F .sized; room = h }
 
   -- the automaton is built
   module _ (ws ws′ : List ℕ) (room : words-asked N all ≤ length ws)

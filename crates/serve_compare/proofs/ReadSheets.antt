@@ -22,6 +22,7 @@ use Rattle.sheet_judge.specs.Mark.{usesOf}
 use Rattle.sheet_judge.specs.declared.mark.Uses.{Uses}
 use Rattle.sheet_reader.proofs.Right.{gives}
 use Rattle.sheet_reader.proofs.WellTyped.{accepted-typed}
+use Rattle.states_positions.specs.Row.{Long}
 use Rattle.states_step.specs.walk.Shows.{Words}
 use Rattle.states_words.specs.inner.Ready as explicit
 use Rattle.states_words.proofs.Ranges.{type-in, sheet-range}
@@ -66,13 +67,14 @@ pub record Fit (N : Numbers) (ty : ℕ) (s : List ℕ) (row all : ℕ) (t : List
   pub sized : size (tyOf N ty) (termOf sheet) ≡ all
   pub some : 0 < all
   pub small : all ≤ 4096
+  pub long : Long t
   pub represents : Rep N t 6144 row [] [] (termOf sheet) (tyOf N ty)
 
 -- an accepted sheet, its numbers and its type by other names
 module _ (S : Sheet) (A : Accepted S) (s t : List ℕ) (row all ty : ℕ) (h : readSheet s ≡ accepted S ty all) where
   fits : {N : Numbers} → S .numbers ≡ N → typeOf S ≡ ty → size (tyOf N ty) (termOf S) ≡ all →
-      Rep N t 6144 row [] [] (termOf S) (tyOf N ty) → Fit N ty s row all t
-  fits {N} e f g r = record
+      Long t → Rep N t 6144 row [] [] (termOf S) (tyOf N ty) → Fit N ty s row all t
+  fits {N} e f g l r = record
     { sheet = S; reads = h; numbers = e; types = f
     ; z-above = rw (← e) (A .ordered .in-order .z-above)
     ; z-below = rw (← e) (A .ordered .in-order .z-below)
@@ -82,6 +84,7 @@ module _ (S : Sheet) (A : Accepted S) (s t : List ℕ) (row all ty : ℕ) (h : r
     ; sized = g
     ; some = omega (arith, g, spots-size (tyOf N ty) (termOf S))
     ; small = rw (← g, ← e, ← f) (A .ordered .small)
+    ; long = l
     ; represents = r }
 
 -- THEOREM: what loading leaves of an accepted sheet fits
@@ -90,7 +93,8 @@ pub fit : {s : List ℕ} {root row ty all : ℕ} {v : Uses} {t : List ℕ} → R
 fit {s} {root} {row} {ty} {all} {v} {t} b =
     let g = gives Present s (b .sheet) ty all (b .accepts) in
     fits (b .sheet) (g .1) s t row all ty (b .accepts) (b .numbered) (sym (g .2))
-      (ap (λ N. size (tyOf N ty) (termOf (b .sheet))) (sym (b .numbered)) ∙ sym (g .3)) (b .represents)
+      (ap (λ N. size (tyOf N ty) (termOf (b .sheet))) (sym (b .numbered)) ∙ sym (g .3)) (b .long)
+      (b .represents)
 
 -- the same by names of the code
 pub fit-as : {s : List ℕ} {root row ty all : ℕ} {v : Uses} {t : List ℕ} → Ready s root row ty all v t →

@@ -7,10 +7,22 @@ use states_words::fill::close;
 use states_words::fill::fill;
 use term_expand::expand::TERM_WORDS;
 ghost use Prim.Native.Nat.{_+_};
+ghost use Rattle.states_positions.specs.Row.{Long};
+ghost use Rattle.states_step.specs.walk.Shows.{Words};
 ghost use Rattle.states_build.specs.inner.Built.{OneReady, OneBuilt, TwoReady, TwoBuilt};
 
+// That the rows are words of 16 bits. A slice says so of its words where one is read, an array does not, and nothing is
+// done with the word that is read.
+fn shorts(t: &[u16]) -> u16
+    requires { ⌜ Long (now t) ⌝ }
+    ensures { λ r. ⌜ Words (now (t .entry)) ⌝ }
+{
+    t[0]
+}
+
 // The automaton of a sheet of size `all`, with one state more, the dead one.
-fn build_one(t: &[u16], n: Numbers, root: usize, all: usize, words: &mut [u32])
+fn build_one(t: &[u16; TERM_WORDS], n: Numbers, root: usize, all: usize, words: &mut [u32])
+    requires { ⌜ Words (now t) ⌝ }
     requires { ⌜ OneReady n (now t) root all (now words) ⌝ }
     ensures { λ r. ⌜ ((R : OneReady n (now (t .entry)) root all (now (words .entry)))
         → OneBuilt n (R .type) (R .term) (all + 1) (now (words .exit))) ⌝ }
@@ -29,8 +41,8 @@ fn build_one(t: &[u16], n: Numbers, root: usize, all: usize, words: &mut [u32])
 
 // The automata of two sheets of sizes `all` and `more`, one after the other, and the dead state.
 fn build_two(
-    t: &[u16],
-    u: &[u16],
+    t: &[u16; TERM_WORDS],
+    u: &[u16; TERM_WORDS],
     n: Numbers,
     root: usize,
     other: usize,
@@ -38,6 +50,7 @@ fn build_two(
     more: usize,
     words: &mut [u32],
 )
+    requires { ⌜ Words (now t) × Words (now u) ⌝ }
     requires { ⌜ TwoReady n (now t) (now u) root other all more (now words) ⌝ }
     ensures { λ r. ⌜ ((R : TwoReady n (now (t .entry)) (now (u .entry)) root other all more (now (words .entry)))
         → TwoBuilt n (R .type) (R .term) (R .other-term) (all + more + 1) (now (words .exit))) ⌝ }
@@ -66,6 +79,7 @@ pub fn one_from_rows(t: &[u16; TERM_WORDS], n: Numbers, row: usize, all: usize, 
     ensures { λ r. ⌜ ((R : OneReady n (now (t .entry)) row all (now (words .entry)))
         → OneBuilt n (R .type) (R .term) (all + 1) (now (words .exit))) ⌝ }
 {
+    shorts(t);
     build_one(t, n, row, all, words);
 }
 
@@ -84,5 +98,7 @@ pub fn two_from_rows(
     ensures { λ r. ⌜ ((R : TwoReady n (now (t .entry)) (now (u .entry)) row other all more (now (words .entry)))
         → TwoBuilt n (R .type) (R .term) (R .other-term) (all + more + 1) (now (words .exit))) ⌝ }
 {
+    shorts(t);
+    shorts(u);
     build_two(t, u, n, row, other, all, more, words);
 }

@@ -27,10 +27,12 @@ use states_positions::types::question_kind;
 use states_positions::types::question_number;
 use states_positions::types::question_value;
 use states_positions::types::questions;
+use term_expand::expand::TERM_WORDS;
 ghost use mathlib.Core.Path.{_≡_};
 ghost use Rattle.states_names.specs.Name.{saidOf, framedOf, copiesOf, argSpots, replyHere, replyOf, argHere, inArgs};
 ghost use Rattle.states_names.specs.Name.{hearAnswer, hearQuestion, listenOf, atWait, inName, noMove, innerOf};
 ghost use Rattle.states_names.specs.Name.{againOf, spentOf};
+ghost use Rattle.states_positions.specs.Row.{Long};
 use states_positions::types::COMMANDS;
 
 // The first positions of a name: its question is put, its moves are waited for; where it has no second wait, its
@@ -42,14 +44,16 @@ const WAIT: usize = 1;
 const INNER: usize = 2;
 
 // Where the arguments of a name begin.
-fn inner(t: &[u16], at: usize) -> usize
+fn inner(t: &[u16; TERM_WORDS], at: usize) -> usize
+    requires { ⌜ Long (now t) ⌝ }
     ensures { λ r. ⌜ r ≡ innerOf (now (t .entry)) at ⌝ }
 {
     sum(INNER, name_spent(t, at))
 }
 
 // Where a name waits after the answer of an argument.
-fn after(t: &[u16], at: usize) -> usize
+fn after(t: &[u16; TERM_WORDS], at: usize) -> usize
+    requires { ⌜ Long (now t) ⌝ }
     ensures { λ r. ⌜ r ≡ againOf (now (t .entry)) at ⌝ }
 {
     sum(WAIT, name_spent(t, at))
@@ -83,7 +87,8 @@ pub fn framed(role: usize, base: usize, a: usize, b: usize, c: usize, d: usize) 
 }
 
 // How many positions argument j has: its weight for each question.
-fn copies(t: &[u16], at: usize, j: usize) -> usize
+fn copies(t: &[u16; TERM_WORDS], at: usize, j: usize) -> usize
+    requires { ⌜ Long (now t) ⌝ }
     ensures { λ r. ⌜ r ≡ copiesOf (now (t .entry)) at j ⌝ }
 {
     mul_add(
@@ -94,7 +99,8 @@ fn copies(t: &[u16], at: usize, j: usize) -> usize
 }
 
 // How many positions n arguments from argument j on have.
-fn spots(t: &[u16], at: usize, j: usize, n: usize) -> usize
+fn spots(t: &[u16; TERM_WORDS], at: usize, j: usize, n: usize) -> usize
+    requires { ⌜ Long (now t) ⌝ }
     ensures { λ r. ⌜ r ≡ argSpots (now (t .entry)) at j n ⌝ }
 {
     if n == 0 {
@@ -118,7 +124,16 @@ fn reply_here(id: usize, class: usize, values: usize, arg: usize, k: usize, next
 }
 
 // Reply k of n arguments from argument j on.
-fn reply(t: &[u16], id: usize, at: usize, j: usize, n: usize, k: usize, next: usize) -> Out
+fn reply(
+    t: &[u16; TERM_WORDS],
+    id: usize,
+    at: usize,
+    j: usize,
+    n: usize,
+    k: usize,
+    next: usize,
+) -> Out
+    requires { ⌜ Long (now t) ⌝ }
     ensures { λ r. ⌜ r ≡ replyOf (now (t .entry)) id at j n k next ⌝ }
 {
     if n == 0 {
@@ -162,7 +177,16 @@ pub fn arg_in(
 }
 
 // Position k of n arguments from argument j on; their positions begin at base, their replies at after.
-fn in_args(t: &[u16], at: usize, j: usize, n: usize, k: usize, base: usize, after: usize) -> Spot
+fn in_args(
+    t: &[u16; TERM_WORDS],
+    at: usize,
+    j: usize,
+    n: usize,
+    k: usize,
+    base: usize,
+    after: usize,
+) -> Spot
+    requires { ⌜ Long (now t) ⌝ }
     ensures { λ r. ⌜ r ≡ inArgs (now (t .entry)) at j n k base after ⌝ }
 {
     if n == 0 {
@@ -194,7 +218,8 @@ fn in_args(t: &[u16], at: usize, j: usize, n: usize, k: usize, base: usize, afte
 }
 
 // The name's own move: an answer to its question ends it.
-fn hear_answer(t: &[u16], at: usize, q: usize, x: usize, m: Move) -> Out
+fn hear_answer(t: &[u16; TERM_WORDS], at: usize, q: usize, x: usize, m: Move) -> Out
+    requires { ⌜ Long (now t) ⌝ }
     ensures { λ r. ⌜ r ≡ hearAnswer (now (t .entry)) at q x m ⌝ }
 {
     let kind = m.kind;
@@ -212,7 +237,8 @@ fn hear_answer(t: &[u16], at: usize, q: usize, x: usize, m: Move) -> Out
 }
 
 // A move at argument j, where the first n may be asked: a question enters its copy of the argument.
-fn hear_question(t: &[u16], at: usize, n: usize, j: usize, m: Move) -> Out
+fn hear_question(t: &[u16; TERM_WORDS], at: usize, n: usize, j: usize, m: Move) -> Out
+    requires { ⌜ Long (now t) ⌝ }
     ensures { λ r. ⌜ r ≡ hearQuestion (now (t .entry)) at n j m ⌝ }
 {
     if n <= j {
@@ -232,7 +258,8 @@ fn hear_question(t: &[u16], at: usize, n: usize, j: usize, m: Move) -> Out
 }
 
 // What follows a move at a name that waits, whose first n arguments may be asked.
-fn listen(t: &[u16], at: usize, q: usize, x: usize, n: usize, m: Move) -> Out
+fn listen(t: &[u16; TERM_WORDS], at: usize, q: usize, x: usize, n: usize, m: Move) -> Out
+    requires { ⌜ Long (now t) ⌝ }
     ensures { λ r. ⌜ r ≡ listenOf (now (t .entry)) at q x n m ⌝ }
 {
     if m.id != name_id(t, at) {
@@ -246,7 +273,8 @@ fn listen(t: &[u16], at: usize, q: usize, x: usize, n: usize, m: Move) -> Out
 }
 
 // A name that waits: for a move, or what follows the move that is given.
-pub fn waiting(t: &[u16], at: usize, q: usize, x: usize, n: usize, m: Move) -> Out
+pub fn waiting(t: &[u16; TERM_WORDS], at: usize, q: usize, x: usize, n: usize, m: Move) -> Out
+    requires { ⌜ Long (now t) ⌝ }
     ensures { λ r. ⌜ r ≡ atWait (now (t .entry)) at q x n m ⌝ }
 {
     if m.kind == NO_MOVE {
@@ -299,7 +327,8 @@ fn again(d: Spot) -> Spot
 }
 
 // Position k of a name.
-pub fn in_name(t: &[u16], at: usize, q: usize, x: usize, k: usize) -> Spot
+pub fn in_name(t: &[u16; TERM_WORDS], at: usize, q: usize, x: usize, k: usize) -> Spot
+    requires { ⌜ Long (now t) ⌝ }
     ensures { λ r. ⌜ r ≡ inName (now (t .entry)) at q x k noMove ⌝ }
 {
     let id = name_id(t, at);

@@ -32,6 +32,7 @@ use states_positions::moves::WRITE;
 use states_positions::row::cell;
 use states_positions::row::sum;
 use states_step::down::down;
+use term_expand::expand::TERM_WORDS;
 ghost use mathlib.Core.Path.{_≡_};
 ghost use Prim.Native.Nat.{_+_, _<_, _≤_};
 ghost use Rattle.states_names.specs.Name.{noMove};
@@ -40,6 +41,8 @@ ghost use Rattle.states_path.specs.Path.{storeOf};
 ghost use Rattle.states_path.specs.Levels.{framesOf, Sound};
 ghost use Rattle.states_path.specs.Kept.{spotIn, startOf, stopOf, leastOf, untilOf, childOf, KeptPath, Covers};
 ghost use Rattle.states_path.specs.Kept.{Arrived};
+ghost use Rattle.states_positions.specs.Row.{Long};
+ghost use Rattle.states_step.specs.walk.Shows.{TermRows};
 use crate::levels::PATH_WORDS;
 
 // The value of the private variable of the new at a row, inside c levels.
@@ -56,7 +59,7 @@ fn value_at(p: &[usize; PATH_WORDS], c: usize, row: usize) -> usize
 
 // Position k of a private variable inside c levels: its own step, then the exit.
 fn private_at(
-    t: &[u16],
+    t: &[u16; TERM_WORDS],
     p: &[usize; PATH_WORDS],
     c: usize,
     at: usize,
@@ -64,6 +67,7 @@ fn private_at(
     x: usize,
     k: usize,
 ) -> Out
+    requires { ⌜ TermRows (now t) ⌝ }
     requires { ⌜ Sound (now p) c ⌝ }
     ensures { λ r. ⌜ r ≡ inPrivate (now (t .entry)) at q x k (storeOf (framesOf (now (p .entry)) c)) ⌝ }
 {
@@ -97,7 +101,8 @@ fn private_at(
 }
 
 // Where the state k is in the innermost of c levels.
-fn spot_at(t: &[u16], root: usize, p: &[usize; PATH_WORDS], c: usize, k: usize) -> Spot
+fn spot_at(t: &[u16; TERM_WORDS], root: usize, p: &[usize; PATH_WORDS], c: usize, k: usize) -> Spot
+    requires { ⌜ TermRows (now t) ⌝ }
     requires { ⌜ KeptPath (now t) root (now p) c k ⌝ }
     ensures { λ r. ⌜ r ≡ spotIn (now (t .entry)) root (now (p .entry)) c k noMove ⌝ }
 {
@@ -118,7 +123,8 @@ fn spot_at(t: &[u16], root: usize, p: &[usize; PATH_WORDS], c: usize, k: usize) 
 }
 
 // The end of the states of the innermost of c levels.
-fn stop_at(t: &[u16], root: usize, p: &[usize; PATH_WORDS], c: usize) -> usize
+fn stop_at(t: &[u16; TERM_WORDS], root: usize, p: &[usize; PATH_WORDS], c: usize) -> usize
+    requires { ⌜ Long (now t) ⌝ }
     requires { ⌜ Sound (now p) c ⌝ }
     ensures { λ r. ⌜ r ≡ stopOf (now (t .entry)) root (now (p .entry)) c ⌝ }
 {
@@ -151,7 +157,7 @@ fn until(k: usize, past: usize, end: usize) -> usize
 
 // The level of a part of the innermost of c levels.
 fn child(
-    t: &[u16],
+    t: &[u16; TERM_WORDS],
     root: usize,
     p: &[usize; PATH_WORDS],
     c: usize,
@@ -161,6 +167,7 @@ fn child(
     value: usize,
     f: Frame,
 ) -> Level
+    requires { ⌜ TermRows (now t) ⌝ }
     requires { ⌜ Sound (now p) c × ((k < 65536) × (startOf (now p) c + f .base ≤ k)) ⌝ }
     ensures { λ r. ⌜ r ≡ childOf (now (t .entry)) root (now (p .entry)) c k part kind value f ⌝ }
 {
@@ -196,7 +203,14 @@ fn leave(p: &[usize; PATH_WORDS], c: usize, k: usize) -> usize
 }
 
 // Down from the innermost of c levels to the part where the state k is at hand.
-fn enter(t: &[u16], root: usize, p: &mut [usize; PATH_WORDS], c: usize, k: usize) -> Stop
+fn enter(
+    t: &[u16; TERM_WORDS],
+    root: usize,
+    p: &mut [usize; PATH_WORDS],
+    c: usize,
+    k: usize,
+) -> Stop
+    requires { ⌜ TermRows (now t) ⌝ }
     requires { ⌜ KeptPath (now t) root (now p) c k × (Covers (now p) c k × (k < 65536)) ⌝ }
     ensures { λ r. ⌜ Arrived (now (t .entry)) root (now (p .exit)) (r .levels) k (r .out) ⌝ }
 {
@@ -227,7 +241,14 @@ fn enter(t: &[u16], root: usize, p: &mut [usize; PATH_WORDS], c: usize, k: usize
 }
 
 // From a path of c levels to one of a state before k to that of the state k.
-pub fn go_to(t: &[u16], root: usize, p: &mut [usize; PATH_WORDS], c: usize, k: usize) -> Stop
+pub fn go_to(
+    t: &[u16; TERM_WORDS],
+    root: usize,
+    p: &mut [usize; PATH_WORDS],
+    c: usize,
+    k: usize,
+) -> Stop
+    requires { ⌜ TermRows (now t) ⌝ }
     requires { ⌜ KeptPath (now t) root (now p) c k × (k < 65536) ⌝ }
     ensures { λ r. ⌜ Arrived (now (t .entry)) root (now (p .exit)) (r .levels) k (r .out) ⌝ }
 {

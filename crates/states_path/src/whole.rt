@@ -18,17 +18,20 @@ use states_positions::row::sum;
 use states_positions::types::answers;
 use states_positions::types::question_number;
 use states_positions::types::questions;
+use term_expand::expand::TERM_WORDS;
 ghost use mathlib.Core.Path.{_≡_};
 ghost use Rattle.states_path.specs.States.{openedOf, atStart, repliedOf, afterOf, spotsOf};
 ghost use Rattle.states_names.specs.Name.{noMove};
 ghost use Rattle.states_path.specs.Kept.{sheetSpot};
+ghost use Rattle.states_positions.specs.Row.{Long};
 use states_positions::types::COMMANDS;
 
 // The id that stands for the whole term.
 pub const WHOLE: usize = 255;
 
 // The first question enters its copy of the term.
-fn opened(t: &[u16], root: usize, m: Move) -> Out
+fn opened(t: &[u16; TERM_WORDS], root: usize, m: Move) -> Out
+    requires { ⌜ Long (now t) ⌝ }
     ensures { λ r. ⌜ r ≡ openedOf (now (t .entry)) root m ⌝ }
 {
     if m.id != WHOLE {
@@ -49,7 +52,8 @@ fn opened(t: &[u16], root: usize, m: Move) -> Out
 }
 
 // The start: it waits for the question, or what follows the move that is given.
-pub fn at_start(t: &[u16], root: usize, m: Move) -> Out
+pub fn at_start(t: &[u16; TERM_WORDS], root: usize, m: Move) -> Out
+    requires { ⌜ Long (now t) ⌝ }
     ensures { λ r. ⌜ r ≡ atStart (now (t .entry)) root m ⌝ }
 {
     if m.kind == NO_MOVE {
@@ -92,7 +96,8 @@ fn replied(class: usize, values: usize, k: usize) -> Move
 }
 
 // The first of the states that answer.
-pub(crate) fn after_of(t: &[u16], root: usize) -> usize
+pub(crate) fn after_of(t: &[u16; TERM_WORDS], root: usize) -> usize
+    requires { ⌜ Long (now t) ⌝ }
     ensures { λ r. ⌜ r ≡ afterOf (now (t .entry)) root ⌝ }
 {
     mul_add(
@@ -103,7 +108,8 @@ pub(crate) fn after_of(t: &[u16], root: usize) -> usize
 }
 
 // How many states the sheet has but the end.
-pub fn spots_of(t: &[u16], root: usize) -> usize
+pub fn spots_of(t: &[u16; TERM_WORDS], root: usize) -> usize
+    requires { ⌜ Long (now t) ⌝ }
     ensures { λ r. ⌜ r ≡ spotsOf (now (t .entry)) root ⌝ }
 {
     sum(
@@ -113,7 +119,8 @@ pub fn spots_of(t: &[u16], root: usize) -> usize
 }
 
 // Where the state k is: the start, a copy of the term, or an answer.
-pub(crate) fn sheet_spot(t: &[u16], root: usize, k: usize) -> Spot
+pub(crate) fn sheet_spot(t: &[u16; TERM_WORDS], root: usize, k: usize) -> Spot
+    requires { ⌜ Long (now t) ⌝ }
     ensures { λ r. ⌜ r ≡ sheetSpot (now (t .entry)) root k noMove ⌝ }
 {
     if k == 0 {

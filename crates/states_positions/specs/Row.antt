@@ -1,10 +1,17 @@
 -- Words of the table of parts, and sums and products that may be too large.
 use Prim.Native.Nat.{ℕ, _+_, _*_, _/_, _%_}
+use mathlib.Core.Path.{_≡_}
 use mathlib.Core.List.{List}
+use lib.ListN.{length}
 use lib.Dec.{ltb}
 use Rattle.language.specs.Choice.{pick}
 use Rattle.sheet_rows.specs.Row.{word}
 use Rattle.sheet_rows.specs.PartKind.{WEIGHT, CLASS, VALUES, DETAIL, PARTS, ID-SPAN, COUNT-SPAN, ONCE}
+use Rattle.term_closing.specs.Rows.{TERM-WORDS}
+
+-- the words of all rows of a term, as the code has them
+abbrev pub Long : List ℕ → Type 0
+Long t = length t ≡ TERM-WORDS
 
 -- the place of part j
 abbrev pub partOf : List ℕ → ℕ → ℕ → ℕ

@@ -8,84 +8,96 @@ use sheet_rows::row::PARTS;
 use sheet_rows::row::ROW_WORDS;
 use sheet_rows::row::VALUES;
 use sheet_rows::row::WEIGHT;
+use term_expand::expand::TERM_WORDS;
 ghost use mathlib.Core.Path.{_≡_};
 ghost use Prim.Native.Nat.{_+_};
 ghost use Rattle.sheet_rows.specs.Row.{word};
 ghost use Rattle.states_positions.specs.Row.{partWeight, partClass, partValues, nameId, nameCount, nameSpent};
-ghost use Rattle.states_positions.specs.Row.{sumOf, mulAddOf};
+ghost use Rattle.states_positions.specs.Row.{Long, sumOf, mulAddOf};
 
 // Numbers below this are added without becoming too large, and those below its root are multiplied.
 const SUM_LIMIT: usize = 4294967296;
 
 const FACTOR_LIMIT: usize = 65536;
 
-// Word i of the row at a place, 0 past the end of the table.
-pub fn cell(t: &[u16], at: usize, i: usize) -> usize
+// A word as a number.
+fn wide(x: u16) -> usize
+    ensures { λ r. ⌜ r ≡ x ⌝ }
+{
+    x as usize
+}
+
+// Word i of the row at a place, 0 past the end of the rows. They are an array and not a slice because a slice, which is
+// two words, goes through memory at every call, and its length would be divided at every word.
+pub fn cell(t: &[u16; TERM_WORDS], at: usize, i: usize) -> usize
+    requires { ⌜ Long (now t) ⌝ }
     ensures { λ r. ⌜ r ≡ word (now (t .entry)) at i ⌝ }
 {
-    let n = t.len();
-    if n / ROW_WORDS < at {
+    if TERM_WORDS / ROW_WORDS < at {
         return 0;
     }
     let row = ROW_WORDS * at;
-    if n - row <= i {
+    if TERM_WORDS - row <= i {
         return 0;
     }
     let index = row + i;
-    t[index] as usize
+    wide(t[index])
 }
 
 // The place of part j.
-pub fn part_at(t: &[u16], at: usize, j: usize) -> usize
+pub fn part_at(t: &[u16; TERM_WORDS], at: usize, j: usize) -> usize
+    requires { ⌜ Long (now t) ⌝ }
     ensures { λ r. ⌜ r ≡ word (now (t .entry)) at (5 + j) ⌝ }
 {
-    let n = t.len();
-    if n < PARTS {
-        return 0;
-    }
-    if n - PARTS < j {
+    if TERM_WORDS - PARTS < j {
         return 0;
     }
     cell(t, at, PARTS + j)
 }
 
 // The weight of part j.
-pub fn part_weight(t: &[u16], at: usize, j: usize) -> usize
+pub fn part_weight(t: &[u16; TERM_WORDS], at: usize, j: usize) -> usize
+    requires { ⌜ Long (now t) ⌝ }
     ensures { λ r. ⌜ r ≡ partWeight (now (t .entry)) at j ⌝ }
 {
     cell(t, part_at(t, at, j), WEIGHT)
 }
 
 // The class of part j's type.
-pub fn part_class(t: &[u16], at: usize, j: usize) -> usize
+pub fn part_class(t: &[u16; TERM_WORDS], at: usize, j: usize) -> usize
+    requires { ⌜ Long (now t) ⌝ }
     ensures { λ r. ⌜ r ≡ partClass (now (t .entry)) at j ⌝ }
 {
     cell(t, part_at(t, at, j), CLASS)
 }
 
 // How many values part j's data has.
-pub fn part_values(t: &[u16], at: usize, j: usize) -> usize
+pub fn part_values(t: &[u16; TERM_WORDS], at: usize, j: usize) -> usize
+    requires { ⌜ Long (now t) ⌝ }
     ensures { λ r. ⌜ r ≡ partValues (now (t .entry)) at j ⌝ }
 {
     cell(t, part_at(t, at, j), VALUES)
 }
 
 // The id of a name.
-pub fn name_id(t: &[u16], at: usize) -> usize
+pub fn name_id(t: &[u16; TERM_WORDS], at: usize) -> usize
+    requires { ⌜ Long (now t) ⌝ }
     ensures { λ r. ⌜ r ≡ nameId (now (t .entry)) at ⌝ }
 {
     cell(t, at, DETAIL) % ID_SPAN
 }
 
 // How many arguments a name has.
-pub fn name_count(t: &[u16], at: usize) -> usize
+pub fn name_count(t: &[u16; TERM_WORDS], at: usize) -> usize
+    requires { ⌜ Long (now t) ⌝ }
     ensures { λ r. ⌜ r ≡ nameCount (now (t .entry)) at ⌝ }
 {
     cell(t, at, DETAIL) / ID_SPAN % COUNT_SPAN
 }
 
 // How many second waits a name has: one where it asks once.
-pub fn name_spent(t: &[u16], at: usize) -> usize
+pub fn name_spent(t: &[u16; TERM_WORDS], at: usize) -> usize
+    requires { ⌜ Long (now t) ⌝ }
     ensures { λ r. ⌜ r ≡ nameSpent (now (t .entry)) at ⌝ }
 {
     cell(t, at, DETAIL) / ONCE

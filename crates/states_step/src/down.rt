@@ -34,9 +34,11 @@ use states_positions::row::part_at;
 use states_positions::row::part_values;
 use states_positions::row::part_weight;
 use states_positions::row::sum;
+use term_expand::expand::TERM_WORDS;
 ghost use mathlib.Core.Path.{_≡_};
 ghost use Rattle.states_step.specs.walk.Down.{leavesOf, inFetch, inSeq, inWhile, condIn, inCond, operateIn};
 ghost use Rattle.states_step.specs.walk.Down.{inOperate, assignIn, inAssign, inNew, downBare};
+ghost use Rattle.states_positions.specs.Row.{Long};
 use sheet_records::read::SHORTS;
 use states_positions::roles::AS_IS;
 
@@ -54,7 +56,8 @@ fn leaves(kind: usize, value: usize) -> Spot
 }
 
 // Position k of a fetch: its variable is read.
-fn in_fetch(t: &[u16], at: usize, k: usize) -> Spot
+fn in_fetch(t: &[u16; TERM_WORDS], at: usize, k: usize) -> Spot
+    requires { ⌜ Long (now t) ⌝ }
     ensures { λ r. ⌜ r ≡ inFetch (now (t .entry)) at k ⌝ }
 {
     let part = part_at(t, at, 0);
@@ -69,7 +72,8 @@ fn in_fetch(t: &[u16], at: usize, k: usize) -> Spot
 }
 
 // Position k of a sequence.
-fn in_seq(t: &[u16], at: usize, q: usize, x: usize, k: usize) -> Spot
+fn in_seq(t: &[u16; TERM_WORDS], at: usize, q: usize, x: usize, k: usize) -> Spot
+    requires { ⌜ Long (now t) ⌝ }
     ensures { λ r. ⌜ r ≡ inSeq (now (t .entry)) at q x k ⌝ }
 {
     let w = part_weight(t, at, 0);
@@ -96,7 +100,8 @@ fn in_seq(t: &[u16], at: usize, q: usize, x: usize, k: usize) -> Spot
 }
 
 // Position k of a loop.
-fn in_while(t: &[u16], at: usize, k: usize) -> Spot
+fn in_while(t: &[u16; TERM_WORDS], at: usize, k: usize) -> Spot
+    requires { ⌜ Long (now t) ⌝ }
     ensures { λ r. ⌜ r ≡ inWhile (now (t .entry)) at k ⌝ }
 {
     let w = part_weight(t, at, 0);
@@ -157,7 +162,8 @@ fn cond_in(b: usize, m: usize, n: usize, w: usize, v: usize, q: usize, x: usize,
 }
 
 // Position k of the choice at a place.
-fn in_cond(t: &[u16], at: usize, q: usize, x: usize, k: usize) -> Spot
+fn in_cond(t: &[u16; TERM_WORDS], at: usize, q: usize, x: usize, k: usize) -> Spot
+    requires { ⌜ Long (now t) ⌝ }
     ensures { λ r. ⌜ r ≡ inCond (now (t .entry)) at q x k ⌝ }
 {
     let w = part_weight(t, at, 0);
@@ -203,7 +209,8 @@ fn operate_in(left: usize, right: usize, w: usize, v: usize, op: usize, m: usize
 }
 
 // Position k of the operation at a place.
-fn in_operate(t: &[u16], at: usize, k: usize) -> Spot
+fn in_operate(t: &[u16; TERM_WORDS], at: usize, k: usize) -> Spot
+    requires { ⌜ Long (now t) ⌝ }
     ensures { λ r. ⌜ r ≡ inOperate (now (t .entry)) at k ⌝ }
 {
     let w = part_weight(t, at, 0);
@@ -249,7 +256,8 @@ fn assign_in(var: usize, e: usize, w: usize, v: usize, m: usize, k: usize) -> Sp
 }
 
 // Position k of the assignment at a place.
-fn in_assign(t: &[u16], at: usize, k: usize) -> Spot
+fn in_assign(t: &[u16; TERM_WORDS], at: usize, k: usize) -> Spot
+    requires { ⌜ Long (now t) ⌝ }
     ensures { λ r. ⌜ r ≡ inAssign (now (t .entry)) at k ⌝ }
 {
     let w = part_weight(t, at, 1);
@@ -259,7 +267,8 @@ fn in_assign(t: &[u16], at: usize, k: usize) -> Spot
 }
 
 // Position k of a block.
-fn in_new(t: &[u16], at: usize, q: usize, x: usize, k: usize) -> Spot
+fn in_new(t: &[u16; TERM_WORDS], at: usize, q: usize, x: usize, k: usize) -> Spot
+    requires { ⌜ Long (now t) ⌝ }
     ensures { λ r. ⌜ r ≡ inNew (now (t .entry)) at q x k ⌝ }
 {
     let w = part_weight(t, at, 0);
@@ -280,7 +289,8 @@ fn in_new(t: &[u16], at: usize, q: usize, x: usize, k: usize) -> Spot
 
 // Position k of the term at a place, asked the question q of value x. A private variable, whose value is not known here,
 // is stuck.
-pub fn down(t: &[u16], at: usize, q: usize, x: usize, k: usize) -> Spot
+pub fn down(t: &[u16; TERM_WORDS], at: usize, q: usize, x: usize, k: usize) -> Spot
+    requires { ⌜ Long (now t) ⌝ }
     ensures { λ r. ⌜ r ≡ downBare (now (t .entry)) at q x k ⌝ }
 {
     let kind = cell(t, at, KIND);

@@ -18,6 +18,7 @@ use states_path::whole::spots_of;
 use states_positions::Out;
 use states_positions::row::mul_add;
 use states_positions::row::sum;
+use term_expand::expand::TERM_WORDS;
 ghost use mathlib.Core.Path.{_≡_};
 ghost use Prim.Native.Nat.{_≤_};
 ghost use lib.ListN.{length};
@@ -27,6 +28,7 @@ ghost use Rattle.states_path.specs.Levels.{framesOf, Sound};
 ghost use Rattle.states_path.specs.Kept.{Arrived};
 ghost use Rattle.states_words.specs.inner.Rows.{past, withRow, closedOf};
 ghost use Rattle.states_words.specs.inner.Moves.{silentOf, rowOf, edgesAfter, filledOf};
+ghost use Rattle.states_step.specs.walk.Shows.{TermRows};
 
 // The silent word of a state that does `o` inside c levels: 0 where it makes or takes a move, else 1 more than the
 // state to which it goes.
@@ -59,7 +61,7 @@ fn silent_at(n: Numbers, s: Site, p: &[usize; PATH_WORDS], c: usize, o: Out) -> 
 
 // The state k of the sheet, at which a path has arrived, its edges from edge e on.
 fn write_row(
-    t: &[u16],
+    t: &[u16; TERM_WORDS],
     n: Numbers,
     s: Site,
     words: &mut [u32],
@@ -68,6 +70,7 @@ fn write_row(
     k: usize,
     e: usize,
 ) -> usize
+    requires { ⌜ TermRows (now t) ⌝ }
     requires { ⌜ Arrived (now t) (s .root) (now p) (at .levels) k (at .out) ⌝ }
     ensures returned { λ x. ⌜ x ≡ past e (rowOf (now (t .entry)) n s k .edges) ⌝ }
     ensures written { λ x. ⌜ now (words .exit)
@@ -114,13 +117,14 @@ fn write_row(
 // The automaton of a sheet: the states from s.o on, the end last, their edges from edge e on. Gives the edge after
 // them. The path is kept in words that are lent, whatever they hold.
 pub fn fill(
-    t: &[u16],
+    t: &[u16; TERM_WORDS],
     n: Numbers,
     s: Site,
     words: &mut [u32],
     p: &mut [usize; PATH_WORDS],
     e: usize,
 ) -> usize
+    requires { ⌜ TermRows (now t) ⌝ }
     requires { ⌜ (spotsOf (now t) (s .root) ≤ 65536) × (length (now p) ≡ 79885) ⌝ }
     ensures returned { λ x. ⌜ x ≡ edgesAfter (now (t .entry)) n s e ⌝ }
     ensures written { λ x. ⌜ now (words .exit) ≡ filledOf (now (t .entry)) n s (now (words .entry)) e ⌝ }

@@ -22,6 +22,7 @@ use states_positions::row::part_class;
 use states_positions::row::part_values;
 use states_positions::row::sum;
 use states_positions::types::question_limit;
+use term_expand::expand::TERM_WORDS;
 ghost use mathlib.Core.Path.{_≡_};
 ghost use Prim.Native.Nat.{_-_, _≤_};
 ghost use Rattle.language.specs.Number.{numbers};
@@ -30,6 +31,8 @@ ghost use Rattle.states_words.specs.inner.Waiting.{Listening, Calling, A
 ghost use Rattle.states_words.specs.inner.Rows.{withEdges, past};
 ghost use Rattle.states_words.specs.inner.Moves.{valueEdge, valueEdges, blockEdges, heardEdges, questionEdges};
 ghost use Rattle.states_words.specs.inner.Moves.{askedEdges, askingOf};
+ghost use Rattle.states_positions.specs.Row.{Long};
+ghost use Rattle.states_step.specs.walk.Shows.{TermRows};
 use sheet_records::limits::MOST_ARGUMENTS;
 use states_path::levels::PATH_WORDS;
 use states_positions::moves::MOVE_KINDS;
@@ -43,7 +46,7 @@ const BLOCKS: usize = MOVE_KINDS * PLACES;
 
 // Where a move leads at a state that waits, to which a path of c levels leads.
 fn heard(
-    t: &[u16],
+    t: &[u16; TERM_WORDS],
     n: Numbers,
     s: Site,
     p: &[usize; PATH_WORDS],
@@ -51,6 +54,7 @@ fn heard(
     wait: Wait,
     m: Move,
 ) -> usize
+    requires { ⌜ Long (now t) ⌝ }
     requires { ⌜ Listening (now t) n (s .root) (now p) c wait ⌝ }
     ensures { λ r. ⌜ r ≡ targetOf s (sheetAt (now (t .entry)) n (s .root) (wait .state) m) ⌝ }
 {
@@ -68,7 +72,7 @@ fn heard(
 
 // The edge by the value at place r, where it is below the limit.
 fn hear_value(
-    t: &[u16],
+    t: &[u16; TERM_WORDS],
     n: Numbers,
     s: Site,
     words: &mut [u32],
@@ -81,6 +85,7 @@ fn hear_value(
     r: usize,
     e: usize,
 ) -> usize
+    requires { ⌜ Long (now t) ⌝ }
     requires { ⌜ Listening (now t) n (s .root) (now p) c wait ⌝ }
     ensures returned { λ x. ⌜ x ≡ past e (valueEdge (now (t .entry)) n s wait kind arg below r) ⌝ }
     ensures written { λ x. ⌜ now (words .exit) ≡ withEdges (now (words .entry)) (s .n) e
@@ -108,7 +113,7 @@ fn hear_value(
 
 // The edges by the values below a limit.
 fn hear_values(
-    t: &[u16],
+    t: &[u16; TERM_WORDS],
     n: Numbers,
     s: Site,
     words: &mut [u32],
@@ -120,6 +125,7 @@ fn hear_values(
     below: usize,
     e: usize,
 ) -> usize
+    requires { ⌜ Long (now t) ⌝ }
     requires { ⌜ Listening (now t) n (s .root) (now p) c wait ⌝ }
     ensures returned { λ x. ⌜ x ≡ past e (valueEdges (now (t .entry)) n s wait kind arg below (numbers n)) ⌝ }
     ensures written { λ x. ⌜ now (words .exit) ≡ withEdges (now (words .entry)) (s .n) e
@@ -137,7 +143,7 @@ fn hear_values(
 
 // The edges by the moves of a kind at an argument.
 fn hear_block(
-    t: &[u16],
+    t: &[u16; TERM_WORDS],
     n: Numbers,
     s: Site,
     words: &mut [u32],
@@ -148,6 +154,7 @@ fn hear_block(
     arg: usize,
     e: usize,
 ) -> usize
+    requires { ⌜ Long (now t) ⌝ }
     requires { ⌜ Listening (now t) n (s .root) (now p) c wait ⌝ }
     ensures returned { λ x. ⌜ x ≡ past e (blockEdges (now (t .entry)) n s wait kind arg) ⌝ }
     ensures written { λ x. ⌜ now (words .exit) ≡ withEdges (now (words .entry)) (s .n) e
@@ -162,7 +169,7 @@ fn hear_block(
 
 // The edges by the questions of a kind at an argument of the name that a state waits for.
 fn hear_argument(
-    t: &[u16],
+    t: &[u16; TERM_WORDS],
     n: Numbers,
     s: Site,
     words: &mut [u32],
@@ -173,6 +180,7 @@ fn hear_argument(
     arg: usize,
     e: usize,
 ) -> usize
+    requires { ⌜ Long (now t) ⌝ }
     requires { ⌜ Listening (now t) n (s .root) (now p) c wait × Argument wait arg ⌝ }
     ensures returned { λ x. ⌜ x ≡ past e (blockEdges (now (t .entry)) n s wait kind arg) ⌝ }
     ensures written { λ x. ⌜ now (words .exit) ≡ withEdges (now (words .entry)) (s .n) e
@@ -188,7 +196,7 @@ fn hear_argument(
 
 // The edges by the questions of a kind at the first arguments.
 fn hear_questions(
-    t: &[u16],
+    t: &[u16; TERM_WORDS],
     n: Numbers,
     s: Site,
     words: &mut [u32],
@@ -199,6 +207,7 @@ fn hear_questions(
     count: usize,
     e: usize,
 ) -> usize
+    requires { ⌜ Long (now t) ⌝ }
     requires { ⌜ Listening (now t) n (s .root) (now p) c wait × Arguments wait count ⌝ }
     ensures returned { λ x. ⌜ x ≡ past e (questionEdges (now (t .entry)) n s wait kind count) ⌝ }
     ensures written { λ x. ⌜ now (words .exit) ≡ withEdges (now (words .entry)) (s .n) e
@@ -215,7 +224,7 @@ fn hear_questions(
 
 // The same for the kinds from a first one to an end, which is left out.
 fn hear_kinds(
-    t: &[u16],
+    t: &[u16; TERM_WORDS],
     n: Numbers,
     s: Site,
     words: &mut [u32],
@@ -227,6 +236,7 @@ fn hear_kinds(
     end: usize,
     e: usize,
 ) -> usize
+    requires { ⌜ Long (now t) ⌝ }
     requires { ⌜ Listening (now t) n (s .root) (now p) c wait × (Arguments wait count × (first ≤ end)) ⌝ }
     ensures returned { λ x. ⌜ x ≡ past e (askedEdges (now (t .entry)) n s wait count first (end - first)) ⌝ }
     ensures written { λ x. ⌜ now (words .exit) ≡ withEdges (now (words .entry)) (s .n) e
@@ -243,7 +253,7 @@ fn hear_kinds(
 
 // The edge by the answer at place r of the name that a state waits for, where it is below the limit.
 fn hear_answer(
-    t: &[u16],
+    t: &[u16; TERM_WORDS],
     n: Numbers,
     s: Site,
     words: &mut [u32],
@@ -255,6 +265,7 @@ fn hear_answer(
     r: usize,
     e: usize,
 ) -> usize
+    requires { ⌜ Long (now t) ⌝ }
     requires { ⌜ Answering (now t) n s (now p) c wait kind below ⌝ }
     ensures returned { λ x. ⌜ x ≡ past e (valueEdge (now (t .entry)) n s wait kind 0 below r) ⌝ }
     ensures written { λ x. ⌜ now (words .exit) ≡ withEdges (now (words .entry)) (s .n) e
@@ -282,7 +293,7 @@ fn hear_answer(
 
 // The edges by the answers of the name that a state waits for.
 fn hear_answers(
-    t: &[u16],
+    t: &[u16; TERM_WORDS],
     n: Numbers,
     s: Site,
     words: &mut [u32],
@@ -292,6 +303,7 @@ fn hear_answers(
     kind: usize,
     e: usize,
 ) -> usize
+    requires { ⌜ TermRows (now t) ⌝ }
     requires { ⌜ Listening (now t) n (s .root) (now p) c wait × Calling wait ⌝ }
     ensures returned { λ x. ⌜ x ≡ past e (blockEdges (now (t .entry)) n s wait kind 0) ⌝ }
     ensures written { λ x. ⌜ now (words .exit) ≡ withEdges (now (words .entry)) (s .n) e
@@ -313,7 +325,7 @@ fn hear_answers(
 
 // The edges by all moves: the kinds from the first to the last, arguments 0 to 4.
 fn hear_all(
-    t: &[u16],
+    t: &[u16; TERM_WORDS],
     n: Numbers,
     s: Site,
     words: &mut [u32],
@@ -322,6 +334,7 @@ fn hear_all(
     wait: Wait,
     e: usize,
 ) -> usize
+    requires { ⌜ Long (now t) ⌝ }
     requires { ⌜ Listening (now t) n (s .root) (now p) c wait ⌝ }
     ensures returned { λ x. ⌜ x ≡ past e (heardEdges (now (t .entry)) n s wait 35) ⌝ }
     ensures written { λ x. ⌜ now (words .exit) ≡ withEdges (now (words .entry)) (s .n) e
@@ -349,7 +362,7 @@ fn asking(count: usize) -> usize
 // The edges of a state that waits for a name: it takes the questions of its arguments and, in their place among the
 // kinds, its answers.
 fn hear_called(
-    t: &[u16],
+    t: &[u16; TERM_WORDS],
     n: Numbers,
     s: Site,
     words: &mut [u32],
@@ -358,6 +371,7 @@ fn hear_called(
     wait: Wait,
     e: usize,
 ) -> usize
+    requires { ⌜ Long (now t) ⌝ }
     requires { ⌜ Listening (now t) n (s .root) (now p) c wait × Calling wait ⌝ }
     ensures returned { λ x. ⌜ x ≡ past e (heardEdges (now (t .entry)) n s wait 35) ⌝ }
     ensures written { λ x. ⌜ now (words .exit) ≡ withEdges (now (words .entry)) (s .n) e
@@ -384,7 +398,7 @@ fn hear_called(
 
 // The edges of a waiting state: a name that may ask no argument takes only its answers.
 pub(crate) fn hear(
-    t: &[u16],
+    t: &[u16; TERM_WORDS],
     n: Numbers,
     s: Site,
     words: &mut [u32],
@@ -393,6 +407,7 @@ pub(crate) fn hear(
     wait: Wait,
     e: usize,
 ) -> usize
+    requires { ⌜ TermRows (now t) ⌝ }
     requires { ⌜ Listening (now t) n (s .root) (now p) c wait ⌝ }
     ensures returned { λ x. ⌜ x ≡ past e (heardEdges (now (t .entry)) n s wait 35) ⌝ }
     ensures written { λ x. ⌜ now (words .exit) ≡ withEdges (now (words .entry)) (s .n) e

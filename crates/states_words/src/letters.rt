@@ -21,11 +21,13 @@ use states_positions::row::name_id;
 use states_positions::row::part_class;
 use states_positions::row::part_values;
 use states_positions::types::question_limit;
+use term_expand::expand::TERM_WORDS;
 ghost use mathlib.Core.Path.{_≡_};
 ghost use Prim.Native.Nat.{_%_, _≤_};
 ghost use Rattle.language.specs.Number.{finites};
 ghost use Rattle.language.specs.Order.{codeAt, rank};
 ghost use Rattle.states_words.specs.inner.Moves.{letterOf, answerLimit, answerKind, limitOf, waitOf};
+ghost use Rattle.states_positions.specs.Row.{Long};
 use sheet_records::limits::BYTES;
 use sheet_records::read::SHORTS;
 use states_positions::types::COMMANDS;
@@ -166,7 +168,8 @@ pub(crate) fn answer_kind(class: usize, q: usize) -> usize
 }
 
 // The same for the moves of a kind at an argument of the one a state waits for; argument 0 is the name itself.
-pub(crate) fn limit(t: &[u16], e: Wait, kind: usize, arg: usize) -> usize
+pub(crate) fn limit(t: &[u16; TERM_WORDS], e: Wait, kind: usize, arg: usize) -> usize
+    requires { ⌜ Long (now t) ⌝ }
     ensures { λ r. ⌜ r ≡ limitOf (now (t .entry)) e kind arg ⌝ }
 {
     let at = e.at;
@@ -197,13 +200,14 @@ pub(crate) fn limit(t: &[u16], e: Wait, kind: usize, arg: usize) -> usize
 
 // Whom the state k waits for.
 pub(crate) fn wait_of(
-    t: &[u16],
+    t: &[u16; TERM_WORDS],
     state: usize,
     at: usize,
     kind: usize,
     value: usize,
     count: usize,
 ) -> Wait
+    requires { ⌜ Long (now t) ⌝ }
     ensures { λ r. ⌜ r ≡ waitOf (now (t .entry)) state at kind value count ⌝ }
 {
     if kind == OPENING {

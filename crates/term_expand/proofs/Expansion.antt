@@ -271,4 +271,4 @@ by-top t marks slots at rows after r n l x = record { of = λ N ns π W end y s.
         room = omega (arith, y .room); sized = s } in
     let z = x .of N ns whole no-slots π W end pl in
     let g = z .given after (between-refl 0 n after) (z .sized, λ i p. absurd p) in
-    record { expands = g .expands; local = g .local } }
+    record { sized = z .sized; expands = g .expands; local = g .local } }

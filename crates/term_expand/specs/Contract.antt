@@ -178,8 +178,9 @@ pub record Readied (t marks : List ℕ) (at : ℕ) (rows : List ℕ) : Type 0 wh
   pub ready : Ready numbers names t marks places term at end
   pub long : length rows ≡ TERM-WORDS
 
--- its expansion, and that its rows are right
+-- its expansion, and that its rows are right and have their length
 pub record Whole (N : Numbers) (ns : List Name) (W : Written) (rows : List ℕ) (r n : ℕ) : Type 0 where
+  pub sized : length rows ≡ TERM-WORDS
   pub expands : Expands N ns (decode N ns rows) whole no-slots W 0 r n
   pub local : Local N ns rows expands
 

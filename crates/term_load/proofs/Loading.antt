@@ -91,4 +91,5 @@ module _ {s u : List ℕ} {root ty size : ℕ} {uses : Uses} (J : Judged Present
       let p = rows-represent S ordered after r n (w .expands) (w .local) in
       record {
         sheet = S; accepts = J .accepts; numbered = J .numbered; rooted = J .rooted; used = J .used;
+        long = w .sized;
         represents = subst₂ (λ N i. Rep N after 6144 r [] [] (termOf S) (tyOf N i)) (J .numbered) (sym types) p }

@@ -3,13 +3,14 @@
 use Prim.Native.Nat.{ℕ, _<_}
 use mathlib.Core.Path.{_≡_}
 use mathlib.Core.List.{List, []}
-use lib.ListN.{getD}
+use lib.ListN.{length, getD}
 use Rattle.sheet_records.specs.Limits.{most-bytes}
 use Rattle.weight_theory.specs.Stack.{marksIn}
 use Rattle.sheet_written.specs.Written as written
 use Rattle.sheet_written.specs.Meaning.{tyOf, termOf}
 use Rattle.sheet_written.specs.Width.{headingWidth}
 use Rattle.sheet_rows.specs.Rep.{DEPTH, Rep}
+use Rattle.term_closing.specs.Rows.{TERM-WORDS}
 use Rattle.term_expand.specs.Contract.{Readied, Top}
 use Rattle.sheet_reader.specs.Reader.{numbersAt, readSheet, accepted, rejected}
 use Rattle.sheet_judge.specs.Mark.{usesOf}
@@ -34,13 +35,14 @@ pub record Expanded (t : List ℕ) (root : ℕ) (rows after : List ℕ) (r : ℕ
   pub expands : Top t marks root rows after r count
 
 -- the sheet is accepted with type ty and the given size and uses the given names, its term stands at root, and the rows
--- u represent it at a row
+-- u, which have their length, represent it at a row
 pub record Ready (s : List ℕ) (root row ty size : ℕ) (uses : Uses) (u : List ℕ) : Type 0 where
   pub sheet : written.Sheet
   pub accepts : readSheet s ≡ accepted sheet ty size
   pub numbered : sheet .numbers ≡ numbersAt s
   pub rooted : root ≡ headingWidth sheet
   pub used : uses ≡ usesOf sheet
+  pub long : length u ≡ TERM-WORDS
   pub represents : Rep (numbersAt s) u DEPTH row [] [] (termOf sheet) (tyOf (numbersAt s) ty)
 
 unfoldable pub LoadedBy : List ℕ → Loaded → List ℕ → Type 0

@@ -9,6 +9,7 @@ use Rattle.language.specs.Ty.{Ty}
 use Rattle.language.specs.Term.{Term}
 use Rattle.language.specs.Weight.{size}
 use Rattle.states_machine.specs.Sheet.{steps}
+use Rattle.states_positions.specs.Row.{Long}
 use Rattle.states_step.specs.walk.Shows.{Words}
 use Rattle.dfa.specs.Graph.{rest, Graph}
 use Rattle.dfa_silent.specs.Silent.{Silent, Settling}
@@ -16,10 +17,11 @@ use Rattle.states_words.specs.Explicit.{Explicit}
 use Rattle.states_words.specs.inner.Ready.{Ready}
 use Rattle.serve_conditions.specs.Lent.{words-asked}
 
--- the table t, of words of 16 bits, represents a term of size `all` at the root, and there are words enough
+-- the rows t, of words of 16 bits, represent a term of size `all` at the root, and there are words enough
 pub record OneReady (N : Numbers) (t : List ℕ) (root all : ℕ) (ws : List ℕ) : Type 0 where
   pub type : Ty
   pub term : Term
+  pub long : Long t
   pub ready : Words t → Ready N t root type term
   pub sized : size type term ≡ all
   pub room : words-asked N all ≤ length ws
@@ -35,11 +37,13 @@ pub record OneBuilt (N : Numbers) (T : Ty) (M : Term) (n : ℕ) (ws : List ℕ) 
   pub barren : getD unsettled (n - 1) 0 ≡ getD unsettled n 0
   pub few : 2 * getD unsettled n 0 ≤ (1 + numbers N) * size T M
 
--- the same for two tables, whose terms have one type
+-- the same for two terms of one type
 pub record TwoReady (N : Numbers) (t u : List ℕ) (root other all more : ℕ) (ws : List ℕ) : Type 0 where
   pub type : Ty
   pub term : Term
   pub other-term : Term
+  pub long : Long t
+  pub other-long : Long u
   pub ready : Words t → Ready N t root type term
   pub other-ready : Words u → Ready N u other type other-term
   pub sized : size type term ≡ all

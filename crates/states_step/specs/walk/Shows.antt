@@ -15,7 +15,7 @@ use Rattle.states_machine.specs.Edge.{edge-hear}
 use Rattle.states_machine.specs.Position.{Context, Store, types, State, Exit as ExitOf, StateArgs, ExitArgs}
 use Rattle.states_machine.specs.Numbering.{numbered, numberedArgs, numbered-replies}
 use Rattle.sheet_rows.specs.Rep.{count, Rep}
-use Rattle.states_positions.specs.Row.{SHORTS}
+use Rattle.states_positions.specs.Row.{SHORTS, Long}
 use Rattle.states_positions.specs.declared.Move.{Move as Record}
 use Rattle.states_positions.specs.MoveKind.{RUN, DONE, ASK, READ, OK, VALUE, WRITE, NO-MOVE}
 use Rattle.states_names.specs.Name.{noMove}
@@ -58,6 +58,10 @@ GivenMove m = (m .kind ≡ NO-MOVE) ⊎ ((i : ℕ) × (j : ℕ) × (e : Event) �
 -- every word of the table is a word of 16 bits
 abbrev pub Words : List ℕ → Type 0
 Words t = (i : ℕ) → getD t i 0 < SHORTS
+
+-- the rows of a term as the code has them: all their words, each of 16 bits
+abbrev pub TermRows : List ℕ → Type 0
+TermRows t = Long t × Words t
 
 -- the values of a store, the innermost first
 unfoldable pub stored : (n : Context) → Store n → List ℕ

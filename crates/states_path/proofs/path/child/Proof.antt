@@ -8,10 +8,9 @@ use Rattle.states_path.proofs.path.child.Statement.{statement}
 use Rattle.states_path.proofs.path.child.Tie as tie
 
 add-until : tie.Need-add-until
-add-until c = omega (arith, c .cell .ensures, small-word (now (c .before .before .before .before .args .t))
-    (λ i. omega (arith, c .before .before .before .shared-slice-known .given i)) (c .before .before .before .before
-        .args .part) 1, c .before .before .before .before .pre .1 .0, c .before .before .before .before .pre .1 .1, c
-        .before .before .start-at .ensures)
+add-until c = omega (arith, c .cell .ensures, small-word (now (c .before .before .before .args .t)) (c .before .before
+    .before .pre .0 .1) (c .before .before .before .args .part) 1, c .before .before .before .pre .1 .1 .0, c .before
+    .before .before .pre .1 .1 .1, c .before .before .start-at .ensures)
 
 returns : tie.Need-returns
 returns c = child-is _ _ _ _ _ _ _ _ _ _ _ _ _ _ _ (c .before .before .before .before .before .before .start-at

@@ -23,21 +23,21 @@ returns c = arrives _ _ _ _ _ _ (c .before .before .before .before .before .loop
     .before .d .given .1) ∙ c .before .before .before .spot-at .ensures)
 
 child-requires : tie.Need-child-requires Inv-loop μ-loop
-child-requires c κs = (c .before .before .before .before .before .before .before .loop .inv .0 .sound, (c .before
-    .before .before .before .before .before .before .before .before .pre .1 .1, entered _ (λ i. omega
-    (arith, c .before .before .before .before .before .before .before .before .shared-slice-known .given i))
-    _ _ _ _ _ _ _ _ _ (c .before .before .before .before .before .before .before .before .before .pre .1 .1)
+child-requires c κs = (c .before .before .before .before .before .before .before .before .pre .0, (c .before .before
+    .before .before .before .before .before .loop .inv .0 .sound, (c .before .before .before .before .before .before
+    .before .before .pre .1 .1 .1, entered _ (c .before .before .before .before .before .before .before .before .pre .0
+    .1) _ _ _ _ _ _ _ _ _ (c .before .before .before .before .before .before .before .before .pre .1 .1 .1)
     (c .before .before .before .before .before .before .loop-test .taken) (c .before .before .before .before .before
         .before .before .loop .inv .0) (c .before .before .before .before .before .before .before .loop .inv .1)
-    (sym (c .before .before .d2 .given .1) ∙ c .before .before .before .before .spot-at .ensures) .begins))
+    (sym (c .before .before .d2 .given .1) ∙ c .before .before .before .before .spot-at .ensures) .begins)))
 
 put-level-requires : tie.Need-put-level-requires Inv-loop μ-loop
 put-level-requires c κs = c .before .before .before .before .before .before .before .before .loop-test .taken
 
 loop-again : tie.Need-loop-again Inv-loop μ-loop
-loop-again c = goes-deeper _ (λ i. omega (arith, c .before .before .before .before .before .before .before .before
-    .before .before .before .shared-slice-known .given i)) _ _ _ _ _ _ _ _ _ _ _ (c .before .before .before .before
-    .before .before .before .before .before .before .before .before .pre .1 .1) (c .before .before .before .before
+loop-again c = goes-deeper _ (c .before .before .before .before .before .before .before .before .before .before
+    .before .pre .0 .1) _ _ _ _ _ _ _ _ _ _ _ (c .before .before .before .before .before .before .before .before
+    .before .before .before .pre .1 .1 .1) (c .before .before .before .before
     .before .before .before .before .before .loop-test .taken) (c .before .before .before .before .before .before
     .before .before .before .before .loop .inv .0) (c .before .before .before .before .before .before .before .before
     .before .before .loop .inv .1) (sym (c .before .before .before .before .before .d2
@@ -49,6 +49,6 @@ returns-2 c = arrives-deep _ _ _ _ _ (c .loop-test .left) (c .before .loop .inv 
 
 pub enter-spec : {M : Type 1} → statement M
 enter-spec =
-    tie.close (tie.spec Inv-loop μ-loop (λ c. (c .before .pre .0, c .before .pre .1 .0))
-    (λ c κs. c .before .before .loop .inv .0) (search needs) returns (search needs) child-requires
-    put-level-requires (search needs) (search needs) loop-again returns-2)
+    tie.close (tie.spec Inv-loop μ-loop (λ c. (c .pre .1 .0, c .pre .1 .1 .0))
+    (λ c κs. (c .before .before .before .pre .0, c .before .before .loop .inv .0)) (search needs) returns (search needs)
+    child-requires put-level-requires (search needs) (search needs) loop-again returns-2)

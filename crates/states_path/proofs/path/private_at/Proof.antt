@@ -9,9 +9,9 @@ use Rattle.states_path.proofs.path.private_at.Statement.{statement}
 use Rattle.states_path.proofs.path.private_at.Tie as tie
 
 value-at-requires : tie.Need-value-at-requires
-value-at-requires c κs = (c .before .before .before .before .pre, omega (arith, c .before .before .cell .ensures,
-    small-word (now (c .before .before .before .before .args .t)) (λ i. omega (arith,
-    c .before .before .before .shared-slice-known .given i)) (c .before .before .before .before .args .at) 4))
+value-at-requires c κs = (c .before .before .before .pre .1, omega (arith, c .before .before .cell .ensures, small-word
+    (now (c .before .before .before .args .t)) (c .before .before .before .pre .0 .1) (c .before .before .before .args
+    .at) 4))
 
 returns-2 : tie.Need-returns-2
 unfolding inPrivate

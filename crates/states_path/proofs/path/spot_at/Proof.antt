@@ -15,25 +15,26 @@ unfolding spotIn
 returns c = simp (← c .sheet-spot .ensures, eq-eqb _ _ (c .before .if1 .taken))
 
 field-requires : tie.Need-field-requires
-field-requires c κs = (omega (arith, c .before .before .pre .sound .few), omega arith)
+field-requires c κs = (omega (arith, c .before .pre .1 .sound .few), omega arith)
 
 field-requires-2 : tie.Need-field-requires-2
-field-requires-2 c κs = (omega (arith, c .before .before .before .pre .sound .few), omega arith)
+field-requires-2 c κs = (omega (arith, c .before .before .pre .1 .sound .few), omega arith)
 
 field-requires-3 : tie.Need-field-requires-3
-field-requires-3 c κs = (omega (arith, c .before .before .before .before .pre .sound .few), omega arith)
+field-requires-3 c κs = (omega (arith, c .before .before .before .pre .1 .sound .few), omega arith)
 
 field-requires-4 : tie.Need-field-requires-4
-field-requires-4 c κs = (omega (arith, c .before .before .before .before .before .pre .sound .few), omega arith)
+field-requires-4 c κs = (omega (arith, c .before .before .before .before .pre .1 .sound .few), omega arith)
 
 sub-inner : tie.Need-sub-inner
 unfolding levelAt
-sub-inner c = omega (arith, c .field4 .ensures, c .before .before .before .before .before .before .pre
-    .begun (c .before .before .before .before .before .before .args .c - 1) (omega (arith, c .before .before .before
+sub-inner c = omega (arith, c .field4 .ensures, c .before .before .before .before .before .pre .1
+    .begun (c .before .before .before .before .before .args .c - 1) (omega (arith, c .before .before .before
         .before .if1 .left)))
 
 private-at-requires : tie.Need-private-at-requires
-private-at-requires c κs = c .before .before .before .before .before .before .before .before .pre .sound
+private-at-requires c κs = (c .before .before .before .before .before .before .before .pre .0, c .before .before
+    .before .before .before .before .before .pre .1 .sound)
 
 returns-2 : tie.Need-returns-2
 returns-2 c = spot-private _ _ _ _ _ _ _ _ _ _ (c .before .before .before .before .before .before .before .if1

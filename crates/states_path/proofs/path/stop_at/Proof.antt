@@ -18,4 +18,4 @@ returns-2 c = simp (← c .field .ensures, ne-eqb _ _ (c .before .if1 .left))
 pub stop-at-spec : {M : Type 1} → statement M
 stop-at-spec =
     tie.close (tie.spec (λ c κs. search needs) returns (search needs)
-    (λ c κs. (omega (arith, c .before .before .pre .few), omega arith)) returns-2)
+    (λ c κs. (omega (arith, c .before .pre .1 .few), omega arith)) returns-2)

@@ -1,10 +1,8 @@
 -- What `cell` gives is what `word` says, case by case.
-use Prim.Native.Nat.{_+_, _*_}
 use borrow.Author.Needs.{needs}
 use native.Mathlib.Omega.{arith}
 use denote.Ref.{now}
 use Rattle.states_positions.proofs.Facts.{past}
-use mathlib.Core.Path.{refl}
 use Rattle.sheet_rows.specs.Row.{cell}
 use Rattle.sheet_rows.specs.Row.{word}
 use Rattle.states_positions.proofs.row.cell.Statement.{statement}
@@ -17,12 +15,7 @@ returns-2 : tie.Need-returns-2
 returns-2 c =
     past (now (c .before .before .args .t)) (c .before .before .args .at) (c .before .before .args .i) (omega arith)
 
-cast-result : tie.Need-cast-result
-cast-result c =
-    omega (arith, c .shared-slice-known .given
-    (9 * c .before .before .before .args .at + c .before .before .before .args .i))
-
 pub cell-spec : {M : Type 1} → statement M
 cell-spec =
     tie.close (tie.spec returns (search needs) (search needs) returns-2 (search needs) (search needs) (search needs)
-    cast-result (λ c. unfold word cell in refl))
+    (λ c κs. search needs) (λ c. unfold word cell in c .wide .ensures))

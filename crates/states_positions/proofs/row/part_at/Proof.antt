@@ -10,13 +10,8 @@ use Rattle.states_positions.proofs.row.part_at.Tie as tie
 
 returns : tie.Need-returns
 returns c =
-    past (now (c .before .before .args .t)) (c .before .before .args .at) (5 + c .before .before .args .j)
-    (omega arith)
-
-returns-2 : tie.Need-returns-2
-returns-2 c =
-    past (now (c .before .before .before .args .t)) (c .before .before .before .args .at)
-    (5 + c .before .before .before .args .j) (omega arith)
+    past (now (c .before .args .t)) (c .before .args .at) (5 + c .before .args .j) (omega arith)
 
 pub part-at-spec : {M : Type 1} → statement M
-part-at-spec = tie.close (tie.spec returns returns-2 (search needs) (λ c κs. search needs) (λ c. c .cell .ensures))
+part-at-spec =
+    tie.close (tie.spec (search needs) returns (search needs) (λ c κs. search needs) (λ c. c .cell .ensures))

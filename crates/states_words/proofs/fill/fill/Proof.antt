@@ -19,11 +19,12 @@ abbrev μ-loop : tie.MeasureT-loop
 μ-loop t n s words₀ p₀ e root all c₀ k₀ next₀ words p c k next = all - k
 
 loop-holds : tie.Need-loop-holds Inv-loop μ-loop
-loop-holds c = (omega arith, (refl, (kept-none _ _ _ (c .before .before .before .pre .1), filled-first _ _ _ _ _)))
+loop-holds c = (omega arith, (refl, (kept-none _ _ _ (c .before .before .pre .1 .1), filled-first _ _ _ _ _)))
 
 go-to-requires : tie.Need-go-to-requires Inv-loop μ-loop
-go-to-requires c κs = (c .before .before .loop .inv .1 .1 .0, omega (arith, c .before .loop-test .taken, c .before
-    .before .before .spots-of .ensures, c .before .before .before .before .before .before .pre .0))
+go-to-requires c κs = (c .before .before .before .before .before .pre .0, (c .before .before .loop .inv .1 .1 .0, omega
+    (arith, c .before .loop-test .taken, c .before .before .before .spots-of .ensures, c .before .before .before .before
+    .before .pre .1 .0)))
 
 loop-again : tie.Need-loop-again Inv-loop μ-loop
 loop-again c = (search needs, (search needs, (kept-fewer _ _ (c .before .before .before .before .before .go-to .ensures
@@ -41,6 +42,6 @@ returns c =
 
 pub fill-spec : {M : Type 1} → statement M
 fill-spec =
-    tie.close (tie.spec Inv-loop μ-loop (λ c κs. search needs) loop-holds go-to-requires
-    (λ c κs. c .before .before .go-to .ensures) (search needs) (search needs) loop-again (λ c κs. search needs)
-    (λ c κs. search needs) (search needs) returns)
+    tie.close (tie.spec Inv-loop μ-loop (λ c κs. search needs) loop-holds go-to-requires (λ c κs. (c .before .before
+    .before .before .before .before .before .before .pre .0, c .before .before .go-to .ensures)) (search needs)
+    (search needs) loop-again (λ c κs. search needs) (λ c κs. search needs) (search needs) returns)

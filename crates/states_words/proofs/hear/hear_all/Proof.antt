@@ -27,6 +27,6 @@ returns c = told (heard-last _ _ _ _ _ _ _ _ _ (omega (arith, c .before .loop .i
 
 pub hear-all-spec : {M : Type 1} → statement M
 hear-all-spec =
-    tie.close (tie.spec Inv-loop μ-loop (λ c. (omega arith, (refl, heard-first _ _ _ _ _ _)))
-    (λ c κs. c .before .before .before .before .before .pre) (search needs) (search needs) loop-again
-    (λ c. c .before .loop .inv .1 .0) returns)
+    tie.close (tie.spec Inv-loop μ-loop (λ c. (omega arith, (refl, heard-first _ _ _ _ _ _))) (λ c κs. (c .before
+    .before .before .before .pre .0, c .before .before .before .before .pre .1)) (search needs) (search needs)
+    loop-again (λ c. c .before .loop .inv .1 .0) returns)

@@ -22,10 +22,10 @@ returns : tie.Need-returns Inv-loop μ-loop
 returns c = told (block-none _ _ _ _ _ _ _ _ _ (c .before .limit .ensures) (c .if1 .taken))
 
 hear-answer-requires : tie.Need-hear-answer-requires Inv-loop μ-loop
-hear-answer-requires c κs = answering _ _ (c .before .before .before .before .before .before .before .before .pre .1) _
-    _ _ _ _ _ (λ i. omega (arith, c .before .before .before .before .before .before .before .shared-slice-known .given
-    i)) (c .before .before .before .before .before .before .before .before .pre .0)
-    (c .before .before .before .before .before .limit .ensures)
+hear-answer-requires c κs = (c .before .before .before .before .before .before .before .pre .0 .0, answering _ _ (c
+    .before .before .before .before .before .before .before .pre .1 .1) _ _ _ _ _ _ (c .before .before .before .before
+    .before .before .before .pre .0 .1) (c .before .before .before .before .before .before .before .pre .1 .0) (c
+    .before .before .before .before .before .limit .ensures))
 
 loop-again : tie.Need-loop-again Inv-loop μ-loop
 loop-again c = (search needs, (search needs, values-again _ _ _ _ _ _ _ _ _ _ _ _ _ _
@@ -40,6 +40,6 @@ returns-2 c = told (block-some _ _ _ _ _ _ _ _ _ _ _ _ (c .before .before .befor
 
 pub hear-answers-spec : {M : Type 1} → statement M
 hear-answers-spec =
-    tie.close (tie.spec Inv-loop μ-loop (λ c κs. search needs) returns (λ c κs. search needs) (search needs)
-    (λ c. (omega arith, (refl, values-first _ _ _ _ _ _ _ _ _))) hear-answer-requires (search needs) (search needs)
-    loop-again (λ c. c .before .loop .inv .1 .0) returns-2)
+    tie.close (tie.spec Inv-loop μ-loop (λ c κs. search needs) returns (λ c κs. search needs) (search needs) (λ c.
+    (omega arith, (refl, values-first _ _ _ _ _ _ _ _ _))) hear-answer-requires (search needs) (search needs) loop-again
+    (λ c. c .before .loop .inv .1 .0) returns-2)

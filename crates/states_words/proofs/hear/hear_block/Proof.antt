@@ -15,5 +15,5 @@ returns-2 c = told (block-some _ _ _ _ _ _ _ _ _ _ _ _ (c .before .before .befor
 
 pub hear-block-spec : {M : Type 1} → statement M
 hear-block-spec =
-    tie.close (tie.spec (λ c κs. search needs) returns (λ c κs. c .before .before .before .before .before .pre)
-    (search needs) returns-2)
+    tie.close (tie.spec (λ c κs. search needs) returns (λ c κs. (c .before .before .before .before .pre .0, c .before
+    .before .before .before .pre .1)) (search needs) returns-2)

@@ -19,11 +19,11 @@ abbrev μ-loop : tie.MeasureT-loop
 μ-loop t n s words₀ p c wait count first end e kind₀ next₀ words kind next = end - kind
 
 loop-holds : tie.Need-loop-holds Inv-loop μ-loop
-loop-holds c = ((omega arith, c .before .before .pre .1 .1), (refl, asked-first _ _ _ _ _ _ _ _ _ refl))
+loop-holds c = ((omega arith, c .before .pre .1 .1 .1), (refl, asked-first _ _ _ _ _ _ _ _ _ refl))
 
 hear-questions-requires : tie.Need-hear-questions-requires Inv-loop μ-loop
-hear-questions-requires c κs = (c .before .before .before .before .before .pre .0, c .before .before .before .before
-    .before .pre .1 .0)
+hear-questions-requires c κs = (c .before .before .before .before .pre .0, (c .before .before .before .before .pre .1
+    .0, c .before .before .before .before .pre .1 .1 .0))
 
 loop-again : tie.Need-loop-again Inv-loop μ-loop
 loop-again c = ((omega (arith, c .before .before .before .before .before .loop .inv .0 .0), omega (arith, c .before
@@ -37,5 +37,5 @@ returns c = told (asked-last _ _ _ _ _ _ _ _ _ _ _ _ (omega (arith, c .before .l
 
 pub hear-kinds-spec : {M : Type 1} → statement M
 hear-kinds-spec =
-    tie.close (tie.spec Inv-loop μ-loop loop-holds hear-questions-requires (search needs) (search needs) loop-again
-    (λ c. c .before .loop .inv .1 .0) returns)
+    tie.close (tie.spec Inv-loop μ-loop loop-holds hear-questions-requires (search needs) (search needs) loop-again (λ
+    c. c .before .loop .inv .1 .0) returns)

@@ -18,8 +18,8 @@ abbrev μ-loop : tie.MeasureT-loop
 μ-loop t n s words₀ p c wait kind count e arg₀ next₀ words arg next = count - arg
 
 hear-argument-requires : tie.Need-hear-argument-requires Inv-loop μ-loop
-hear-argument-requires c κs = (c .before .before .before .before .before .pre .0, argument _ _ _ (c .before .before
-    .before .before .before .pre .1) (c .before .loop-test .taken))
+hear-argument-requires c κs = (c .before .before .before .before .pre .0, (c .before .before .before .before .pre .1 .0,
+    argument _ _ _ (c .before .before .before .before .pre .1 .1) (c .before .loop-test .taken)))
 
 loop-again : tie.Need-loop-again Inv-loop μ-loop
 loop-again c = (search needs, (search needs, questions-again _ _ _ _ _ _ _ _ _ _ _ _ (c .before .before .before .before

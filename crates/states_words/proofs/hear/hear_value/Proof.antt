@@ -15,6 +15,6 @@ returns-2 c = told (value-some _ _ _ _ _ _ _ _ _ _ _ _ _ _ _ (c .before .before 
 
 pub hear-value-spec : {M : Type 1} → statement M
 hear-value-spec =
-    tie.close (tie.spec (λ c κs. search needs) returns (λ c κs. search needs)
-    (λ c κs. c .before .before .before .before .before .before .pre) (λ c κs. search needs) (λ c κs. search needs)
-    (search needs) returns-2)
+    tie.close (tie.spec (λ c κs. search needs) returns (λ c κs. search needs) (λ c κs. (c .before .before .before
+    .before .before .pre .0, c .before .before .before .before .before .pre .1)) (λ c κs. search needs)
+    (λ c κs. search needs) (search needs) returns-2)

@@ -30,7 +30,6 @@ returns c =
 
 pub hear-values-spec : {M : Type 1} → statement M
 hear-values-spec =
-    tie.close (tie.spec Inv-loop μ-loop (λ c κs. search needs) (search needs)
-    (λ c. (omega arith, (refl, values-first _ _ _ _ _ _ _ _ _)))
-    (λ c κs. c .before .before .before .before .before .before .pre) (search needs) (search needs) loop-again
-    (λ c. c .before .loop .inv .1 .0) returns)
+    tie.close (tie.spec Inv-loop μ-loop (λ c κs. search needs) (search needs) (λ c. (omega arith, (refl, values-first _
+    _ _ _ _ _ _ _ _))) (λ c κs. (c .before .before .before .before .before .pre .0, c .before .before .before .before
+    .before .pre .1)) (search needs) (search needs) loop-again (λ c. c .before .loop .inv .1 .0) returns)
