@@ -80,6 +80,17 @@ fn find_path(words: &mut [u32], n: usize, p: usize)
     replace(words, n, p, dead, end);
 }
 
+// The same where it may be known already, as it is of a state on the path of one before.
+fn find_once(words: &mut [u32], n: usize, p: usize)
+    requires { ⌜ Paths n (now words) × (p < n) ⌝ }
+    ensures { λ r. ⌜ PathFound n p (now (words .entry)) (now (words .exit)) ⌝ }
+{
+    if at(words, n + p) != NONE {
+        return;
+    }
+    find_path(words, n, p);
+}
+
 // The ends of all paths are found.
 pub(crate) fn find_paths(words: &mut [u32], n: usize)
     requires { ⌜ Paths n (now words) ⌝ }
@@ -87,7 +98,7 @@ pub(crate) fn find_paths(words: &mut [u32], n: usize)
 {
     let mut p = 0;
     while p < n {
-        find_path(words, n, p);
+        find_once(words, n, p);
         p += 1;
     }
 }
