@@ -26,4 +26,5 @@ pub mod Loops
 pub mod PathRows
 pub mod SheetRows
 pub mod Placed
+pub mod Plain
 pub mod Filled

@@ -1,19 +1,19 @@
 -- What `write_edge` leaves is what `withEdge` says.
 use borrow.Author.Needs.{needs}
-use Rattle.states_words.specs.inner.Rows.{withEdge, edgeAt}
+use Rattle.states_words.proofs.Plain.{edge-stored, still-there}
 use Rattle.states_words.proofs.rows.write_edge.Statement.{statement}
 use Rattle.states_words.proofs.rows.write_edge.Tie as tie
 
+store-requires-2 : tie.Need-store-requires-2
+store-requires-2 c κs = search (needs, still-there)
+
 returns : tie.Need-returns
-unfolding withEdge edgeAt
-returns c =
-    simp (← c .before .before .before .before .before .before .before .before .before .before .before .mul-add .ensures,
-    ← c .before .before .before .before .before .before .before .before .before .before .sum .ensures, ← c .before
-    .before .before .before .before .before .before .before .before .sum2 .ensures, ← c .before .before .before
-    .before .before .before .before .put .ensures, ← c .before .before .before .sum3 .ensures, ← c .before .before
-    .put2 .ensures)
+returns c = search (needs, edge-stored)
+
+returns-2 : tie.Need-returns-2
+returns-2 c = search needs
 
 pub write-edge-spec : {M : Type 1} → statement M
 write-edge-spec = tie.close
-    (tie.spec (λ c κs. search needs) (λ c κs. search needs) (λ c κs. search needs) (λ c κs. search needs)
-    (λ c κs. search needs) (λ c κs. search needs) (search needs) returns)
+    (tie.spec (search needs) (search needs) (search needs) (search needs) (search needs) (λ c κs. search needs)
+    (search needs) store-requires-2 (search needs) returns (λ c κs. search needs) (search needs) returns-2)
