@@ -14,3 +14,6 @@ pub mod PathArrives
 pub mod PathCode
 pub mod Reaching
 pub mod PathSteps
+pub mod Unequal
+pub mod ValueExits
+pub mod PathWays

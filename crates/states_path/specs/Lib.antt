@@ -5,3 +5,4 @@ pub mod Path
 pub mod Field
 pub mod Levels
 pub mod Kept
+pub mod Ways

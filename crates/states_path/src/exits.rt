@@ -1,27 +1,42 @@
 // Where a step of the innermost part of a path leads in the whole sheet.
 use crate::Site;
+use crate::levels::A;
 use crate::levels::B;
+use crate::levels::C;
 use crate::levels::PATH_WORDS;
+use crate::levels::ROLE;
 use crate::levels::block_at;
 use crate::levels::field;
 use crate::levels::frame_at;
 use crate::levels::start_at;
 use crate::levels::up_at;
 use language::Numbers;
+use sheet_records::read::SHORTS;
 use states_positions::Out;
 use states_positions::Silent;
+use states_positions::moves::VALUE;
+use states_positions::roles::RIGHT;
+use states_positions::roles::SELECT;
 use states_positions::row::mul_add;
 use states_positions::row::sum;
 use states_rise::up::exits;
 use states_rise::up::goes;
 ghost use mathlib.Core.Path.{_≡_};
-ghost use Prim.Native.Nat.{_-_, _≤_, _<_};
+ghost use Prim.Native.Nat.{ℕ, _+_, _-_, _*_, _≤_, _<_};
+ghost use lib.Dec.{eqb};
 ghost use Rattle.states_positions.specs.declared.Out.the-variants.{Go, Exit};
 ghost use Rattle.language.specs.declared.Numbers.{Numbers};
+ghost use Rattle.language.specs.Choice.{pick};
+ghost use Rattle.states_positions.specs.MoveKind.{VALUE};
 ghost use Rattle.states_path.specs.declared.Site.{Site};
 ghost use Rattle.states_path.specs.Path.{riseAll, blockIn, leftOf};
 ghost use Rattle.states_path.specs.Levels.{framesOf, Sound};
+ghost use Rattle.states_path.specs.declared.exits.Ways.the-variants.{Copies, Either};
 ghost use Rattle.states_path.specs.States.{targetOf};
+ghost use Rattle.states_path.specs.Ways.{copiesOf, otherThan, eitherOf};
+
+// The operator equal, by its number.
+const EQUAL: usize = language::operator::EQUAL as usize;
 
 // A number below this is added to the first state of a part without becoming too large.
 const FAR: usize = 4294901760;
@@ -233,4 +248,92 @@ pub fn reach(n: Numbers, s: Site, p: &[usize; PATH_WORDS], c: usize, o: Out) -> 
         } => dead(s.n),
         Out::Stuck => dead(s.n),
     }
+}
+
+// How the values below a limit lead on that what is inside some levels exits with, as far as one frame tells it for all
+// of them: the value v to the state to + v * stride; one value to the state `yes` and all others to `no`; or each as
+// `exit` says.
+pub enum Ways {
+    Copies { to: usize, stride: usize },
+    Either { value: usize, yes: usize, no: usize },
+    Each,
+}
+
+// The ways to the copies of a part, which are b states apart, the first of them a states after the state `start` of a
+// sheet whose states begin at `first`; only where no number can be too large.
+fn copies(first: usize, start: usize, a: usize, b: usize) -> Ways
+    requires { ⌜ start < 65536 ⌝ }
+    ensures { λ r. ⌜ r ≡ copiesOf first start a b ⌝ }
+{
+    if first < SHORTS {
+        if a < SHORTS {
+            if b < SHORTS {
+                return Ways::Copies {
+                    to: first + start + a,
+                    stride: b,
+                };
+            }
+        }
+    }
+    Ways::Each
+}
+
+// A value that is not v.
+fn other_than(v: usize) -> usize
+    ensures { λ r. ⌜ r ≡ otherThan v ⌝ }
+{
+    if v == 0 {
+        return 1;
+    }
+    0
+}
+
+// The ways of the right operands of *equal* whose left operand is `left`: that one is like it, and no other is. Also
+// where it is not-a-number, which is like nothing: then `yes` is where a falsehood leads.
+fn either(n: Numbers, s: Site, p: &[usize; PATH_WORDS], c: usize, left: usize) -> Ways
+    requires { ⌜ Sound (now p) c ⌝ }
+    ensures { λ r. ⌜ r ≡ eitherOf n s (framesOf (now (p .entry)) c) left ⌝ }
+{
+    if SHORTS <= left {
+        return Ways::Each;
+    }
+    let yes = exit(n, s, p, c, VALUE, left, 0, 0);
+    let no = exit(n, s, p, c, VALUE, other_than(left), 0, 0);
+    Ways::Either {
+        value: left,
+        yes,
+        no,
+    }
+}
+
+// The ways of the values below a limit.
+pub fn ways_of(n: Numbers, s: Site, p: &[usize; PATH_WORDS], c: usize, below: usize) -> Ways
+    requires { ⌜ Sound (now p) c ⌝ }
+    ensures apart { λ r. ⌜ ((to stride v : ℕ) → r ≡ Copies to stride → v < below
+        → to + v * stride ≡ targetOf s (riseAll n (framesOf (now (p .entry)) c) (Exit VALUE v 0 0))) ⌝ }
+    ensures two { λ r. ⌜ ((value yes no v : ℕ) → r ≡ Either value yes no → v < below
+        → pick (eqb v value) yes no ≡ targetOf s (riseAll n (framesOf (now (p .entry)) c) (Exit VALUE v 0 0))) ⌝ }
+    ensures small { λ r. ⌜ ((to stride : ℕ) → r ≡ Copies to stride → (to < 4294967296) × (stride < 65536)) ⌝ }
+{
+    let up = up_at(p, c);
+    if up == 0 {
+        return Ways::Each;
+    }
+    if SHORTS <= below {
+        return Ways::Each;
+    }
+    let i = up - 1;
+    if field(p, i, C) < below {
+        return Ways::Each;
+    }
+    let role = field(p, i, ROLE);
+    if role == SELECT {
+        return copies(s.o, start_at(p, i), field(p, i, A), field(p, i, B));
+    }
+    if role == RIGHT {
+        if field(p, i, B) == EQUAL {
+            return either(n, s, p, c, field(p, i, A));
+        }
+    }
+    Ways::Each
 }

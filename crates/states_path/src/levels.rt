@@ -28,11 +28,11 @@ pub(crate) const END: usize = 4;
 
 const OUTER: usize = 5;
 
-const ROLE: usize = 6;
+pub(crate) const ROLE: usize = 6;
 
 const OFFSET: usize = 7;
 
-const A: usize = 8;
+pub(crate) const A: usize = 8;
 
 pub(crate) const B: usize = 9;
 

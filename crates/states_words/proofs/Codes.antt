@@ -14,12 +14,12 @@ use Rattle.language.specs.Move.{Event, question, answer, at, private, Move, mov
 use Rattle.states_words.specs.Letter.{ranked, letter, Values, Small}
 use Rattle.states_positions.specs.declared.Move.{Move as Record}
 use Rattle.states_step.specs.walk.Shows.{kindQ, valueQ, kindA, valueA, moveOf}
-use Rattle.states_words.specs.inner.Moves.{letterOf}
+use Rattle.states_words.specs.inner.Moves.{placeOf, letterOf}
 
 module _ (N : Numbers) where
   -- THEOREM: the code's letter of a move is its letter
   pub letter-of : N .z ≤ 125 → (m : Move) → Small N m → letterOf N (moveOf m) ≡ letter N m
-  unfolding letterOf moveOf letter Small Values kindQ valueQ kindA valueA kind valueOf ranked
+  unfolding letterOf placeOf moveOf letter Small Values kindQ valueQ kindA valueA kind valueOf ranked
   letter-of few (move (at i j) (question run)) h = omega (arith, h .0, h .1)
   letter-of few (move (at i j) (question ask)) h = omega (arith, h .0, h .1)
   letter-of few (move (at i j) (question read)) h = omega (arith, h .0, h .1)

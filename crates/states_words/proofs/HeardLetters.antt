@@ -16,7 +16,8 @@ use Rattle.states_path.specs.declared.Site.{Site}
 use Rattle.language.specs.Order.{codeAt, rank}
 use Rattle.language.proofs.NumberLaws.{numbers-within}
 use Rattle.language.proofs.OrderLaws.{code-at-below, code-rank, bound, bound-last, zeroAt, zero-at}
-use Rattle.states_words.specs.inner.Moves.{letterOf, limitOf, edgeBy, valueEdge, valueEdges, blockEdges}
+use Rattle.states_words.specs.inner.Moves.{placeOf, letterOf, limitOf, edgeBy, valueEdge, valueEdges}
+use Rattle.states_words.specs.inner.Moves.{blockEdges}
 use Rattle.states_words.specs.inner.Moves.{heardEdges}
 use Rattle.states_words.proofs.EdgeLists.{Climbs, climbs-from, climbs-to}
 use Rattle.states_words.proofs.EdgeLists.{climbs-append}
@@ -52,7 +53,7 @@ module _ (t : List ℕ) (N : Numbers) (s : Site) (wait : Wait) where
   module _ (few : N .z ≤ 125) (byte : wait .id < 256) where
     letter-candidate : (k j r : ℕ) → k < 7 → j < 5 → r < numbers N →
         letterOf N (candidate N wait k j r) ≡ base k j + pick (ltb k 5) 0 (rank N (codeAt N r))
-    unfolding letterOf
+    unfolding letterOf placeOf
     letter-candidate k j r x y h =
         rw (mod-eq-of-lt low) (cases (ltb k 5))
       where

@@ -7,6 +7,9 @@ pub mod Ranges
 pub mod Faithfully
 pub mod PathListens
 pub mod HeardAnswers
+pub mod ValuesTo
+pub mod HeardResults
+pub mod HeardSingle
 pub mod HeardQuestions
 pub mod RangedSteps
 pub mod Codes

@@ -1,4 +1,4 @@
--- A rank fits a word.
+-- A rank fits a word, and so does a letter without one.
 use Prim.Native.Nat.{ℕ, _+_, _-_, _%_, _<_}
 use native.Mathlib.Omega.{arith}
 use native.Mathlib.Nat.{mod-lt}
@@ -9,6 +9,7 @@ use Rattle.language.specs.Choice.{pick}
 use Rattle.language.specs.declared.Numbers.{Numbers}
 use Rattle.language.specs.Number.{finites}
 use Rattle.language.specs.Order.{rank}
+use Rattle.states_words.specs.inner.Moves.{placeOf}
 
 pub rank-small : (N : Numbers) (v r : ℕ) → r ≡ rank N (v % 65536) → r < 65664
 unfolding rank
@@ -26,3 +27,7 @@ rank-small N v r e =
     go false false true d = omega arith
     go false false false true = omega arith
     go false false false false = omega arith
+
+pub place-small : (kind id arg place : ℕ) → place ≡ placeOf kind id arg → place < 134217728
+unfolding placeOf
+place-small kind id arg place e = omega arith

@@ -1,21 +1,27 @@
 // The edges of a waiting state: the moves that it takes, in the order of their letters, and where they lead.
 use crate::Wait;
+use crate::answers::answer_copies;
+use crate::answers::answer_either;
 use crate::letters::answer_kind;
 use crate::letters::code_at;
 use crate::letters::letter_of;
 use crate::letters::limit;
+use crate::letters::place_of;
 use crate::rows::write_edge;
 use language::Numbers;
 use language_codes::number::numbers;
 use sheet_rows::row::CLASS;
 use states_names::name::waiting;
 use states_path::Site;
+use states_path::exits::Ways;
 use states_path::exits::exit;
 use states_path::exits::reach;
+use states_path::exits::ways_of;
 use states_path::whole::at_start;
 use states_positions::Move;
 use states_positions::moves::OPENING;
 use states_positions::moves::RUN;
+use states_positions::moves::VALUE;
 use states_positions::moves::WRITE;
 use states_positions::row::cell;
 use states_positions::row::part_class;
@@ -27,6 +33,7 @@ ghost use mathlib.Core.Path.{_≡_};
 ghost use Prim.Native.Nat.{_-_, _≤_};
 ghost use Rattle.language.specs.Number.{numbers};
 ghost use Rattle.states_path.specs.States.{sheetAt, targetOf};
+ghost use Rattle.states_positions.specs.MoveKind.{VALUE};
 ghost use Rattle.states_words.specs.inner.Waiting.{Listening, Calling, Argument, Arguments, Answering};
 ghost use Rattle.states_words.specs.inner.Rows.{withEdges, past};
 ghost use Rattle.states_words.specs.inner.Moves.{valueEdge, valueEdges, blockEdges, heardEdges, questionEdges};
@@ -291,6 +298,97 @@ fn hear_answer(
     sum(e, 1)
 }
 
+// The edges by the answers below a limit of the name that a state waits for, each led on its own.
+fn hear_each(
+    t: &[u16; TERM_WORDS],
+    n: Numbers,
+    s: Site,
+    words: &mut [u32],
+    p: &[usize; PATH_WORDS],
+    c: usize,
+    wait: Wait,
+    kind: usize,
+    below: usize,
+    e: usize,
+) -> usize
+    requires { ⌜ Long (now t) ⌝ }
+    requires { ⌜ Answering (now t) n s (now p) c wait kind below ⌝ }
+    ensures returned { λ x. ⌜ x ≡ past e (valueEdges (now (t .entry)) n s wait kind 0 below (numbers n)) ⌝ }
+    ensures written { λ x. ⌜ now (words .exit) ≡ withEdges (now (words .entry)) (s .n) e
+        (valueEdges (now (t .entry)) n s wait kind 0 below (numbers n)) ⌝ }
+{
+    let all = numbers(n) as usize;
+    let mut r = 0;
+    let mut next = e;
+    while r < all {
+        next = hear_answer(t, n, s, words, p, c, wait, kind, below, r, next);
+        r += 1;
+    }
+    next
+}
+
+// The edge by the one answer of the name that a state waits for, which carries no value.
+fn hear_single(
+    t: &[u16; TERM_WORDS],
+    n: Numbers,
+    s: Site,
+    words: &mut [u32],
+    p: &[usize; PATH_WORDS],
+    c: usize,
+    wait: Wait,
+    kind: usize,
+    e: usize,
+) -> usize
+    requires { ⌜ Answering (now t) n s (now p) c wait kind 1 ⌝ }
+    ensures returned { λ x. ⌜ x ≡ past e (valueEdges (now (t .entry)) n s wait kind 0 1 (numbers n)) ⌝ }
+    ensures written { λ x. ⌜ now (words .exit) ≡ withEdges (now (words .entry)) (s .n) e
+        (valueEdges (now (t .entry)) n s wait kind 0 1 (numbers n)) ⌝ }
+{
+    let m = Move {
+        kind,
+        id: wait.id,
+        arg: OWN,
+        value: 0,
+    };
+    write_edge(
+        words,
+        s.n,
+        e,
+        letter_of(n, m),
+        exit(n, s, p, c, kind, 0, 0, 0),
+    );
+    sum(e, 1)
+}
+
+// The edges by the values below a limit with which the name answers that a state waits for.
+fn hear_results(
+    t: &[u16; TERM_WORDS],
+    n: Numbers,
+    s: Site,
+    words: &mut [u32],
+    p: &[usize; PATH_WORDS],
+    c: usize,
+    wait: Wait,
+    below: usize,
+    e: usize,
+) -> usize
+    requires { ⌜ Long (now t) ⌝ }
+    requires { ⌜ Answering (now t) n s (now p) c wait VALUE below ⌝ }
+    ensures returned { λ x. ⌜ x ≡ past e (valueEdges (now (t .entry)) n s wait VALUE 0 below (numbers n)) ⌝ }
+    ensures written { λ x. ⌜ now (words .exit) ≡ withEdges (now (words .entry)) (s .n) e
+        (valueEdges (now (t .entry)) n s wait VALUE 0 below (numbers n)) ⌝ }
+{
+    let place = place_of(VALUE, wait.id, OWN);
+    let led = ways_of(n, s, p, c, below);
+    match led {
+        Ways::Copies { to, stride } => { answer_copies(n, words, s.n, place, below, to, stride, e) }
+        Ways::Either { value, yes, no } => {
+            answer_either(n, words, s.n, place, below, value, yes, no, e)
+        }
+        Ways::Each => hear_each(t, n, s, words, p, c, wait, VALUE, below, e),
+    }
+}
+
 // The edges by the answers of the name that a state waits for.
 fn hear_answers(
     t: &[u16; TERM_WORDS],
@@ -313,14 +411,10 @@ fn hear_answers(
     if below == 0 {
         return e;
     }
-    let all = numbers(n) as usize;
-    let mut r = 0;
-    let mut next = e;
-    while r < all {
-        next = hear_answer(t, n, s, words, p, c, wait, kind, below, r, next);
-        r += 1;
+    if below == 1 {
+        return hear_single(t, n, s, words, p, c, wait, kind, e);
     }
-    next
+    hear_results(t, n, s, words, p, c, wait, below, e)
 }
 
 // The edges by all moves: the kinds from the first to the last, arguments 0 to 4.

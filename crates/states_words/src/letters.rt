@@ -26,7 +26,7 @@ ghost use mathlib.Core.Path.{_≡_};
 ghost use Prim.Native.Nat.{_%_, _≤_};
 ghost use Rattle.language.specs.Number.{finites};
 ghost use Rattle.language.specs.Order.{codeAt, rank};
-ghost use Rattle.states_words.specs.inner.Moves.{letterOf, answerLimit, answerKind, limitOf, waitOf};
+ghost use Rattle.states_words.specs.inner.Moves.{placeOf, letterOf, answerLimit, answerKind, limitOf, waitOf};
 ghost use Rattle.states_positions.specs.Row.{Long};
 use sheet_records::limits::BYTES;
 use sheet_records::read::SHORTS;
@@ -80,7 +80,7 @@ pub(crate) fn code_at(n: Numbers, r: usize) -> usize
 }
 
 // The rank of a value.
-fn rank_of(n: Numbers, value: usize) -> usize
+pub(crate) fn rank_of(n: Numbers, value: usize) -> usize
     ensures { λ r. ⌜ r ≡ rank n (value % 65536) ⌝ }
 {
     let z = n.z as usize;
@@ -104,13 +104,18 @@ fn rank_of(n: Numbers, value: usize) -> usize
     RANK_NONE
 }
 
+// The letter of a move without the rank of its value.
+pub(crate) fn place_of(kind: usize, id: usize, arg: usize) -> usize
+    ensures { λ r. ⌜ r ≡ placeOf kind id arg ⌝ }
+{
+    kind % KIND_SPAN * KIND_UNIT + id % BYTES * ID_UNIT + arg % BYTES * ARGUMENT_UNIT
+}
+
 // The letter of a move.
 pub(crate) fn letter_of(n: Numbers, m: Move) -> usize
     ensures { λ r. ⌜ r ≡ letterOf n m ⌝ }
 {
-    let place = m.kind % KIND_SPAN * KIND_UNIT
-        + m.id % BYTES * ID_UNIT
-        + m.arg % BYTES * ARGUMENT_UNIT;
+    let place = place_of(m.kind, m.id, m.arg);
     if m.kind < VALUE {
         return place;
     }

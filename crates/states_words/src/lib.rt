@@ -9,6 +9,8 @@
 pub mod letters;
 // Rows of the automaton in words.
 mod rows;
+// The edges by values that lead on by one frame.
+mod answers;
 // The edges of a waiting state.
 mod hear;
 // The automaton in words.

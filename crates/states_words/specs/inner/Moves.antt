@@ -23,10 +23,13 @@ use Rattle.states_path.specs.States.{WHOLE, spotsOf, sheetAt, targetOf}
 use Rattle.states_words.specs.inner.Rows.{Edge, StateRow, noEdges, withRow, before, withRows}
 use Rattle.sheet_rows.specs.Class.{COMMANDS, EXPRESSIONS}
 
--- the letter of a move
+-- the letter of a move without the rank of its value, and the letter
+unfoldable pub placeOf : ℕ → ℕ → ℕ → ℕ
+placeOf kind id arg = kind % 8 * KIND-UNIT + id % 256 * ID-UNIT + arg % 256 * ARGUMENT-UNIT
+
 unfoldable pub letterOf : Numbers → Move → ℕ
 letterOf N m =
-    let place = m .kind % 8 * KIND-UNIT + m .id % 256 * ID-UNIT + m .arg % 256 * ARGUMENT-UNIT in
+    let place = placeOf (m .kind) (m .id) (m .arg) in
     pick (ltb (m .kind) VALUE) place (place + rank N (m .value % SHORTS))
 
 -- how many values the answers of a kind to the question q of value x have at a type: none where the type has no such
@@ -82,6 +85,17 @@ visibleOf Stuck = false
 -- the silent word of a state: 0 where it makes or takes a move, else 1 more than the state to which it goes
 unfoldable pub silentOf : Site → Out → ℕ
 silentOf s o = pick (visibleOf o) 0 (sumOf (targetOf s o) 1)
+
+-- the edge by the value at place r, where it is below the limit, to a state that the value tells; and the edges by the
+-- first r values. The letter of a value is `place` and its rank
+unfoldable pub edgeTo : Numbers → ℕ → ℕ → (ℕ → ℕ) → ℕ → List Edge
+edgeTo N place below to r =
+    pick (leb below (codeAt N r)) []
+    (record { letter = place + rank N (codeAt N r % SHORTS); target = to (codeAt N r) } ∷ [])
+
+unfoldable pub valuesTo : Numbers → ℕ → ℕ → (ℕ → ℕ) → ℕ → List Edge
+valuesTo N place below to zero = []
+valuesTo N place below to (suc r) = valuesTo N place below to r ++ edgeTo N place below to r
 
 module _ (t : List ℕ) (N : Numbers) (s : Site) where
   -- the edge by a move
