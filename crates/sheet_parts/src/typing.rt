@@ -15,9 +15,9 @@ ghost use Rattle.sheet_parts.specs.Rule.{operandType, resultType, accept
 // The types.
 pub const COMMAND: u8 = 0;
 
-const TRUTH: u8 = 1;
+pub const TRUTH: u8 = 1;
 
-const NUMBER: u8 = 2;
+pub const NUMBER: u8 = 2;
 
 pub const TRUTH_VARIABLE: u8 = 3;
 
@@ -31,7 +31,7 @@ fn operand_type(op: u8) -> u8
 }
 
 // The type of its result: those below EQUAL give a number.
-fn result_type(op: u8) -> u8
+pub fn result_type(op: u8) -> u8
     ensures { λ r. ⌜ r ≡ resultType op ⌝ }
 {
     if op < EQUAL { NUMBER } else { TRUTH }

@@ -74,12 +74,19 @@ parts-step rec s r (suc n) j prev at h = simp sub-one
 -- the row that is written, the note that is made and the record that is weighed where the answer of the parts is known
 pub closed-table :
     (N : Numbers) (s : List ℕ) (around : ℕ) (r : Record) (t : List ℕ) {parts : Part} {last next ty k : ℕ}
-    {u v w : List ℕ} → parts ≡ Read last next → ty ≡ partType (r .rule) s r last →
-    u ≡ row.rowWritten N r ty around next t → v ≡ noted r u → k ≡ usedNumber r → w ≡ weighed k (r .place) v →
+    {y u v w : List ℕ} → parts ≡ Read last next → ty ≡ partType (r .rule) s r last → y ≡ t →
+    u ≡ row.rowWritten N r ty around next y → v ≡ noted r u → k ≡ usedNumber r → w ≡ weighed k (r .place) v →
     w ≡ closedTable N s around r parts t
 unfolding closedTable
-closed-table N s around r t {k = k} e f h g i l =
-    l ∙ (ap (weighed k (r .place)) (g ∙ ap (noted r) h) ∙ rw (i, e, f))
+closed-table N s around r t {k = k} e f d h g i l =
+    l ∙ (ap (weighed k (r .place)) (g ∙ ap (noted r) h) ∙ rw (i, e, f, d))
+
+-- the same where it was done by one decision
+pub closed-as :
+    (N : Numbers) (s : List ℕ) (around : ℕ) (r : Record) (t : List ℕ) {parts p x : Part} {u : List ℕ} → parts ≡ p →
+    (x ≡ closedAnswer s r p) × (u ≡ closedTable N s around r p t) →
+    (x ≡ closedAnswer s r parts) × (u ≡ closedTable N s around r parts t)
+closed-as N s around r t e C = rw e C
 
 -- the number of the procedure that a record uses
 pub number-used : (r : Record) {k : ℕ} → r .kind ≡ 20 → k ≡ numberIn (standingOf (r .b)) → k ≡ usedNumber r
@@ -141,7 +148,8 @@ small-routine s st N at r (h-new h b l f u c k k′) e = let z : _≡_ {A = ℕ}
 small-routine s st N at r (h-procedure h B) e = omega (arith, B .few)
 
 module _ (ed : Edition) (s st : List ℕ) (N : Numbers) (at : ℕ) (r : Record) where
-  headed : (left : ℕ) → headOf ed s st N left at ≡ Good r → Heads ed s st N at r
+  -- the head of an accepted part
+  pub headed : (left : ℕ) → headOf ed s st N left at ≡ Good r → Heads ed s st N at r
   unfolding HeadAll
   headed zero e = absurd (head-good ed s st N 0 at r e .depth refl)
   headed (suc left) e = rw e at (heads ed s st N at left)

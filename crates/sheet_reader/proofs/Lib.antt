@@ -27,3 +27,6 @@ pub mod Right
 pub mod Range
 pub mod WellTyped
 pub mod Notes
+pub mod RowKept
+pub mod Leaves
+pub mod Sums

@@ -1,7 +1,7 @@
 -- What each function of the cycle of parts answers and leaves, from what its callees answer and leave.
 use Prim.Native.Nat.{ℕ, _+_, _-_}
 use native.Mathlib.Omega.{arith}
-use mathlib.Core.Path.{_≡_, refl, _∙_}
+use mathlib.Core.Path.{_≡_, refl, ap, _∙_}
 use mathlib.Core.Bool.{Bool, true, false}
 use mathlib.Core.List.{List}
 use borrow.Author.Tests.{ne-eqb}
@@ -11,8 +11,8 @@ use Rattle.sheet_records.specs.Refusal.{refusal}
 use Rattle.sheet_records.specs.declared.refusal.Refusal.{Refusal}
 use Rattle.sheet_heads.specs.Head.{headOf}
 use Rattle.sheet_heads.specs.Bare.{bare}
-use Rattle.sheet_parts.specs.Rule.{acceptsPart}
-use Rattle.sheet_rows.specs.Row.{linked}
+use Rattle.sheet_parts.specs.Rule.{acceptsPart, partType}
+use Rattle.sheet_rows.specs.Row.{linked, rowWritten}
 use Rattle.sheet_parts.specs.Scope.{opens, entered, passed, usable}
 use Rattle.sheet_records.specs.declared.edition.Edition.{Edition}
 use Rattle.sheet_records.specs.declared.kind.Rule.the-variants.{Sequence}
@@ -22,6 +22,9 @@ use Rattle.sheet_heads.specs.declared.head.Head.the-variants.{Good, Refused as 
 use Rattle.sheet_reader.specs.Reader.{Tree, Trees, leaf, branch, Answer, got, refused, bind, onHead, partsOf, joined}
 use Rattle.sheet_reader.specs.Reader.{scopeParts, readRecord, readPart}
 use Rattle.sheet_reader.specs.table.Fill.{fill, fills, fillsNext, erase, Leaves, Reads, closedAnswer, closedTable}
+use Rattle.weight_theory.specs.Step.{weighed}
+use Rattle.sheet_reader.specs.table.Notes.{noted}
+use Rattle.sheet_reader.specs.table.Number.{usedNumber}
 use Rattle.sheet_reader.specs.declared.part.Part.{Part}
 use Rattle.sheet_reader.specs.declared.part.Part.the-variants.{Read, Refused}
 use Rattle.sheet_reader.proofs.Bare.{core, parts-core}
@@ -226,6 +229,18 @@ module _ (rec : ℕ → Answer Tree) (N : Numbers) (s : List ℕ) (r : Record) (
       rw (parts-step rec s r n j prev at z)
         (reads-then (rec at) _ R e (λ x k. rw f (later N (r .place) j at x (partsOf rec s r (n - 1) (j + 1) ty next)
           k Q)))
+
+-- read_part: a record without parts
+module _ (rec : List ℕ → ℕ → ℕ → Answer Tree) (N : Numbers) (s st : List ℕ) (around : ℕ) (r : Record) where
+  pub record-leaf : {ty : ℕ} {t u : List ℕ} → opens (r .rule) ≡ Nothing → r .parts ≡ 0 →
+      ty ≡ partType (r .rule) s r 0 →
+      u ≡ weighed (usedNumber r) (r .place) (noted r (rowWritten N r ty around (r .next) t)) →
+      Reads (fill N) (readRecord rec s st around r) (Read ty (r .next)) t u
+  unfolding bare closedAnswer closedTable
+  record-leaf o z f e =
+      record-closes rec N s st around r
+        (scope-nothing rec N s st around r o (parts-none (rec st around) N s (core r) (r .parts) 0 0 (r .next) z))
+        (ap (λ x. Read x (r .next)) f) (e ∙ rw f)
 
 -- read_root: one part, the second of a sequence
 module _ (N : Numbers) (s : List ℕ) (at : ℕ) where

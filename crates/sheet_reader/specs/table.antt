@@ -2,3 +2,4 @@
 pub mod Notes
 pub mod Number
 pub mod Fill
+pub mod Close

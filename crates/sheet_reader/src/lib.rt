@@ -1,4 +1,5 @@
 // The reader of sheets: from bytes to the parts of a term, or a refusal.
+mod close;
 mod heading;
 pub mod names;
 pub mod note;

@@ -44,7 +44,11 @@ fn read_term(
     let p = read_root(edition, s, st, t, n, at);
     match p {
         Part::Refused(refusal) => Reading::Refused(refusal),
-        Part::Read { ty, next } => Reading::Sheet { root: at, ty, next },
+        Part::Read { ty, next } => Reading::Sheet {
+            root: at,
+            ty: ty as u8,
+            next,
+        },
     }
 }
 

@@ -1,6 +1,10 @@
 // The parts of a term: a cycle of eight functions, the remaining depth and bytes falling. For speed a record is handed
 // on by its place, its rule and its body bytes, and all but `read_parts` and `read_next` are called at one place each,
 // so that the cycle is compiled into few functions.
+use crate::close::Leaf;
+use crate::close::close_leaf;
+use crate::close::close_sum;
+use crate::close::leaf_of;
 use crate::note::note_use;
 use crate::number::used_number;
 use language::Numbers;
@@ -36,9 +40,10 @@ ghost use Rattle.sheet_reader.specs.table.Fill.{fill, fills, fillsNext, 
 // The number of the second part of a record.
 const SECOND: u8 = 1;
 
-// What reading gives: the type and the place after; or the refusal.
+// What reading gives: the type and the place after; or the refusal. The type has 32 bits because an answer is copied
+// with all bytes between its fields, and these are then copied fastest.
 pub(crate) enum Part {
-    Read { ty: u8, next: usize },
+    Read { ty: u32, next: usize },
     Refused(Refusal),
 }
 
@@ -52,13 +57,23 @@ fn close_record(s: &[u8], t: &mut [u16], n: Numbers, around: u8, r: Record, part
     let Part::Read { ty: last, next } = parts else {
         return parts;
     };
+    let closed = close_sum(t, n, r, last as u8, next);
+    if 0 < closed {
+        return Part::Read {
+            ty: closed - 1,
+            next,
+        };
+    }
     let rule = r.rule;
-    let ty = type_of(rule, s, r, last);
+    let ty = type_of(rule, s, r, last as u8);
     write_row(t, n, r, ty, around, next);
     note_use(t, r);
     let k = used_number(r);
     weigh_record(t, r.place, k);
-    Part::Read { ty, next }
+    Part::Read {
+        ty: ty as u32,
+        next,
+    }
 }
 
 // Reads the part at a place, with `left` levels of depth left, inside `around` binders. Where no level is left its head
@@ -81,7 +96,19 @@ fn read_part(
     let h = head_at(edition, s, st, n, left, at);
     match h {
         Head::Refused(refusal) => Part::Refused(refusal),
-        Head::Good { record } => read_record(edition, s, st, t, n, around, left - 1, record),
+        Head::Good { record } => {
+            let leaf = leaf_of(s, n, record);
+            match leaf {
+                Leaf::Is { kind, ty, detail } => {
+                    close_leaf(t, n, record, kind, ty, detail);
+                    Part::Read {
+                        ty: ty as u32,
+                        next: record.next,
+                    }
+                }
+                Leaf::Other => read_record(edition, s, st, t, n, around, left - 1, record),
+            }
+        }
     }
 }
 
@@ -229,7 +256,7 @@ fn read_routine(
     let Part::Read { ty, next } = own else {
         return own;
     };
-    read_usable(edition, s, st, t, n, around, left, r, ty, next)
+    read_usable(edition, s, st, t, n, around, left, r, ty as u8, next)
 }
 
 // Reads the second term of a procedure, at a place; the first has type prev.
@@ -300,7 +327,10 @@ fn read_parts(
         (now (t .entry)) (now (t .exit)) ⌝ }
 {
     if count == 0 {
-        return Part::Read { ty: prev, next: at };
+        return Part::Read {
+            ty: prev as u32,
+            next: at,
+        };
     }
     link(t, place, j, at);
     read_next(
@@ -348,9 +378,10 @@ fn read_next(
         (now (t .entry)) (now (t .exit)) ⌝ }
 {
     let p = read_part(edition, s, st, t, n, around, left, at);
-    let Part::Read { ty, next } = p else {
+    let Part::Read { ty: read, next } = p else {
         return p;
     };
+    let ty = read as u8;
     if !accepts_part(rule, s, bare_record(place, rule, a, b), j, prev, ty) {
         return Part::Refused(refuse(WRONG_TYPE, at));
     }

@@ -33,7 +33,7 @@ const PARAMETER_STEP: u32 = 8;
 const PROCEDURE_STEP: u32 = 128;
 
 // The type of a variable is its data and this.
-const VARIABLE_TYPE: u8 = 2;
+pub const VARIABLE_TYPE: u8 = 2;
 
 // What a standing says: the place of the record that declares the id, and 1 where the name asks once; of a binder its
 // number, and the data of a variable, the type of a parameter, the place of a procedure's record.

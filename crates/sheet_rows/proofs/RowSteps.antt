@@ -30,10 +30,10 @@ five-words place t k h c v d p q s u w =
 
 -- they are a record's row
 pub five-written :
-    (N : Numbers) (r : Record) (ty number end : ℕ) (t : List ℕ) {k c v d : ℕ} {u : List ℕ} →
-    k ≡ rowKind (r .rule) r → c ≡ classOf ty → v ≡ values N ty → d ≡ detail (r .rule) N r number →
-    u ≡ five (r .place) k end c v d t → u ≡ rowWritten N r ty number end t
+    (N : Numbers) (r : Record) (ty number end : ℕ) (t : List ℕ) {k d : ℕ} {u : List ℕ} →
+    k ≡ rowKind (r .rule) r → d ≡ detail (r .rule) N r number →
+    u ≡ five (r .place) k end (classOf ty) (values N ty) d t → u ≡ rowWritten N r ty number end t
 unfolding rowWritten fiveFrom
-five-written N r ty number end t a b c d p =
-    p ∙ rw (a, b, c, d)
+five-written N r ty number end t a d p =
+    p ∙ rw (a, d)
       (rw (cell-next (r .place) 1, cell-next (r .place) 2, cell-next (r .place) 3, cell-next (r .place) 4))

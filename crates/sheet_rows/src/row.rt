@@ -19,6 +19,7 @@ ghost use Rattle.sheet_rows.specs.Row.{cell, word, useKind, rowKind, cla
 ghost use Rattle.sheet_rows.specs.Row.{fiveFrom, five, rowWritten, linked};
 ghost use Rattle.sheet_rows.specs.PartKind.{ROW-WORDS};
 ghost use Rattle.sheet_records.specs.Standing.{standingOf};
+ghost use Rattle.sheet_parts.specs.Rule.{values};
 
 // The words of a row: the kind of the part, the place after it, the class of its type and the number of values of its
 // data, a detail by its kind, and the places of its parts.
@@ -161,7 +162,7 @@ fn class_of(ty: u8) -> u16
 }
 
 // The detail of a use of a name: its id, 256 times the number of its arguments and, where it asks once, 2,048.
-fn name_detail(id: u8, count: u8, once: u8) -> u16
+pub fn name_detail(id: u8, count: u8, once: u8) -> u16
     ensures { λ r. ⌜ r ≡ declaredDetail id count once ⌝ }
 {
     id as u16 + ID_SPAN * ((count % COUNT_SPAN) as u16) + ONCE * ((once % 2) as u16)
@@ -242,6 +243,24 @@ fn put_five(t: &mut [u16], place: usize, kind: u16, end: u16, class: u16, values
     put_each(t, place, kind, end, class, values, detail);
 }
 
+// Writes the row of a record of a kind, a type and a detail that ends before a place, but for the places of its parts.
+pub fn write_typed(
+    t: &mut [u16],
+    n: Numbers,
+    place: usize,
+    kind: u16,
+    ty: u8,
+    detail: u16,
+    end: usize,
+)
+    requires { ⌜ (place < 65536) × (end < 65536) ⌝ }
+    ensures { λ x. ⌜ now (t .exit) ≡ five place kind end (classOf ty) (values n ty) detail (now (t .entry)) ⌝ }
+{
+    let class = class_of(ty);
+    let values = values_of(n, ty as u32);
+    put_five(t, place, kind, end as u16, class, values, detail);
+}
+
 // Writes the row of a record of type ty that `number` binders enclose and that ends before a place, but for the places
 // of its parts.
 pub fn write_row(t: &mut [u16], n: Numbers, r: Record, ty: u8, number: u8, end: usize)
@@ -251,10 +270,8 @@ pub fn write_row(t: &mut [u16], n: Numbers, r: Record, ty: u8, number: u8, end: 
     let rule = r.rule;
     let place = r.place;
     let kind = row_kind(rule, r);
-    let class = class_of(ty);
-    let values = values_of(n, ty as u32);
     let detail = detail_of(rule, n, r, number);
-    put_five(t, place, kind, end as u16, class, values, detail);
+    write_typed(t, n, place, kind, ty, detail, end);
 }
 
 // Writes the place of part j into the row at a place.

@@ -8,7 +8,7 @@ ghost use Prim.Native.Nat.{_<_};
 ghost use Rattle.weight_theory.specs.Stack.{formWord, coefficientOf};
 
 // How many coefficients a form has.
-pub(crate) fn width(t: &[u16], row: usize) -> usize
+pub fn width(t: &[u16], row: usize) -> usize
     requires { ⌜ row < 65536 ⌝ }
     ensures { λ r. ⌜ (r ≡ formWord (now (t .entry)) row 0) × (r < 65536) ⌝ }
 {

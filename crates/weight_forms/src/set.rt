@@ -10,7 +10,9 @@ use crate::words::spot;
 use sheet_parts::weight::sat_add;
 ghost use mathlib.Core.Path.{_≡_};
 ghost use Prim.Native.Nat.{_<_, min};
-ghost use Rattle.weight_theory.specs.Stack.{constantForm, unitForm, lowerForm};
+ghost use lib.ListN.{length};
+ghost use lib.Dec.{ltb};
+ghost use Rattle.weight_theory.specs.Stack.{spot, constantForm, unitForm, lowerForm};
 
 // The lesser of two numbers.
 pub fn least(a: usize, b: usize) -> usize
@@ -30,6 +32,14 @@ pub fn set_constant(t: &mut [u16], row: usize, c: u32)
     let v = sat_add(c, 0) as u16;
     put_word(t, row, COUNT, 0);
     put_word(t, row, CONSTANT, v);
+}
+
+// Whether the table has the words of a form without coefficients.
+pub fn has_form(t: &[u16], row: usize) -> bool
+    requires { ⌜ row < 65536 ⌝ }
+    ensures { λ r. ⌜ r ≡ ltb (spot row 1) (length (now (t .entry))) ⌝ }
+{
+    spot(row, CONSTANT) < t.len()
 }
 
 // A form becomes the parameter s.

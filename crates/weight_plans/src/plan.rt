@@ -65,7 +65,7 @@ pub fn parts_of(kind: usize, detail: usize) -> usize
 }
 
 // The weight of a record without its parts; a name that asks once weighs one more.
-fn own_of(kind: usize, detail: usize) -> u32
+pub fn own_of(kind: usize, detail: usize) -> u32
     ensures { λ r. ⌜ r ≡ ownOf kind detail ⌝ }
 {
     if kind < NAME {

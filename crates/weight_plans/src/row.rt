@@ -26,7 +26,7 @@ pub(crate) fn short(x: usize) -> u32
 }
 
 // The number of values of the data of the part at a place.
-pub(crate) fn values_at(t: &[u16], place: usize) -> u32
+pub fn values_at(t: &[u16], place: usize) -> u32
     requires { ⌜ place < 65536 ⌝ }
     ensures { λ r. ⌜ (r ≡ word (now (t .entry)) place VALUES) × (r < 65536) ⌝ }
 {

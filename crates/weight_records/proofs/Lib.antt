@@ -1,2 +1,7 @@
 pub mod PartsFew
 pub mod Steps
+pub mod Short
+pub mod Bare
+pub mod Plans
+pub mod Sums
+pub mod Whole

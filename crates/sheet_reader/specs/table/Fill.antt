@@ -6,6 +6,7 @@ use lib.ListN.{length}
 use lib.Dec.{ltb}
 use Rattle.language.specs.Choice.{pick}
 use Rattle.language.specs.declared.Numbers.{Numbers}
+use Rattle.sheet_records.specs.Limits.{bytes}
 use Rattle.sheet_records.specs.Refusal.{refusal, left-over}
 use Rattle.sheet_parts.specs.Rule.{partType}
 use Rattle.sheet_rows.specs.Row as row
@@ -52,14 +53,14 @@ pub record Reads {X : Type 0} (f : X → List ℕ → List ℕ) (A : Answer X) (
   pub answer : r ≡ erase A
   pub table : Leaves f A t u
 
--- the place after a part is beyond its own and within the sheet
+-- the type of a part is a byte, and the place after it is beyond its own and within the sheet
 unfoldable pub Beyond : ℕ → ℕ → Part → Type 0
-Beyond at n (Read ty next) = (at < next) × (next ≤ n)
+Beyond at n (Read ty next) = (ty < bytes) × (at < next) × (next ≤ n)
 Beyond at n (Refused x) = Unit
 
--- the place after what was read is at most n
+-- the type of what was read is a byte, and the place after it is at most n
 unfoldable pub Ends : ℕ → Part → Type 0
-Ends n (Read ty next) = next ≤ n
+Ends n (Read ty next) = (ty < bytes) × (next ≤ n)
 Ends n (Refused x) = Unit
 
 -- a record closed after its parts: the answer and the table

@@ -7,11 +7,13 @@ use mathlib.Core.Path.{sym, _∙_}
 use Rattle.sheet_heads.specs.Bare.{bare}
 use Rattle.sheet_heads.proofs.HeadLaws.{head-good}
 use Rattle.sheet_reader.specs.Reader.{readPart}
-use Rattle.sheet_reader.proofs.Core.{block-small, routine-small}
+use Rattle.sheet_reader.proofs.Core.{headed, block-small, routine-small}
 use Rattle.sheet_reader.proofs.Steps.{part-bad, part-good, scope-nothing, scope-block, scope-routine}
-use Rattle.sheet_reader.proofs.Steps.{block-read, routine-refused, routine-more, usable-read, record-closes, parts-none}
-use Rattle.sheet_reader.proofs.Steps.{parts-linked, next-refused, next-wrong, next-more}
-use Rattle.sheet_reader.proofs.Bounds.{part-beyond, beyond-within, scope-ends, parts-end, ends-within, ends-further}
+use Rattle.sheet_reader.proofs.Steps.{block-read, routine-refused, routine-more, usable-read, record-closes}
+use Rattle.sheet_reader.proofs.Steps.{record-leaf, parts-none, parts-linked, next-refused, next-wrong, next-more}
+use Rattle.sheet_reader.proofs.Bounds.{part-beyond, beyond-within, beyond-typed, scope-ends, parts-end}
+use Rattle.sheet_reader.proofs.Bounds.{ends-within, ends-typed, ends-further}
+use Rattle.sheet_reader.proofs.Leaves.{leaf-is}
 use borrow.Fn.Kinds.{In}
 use borrow.Fn.PlainCycle.{Measures, is, falls, and}
 use Rattle.sheet_reader.proofs.part.read_block.Reads as read-block
@@ -43,6 +45,8 @@ use Rattle.sheet_heads.proofs.head.bare_record.Reads as bare-record-reads
 use Rattle.sheet_parts.proofs.typing.accepts_part.Reads as accepts-part-reads
 use Rattle.sheet_records.proofs.refusal.refuse.Reads as refuse-reads
 use Rattle.sheet_heads.proofs.head.head_at.Reads as head-at-reads
+use Rattle.sheet_reader.proofs.close.leaf_of.Reads as leaf-of-reads
+use Rattle.sheet_reader.proofs.close.close_leaf.Reads as close-leaf-reads
 use Rattle.sheet_rows.proofs.row.link.Reads as link-reads
 use Rattle.sheet_reader.proofs.part.close_record.Reads as close-record-reads
 use Rattle.sheet_parts.proofs.scope.enter_parameters.Reads as enter-parameters-reads
@@ -135,7 +139,8 @@ read-next-calls t =
 
 abbrev read-part-calls : ℕ → part-lts.Claims
 read-part-calls t =
-    (head-at-reads.Asked, head-at-reads.Learnt, read-record-below t, read-record.Post)
+    (head-at-reads.Asked, head-at-reads.Learnt, leaf-of-reads.Asked, leaf-of-reads.Learnt,
+      close-leaf-reads.Asked, close-leaf-reads.Learnt, read-record-below t, read-record.Post)
 
 abbrev read-parts-calls : ℕ → parts-lts.Claims
 read-parts-calls t =
@@ -164,7 +169,8 @@ module _ (t : ℕ) where
   read-block-returns : block-lts.Need-returns (read-block-calls t) (read-block-at t) read-block.Post
   read-block-returns c =
       let x = c .before .before .before .before .before .before .before .before .before .before .args in
-      block-read (readPart (x .edition) (x .left) (x .n) _) _ _ _ _ (x .r) (c .before .before .before .before .before .enter
+      block-read (readPart (x .edition) (x .left) (x .n) _) _ _ _ _ (x .r) (c .before .before .before .before .before
+        .enter
         .ensures) (c .before .before .read-parts .ensures)
 
 -- read_next
@@ -176,6 +182,11 @@ module _ (t : ℕ) where
       let o = c .before .before .before .before .before .before .before .before .pre .1 .4 in
       next-refused _ _ _ (bare (x .place) (x .rule) (x .a) (x .b)) _ _ _ _ (λ e. omega (arith, e, o))
       (c .before .before .before .before .read-part .ensures .0) (c .enum-told .given .1)
+
+  read-next-cast-ty : next-lts.Need-cast-ty (read-next-calls t) (read-next-at t) read-next.Post
+  read-next-cast-ty c =
+      omega (arith, beyond-typed _ _ (c .before .before .before .before .before .read-part .ensures .1) (c .before .p
+        .given .1))
 
   read-next-accepts-part-requires : next-lts.Need-accepts-part-requires (read-next-calls t) (read-next-at t)
     read-next.Post
@@ -234,16 +245,27 @@ module _ (t : ℕ) where
 
 -- read_part
 module _ (t : ℕ) where
+  read-part-close-leaf-requires : part-lts.Need-close-leaf-requires (read-part-calls t) (read-part-at t)
+    read-part.Post
+  read-part-close-leaf-requires c κs =
+      let e = sym (c .before .before .before .before .before .before .before .before .head-at .ensures) ∙ c .before
+        .before .before .before .before .before .h2 .given .1 in
+      let g = head-good _ _ _ _ _ _ _ e in
+      let q = c .before .before .before .before .before .before .before .before .before .before .before .pre in
+      (omega (arith, g .place, g .inside, q .1 .0), omega (arith, g .next-inside, q .1 .0))
+
   read-part-sub-read-record : part-lts.Need-sub-read-record (read-part-calls t) (read-part-at t) read-part.Post
   read-part-sub-read-record c =
-      let e = sym (c .before .before .before .before .head-at .ensures) ∙ c .before .before .h2 .given .1 in
+      let e = sym (c .before .before .before .before .before .before .before .head-at .ensures) ∙ c .before .before
+        .before .before .before .h2 .given .1 in
       let d = head-good _ _ _ _ _ _ _ e .depth in
       omega arith
 
   read-part-read-record-requires : part-lts.Need-read-record-requires (read-part-calls t) (read-part-at t)
     read-part.Post
   read-part-read-record-requires c κs =
-      let e = sym (c .before .before .before .before .head-at .ensures) ∙ c .before .before .h2 .given .1 in
+      let e = sym (c .before .before .before .before .before .before .before .head-at .ensures) ∙ c .before .before
+        .before .before .before .h2 .given .1 in
       let g = head-good _ _ _ _ _ _ _ e in
       let d = g .depth in
       let i = g .inside in
@@ -255,14 +277,30 @@ module _ (t : ℕ) where
   read-part-returns : part-lts.Need-returns (read-part-calls t) (read-part-at t) read-part.Post
   read-part-returns c =
       let R = part-bad _ _ _ _ _ _ _ (sym (c .before .before .before .head-at .ensures) ∙ c .before .h .given .1) in
-      (R, part-beyond _ _ _ _ _ _ _ (R .answer))
+      (R, part-beyond _ _ _ _ _ _ _ (c .before .before .before .before .before .shared-slice-known .given) (R .answer))
 
   read-part-returns-2 : part-lts.Need-returns-2 (read-part-calls t) (read-part-at t) read-part.Post
   read-part-returns-2 c =
-      let e = sym (c .before .before .before .before .before .before .before .head-at .ensures)
-        ∙ c .before .before .before .before .before .h2 .given .1 in
+      let e = sym (c .before .before .before .before .before .before .before .before .before .before .before .head-at
+        .ensures) ∙ c .before .before .before .before .before .before .before .before .before .h2 .given .1 in
+      let L = leaf-is _ _ (c .before .before .before .before .before .before .before .before .before .before .before
+        .before .before .before .args .around) _ (headed _ _ _ _ _ _ _ e) (sym (c .before .before .before .before
+        .before .before .before .leaf-of .ensures) ∙ c .before .before .before .before .before .leaf .given .1) in
+      let C = c .before .before .close-leaf .ensures _ (c .before .before .before .before .before .before .before
+        .before .before .before .before .before .before .before .args .around) (L .same-kind) (L .same-detail) (L
+        .leaf) in
+      let R = part-good _ _ _ _ _ _ _ e (head-good _ _ _ _ _ _ _ e .depth)
+          (record-leaf _ _ _ _ _ _ (L .inside) (L .none) (L .same-type) C) in
+      (R, part-beyond _ _ _ _ _ _ _ (c .before .before .before .before .before .before .before .before .before .before
+        .before .before .before .shared-slice-known .given) (R .answer))
+
+  read-part-returns-3 : part-lts.Need-returns-3 (read-part-calls t) (read-part-at t) read-part.Post
+  read-part-returns-3 c =
+      let e = sym (c .before .before .before .before .before .before .before .before .before .before .head-at
+        .ensures) ∙ c .before .before .before .before .before .before .before .before .h2 .given .1 in
       let R = part-good _ _ _ _ _ _ _ e (head-good _ _ _ _ _ _ _ e .depth) (c .before .before .read-record .ensures) in
-      (R, part-beyond _ _ _ _ _ _ _ (R .answer))
+      (R, part-beyond _ _ _ _ _ _ _ (c .before .before .before .before .before .before .before .before .before .before
+        .before .before .shared-slice-known .given) (R .answer))
 
 -- read_parts
 module _ (t : ℕ) where
@@ -286,8 +324,9 @@ module _ (t : ℕ) where
     read-record.Post
   read-record-close-record-requires c κs =
       let q = c .before .before .before .before .before .before .before .pre .1 in
-      (q .2, ends-further _ _ _ (q .0) (scope-ends _ _ _ _ _ _ _ (q .3) (c .before .before .before .read-scope .ensures
-        .answer)))
+      (q .2, ends-further _ _ _ (q .0) (scope-ends _ _ _ _ _ _ _ (c .before .before .before .before .before .before
+        .shared-slice-known .given) (q .3)
+        (c .before .before .before .read-scope .ensures .answer)))
 
   read-record-returns : record-lts.Need-returns (read-record-calls t) (read-record-at t) read-record.Post
   read-record-returns c =
@@ -320,14 +359,29 @@ module _ (t : ℕ) where
       routine-refused _ _ _ _ _ _ (rw (← c .before .before .before .before .before .before .before .enter-parameters
         .ensures) (c .before .before .before .before .read-parts .ensures)) (c .enum-told .given .1)
 
+  read-routine-cast-read-usable : routine-lts.Need-cast-read-usable (read-routine-calls t) (read-routine-at t)
+    read-routine.Post
+  unfolding bare
+  read-routine-cast-read-usable c =
+      let q = c .before .before .before .before .before .before .before .before .before .before .before .before
+        .before .before .before .pre in
+      let h = ends-typed _ (parts-end _ _ _ _ _ _ _ (c .before .before .before .before .before .before .before .before
+        .before .before .before .before .before .before .shared-slice-known .given) _ _ _ _ (omega arith) (q .1 .3)
+        (c .before .before .before .before .before .before .read-parts .ensures .answer)) (c .before .before .own
+          .given .1) in
+      omega (arith, h)
+
   read-routine-read-usable-requires : routine-lts.Need-read-usable-requires (read-routine-calls t) (read-routine-at t)
     read-routine.Post
   unfolding bare
   read-routine-read-usable-requires c κs =
       let q = c .before .before .before .before .before .before .before .before .before .before .before .before
         .before .before .before .pre in
-      let h = ends-within _ (parts-end _ _ _ _ _ _ _ _ _ _ _ (q .1 .3) (c .before .before .before .before .before
-        .before .read-parts .ensures .answer)) (c .before .before .own .given .1) in
+      let h = ends-within _ (parts-end _ _ _ _ _ _ _ (c .before .before .before .before .before .before .before
+        .before .before .before .before .before .before .before .shared-slice-known .given) _ _ _ _ (omega arith) (q
+        .1 .3)
+        (c .before .before .before .before .before .before .read-parts .ensures .answer)) (c .before .before .own
+          .given .1) in
       omega (arith, h, q .0, q .1 .0, q .1 .1, q .1 .2, q .1 .3, q .1 .4)
 
   read-routine-returns-2 : routine-lts.Need-returns-2 (read-routine-calls t) (read-routine-at t) read-routine.Post
@@ -373,7 +427,8 @@ module _ (t : ℕ) where
   read-usable-returns : usable-lts.Need-returns (read-usable-calls t) (read-usable-at t) read-usable.Post
   read-usable-returns c =
       let x = c .before .before .before .before .before .before .before .before .before .before .args in
-      usable-read (readPart (x .edition) (x .left) (x .n) _) _ _ _ _ (x .r) (x .prev) (x .at) (c .before .before .before .before
+      usable-read (readPart (x .edition) (x .left) (x .n) _) _ _ _ _ (x .r) (x .prev) (x .at) (c .before .before
+        .before .before
         .before .enter-procedure .ensures)
         (c .before .before .read-parts .ensures)
 
@@ -385,12 +440,14 @@ pub +read-block+read-next+read-part+read-parts+read-record+read-routine+read-sco
       (λ c κs. c .before .before .before .before .pre .1 .4) (search needs) (λ c κs. search needs) (search needs)
       (read-block-returns t))
     (λ t. next-lts.spec (read-next-calls t) (read-next-at t) read-next.Post (λ c κs. search needs) (search needs)
-      (search needs) (search needs) (read-next-returns t) (λ c κs. search needs) (read-next-accepts-part-requires t)
+      (search needs) (search needs) (read-next-returns t) (read-next-cast-ty t) (λ c κs. search needs)
+        (read-next-accepts-part-requires t)
       (λ c κs. search needs) (search needs) (read-next-returns-2 t) (read-next-sub-read-parts t)
       (read-next-add-read-parts t) (read-next-read-parts-requires t) (search needs) (read-next-returns-3 t))
     (λ t. part-lts.spec (read-part-calls t) (read-part-at t) read-part.Post (λ c κs. search needs) (search needs)
+      (search needs) (λ c κs. search needs) (search needs) (read-part-close-leaf-requires t) (search needs)
       (search needs) (read-part-sub-read-record t) (read-part-read-record-requires t) (read-part-returns t)
-      (search needs) (read-part-returns-2 t))
+      (search needs) (read-part-returns-2 t) (search needs) (read-part-returns-3 t))
     (λ t. parts-lts.spec (read-parts-calls t) (read-parts-at t) read-parts.Post (read-parts-returns t)
       (λ c κs. search needs) (λ c κs. search needs) (search needs) (read-parts-returns-2 t))
     (λ t. record-lts.spec (read-record-calls t) (read-record-at t) read-record.Post (λ c κs. search needs)
@@ -398,7 +455,8 @@ pub +read-block+read-next+read-part+read-parts+read-record+read-routine+read-sco
     (λ t. routine-lts.spec (read-routine-calls t) (read-routine-at t) read-routine.Post
       (λ c. search (needs, c .before .before .before .pre .1 .4)) (read-routine-enter-parameters-requires t)
       (read-routine-add-read-parts t) (read-routine-read-parts-requires t) (search needs) (search needs)
-      (search needs) (read-routine-returns t) (read-routine-read-usable-requires t) (search needs)
+      (search needs) (read-routine-returns t) (read-routine-cast-read-usable t) (read-routine-read-usable-requires t)
+      (search needs)
       (read-routine-returns-2 t))
     (λ t. scope-lts.spec (read-scope-calls t) (read-scope-at t) read-scope.Post (λ c κs. search needs)
       (search needs) (λ c κs. search needs) (search needs) (read-scope-read-block-requires t) (search needs)

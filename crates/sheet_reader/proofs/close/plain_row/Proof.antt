@@ -1,0 +1,14 @@
+-- By the kind.
+use borrow.Author.Tests.{eq-eqb, ne-eqb}
+use Rattle.sheet_reader.proofs.close.plain_row.Statement.{statement}
+use Rattle.sheet_reader.proofs.close.plain_row.Tie as tie
+
+returns : tie.Need-returns
+returns c = simp (eq-eqb _ _ (c .if1 .taken))
+
+returns-2 : tie.Need-returns-2
+returns-2 c = simp (ne-eqb _ _ (c .if1 .left))
+
+pub plain-row-spec : {M : Type 1} → statement M
+plain-row-spec =
+    tie.close (tie.spec returns returns-2)
