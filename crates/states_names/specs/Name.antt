@@ -1,6 +1,6 @@
 -- Names: their positions are the question to them, the wait for their moves, of a name that asks once the wait for its
 -- answer alone, the positions of their arguments, a copy for each question, and the replies of their arguments.
-use Prim.Native.Nat.{ℕ, zero, suc, _-_, _/_, _%_}
+use Prim.Native.Nat.{ℕ, zero, suc, _+_, _-_, _/_, _%_}
 use mathlib.Core.List.{List}
 use lib.Dec.{eqb, ltb, leb}
 use Rattle.language.specs.Choice.{pick}
@@ -56,7 +56,7 @@ copiesOf t at j = mulAddOf (questionsOf (partClass t at j) (partValues t at j)) 
 -- how many positions n arguments from argument j on have
 unfoldable pub argSpots : List ℕ → ℕ → ℕ → ℕ → ℕ
 argSpots t at j zero = 0
-argSpots t at j (suc n) = sumOf (copiesOf t at j) (argSpots t at (sumOf j 1) n)
+argSpots t at j (suc n) = sumOf (copiesOf t at j) (argSpots t at (j + 1) n)
 
 -- the answer of number k of an argument, after which the name waits at the position `next`
 unfoldable pub replyHere : ℕ → ℕ → ℕ → ℕ → ℕ → ℕ → Out

@@ -98,16 +98,18 @@ fn copies(t: &[u16; TERM_WORDS], at: usize, j: usize) -> usize
     )
 }
 
-// How many positions n arguments from argument j on have.
-fn spots(t: &[u16; TERM_WORDS], at: usize, j: usize, n: usize) -> usize
+// How many positions the first n arguments have, counted from the last one back.
+fn spots(t: &[u16; TERM_WORDS], at: usize, n: usize) -> usize
     requires { ⌜ Long (now t) ⌝ }
-    ensures { λ r. ⌜ r ≡ argSpots (now (t .entry)) at j n ⌝ }
+    ensures { λ r. ⌜ r ≡ argSpots (now (t .entry)) at 0 n ⌝ }
 {
-    if n == 0 {
-        return 0;
+    let mut all = 0;
+    let mut left = n;
+    while 0 < left {
+        left -= 1;
+        all = sum(copies(t, at, left), all);
     }
-    let here = copies(t, at, j);
-    sum(here, spots(t, at, sum(j, 1), n - 1))
+    all
 }
 
 // The answer of number k of an argument, after which the name waits at the position `next`.
@@ -136,16 +138,21 @@ fn reply(
     requires { ⌜ Long (now t) ⌝ }
     ensures { λ r. ⌜ r ≡ replyOf (now (t .entry)) id at j n k next ⌝ }
 {
-    if n == 0 {
-        return Out::Stuck;
+    let mut arg = j;
+    let mut left = n;
+    let mut rest = k;
+    while 0 < left {
+        let class = part_class(t, at, arg);
+        let values = part_values(t, at, arg);
+        let w = answers(class, values);
+        arg = sum(arg, 1);
+        if rest < w {
+            return reply_here(id, class, values, arg, rest, next);
+        }
+        rest -= w;
+        left -= 1;
     }
-    let class = part_class(t, at, j);
-    let values = part_values(t, at, j);
-    let w = answers(class, values);
-    if w <= k {
-        return reply(t, id, at, sum(j, 1), n - 1, k - w, next);
-    }
-    reply_here(id, class, values, sum(j, 1), k, next)
+    Out::Stuck
 }
 
 // Position k of an argument, whose positions begin at base and whose replies at after.
@@ -189,32 +196,33 @@ fn in_args(
     requires { ⌜ Long (now t) ⌝ }
     ensures { λ r. ⌜ r ≡ inArgs (now (t .entry)) at j n k base after ⌝ }
 {
-    if n == 0 {
-        return Spot::Here { out: Out::Stuck };
+    let mut arg = j;
+    let mut left = n;
+    let mut rest = k;
+    let mut start = base;
+    let mut replies = after;
+    while 0 < left {
+        let class = part_class(t, at, arg);
+        let values = part_values(t, at, arg);
+        let all = copies(t, at, arg);
+        if rest < all {
+            return arg_in(
+                part_at(t, at, arg),
+                class,
+                values,
+                part_weight(t, at, arg),
+                rest,
+                start,
+                replies,
+            );
+        }
+        arg = sum(arg, 1);
+        rest -= all;
+        start = sum(start, all);
+        replies = sum(replies, answers(class, values));
+        left -= 1;
     }
-    let class = part_class(t, at, j);
-    let values = part_values(t, at, j);
-    let all = copies(t, at, j);
-    if all <= k {
-        return in_args(
-            t,
-            at,
-            sum(j, 1),
-            n - 1,
-            k - all,
-            sum(base, all),
-            sum(after, answers(class, values)),
-        );
-    }
-    arg_in(
-        part_at(t, at, j),
-        class,
-        values,
-        part_weight(t, at, j),
-        k,
-        base,
-        after,
-    )
+    Spot::Here { out: Out::Stuck }
 }
 
 // The name's own move: an answer to its question ends it.
@@ -248,7 +256,7 @@ fn hear_question(t: &[u16; TERM_WORDS], at: usize, n: usize, j: usize, m: Move) 
     if i == 0 {
         return Out::Stuck;
     }
-    let base = sum(inner(t, at), spots(t, at, 0, j));
+    let base = sum(inner(t, at), spots(t, at, j));
     let next = mul_add(i - 1, part_weight(t, at, j), base);
     Out::Go {
         next,
@@ -303,29 +311,6 @@ fn spent(at: usize, q: usize, x: usize, n: usize) -> Out
     }
 }
 
-// The same spot, put together anew. A spot that is handed on as another function gave it lies in memory on every way to
-// the caller, also on those that give one of their own.
-fn again(d: Spot) -> Spot
-    ensures { λ r. ⌜ r ≡ d ⌝ }
-{
-    match d {
-        Spot::Here { out } => Spot::Here { out },
-        Spot::Inside {
-            part,
-            kind,
-            value,
-            k,
-            f,
-        } => Spot::Inside {
-            part,
-            kind,
-            value,
-            k,
-            f,
-        },
-    }
-}
-
 // Position k of a name.
 pub fn in_name(t: &[u16; TERM_WORDS], at: usize, q: usize, x: usize, k: usize) -> Spot
     requires { ⌜ Long (now t) ⌝ }
@@ -354,9 +339,9 @@ pub fn in_name(t: &[u16; TERM_WORDS], at: usize, q: usize, x: usize, k: usize) -
             out: spent(at, q, x, n),
         };
     }
-    let all = spots(t, at, 0, n);
+    let all = spots(t, at, n);
     if k - first < all {
-        return again(in_args(t, at, 0, n, k - first, first, sum(first, all)));
+        return in_args(t, at, 0, n, k - first, first, sum(first, all));
     }
     Spot::Here {
         out: reply(t, id, at, 0, n, k - first - all, after(t, at)),

@@ -337,35 +337,40 @@ module _ (t : List ℕ) (W : Words t) where
       below k′ (inl g) = omega arith
       below k′ (inr g) = omega (arith, all, last-copy q w (k - b) p (omega (arith, all)))
 
-  args : (at j n b after k : ℕ) → b ≤ k → k < 65536 → k - b < argSpots t at j n → (F : ℕ → Move → Spot) →
+  args : (at j n b after k : ℕ) → j + n < 65536 → b ≤ k → k < 65536 → k - b < argSpots t at j n →
+    (F : ℕ → Move → Spot) →
     ((k′ : ℕ) (m : Move) → b ≤ k′ → k′ - b < argSpots t at j n → F k′ m ≡ inArgs t at j n (k′ - b) b after) →
     SameAt t F k (inArgs t at j n (k - b) b after)
   unfolding inArgs SameAt argSpots
-  args at j zero b after k l s i F h = tt
-  args at j (suc n) b after k l s i F h =
-      go (decLt (k - b) c) (λ r v. args at (sumOf j 1) n (b + c) next k r s v F)
+  args at j zero b after k f l s i F h = tt
+  args at j (suc n) b after k f l s i F h =
+      go (decLt (k - b) c) (λ r v. args at (j + 1) n (b + c) next k (omega arith) r s v F)
     where
       c : ℕ
       c = copiesOf t at j
       more : ℕ
-      more = argSpots t at (sumOf j 1) n
+      more = argSpots t at (j + 1) n
       both : sumOf c more ≡ c + more
       both = sum-are c more (k - b) i
       next : ℕ
       next = sumOf after (answersOf (partClass t at j) (partValues t at j))
       go : Dec (k - b < c) → (b + c ≤ k → k - (b + c) < more →
         ((k′ : ℕ) (m : Move) → b + c ≤ k′ → k′ - (b + c) < more →
-          F k′ m ≡ inArgs t at (sumOf j 1) n (k′ - (b + c)) (b + c) next) →
-        SameAt t F k (inArgs t at (sumOf j 1) n (k - (b + c)) (b + c) next)) →
+          F k′ m ≡ inArgs t at (j + 1) n (k′ - (b + c)) (b + c) next) →
+        SameAt t F k (inArgs t at (j + 1) n (k - (b + c)) (b + c) next)) →
         SameAt t F k (inArgs t at j (suc n) (k - b) b after)
       go (yes y) rec = arg-first at j n b after k l s F (λ k′ m r v. h k′ m r (omega (arith, both))) y
       go (no y) rec =
           let e : k - b - c ≡ k - (b + c) = omega arith in
-          rw (le-leb c (k - b) (omega arith), sum-small b c (omega arith), e) (rec (omega arith) (omega (arith, both))
-            (λ k′ m r v.
+          rw (le-leb c (k - b) (omega arith), sum-small j 1 (omega arith), sum-small b c (omega arith), e)
+            (rec (omega arith) (omega (arith, both)) (λ k′ m r v.
             let e′ : k′ - b - c ≡ k′ - (b + c) = omega arith in
             h k′ m (omega arith) (omega (arith, both)) ∙
-            rw (le-leb c (k′ - b) (omega arith), sum-small b c (omega arith), e′)))
+            rw (le-leb c (k′ - b) (omega arith), sum-small j 1 (omega arith), sum-small b c (omega arith), e′)))
+
+  few-arguments : (at : ℕ) → nameCount t at < 8
+  unfolding nameCount
+  few-arguments at = mod-lt (word t at 4 / 256) (omega arith)
 
   two-before : (at : ℕ) → 2 ≤ innerOf t at
   unfolding innerOf nameSpent
@@ -388,7 +393,8 @@ module _ (t : List ℕ) (W : Words t) where
           rw (ne-eqb k 0 a, ne-eqb k 1 b, le-ltb k first (omega arith), le-ltb (k - first) all (omega arith)) tt
       go (no a) (no b) (no d) (yes c) =
           rw (ne-eqb k 0 a, ne-eqb k 1 b, le-ltb k first (omega arith), lt-ltb (k - first) all c)
-            (args at 0 (nameCount t at) first (sumOf first all) k (omega arith) l c (λ k m. inName t at q x k m)
+            (args at 0 (nameCount t at) first (sumOf first all) k (omega (arith, few-arguments at)) (omega arith) l c
+              (λ k m. inName t at q x k m)
               (λ k′ m′ r v.
                 rw (ne-eqb k′ 0 (λ e. omega (arith, two-before at)), ne-eqb k′ 1 (λ e. omega (arith, two-before at)),
                   le-ltb k′ first r, lt-ltb (k′ - first) all v)))

@@ -122,8 +122,7 @@ pub spots-of : {K : Numbers} {t rs n : List ℕ} {left node j : ℕ} {args : Arg
 unfolding count argSpots positions weightArgs
 spots-of r-none b h = refl
 spots-of {t = t} (r-arg {at = node} {j} {T = T} {M} {args} r rs) b h =
-    let e : sumOf j 1 ≡ j + 1 = sum-small j 1 (omega arith) in
-    rw (copies-of t node j T M (part-weight node j r) (part-type node j r) (omega arith), e,
+    rw (copies-of t node j T M (part-weight node j r) (part-type node j r) (omega arith),
       spots-of rs (omega arith) (omega arith))
     (sum-small (questions T * weight M) (positions args) (omega (arith, weight-args args)))
 

@@ -98,12 +98,10 @@ module _ (t : List ℕ) (n : Context) (σ : Store n) (p : Question) where
   entering (r-arg {at = node} {j} {T = T} {M} {args} r rs) b h (suc i) a e =
       cases (entering rs (omega arith) (omega arith) i a (omega arith))
     where
-      next : sumOf j 1 ≡ j + 1
-      next = sum-small j 1 (omega arith)
       cases : Enters node (j + 1) i a args → Enters node j (suc i) a (arg T M args)
       cases (enters f x k g l d k₁ k₂ w) =
           enters f (inr x) k (rw g refl) (omega arith) d k₁ k₂
-          (rw (copies-of t node j T M (part-weight node j r) (part-type node j r) (omega arith), next,
+          (rw (copies-of t node j T M (part-weight node j r) (part-type node j r) (omega arith),
             sum-small (questions T * weight M) (argSpots t node (j + 1) i)
               (omega (arith, w, numberedArgs args .bound x, weight-args args))) (omega (arith, w)))
       cases (refuses f (inl x)) = refuses f (inl (omega arith))

@@ -17,20 +17,33 @@ use Rattle.states_path.specs.declared.Site.{Site}
 use Rattle.states_words.specs.inner.Rows.{withEdges, past}
 use Rattle.states_words.specs.inner.Waiting.{Calling, Argument, Arguments}
 use Rattle.states_positions.specs.Types.{questionLimit}
-use Rattle.states_words.specs.inner.Moves.{answerKind, limitOf, askingOf, blockEdges, heardEdges}
+use Rattle.states_words.specs.inner.Moves.{answerKind, isQuestion, limitOf, askingOf, blockEdges, heardEdges}
 use Rattle.states_words.specs.inner.Moves.{questionEdges, askedEdges}
 use Rattle.states_words.proofs.HeardAnswers.{no-choice, own-small, other-kind, limit-own}
 use Rattle.states_words.proofs.Loops.{Wrote, told, wrote-none, wrote-append}
 
--- a kind of answers is no kind of questions
-no-question : (class m c q : ℕ) → questionLimit class m (answerKind c q) ≡ 0
-unfolding questionLimit answerKind
-no-question class m c q = go (eqb c 0) (eqb q 6)
+-- where a kind is none of questions, no type has questions of it
+none-asked : (class m kind : ℕ) → isQuestion kind ≡ false → questionLimit class m kind ≡ 0
+unfolding isQuestion questionLimit
+none-asked class m kind h = go (eqb class 0) (eqb class 1) (eqb kind 0) (eqb kind 2) (eqb kind 3) (eqb kind 6) h
   where
-    go : (a b : Bool) → questionLimit class m (pick a 1 (pick b 4 5)) ≡ 0
-    go true b = no-choice (eqb class 0) 0 _ refl (no-choice (eqb class 1) 0 0 refl refl)
-    go false true = no-choice (eqb class 0) 0 _ refl (no-choice (eqb class 1) 0 0 refl refl)
-    go false false = no-choice (eqb class 0) 0 _ refl (no-choice (eqb class 1) 0 0 refl refl)
+    go : (c d r a g w : Bool) → pick r true (pick a true (pick g true w)) ≡ false →
+      pick c (pick r 1 0) (pick d (pick a 1 0) (pick g 1 (pick w m 0))) ≡ 0
+    go c d true a g w h = cc
+    go c d false true g w h = cc
+    go c d false false true w h = cc
+    go c d false false false true h = cc
+    go c d false false false false h = no-choice c 0 _ refl (no-choice d 0 0 refl refl)
+
+-- a kind of answers is no kind of questions
+no-question : (c q : ℕ) → isQuestion (answerKind c q) ≡ false
+unfolding isQuestion answerKind
+no-question c q = go (eqb c 0) (eqb q 6)
+  where
+    go : (a b : Bool) → isQuestion (pick a 1 (pick b 4 5)) ≡ false
+    go true b = refl
+    go false true = refl
+    go false false = refl
 
 -- the arguments that have moves are arguments, and they are all, or four
 asking-within : (count : ℕ) → askingOf count ≤ count
@@ -83,6 +96,30 @@ limit-question t wait kind arg class m l a c v e =
         le-ltb (wait .count) arg (a .within .within), ← c, ← v) e
 
 module _ (t : List ℕ) (N : Numbers) (s : Site) (wait : Wait) where
+  -- a limit of 0 leaves no edges
+  no-block : (kind arg : ℕ) → limitOf t wait kind arg ≡ 0 → blockEdges t N s wait kind arg ≡ []
+  unfolding blockEdges
+  no-block kind arg h = rw h
+
+  -- a kind that is none of questions has no edges at arguments
+  no-asked : (kind arg : ℕ) → Calling wait → isQuestion kind ≡ false → (arg ≡ 0 → ⊥) →
+    blockEdges t N s wait kind arg ≡ []
+  unfolding limitOf
+  no-asked kind arg calls q n =
+      no-block kind arg (rw (ne-eqb (wait .kind) 7 calls, ne-eqb arg 0 n)
+        (no-choice (ltb (wait .count) arg) 0 _ refl (none-asked _ _ kind q)))
+
+  no-questions : (kind : ℕ) → Calling wait → isQuestion kind ≡ false → (j : ℕ) → questionEdges t N s wait kind j ≡ []
+  unfolding questionEdges
+  no-questions kind calls q zero = refl
+  no-questions kind calls q (suc j) =
+      let h = no-questions kind calls q j in
+      rw (h, no-asked kind (suc j) calls q (λ z. omega arith))
+
+  pub questions-none : (kind count e : ℕ) (ws : List ℕ) → Calling wait → isQuestion kind ≡ false →
+    Wrote ws (s .n) e (questionEdges t N s wait kind count) e ws
+  questions-none kind count e ws calls q = rw (no-questions kind calls q count) (wrote-none ws (s .n) e)
+
   -- the loop over arguments
   pub questions-first : (kind e : ℕ) (ws : List ℕ) → Wrote ws (s .n) e (questionEdges t N s wait kind 0) e ws
   unfolding questionEdges
@@ -130,10 +167,6 @@ module _ (t : List ℕ) (N : Numbers) (s : Site) (wait : Wait) where
   asked-none : (first m e : ℕ) (ws : List ℕ) → Wrote ws (s .n) e (askedEdges t N s wait 0 first m) e ws
   asked-none first m e ws = rw (no-arguments first m) (wrote-none ws (s .n) e)
 
-  no-block : (kind arg : ℕ) → limitOf t wait kind arg ≡ 0 → blockEdges t N s wait kind arg ≡ []
-  unfolding blockEdges
-  no-block kind arg h = rw h
-
   block-step : (b k j : ℕ) → b ≡ 5 * k + j → j < 5 →
     heardEdges t N s wait (suc b) ≡ heardEdges t N s wait b ++ blockEdges t N s wait k j
   unfolding heardEdges
@@ -150,10 +183,7 @@ module _ (t : List ℕ) (N : Numbers) (s : Site) (wait : Wait) where
           other-kind (word t (wait .at) 2) (word t (wait .at) 3) (wait .kind) (wait .value) kind (λ k. n (k ∙ sym is)))
 
     own-questions : (arg : ℕ) → (arg ≡ 0 → ⊥) → blockEdges t N s wait own arg ≡ []
-    unfolding limitOf
-    own-questions arg n =
-        no-block own arg (rw (ne-eqb (wait .kind) 7 calls, ne-eqb arg 0 n, is)
-          (no-choice (ltb (wait .count) arg) 0 _ refl (no-question _ _ (word t (wait .at) 2) (wait .kind))))
+    own-questions arg n = no-asked own arg calls (rw is (no-question (word t (wait .at) 2) (wait .kind))) n
 
     no-argument : (kind arg : ℕ) → wait .count < arg → blockEdges t N s wait kind arg ≡ []
     unfolding limitOf

@@ -4,6 +4,9 @@ use crate::answers::answer_copies;
 use crate::answers::answer_either;
 use crate::letters::answer_kind;
 use crate::letters::code_at;
+use crate::letters::end_place;
+use crate::letters::first_place;
+use crate::letters::is_question;
 use crate::letters::letter_of;
 use crate::letters::limit;
 use crate::letters::place_of;
@@ -138,10 +141,10 @@ fn hear_values(
     ensures written { λ x. ⌜ now (words .exit) ≡ withEdges (now (words .entry)) (s .n) e
         (valueEdges (now (t .entry)) n s wait kind arg below (numbers n)) ⌝ }
 {
-    let all = numbers(n) as usize;
-    let mut r = 0;
+    let end = end_place(n, below);
+    let mut r = first_place(n, below);
     let mut next = e;
-    while r < all {
+    while r < end {
         next = hear_value(t, n, s, words, p, c, wait, kind, arg, below, r, next);
         r += 1;
     }
@@ -220,6 +223,9 @@ fn hear_questions(
     ensures written { λ x. ⌜ now (words .exit) ≡ withEdges (now (words .entry)) (s .n) e
         (questionEdges (now (t .entry)) n s wait kind count) ⌝ }
 {
+    if !is_question(kind) {
+        return e;
+    }
     let mut arg = 0;
     let mut next = e;
     while arg < count {

@@ -4,6 +4,7 @@ use crate::Wait;
 use language::Numbers;
 use language_codes::number::finites;
 use language_codes::number::first_number;
+use language_codes::number::numbers;
 use sheet_rows::row::CLASS;
 use sheet_rows::row::VALUES;
 use states_path::whole::WHOLE;
@@ -27,6 +28,7 @@ ghost use Prim.Native.Nat.{_%_, _≤_};
 ghost use Rattle.language.specs.Number.{finites};
 ghost use Rattle.language.specs.Order.{codeAt, rank};
 ghost use Rattle.states_words.specs.inner.Moves.{placeOf, letterOf, answerLimit, answerKind, limitOf, waitOf};
+ghost use Rattle.states_words.specs.inner.Moves.{zeroPlace, firstPlace, endPlace, isQuestion};
 ghost use Rattle.states_positions.specs.Row.{Long};
 use sheet_records::limits::BYTES;
 use sheet_records::read::SHORTS;
@@ -77,6 +79,33 @@ pub(crate) fn code_at(n: Numbers, r: usize) -> usize
         return r - low - z;
     }
     r
+}
+
+// The place of the value 0.
+fn zero_place(n: Numbers) -> usize
+    ensures { λ r. ⌜ (r ≡ zeroPlace n) × (r ≤ 256) ⌝ }
+{
+    first_number(n) + n.z as usize
+}
+
+// The place from which on there are values below a limit: only the value 0 is below 1.
+pub(crate) fn first_place(n: Numbers, below: usize) -> usize
+    ensures { λ r. ⌜ r ≡ firstPlace n below ⌝ }
+{
+    if below == 1 {
+        return zero_place(n);
+    }
+    0
+}
+
+// The place from which on there are none.
+pub(crate) fn end_place(n: Numbers, below: usize) -> usize
+    ensures { λ r. ⌜ r ≡ endPlace n below ⌝ }
+{
+    if below == 1 {
+        return zero_place(n) + 1;
+    }
+    numbers(n) as usize
 }
 
 // The rank of a value.
@@ -157,6 +186,22 @@ fn answer_limit(class: usize, values: usize, q: usize, x: usize, kind: usize) ->
         }
     }
     0
+}
+
+// Whether moves of a kind are questions.
+pub(crate) fn is_question(kind: usize) -> bool
+    ensures { λ r. ⌜ r ≡ isQuestion kind ⌝ }
+{
+    if kind == RUN {
+        return true;
+    }
+    if kind == ASK {
+        return true;
+    }
+    if kind == READ {
+        return true;
+    }
+    kind == WRITE
 }
 
 // The kind of the answers to the question q at a type.

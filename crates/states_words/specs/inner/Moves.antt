@@ -6,7 +6,7 @@ use lib.Dec.{eqb, ltb, leb}
 use Rattle.language.specs.Choice.{pick}
 use Rattle.language.specs.declared.Numbers.{Numbers}
 use Rattle.language.specs.Number.{numbers}
-use Rattle.language.specs.Order.{codeAt, rank}
+use Rattle.language.specs.Order.{firstNumber, codeAt, rank}
 use Rattle.states_words.specs.Letter.{KIND-UNIT, ID-UNIT, ARGUMENT-UNIT}
 use Rattle.sheet_rows.specs.Row.{word}
 use Rattle.states_positions.specs.declared.Move.{Move}
@@ -54,6 +54,11 @@ limitOf t e kind arg =
     (pick (ltb (e .count) arg) 0
     (questionLimit (partClass t (e .at) (arg - 1)) (partValues t (e .at) (arg - 1)) kind)))
 
+-- whether moves of a kind are questions
+unfoldable pub isQuestion : ℕ → Bool
+isQuestion kind =
+    pick (eqb kind RUN) true (pick (eqb kind ASK) true (pick (eqb kind READ) true (eqb kind WRITE)))
+
 -- how many arguments of a name have moves, where so many may be asked: at most four
 abbrev pub ARGUMENTS : ℕ
 ARGUMENTS = 4
@@ -85,6 +90,18 @@ visibleOf Stuck = false
 -- the silent word of a state: 0 where it makes or takes a move, else 1 more than the state to which it goes
 unfoldable pub silentOf : Site → Out → ℕ
 silentOf s o = pick (visibleOf o) 0 (sumOf (targetOf s o) 1)
+
+-- the place of the value 0
+unfoldable pub zeroPlace : Numbers → ℕ
+zeroPlace N = firstNumber N + N .z
+
+-- the place from which on there are values below a limit, and that from which on there are none: only the value 0 is
+-- below 1
+unfoldable pub firstPlace : Numbers → ℕ → ℕ
+firstPlace N below = pick (eqb below 1) (zeroPlace N) 0
+
+unfoldable pub endPlace : Numbers → ℕ → ℕ
+endPlace N below = pick (eqb below 1) (zeroPlace N + 1) (numbers N)
 
 -- the edge by the value at place r, where it is below the limit, to a state that the value tells; and the edges by the
 -- first r values. The letter of a value is `place` and its rank

@@ -26,13 +26,13 @@ returns-3 c =
 returns-4 : tie.Need-returns-4
 unfolding inName
 returns-4 c =
-    simp (← c .before .before .before .before .before .before .before .before .before .before .name-id .ensures, ←
-      c .before .before .before .before .before .before .before .before .name-count .ensures, ← c .before .before
-      .before .before .before .before .inner .ensures, ← c .before .before .before .before .spots .ensures, ← c
-      .before .before .sum .ensures, ← c .before .in-args .ensures, ← c .again .ensures, ne-eqb _ _ (c .before
-      .before .before .before .before .before .before .before .before .if1 .left), ne-eqb _ _ (c .before .before
-      .before .before .before .before .before .if2 .left), le-ltb _ _ (c .before .before .before .before .before
-      .if3 .left), lt-ltb _ _ (c .before .before .before .if4 .taken))
+    simp (← c .before .before .before .before .before .before .before .before .before .name-id .ensures, ← c .before
+    .before .before .before .before .before .before .name-count .ensures, ← c .before .before .before .before .before
+    .inner .ensures, ← c .before .before .before .spots .ensures, ← c .before .sum .ensures,
+      ← c .in-args .ensures, ne-eqb _ _ (c .before .before .before .before .before .before .before .before .if1 .left),
+      ne-eqb _ _ (c .before .before .before .before .before .before .if2 .left), le-ltb _ _ (c .before .before .before
+      .before .if3 .left),
+      lt-ltb _ _ (c .before .before .if4 .taken))
 
 returns-5 : tie.Need-returns-5
 unfolding inName
@@ -48,5 +48,4 @@ pub in-name-spec : {M : Type 1} → statement M
 in-name-spec =
     tie.close (tie.spec (λ c κs. search needs) (λ c κs. search needs) returns (λ c κs. search needs) returns-2
     (λ c κs. search needs) (λ c κs. search needs) returns-3 (λ c κs. search needs) (λ c κs. search needs)
-    (λ c κs. search needs) (λ c κs. search needs) returns-4 (search needs) (λ c κs. search needs)
-    (λ c κs. search needs) returns-5)
+    (λ c κs. search needs) returns-4 (search needs) (λ c κs. search needs) (λ c κs. search needs) returns-5)
