@@ -58,7 +58,7 @@ def _moves_after(file: File, play: List[Move]) -> List[Move]:
 
 
 def _picture(text: str, output: Optional[str]) -> None:
-    """Writes a picture by Graphviz, or its DOT text where there is none."""
+    """Writes a picture by Graphviz; where there is none its DOT text, in a file beside, or to the device or pipe."""
     if output is None or output.endswith(".dot"):
         telling.out(output, text.encode())
         return
@@ -69,7 +69,12 @@ def _picture(text: str, output: Optional[str]) -> None:
             raise telling.Trouble("Graphviz does not draw it")
         telling.write(output, made.stdout)
         return
-    kept = str(pathlib.Path(output).with_suffix(".dot"))
+    path = pathlib.Path(output)
+    if path.exists() and not path.is_file():
+        telling.write(output, text.encode())
+        print("negyvosal: no Graphviz here: that is the picture as DOT text", file=sys.stderr)
+        return
+    kept = str(path.with_suffix(".dot"))
     telling.write(kept, text.encode())
     print(f"negyvosal: no Graphviz here: {kept} is the picture as DOT text; once graphviz is installed, "
           f"'dot -Tsvg {kept} -o {output}' draws it", file=sys.stderr)

@@ -9,6 +9,7 @@ import pathlib
 import pty
 import signal
 import subprocess
+import unittest.mock
 from typing import Any, List, Tuple
 
 from trial import COMMAND, ROOT, expect, run, said, spawned
@@ -36,6 +37,9 @@ def unwritten(place: pathlib.Path) -> None:
         run(name, FIRST, "-o", place / "none" / "file", status=2)
         run(name, FIRST, "-o", "/dev/full", status=2)
         run(name, FIRST, "-o", place, status=2)
+    with unittest.mock.patch("shutil.which", lambda name: None):
+        for path in (place / "none" / "file", "/dev/full", place):
+            run("draw", FIRST, "-o", path, status=2)
     expect("the device stays", pathlib.Path("/dev/full").is_char_device(), True)
     run("year", place, place, "--report", "/dev/full/report", status=2)
     with open("/dev/full", "wb") as full:
