@@ -33,7 +33,7 @@ fn build_one(t: &[u16; TERM_WORDS], n: Numbers, root: usize, all: usize, words: 
         n: states,
         o: 0,
     };
-    let mut path = [0usize; PATH_WORDS];
+    let mut path = [0u32; PATH_WORDS];
     let e = fill(t, n, s, words, &mut path, 0);
     close(words, states, e);
     settle(words, states);
@@ -61,7 +61,7 @@ fn build_two(
         n: states,
         o: 0,
     };
-    let mut path = [0usize; PATH_WORDS];
+    let mut path = [0u32; PATH_WORDS];
     let e = fill(t, n, s, words, &mut path, 0);
     let s2 = Site {
         root: other,

@@ -1,5 +1,6 @@
 -- That the path kept from state to state says what each state does, and where its steps lead.
 pub mod Steady
+pub mod Narrow
 pub mod PathWords
 pub mod PathValues
 pub mod PathRise
@@ -9,6 +10,7 @@ pub mod PathBlocks
 pub mod PathHearing
 pub mod PathSays
 pub mod PathInner
+pub mod PathNarrow
 pub mod PathDeeper
 pub mod PathArrives
 pub mod PathCode

@@ -79,7 +79,7 @@ module _ (N : Numbers) (p : List ℕ) where
         riseAll N (framesOf p c) (Go (mulAddOf u (frameOf p c .b) y) 0 0)) (sym z))
 
   moves-other : (c l u next i : ℕ) → (frameOf p c .role ≡ 7 → frameOf p c .a ≡ l → ⊥) →
-    baseOf (framesOf p c) + (frameOf p c .base + next) < 4294967296 →
+    baseOf (framesOf p c) + (frameOf p c .base + next) < 2147483648 →
     Moves N p l u (frameOf p c .base + next) i (framesOf p c) → Moves N p l u next i (frameOf p c ∷ framesOf p c)
   unfolding riseAll riseOf baseOf
   moves-other c l u next i n b r =
@@ -89,20 +89,20 @@ module _ (N : Numbers) (p : List ℕ) where
         ∙ r .1 ∙ ap (λ (y : ℕ). riseAll N (framesOf p i)
           (Go (mulAddOf u (frameOf p i .b) (y - baseOf (framesOf p (suc i)))) 0 0)) z)
 
-  base-next : (c next : ℕ) → baseOf (frameOf p c ∷ framesOf p c) + next < 4294967296 →
-    baseOf (framesOf p c) + (frameOf p c .base + next) < 4294967296
+  base-next : (c next : ℕ) → baseOf (frameOf p c ∷ framesOf p c) + next < 2147483648 →
+    baseOf (framesOf p c) + (frameOf p c .base + next) < 2147483648
   unfolding baseOf
   base-next c next h = omega arith
 
   pub rise-block : (c l u next i : ℕ) → blockIn (framesOf p c) l ≡ suc i →
-    baseOf (framesOf p c) + next < 4294967296 → Moves N p l u next i (framesOf p c)
+    baseOf (framesOf p c) + next < 2147483648 → Moves N p l u next i (framesOf p c)
   unfolding framesOf
   rise-block zero l u next i e b = absurd (block-empty l i e)
   rise-block (suc c) l u next i e b =
       go (topmost (frameOf p c) (framesOf p c) l) (λ h z. rise-block c l u (frameOf p c .base + next) i h z)
     where
       go : Topmost (frameOf p c) (framesOf p c) l →
-        (blockIn (framesOf p c) l ≡ suc i → baseOf (framesOf p c) + (frameOf p c .base + next) < 4294967296 →
+        (blockIn (framesOf p c) l ≡ suc i → baseOf (framesOf p c) + (frameOf p c .base + next) < 2147483648 →
           Moves N p l u (frameOf p c .base + next) i (framesOf p c)) →
         Moves N p l u next i (frameOf p c ∷ framesOf p c)
       go (own a d h) rec =

@@ -9,7 +9,7 @@ use native.Mathlib.Decide.{decLt}
 use lib.ListN.{length}
 use Rattle.states_positions.specs.declared.Frame.{Frame}
 use Rattle.states_positions.specs.declared.Spot.the-variants.{Inside}
-use Rattle.states_step.specs.walk.Shows.{Words}
+use Rattle.states_step.specs.walk.Shows.{TermRows}
 use Rattle.states_path.specs.declared.Level.{Level}
 use Rattle.states_path.specs.Path.{Owned}
 use Rattle.states_path.specs.Levels.{framesOf, levelAt, withLevel, Plain}
@@ -18,12 +18,14 @@ use Rattle.states_path.specs.Kept.{spotIn, stopOf, childOf}
 use Rattle.states_path.specs.Kept.{Stands, KeptPath, Covers}
 use Rattle.states_path.proofs.PathWords.{entered-length, entered-new, entered-old, entered-frames}
 use Rattle.states_path.proofs.PathSays.{start-base, frames-owned}
+use Rattle.states_path.proofs.Narrow.{Modest}
 use Rattle.states_path.proofs.PathInner.{until-past, Inner, deeper-stands, entered}
+use Rattle.states_path.proofs.PathNarrow.{entered-modest}
 
-module _ (t : List ℕ) (W : Words t) (root : ℕ) where
+module _ (t : List ℕ) (R : TermRows t) (root : ℕ) where
   -- the levels with one more
   module _ (p : List ℕ) (c k part kind value : ℕ) (f : Frame) (s : k < 65536) (h : c < 6145) (K : KeptPath t root p c k)
-      (I : Inner t root p c k part kind value f) where
+      (I : Inner t root p c k part kind value f) (M : Modest part kind value f) where
     abbrev l : Level
     l = childOf t root p c k part kind value f
 
@@ -35,7 +37,9 @@ module _ (t : List ℕ) (W : Words t) (root : ℕ) where
       ; owned = (I .own, frames-owned p c (K .sound))
       ; upper = refl
       ; small = omega (arith, I .begins)
-      ; some = I .some }
+      ; some = I .some
+      ; kind-small = M .kind-small
+      ; value-small = M .value-small }
 
     child-begins : l .base ≤ k
     unfolding childOf
@@ -67,9 +71,8 @@ module _ (t : List ℕ) (W : Words t) (root : ℕ) where
     stands-all i (inl a) = rw (entered-old p c l h room i a, entered-frames p c l h room i (omega arith)) (K .stands i
         a)
     stands-all i (inr e) =
-        rw (e, entered-new p c l h room, entered-frames p c l h room c (omega arith)) (deeper-stands t W root p c k part
-            kind value f h (K
-            .stands) I)
+        rw (e, entered-new p c l h room, entered-frames p c l h room c (omega arith)) (deeper-stands t (R .1) root p c k
+            part kind value f h (K .stands) I)
 
     begun-all : (i : ℕ) → (i < c) ⊎ (i ≡ c) → levelAt q i .base ≤ k
     begun-all i (inl a) = rw (entered-old p c l h room i a) (K .begun i a)
@@ -92,7 +95,8 @@ module _ (t : List ℕ) (W : Words t) (root : ℕ) where
     l ≡ childOf t root p c k part kind value f → p′ ≡ withLevel p c l → KeptPath t root p′ (c + 1) k × Covers p′
         (c + 1) k
   goes-deeper p p′ c k part kind value inner f l s h K C e g w =
-      deeper p c k part kind value f s h K (entered t W root p c k part kind value inner f s h K C e) p′
+      deeper p c k part kind value f s h K (entered t (R .1) root p c k part kind value inner f s h K C e)
+        (entered-modest t R root p c k part kind value inner f s h K e) p′
         (w ∙ ap (λ (y : Level). withLevel p c y) g)
 
 -- fewer levels are kept too, and for a later state

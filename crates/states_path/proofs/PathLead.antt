@@ -30,7 +30,7 @@ none-here f fs l e = go (ℕ-discrete (f .role) 7) (ℕ-discrete l (f .a)) e
     go (no a) b e = let h : blockIn fs l ≡ 0 = rw (ne-eqb (f .role) 7 a) at e in (λ x y. a x, h)
 
 -- a silent step that writes no variable of the frame's block
-pub goes : (f : Frame) (next l u : ℕ) → (f .role ≡ 7 → f .a ≡ l → ⊥) → f .base + next < 4294967296 →
+pub goes : (f : Frame) (next l u : ℕ) → (f .role ≡ 7 → f .a ≡ l → ⊥) → f .base + next < 2147483648 →
   goesOf f next l u ≡ Go (f .base + next) l u
 unfolding goesOf
 goes f next l u own b = go (ℕ-discrete (f .role) 7)
@@ -52,7 +52,7 @@ block-none (f ∷ fs) w = go (ℕ-discrete (f .role) 7) (block-none fs (w .1))
 
 module _ (N : Numbers) where
   -- THEOREM: a silent step that writes no block's variable is moved by the first state of its part
-  pub rise-go : (fs : List Frame) (next l u : ℕ) → blockIn fs l ≡ 0 → baseOf fs + next < 4294967296 →
+  pub rise-go : (fs : List Frame) (next l u : ℕ) → blockIn fs l ≡ 0 → baseOf fs + next < 2147483648 →
     riseAll N fs (Go next l u) ≡ Go (baseOf fs + next) l u
   unfolding riseAll baseOf riseOf
   rise-go [] next l u z b = ap (λ (y : ℕ). Go y l u) (omega arith)

@@ -159,18 +159,18 @@ start-low p (suc i) S = omega (arith, S .plain i (omega arith) .small, start-nex
 pub lead-low : (p : List ℕ) (c b : ℕ) → Sound p c → b ≡ startOf p c → b < 65536
 lead-low p c b S e = omega (arith, start-low p c S)
 
-pub lead-within : (p : List ℕ) (c next l b m : ℕ) → Sound p c → next < 4294901760 → b ≡ startOf p c →
+pub lead-within : (p : List ℕ) (c next l b m : ℕ) → Sound p c → next < 2147418112 → b ≡ startOf p c →
   m ≡ blockIn (framesOf p c) l → (m ≡ 0 → ⊥) → (a : ℕ) → a ≡ startOf p m → a ≤ b + next
 lead-within p c next l b m S h e d n a g =
     let w = block-within p c l m d n in
     omega (arith, g, e, start-base p c S, start-base p m (fewer p c m S (w .1)), bases-rise p m c (w .1))
 
-module _ (N : Numbers) (s : Site) (p : List ℕ) (c next l u b m : ℕ) (S : Sound p c) (h : next < 4294901760)
+module _ (N : Numbers) (s : Site) (p : List ℕ) (c next l u b m : ℕ) (S : Sound p c) (h : next < 2147418112)
     (e : b ≡ startOf p c) (d : m ≡ blockIn (framesOf p c) l) where
   base : b ≡ baseOf (framesOf p c)
   base = e ∙ start-base p c S
 
-  near : baseOf (framesOf p c) + next < 4294967296
+  near : baseOf (framesOf p c) + next < 2147483648
   near = omega (arith, base, lead-low p c b S e)
 
   pub lead-plain : (r : ℕ) → m ≡ 0 → r ≡ sumOf (s .o) (b + next) → r ≡ targetOf s (riseAll N (framesOf p c) (Go next l
@@ -188,7 +188,7 @@ module _ (N : Numbers) (s : Site) (p : List ℕ) (c next l u b m : ℕ) (S : Sou
     again = omega arith
 
     pub lead-copy : (a f x q r : ℕ) → a ≡ startOf p m → f ≡ fieldOf p (m - 1) 9 → x ≡ mulAddOf u f (b + next - a) →
-      x < 4294901760 → q ≡ startOf p (m - 1) → r ≡ sumOf (s .o) (q + x) →
+      x < 2147418112 → q ≡ startOf p (m - 1) → r ≡ sumOf (s .o) (q + x) →
       r ≡ targetOf s (riseAll N (framesOf p c) (Go next l u))
     unfolding frameOf targetOf
     lead-copy a f x q r ga gf gx hx gq gr =

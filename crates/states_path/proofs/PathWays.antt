@@ -111,7 +111,7 @@ up-inside p c up S e = fewer p c (up - 1) S (omega (arith, e, up-low p c))
 
 -- the frame of the level up - 1, which takes the values below a limit, tells it for all of them
 module _ (N : Numbers) (s : Site) (p : List ℕ) (c below up role x : ℕ) (S : Sound p c) (e : up ≡ upOf (framesOf p c))
-    (n : up ≡ 0 → ⊥) (b : below < 65536) (ex : x ≡ fieldOf p (up - 1) 10) (h : below ≤ x)
+    (n : up ≡ 0 → ⊥) (b : below < 32767) (ex : x ≡ fieldOf p (up - 1) 10) (h : below ≤ x)
     (er : role ≡ fieldOf p (up - 1) 6) where
   abbrev j : ℕ
   j = up - 1
@@ -130,7 +130,7 @@ module _ (N : Numbers) (s : Site) (p : List ℕ) (c below up role x : ℕ) (S : 
       go : (r : Ways) → CopyWay (s .o) start a q r → Told N s p c below r
       go r far = told-each N s p c below
       go r (near f g i) = told-copies N s p c below (s .o + start + a) q (omega (arith, low)) i (λ v l.
-          let m : v * q ≤ 65534 * q = mul-le-mul-right q (omega arith) in
+          let m : v * q ≤ 32765 * q = mul-le-mul-right q (omega arith) in
           let y : mulAddOf v (fieldOf p j 9) (fieldOf p j 8) ≡ v * q + a =
                 rw (← eq, ← ea) (mul-add-small v q a (omega arith) i (omega arith)) in
           copy-leads N s p c S j upper v (s .o + start + a + v * q) (sym er ∙ k) (omega (arith, ex)) (omega (arith, y))

@@ -6,7 +6,7 @@ use native.Mathlib.Omega.{arith}
 use lib.ListN.{getD, set, length, length-set}
 use lib.Seq.{getD-set-same, getD-set-other}
 use Rattle.states_path.specs.declared.Level.{Level}
-use Rattle.states_path.specs.Levels.{fieldOf, frameOf, levelAt, framesOf, setAll, levelWords, withLevel}
+use Rattle.states_path.specs.Levels.{fieldOf, frameOf, levelAt, framesOf, setAll, levelWords, withLevel, Narrow}
 
 set-length : (p : List ℕ) (x : ℕ) (vs : List ℕ) → length (setAll p x vs) ≡ length p
 unfolding setAll
@@ -110,3 +110,22 @@ thirteen p p₁ p₂ p₃ p₄ i l e f g h =
     let z : 13 * i + 12 ≡ suc (suc (suc (suc (suc (suc (suc (suc (suc (suc (suc (suc (13 * i)))))))))))) = omega arith
         in
     rw (h, g, f, e, x, y, z)
+
+-- the words of a level that are written together, where all are words of 32 bits
+pub record Fours (l : Level) : Type 0 where
+  pub first : (l .part < 4294967296) × ((l .kind < 4294967296) × ((l .value < 4294967296) × (l .base < 4294967296)))
+  pub second : (l .end < 4294967296) × ((l .outer < 4294967296) × ((l .f .role < 4294967296)
+    × (l .f .base < 4294967296)))
+  pub third : (l .f .a < 4294967296) × ((l .f .b < 4294967296) × ((l .f .c < 4294967296) × (l .f .d < 4294967296)))
+  pub last : l .up < 4294967296
+
+pub fours : (l : Level) → Narrow (levelWords l) → Fours l
+unfolding Narrow levelWords
+fours l h =
+    let k = h .1 .1 .1 .1 in
+    let j = k .1 .1 .1 .1 in
+    record
+      { first = (h .0, (h .1 .0, (h .1 .1 .0, h .1 .1 .1 .0)))
+      ; second = (k .0, (k .1 .0, (k .1 .1 .0, k .1 .1 .1 .0)))
+      ; third = (j .0, (j .1 .0, (j .1 .1 .0, j .1 .1 .1 .0)))
+      ; last = j .1 .1 .1 .1 .0 }

@@ -288,15 +288,15 @@ module _ (t : List ℕ) (W : Words t) where
 
   sum-are : (a b k : ℕ) → k < sumOf a b → sumOf a b ≡ a + b
   unfolding sumOf
-  sum-are a b k h = go (decLt a 4294967296) (decLt b 4294967296)
+  sum-are a b k h = go (decLt a 2147483648) (decLt b 2147483648)
     where
-      go : Dec (a < 4294967296) → Dec (b < 4294967296) → sumOf a b ≡ a + b
-      go (yes x) (yes y) = simp (lt-ltb a 4294967296 x, lt-ltb b 4294967296 y)
+      go : Dec (a < 2147483648) → Dec (b < 2147483648) → sumOf a b ≡ a + b
+      go (yes x) (yes y) = simp (lt-ltb a 2147483648 x, lt-ltb b 2147483648 y)
       go (yes x) (no y) =
-          let z : sumOf a b ≡ 0 = simp (lt-ltb a 4294967296 x, le-ltb b 4294967296 (omega arith)) in
+          let z : sumOf a b ≡ 0 = simp (lt-ltb a 2147483648 x, le-ltb b 2147483648 (omega arith)) in
           absurd (omega (arith, z))
       go (no x) y =
-          let z : sumOf a b ≡ 0 = simp (le-ltb a 4294967296 (omega arith)) in
+          let z : sumOf a b ≡ 0 = simp (le-ltb a 2147483648 (omega arith)) in
           absurd (omega (arith, z))
 
   positive : (q w k : ℕ) → k < q * w → 0 < w

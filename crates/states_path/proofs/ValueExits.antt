@@ -62,7 +62,7 @@ module _ (N : Numbers) (s : Site) (p : List ℕ) (c : ℕ) (S : Sound p c) (j : 
 
   -- to its copy, where a part selects by it
   pub copy-leads : (v to : ℕ) → frameOf p j .role ≡ 3 → v < frameOf p j .c →
-    mulAddOf v (frameOf p j .b) (frameOf p j .a) < 4294901760 →
+    mulAddOf v (frameOf p j .b) (frameOf p j .a) < 2147418112 →
     to ≡ sumOf (s .o) (startOf p j + mulAddOf v (frameOf p j .b) (frameOf p j .a)) →
     to ≡ targetOf s (riseAll N (framesOf p c) (Exit 5 v 0 0))
   copy-leads v to r h b d =

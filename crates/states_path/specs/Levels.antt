@@ -3,7 +3,7 @@ use mathlib.Core.Path.{_≡_}
 use mathlib.Core.List.{List, [], _∷_}
 use Prim.Native.Nat.{ℕ, zero, suc, _+_, _*_, _≤_, _<_}
 use lib.ListN.{getD, set, length}
-use Rattle.states_positions.specs.Row.{SHORTS}
+use Rattle.states_positions.specs.Row.{SHORTS, LONGS}
 use Rattle.states_positions.specs.declared.Frame.{Frame}
 use Rattle.states_path.specs.declared.Level.{Level}
 use Rattle.states_path.specs.Field.{LEVELS, FIELDS, PART, QUESTION, QUESTION-VALUE, BASE, END, OUTER, ROLE}
@@ -44,6 +44,11 @@ levelWords l =
 abbrev pub withLevel : List ℕ → ℕ → Level → List ℕ
 withLevel p i l = setAll p (FIELDS * i) (levelWords l)
 
+-- words of 32 bits
+unfoldable pub Narrow : List ℕ → Type 0
+Narrow [] = Unit
+Narrow (v ∷ vs) = (v < LONGS) × Narrow vs
+
 -- a level inside others
 pub record Plain (fs : List Frame) (l : Level) : Type 0 where
   pub outer-block : l .outer ≡ innermostOf fs
@@ -52,6 +57,8 @@ pub record Plain (fs : List Frame) (l : Level) : Type 0 where
   pub upper : l .up ≡ upOf (l .f ∷ fs)
   pub small : l .base < SHORTS
   pub some : 0 < l .base
+  pub kind-small : l .kind < SHORTS
+  pub value-small : l .value < SHORTS
 
 -- the words hold c levels
 pub record Sound (p : List ℕ) (c : ℕ) : Type 0 where

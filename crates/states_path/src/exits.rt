@@ -39,7 +39,10 @@ ghost use Rattle.states_path.specs.Ways.{copiesOf, otherThan, eitherOf};
 const EQUAL: usize = language::operator::EQUAL as usize;
 
 // A number below this is added to the first state of a part without becoming too large.
-const FAR: usize = 4294901760;
+const FAR: usize = 2147418112;
+
+// So many values or more are led one by one: a copy of fewer is reached by a number that is not too large.
+const MANY: usize = 32767;
 
 // The dead state of n.
 pub fn dead(n: usize) -> usize
@@ -52,7 +55,7 @@ pub fn dead(n: usize) -> usize
 }
 
 // A silent step inside c levels, seen in the whole sheet, level by level.
-fn climb(p: &[usize; PATH_WORDS], c: usize, g: Silent) -> Silent
+fn climb(p: &[u32; PATH_WORDS], c: usize, g: Silent) -> Silent
     requires { ⌜ Sound (now p) c ⌝ }
     ensures { λ r. ⌜ ((N : Numbers) → Go (r .next) (r .block) (r .set)
         ≡ riseAll N (framesOf (now (p .entry)) c) (Go (g .next) (g .block) (g .set))) ⌝ }
@@ -70,7 +73,7 @@ fn climb(p: &[usize; PATH_WORDS], c: usize, g: Silent) -> Silent
 // site matters to a silent step, and a number is handed on more cheaply than the site.
 fn far(
     first: usize,
-    p: &[usize; PATH_WORDS],
+    p: &[u32; PATH_WORDS],
     c: usize,
     next: usize,
     block: usize,
@@ -88,14 +91,14 @@ fn far(
 // the block's copy of the value written; level by level where the number may be too large.
 fn moved(
     first: usize,
-    p: &[usize; PATH_WORDS],
+    p: &[u32; PATH_WORDS],
     c: usize,
     next: usize,
     block: usize,
     set: usize,
     m: usize,
 ) -> usize
-    requires { ⌜ Sound (now p) c × ((next < 4294901760) × ((m ≡ blockIn (framesOf (now p) c) block) × (0 < m))) ⌝ }
+    requires { ⌜ Sound (now p) c × ((next < 2147418112) × ((m ≡ blockIn (framesOf (now p) c) block) × (0 < m))) ⌝ }
     ensures { λ r. ⌜ ((N : Numbers) (s : Site) → s .o ≡ first → r
         ≡ targetOf s (riseAll N (framesOf (now (p .entry)) c) (Go next block set))) ⌝ }
 {
@@ -114,7 +117,7 @@ fn moved(
 // is 0: its state is counted from the first state of the innermost, or of the block's copy of the value written.
 fn lead_at(
     first: usize,
-    p: &[usize; PATH_WORDS],
+    p: &[u32; PATH_WORDS],
     c: usize,
     next: usize,
     block: usize,
@@ -137,7 +140,7 @@ fn lead_at(
 // Where a silent step inside c levels leads.
 pub fn lead(
     first: usize,
-    p: &[usize; PATH_WORDS],
+    p: &[u32; PATH_WORDS],
     c: usize,
     next: usize,
     block: usize,
@@ -154,7 +157,7 @@ pub fn lead(
 // variable, at the level own - 1, is left. Most exits write nothing, and their steps are led from here.
 fn led(
     first: usize,
-    p: &[usize; PATH_WORDS],
+    p: &[u32; PATH_WORDS],
     i: usize,
     next: usize,
     own: usize,
@@ -180,7 +183,7 @@ fn led(
 pub fn exit(
     n: Numbers,
     s: Site,
-    p: &[usize; PATH_WORDS],
+    p: &[u32; PATH_WORDS],
     c: usize,
     kind: usize,
     value: usize,
@@ -227,7 +230,7 @@ pub fn exit(
 }
 
 // Where a step inside c levels leads.
-pub fn reach(n: Numbers, s: Site, p: &[usize; PATH_WORDS], c: usize, o: Out) -> usize
+pub fn reach(n: Numbers, s: Site, p: &[u32; PATH_WORDS], c: usize, o: Out) -> usize
     requires { ⌜ Sound (now p) c ⌝ }
     ensures { λ r. ⌜ r ≡ targetOf s (riseAll n (framesOf (now (p .entry)) c) o) ⌝ }
 {
@@ -290,7 +293,7 @@ fn other_than(v: usize) -> usize
 
 // The ways of the right operands of *equal* whose left operand is `left`: that one is like it, and no other is. Also
 // where it is not-a-number, which is like nothing: then `yes` is where a falsehood leads.
-fn either(n: Numbers, s: Site, p: &[usize; PATH_WORDS], c: usize, left: usize) -> Ways
+fn either(n: Numbers, s: Site, p: &[u32; PATH_WORDS], c: usize, left: usize) -> Ways
     requires { ⌜ Sound (now p) c ⌝ }
     ensures { λ r. ⌜ r ≡ eitherOf n s (framesOf (now (p .entry)) c) left ⌝ }
 {
@@ -307,7 +310,7 @@ fn either(n: Numbers, s: Site, p: &[usize; PATH_WORDS], c: usize, left: usize) -
 }
 
 // The ways of the values below a limit.
-pub fn ways_of(n: Numbers, s: Site, p: &[usize; PATH_WORDS], c: usize, below: usize) -> Ways
+pub fn ways_of(n: Numbers, s: Site, p: &[u32; PATH_WORDS], c: usize, below: usize) -> Ways
     requires { ⌜ Sound (now p) c ⌝ }
     ensures apart { λ r. ⌜ ((to stride v : ℕ) → r ≡ Copies to stride → v < below
         → to + v * stride ≡ targetOf s (riseAll n (framesOf (now (p .entry)) c) (Exit VALUE v 0 0))) ⌝ }
@@ -319,7 +322,7 @@ pub fn ways_of(n: Numbers, s: Site, p: &[usize; PATH_WORDS], c: usize, below: us
     if up == 0 {
         return Ways::Each;
     }
-    if SHORTS <= below {
+    if MANY <= below {
         return Ways::Each;
     }
     let i = up - 1;

@@ -46,7 +46,7 @@ ghost use Rattle.states_step.specs.walk.Shows.{TermRows};
 use crate::levels::PATH_WORDS;
 
 // The value of the private variable of the new at a row, inside c levels.
-fn value_at(p: &[usize; PATH_WORDS], c: usize, row: usize) -> usize
+fn value_at(p: &[u32; PATH_WORDS], c: usize, row: usize) -> usize
     requires { ⌜ Sound (now p) c × (row < 65536) ⌝ }
     ensures { λ r. ⌜ r ≡ storeOf (framesOf (now (p .entry)) c) row ⌝ }
 {
@@ -60,7 +60,7 @@ fn value_at(p: &[usize; PATH_WORDS], c: usize, row: usize) -> usize
 // Position k of a private variable inside c levels: its own step, then the exit.
 fn private_at(
     t: &[u16; TERM_WORDS],
-    p: &[usize; PATH_WORDS],
+    p: &[u32; PATH_WORDS],
     c: usize,
     at: usize,
     q: usize,
@@ -101,7 +101,7 @@ fn private_at(
 }
 
 // Where the state k is in the innermost of c levels.
-fn spot_at(t: &[u16; TERM_WORDS], root: usize, p: &[usize; PATH_WORDS], c: usize, k: usize) -> Spot
+fn spot_at(t: &[u16; TERM_WORDS], root: usize, p: &[u32; PATH_WORDS], c: usize, k: usize) -> Spot
     requires { ⌜ TermRows (now t) ⌝ }
     requires { ⌜ KeptPath (now t) root (now p) c k ⌝ }
     ensures { λ r. ⌜ r ≡ spotIn (now (t .entry)) root (now (p .entry)) c k noMove ⌝ }
@@ -123,7 +123,7 @@ fn spot_at(t: &[u16; TERM_WORDS], root: usize, p: &[usize; PATH_WORDS], c: usize
 }
 
 // The end of the states of the innermost of c levels.
-fn stop_at(t: &[u16; TERM_WORDS], root: usize, p: &[usize; PATH_WORDS], c: usize) -> usize
+fn stop_at(t: &[u16; TERM_WORDS], root: usize, p: &[u32; PATH_WORDS], c: usize) -> usize
     requires { ⌜ Long (now t) ⌝ }
     requires { ⌜ Sound (now p) c ⌝ }
     ensures { λ r. ⌜ r ≡ stopOf (now (t .entry)) root (now (p .entry)) c ⌝ }
@@ -159,7 +159,7 @@ fn until(k: usize, past: usize, end: usize) -> usize
 fn child(
     t: &[u16; TERM_WORDS],
     root: usize,
-    p: &[usize; PATH_WORDS],
+    p: &[u32; PATH_WORDS],
     c: usize,
     k: usize,
     part: usize,
@@ -188,7 +188,7 @@ fn child(
 }
 
 // Without the levels whose states are before k.
-fn leave(p: &[usize; PATH_WORDS], c: usize, k: usize) -> usize
+fn leave(p: &[u32; PATH_WORDS], c: usize, k: usize) -> usize
     requires { ⌜ Sound (now p) c ⌝ }
     ensures { λ r. ⌜ (r ≤ c) × Covers (now (p .entry)) r k ⌝ }
 {
@@ -203,13 +203,7 @@ fn leave(p: &[usize; PATH_WORDS], c: usize, k: usize) -> usize
 }
 
 // Down from the innermost of c levels to the part where the state k is at hand.
-fn enter(
-    t: &[u16; TERM_WORDS],
-    root: usize,
-    p: &mut [usize; PATH_WORDS],
-    c: usize,
-    k: usize,
-) -> Stop
+fn enter(t: &[u16; TERM_WORDS], root: usize, p: &mut [u32; PATH_WORDS], c: usize, k: usize) -> Stop
     requires { ⌜ TermRows (now t) ⌝ }
     requires { ⌜ KeptPath (now t) root (now p) c k × (Covers (now p) c k × (k < 65536)) ⌝ }
     ensures { λ r. ⌜ Arrived (now (t .entry)) root (now (p .exit)) (r .levels) k (r .out) ⌝ }
@@ -244,7 +238,7 @@ fn enter(
 pub fn go_to(
     t: &[u16; TERM_WORDS],
     root: usize,
-    p: &mut [usize; PATH_WORDS],
+    p: &mut [u32; PATH_WORDS],
     c: usize,
     k: usize,
 ) -> Stop

@@ -41,9 +41,13 @@ nameSpent t at = word t at DETAIL / ONCE
 abbrev pub SHORTS : ℕ
 SHORTS = 65536
 
--- numbers below this are added without becoming too large, and those below its root are multiplied
+-- how many numbers a word of 32 bits can be
+abbrev pub LONGS : ℕ
+LONGS = 4294967296
+
+-- numbers below this are added, and those below the next are multiplied: sum and product are words of 32 bits
 abbrev pub SUM-LIMIT : ℕ
-SUM-LIMIT = 4294967296
+SUM-LIMIT = 2147483648
 
 abbrev pub FACTOR-LIMIT : ℕ
 FACTOR-LIMIT = 65536

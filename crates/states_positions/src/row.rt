@@ -15,8 +15,8 @@ ghost use Rattle.sheet_rows.specs.Row.{word};
 ghost use Rattle.states_positions.specs.Row.{partWeight, partClass, partValues, nameId, nameCount, nameSpent};
 ghost use Rattle.states_positions.specs.Row.{Long, sumOf, mulAddOf};
 
-// Numbers below this are added without becoming too large, and those below its root are multiplied.
-const SUM_LIMIT: usize = 4294967296;
+// Numbers below this are added, and those below the next are multiplied: sum and product fit 32 bits.
+const SUM_LIMIT: usize = 2147483648;
 
 const FACTOR_LIMIT: usize = 65536;
 

@@ -12,13 +12,13 @@ use Rattle.states_machine.specs.Decide.{when, hears?}
 use Rattle.states_machine.specs.Edge.{received, edge-hear}
 use Rattle.states_positions.specs.Row.{sumOf, mulAddOf}
 
-pub sum-small : (a b : ℕ) → a + b < 4294967296 → sumOf a b ≡ a + b
+pub sum-small : (a b : ℕ) → a + b < 2147483648 → sumOf a b ≡ a + b
 unfolding sumOf
-sum-small a b h = simp (lt-ltb a 4294967296 (omega arith), lt-ltb b 4294967296 (omega arith))
+sum-small a b h = simp (lt-ltb a 2147483648 (omega arith), lt-ltb b 2147483648 (omega arith))
 
-pub mul-add-small : (x w n : ℕ) → x < 65536 → w < 65536 → n < 4294967296 → mulAddOf x w n ≡ x * w + n
+pub mul-add-small : (x w n : ℕ) → x < 65536 → w < 65536 → n < 2147483648 → mulAddOf x w n ≡ x * w + n
 unfolding mulAddOf
-mul-add-small x w n a b c = simp (lt-ltb x 65536 a, lt-ltb w 65536 b, lt-ltb n 4294967296 c)
+mul-add-small x w n a b c = simp (lt-ltb x 65536 a, lt-ltb w 65536 b, lt-ltb n 2147483648 c)
 
 -- the number of a pair
 pub quotient : (v w c : ℕ) → c < w → (v * w + c) / w ≡ v

@@ -101,13 +101,13 @@ module _ {N : Numbers} {t : List ℕ} {root : ℕ} {T : Ty} {M : Term} (R : Read
   first-all l = omega (arith, first-few, mul-le-mul-left (1 + numbers N) l)
 
   -- they are fewer than words can count
-  first-counted : edgesBelow row (size T M) < 4294967296
+  first-counted : edgesBelow row (size T M) < 2147483648
   first-counted = omega (arith, most-edges N (R .z-below) (size T M) _ first-few, R .small)
 
   first-after : edgesAfter t N (site root n 0) 0 ≡ edgesBelow row (size T M)
   unfolding edgesBelow
   first-after =
-      let small : edgesBelow row (0 + size T M) < 4294967296 =
+      let small : edgesBelow row (0 + size T M) < 2147483648 =
             rw (zero-add (size T M)) first-counted in
       placed-after (site root n 0) R P small ∙ ap (edgesBelow row) (zero-add (size T M))
 
@@ -236,7 +236,7 @@ module _ {N : Numbers} {t t′ : List ℕ} {root root′ : ℕ} {T : Ty} {M M′
       let l : size T M + size T M′ ≤ n = omega arith in
       omega (arith, placed-few new R′ new-placed, first-few R n old-placed, mul-le-mul-left (1 + numbers N) l)
 
-  two-counted : edgesBelow two-rows (size T M + size T M′) < 4294967296
+  two-counted : edgesBelow two-rows (size T M + size T M′) < 2147483648
   two-counted = omega (arith, most-edges N (R .z-below) n _ two-few, few-states)
 
   two-fine : (p : ℕ) → p < size T M + size T M′ → Fine n (two-rows p)

@@ -65,7 +65,7 @@ module _ {N : Numbers} {t : List ℕ} (s : Site) {T : Ty} {M : Term} (R : Ready 
   placed-few = omega (arith, edges-with, edges-before, sheet-few s R)
 
   -- THEOREM: its edges end where those of its rows end
-  pub placed-after : edgesBelow row (s .o + size T M) < 4294967296 →
+  pub placed-after : edgesBelow row (s .o + size T M) < 2147483648 →
       edgesAfter t N s (edgesBelow row (s .o)) ≡ edgesBelow row (s .o + size T M)
   unfolding edgesAfter
   placed-after h =

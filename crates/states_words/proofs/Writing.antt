@@ -26,7 +26,7 @@ unfolding past
 past-append e [] ys = refl
 past-append e (x ∷ xs) ys = past-append (sumOf e 1) xs ys
 
-past-plus : (e : ℕ) (xs : List Edge) → e + length xs < 4294967296 → past e xs ≡ e + length xs
+past-plus : (e : ℕ) (xs : List Edge) → e + length xs < 2147483648 → past e xs ≡ e + length xs
 unfolding past
 past-plus e [] h = omega arith
 past-plus e (x ∷ xs) h = rw (sum-small e 1 (omega arith)) (past-plus (e + 1) xs (omega arith) ∙ omega arith)
@@ -78,13 +78,13 @@ two-second : (ws : List ℕ) (i j a b : ℕ) → j < length ws → getD (set (se
 two-second ws i j a b h = getD-set-same (set ws i a) j b 0 (omega (arith, length-set ws i a))
 
 -- an edge is two words, and a head is two words
-edge-at : (n e : ℕ) → n ≤ 8193 → 6 * n + 1 + 2 * e < 4294967296 → edgeAt n e ≡ 6 * n + 1 + 2 * e
+edge-at : (n e : ℕ) → n ≤ 8193 → 6 * n + 1 + 2 * e < 2147483648 → edgeAt n e ≡ 6 * n + 1 + 2 * e
 unfolding edgeAt
 edge-at n e f h =
     rw (mul-add-small 6 n 1 (omega arith) (omega arith) (omega arith), sum-small e e (omega arith))
       (sum-small (6 * n + 1) (e + e) (omega arith) ∙ omega arith)
 
-edge-is : (ws : List ℕ) (n e l t : ℕ) → n ≤ 8193 → 6 * n + 2 + 2 * e < 4294967296 →
+edge-is : (ws : List ℕ) (n e l t : ℕ) → n ≤ 8193 → 6 * n + 2 + 2 * e < 2147483648 →
     withEdge ws n e l t ≡
       set (set ws (6 * n + 1 + 2 * e) (l % 4294967296)) (6 * n + 2 + 2 * e) (t % 4294967296)
 unfolding withEdge
@@ -100,7 +100,7 @@ head-is ws n p e s f h = rw (mul-add-small 5 n p (omega arith) (omega arith) (om
 
 -- the words that edges from edge e on leave: those before them, and those after them
 edges-other : (ws : List ℕ) (n e : ℕ) (xs : List Edge) → n ≤ 8193 →
-    6 * n + 1 + 2 * (e + length xs) < 4294967296 → (j : ℕ) →
+    6 * n + 1 + 2 * (e + length xs) < 2147483648 → (j : ℕ) →
     ((6 * n + 1 + 2 * e ≤ j) → j < 6 * n + 1 + 2 * (e + length xs) → ⊥) →
     getD (withEdges ws n e xs) j 0 ≡ getD ws j 0
 unfolding withEdges
@@ -115,7 +115,7 @@ edges-other ws n e (x ∷ xs) f s j out =
 
 -- the words of a row: its head, and its edges
 row-other : (ws : List ℕ) (n o k e : ℕ) (r : StateRow) → n ≤ 8193 → o + k < n →
-    6 * n + 1 + 2 * (e + length (r .edges)) < 4294967296 → (j : ℕ) → j ≢ o + k → j ≢ 5 * n + (o + k) →
+    6 * n + 1 + 2 * (e + length (r .edges)) < 2147483648 → (j : ℕ) → j ≢ o + k → j ≢ 5 * n + (o + k) →
     ((6 * n + 1 + 2 * e ≤ j) → j < 6 * n + 1 + 2 * (e + length (r .edges)) → ⊥) →
     getD (withRow ws n o k e r) j 0 ≡ getD ws j 0
 unfolding withRow
@@ -268,7 +268,7 @@ edges-next row o c = rw (add-suc o c)
 
 -- the first edge after the c states from o on, where r k is the row of the state o + k
 pub before-is : (o : ℕ) (row r : ℕ → StateRow) (c : ℕ) → ((k : ℕ) → k < c → row (o + k) ≡ r k) →
-    edgesBelow row (o + c) < 4294967296 → before (edgesBelow row o) r c ≡ edgesBelow row (o + c)
+    edgesBelow row (o + c) < 2147483648 → before (edgesBelow row o) r c ≡ edgesBelow row (o + c)
 unfolding before
 before-is o row r zero same h = rw (add-zero o)
 before-is o row r (suc c) same h =

@@ -10,8 +10,8 @@ ghost use Prim.Native.Nat.{_+_, _*_, _<_};
 ghost use lib.Dec.{eqb};
 ghost use Rattle.language.specs.Choice.{pick};
 ghost use Rattle.language.specs.Number.{numbers};
-ghost use Rattle.states_positions.specs.Row.{SHORTS};
-ghost use Rattle.states_words.specs.inner.Rows.{LONGS, withEdges, past};
+ghost use Rattle.states_positions.specs.Row.{SHORTS, LONGS};
+ghost use Rattle.states_words.specs.inner.Rows.{withEdges, past};
 ghost use Rattle.states_words.specs.inner.Moves.{valuesTo};
 
 // The edges by the values below a limit that lead to the copies of a part: the value v to the state to + v * stride.

@@ -32,7 +32,7 @@ ghost use Rattle.states_step.specs.walk.Shows.{TermRows};
 
 // The silent word of a state that does `o` inside c levels: 0 where it makes or takes a move, else 1 more than the
 // state to which it goes.
-fn silent_at(n: Numbers, s: Site, p: &[usize; PATH_WORDS], c: usize, o: Out) -> usize
+fn silent_at(n: Numbers, s: Site, p: &[u32; PATH_WORDS], c: usize, o: Out) -> usize
     requires { ⌜ Sound (now p) c ⌝ }
     ensures { λ r. ⌜ r ≡ silentOf s (riseAll n (framesOf (now (p .entry)) c) o) ⌝ }
 {
@@ -65,7 +65,7 @@ fn write_row(
     n: Numbers,
     s: Site,
     words: &mut [u32],
-    p: &[usize; PATH_WORDS],
+    p: &[u32; PATH_WORDS],
     at: Stop,
     k: usize,
     e: usize,
@@ -121,7 +121,7 @@ pub fn fill(
     n: Numbers,
     s: Site,
     words: &mut [u32],
-    p: &mut [usize; PATH_WORDS],
+    p: &mut [u32; PATH_WORDS],
     e: usize,
 ) -> usize
     requires { ⌜ TermRows (now t) ⌝ }

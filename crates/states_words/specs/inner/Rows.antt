@@ -3,7 +3,7 @@
 use Prim.Native.Nat.{ℕ, zero, suc, _-_, _%_}
 use mathlib.Core.List.{List, [], _∷_}
 use lib.ListN.{set}
-use Rattle.states_positions.specs.Row.{sumOf, mulAddOf}
+use Rattle.states_positions.specs.Row.{LONGS, sumOf, mulAddOf}
 
 -- where parts of an automaton of n states begin: this many times n words are before the first edges of its states, and
 -- before the end of its edges
@@ -26,10 +26,6 @@ pub record StateRow : Type 0 where
 -- a state that stays and has no edges: the end, and the dead state
 abbrev pub noEdges : StateRow
 noEdges = record { silent = 0; edges = [] }
-
--- how many numbers a word of 32 bits can be
-abbrev pub LONGS : ℕ
-LONGS = 4294967296
 
 -- word i becomes v, a word of 32 bits
 abbrev pub held : List ℕ → ℕ → ℕ → List ℕ

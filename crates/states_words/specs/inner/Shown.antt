@@ -12,7 +12,8 @@ use Rattle.states_machine.specs.Action.{Action}
 use Rattle.states_machine.specs.Edge.{edge}
 use Rattle.states_machine.specs.Settle.{Index}
 use Rattle.states_words.specs.Explicit.{packed, silentWord}
-use Rattle.states_words.specs.inner.Rows.{LONGS, Edge, StateRow}
+use Rattle.states_positions.specs.Row.{SUM-LIMIT}
+use Rattle.states_words.specs.inner.Rows.{Edge, StateRow}
 
 -- where the letter x leads by the edges, and to the state d where no edge has it
 unfoldable pub lookup : ℕ → List Edge → ℕ → ℕ
@@ -55,7 +56,7 @@ STATES = 8193
 pub record Room (ws : List ℕ) (n e : ℕ) : Type 0 where
   pub few : n ≤ STATES
   pub words : 6 * n + 1 + 2 * e ≤ length ws
-  pub small : 6 * n + 1 + 2 * e < LONGS
+  pub small : 6 * n + 1 + 2 * e < SUM-LIMIT
 
 -- the words are an automaton of n states, with these rows
 pub record Automaton (ws : List ℕ) (n : ℕ) (row : ℕ → StateRow) : Type 0 where

@@ -8,5 +8,5 @@ use Rattle.states_path.proofs.levels.put_four.Tie as tie
 pub put-four-spec : {M : Type 1} → statement M
 put-four-spec =
     tie.close (tie.spec (search needs) (search needs) (search needs) (search needs) (search needs) (search needs)
-    (search needs) (search needs) (search needs) (search needs) (search needs)
-    (λ c. four _ _ _ _ _ _ _ _ _ _ refl refl refl refl))
+    (search needs) (search needs) (search needs) (search needs) (search needs) (search needs) (search needs)
+    (search needs) (search needs) (λ c. four _ _ _ _ _ _ _ _ _ _ refl refl refl refl))

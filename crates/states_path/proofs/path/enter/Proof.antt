@@ -5,6 +5,7 @@ use mathlib.Core.Path.{sym, _∙_}
 use Prim.Native.Nat.{_-_}
 use Rattle.states_path.specs.Kept.{KeptPath, Covers}
 use Rattle.states_path.proofs.PathInner.{entered}
+use Rattle.states_path.proofs.PathNarrow.{entered-narrow}
 use Rattle.states_path.proofs.PathDeeper.{goes-deeper}
 use Rattle.states_path.proofs.PathArrives.{arrives, arrives-deep}
 use Rattle.states_path.proofs.path.enter.Statement.{statement}
@@ -32,11 +33,17 @@ child-requires c κs = (c .before .before .before .before .before .before .befor
     (sym (c .before .before .d2 .given .1) ∙ c .before .before .before .before .spot-at .ensures) .begins)))
 
 put-level-requires : tie.Need-put-level-requires Inv-loop μ-loop
-put-level-requires c κs = c .before .before .before .before .before .before .before .before .loop-test .taken
+put-level-requires c κs = (c .before .before .before .before .before .before .before .before .loop-test .taken,
+    entered-narrow _ (c .before .before .before .before .before .before .before .before .before .before .pre .0) _ _ _ _
+    _ _ _ _ _ (c .before .before .before .before .before .before .before .before .before .before .pre .1 .1 .1)
+    (c .before .before .before .before .before .before .before .before .loop-test .taken) (c .before .before .before
+    .before .before .before .before .before .before .loop .inv .0) (sym (c .before .before .before .before .d2 .given
+    .1) ∙ c .before .before .before .before .before .before .spot-at .ensures) (c .before .before .before .before
+    .before .before .before .before .before .loop .inv .1) _ (c .before .child .ensures))
 
 loop-again : tie.Need-loop-again Inv-loop μ-loop
 loop-again c = goes-deeper _ (c .before .before .before .before .before .before .before .before .before .before
-    .before .pre .0 .1) _ _ _ _ _ _ _ _ _ _ _ (c .before .before .before .before .before .before .before .before
+    .before .pre .0) _ _ _ _ _ _ _ _ _ _ _ (c .before .before .before .before .before .before .before .before
     .before .before .before .pre .1 .1 .1) (c .before .before .before .before
     .before .before .before .before .before .loop-test .taken) (c .before .before .before .before .before .before
     .before .before .before .before .loop .inv .0) (c .before .before .before .before .before .before .before .before
