@@ -14,19 +14,24 @@ use borrow.Fn.Kinds.{In}
 use borrow.Fn.PlainCycle.{Measures, is, falls, and}
 use Rattle.serve_renumber.proofs.part.renumber_block.Reads as renumber-block
 use Rattle.serve_renumber.proofs.part.renumber_block.Kinds as renumber-block-kinds
-use Rattle.serve_renumber.proofs.part.+renumber_block+renumber_call+renumber_part+renumber_parts+renumber_routine.Lts-renumber_block as renumber-block-lts
+use Rattle.serve_renumber.proofs.part.+renumber_block+renumber_call+renumber_part+renumber_parts+renumber_routine.Lts-renumber_block
+  as renumber-block-lts
 use Rattle.serve_renumber.proofs.part.renumber_call.Reads as renumber-call
 use Rattle.serve_renumber.proofs.part.renumber_call.Kinds as renumber-call-kinds
-use Rattle.serve_renumber.proofs.part.+renumber_block+renumber_call+renumber_part+renumber_parts+renumber_routine.Lts-renumber_call as renumber-call-lts
+use Rattle.serve_renumber.proofs.part.+renumber_block+renumber_call+renumber_part+renumber_parts+renumber_routine.Lts-renumber_call
+  as renumber-call-lts
 use Rattle.serve_renumber.proofs.part.renumber_part.Reads as renumber-part
 use Rattle.serve_renumber.proofs.part.renumber_part.Kinds as renumber-part-kinds
-use Rattle.serve_renumber.proofs.part.+renumber_block+renumber_call+renumber_part+renumber_parts+renumber_routine.Lts-renumber_part as renumber-part-lts
+use Rattle.serve_renumber.proofs.part.+renumber_block+renumber_call+renumber_part+renumber_parts+renumber_routine.Lts-renumber_part
+  as renumber-part-lts
 use Rattle.serve_renumber.proofs.part.renumber_parts.Reads as renumber-parts
 use Rattle.serve_renumber.proofs.part.renumber_parts.Kinds as renumber-parts-kinds
-use Rattle.serve_renumber.proofs.part.+renumber_block+renumber_call+renumber_part+renumber_parts+renumber_routine.Lts-renumber_parts as renumber-parts-lts
+use Rattle.serve_renumber.proofs.part.+renumber_block+renumber_call+renumber_part+renumber_parts+renumber_routine.Lts-renumber_parts
+  as renumber-parts-lts
 use Rattle.serve_renumber.proofs.part.renumber_routine.Reads as renumber-routine
 use Rattle.serve_renumber.proofs.part.renumber_routine.Kinds as renumber-routine-kinds
-use Rattle.serve_renumber.proofs.part.+renumber_block+renumber_call+renumber_part+renumber_parts+renumber_routine.Lts-renumber_routine as routine-lts
+use Rattle.serve_renumber.proofs.part.+renumber_block+renumber_call+renumber_part+renumber_parts+renumber_routine.Lts-renumber_routine
+  as routine-lts
 use Rattle.weight_forms.proofs.set.least.Reads as least-reads
 use Rattle.sheet_records.proofs.read.byte_at.Reads as byte-at-reads
 use Rattle.serve_renumber.proofs.bytes.byte.Reads as byte-reads

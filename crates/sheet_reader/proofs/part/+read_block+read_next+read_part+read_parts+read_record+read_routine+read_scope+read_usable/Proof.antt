@@ -18,28 +18,36 @@ use borrow.Fn.Kinds.{In}
 use borrow.Fn.PlainCycle.{Measures, is, falls, and}
 use Rattle.sheet_reader.proofs.part.read_block.Reads as read-block
 use Rattle.sheet_reader.proofs.part.read_block.Kinds as read-block-kinds
-use Rattle.sheet_reader.proofs.part.+read_block+read_next+read_part+read_parts+read_record+read_routine+read_scope+read_usable.Lts-read_block as block-lts
+use Rattle.sheet_reader.proofs.part.+read_block+read_next+read_part+read_parts+read_record+read_routine+read_scope+read_usable.Lts-read_block
+  as block-lts
 use Rattle.sheet_reader.proofs.part.read_next.Reads as read-next
 use Rattle.sheet_reader.proofs.part.read_next.Kinds as read-next-kinds
-use Rattle.sheet_reader.proofs.part.+read_block+read_next+read_part+read_parts+read_record+read_routine+read_scope+read_usable.Lts-read_next as next-lts
+use Rattle.sheet_reader.proofs.part.+read_block+read_next+read_part+read_parts+read_record+read_routine+read_scope+read_usable.Lts-read_next
+  as next-lts
 use Rattle.sheet_reader.proofs.part.read_part.Reads as read-part
 use Rattle.sheet_reader.proofs.part.read_part.Kinds as read-part-kinds
-use Rattle.sheet_reader.proofs.part.+read_block+read_next+read_part+read_parts+read_record+read_routine+read_scope+read_usable.Lts-read_part as part-lts
+use Rattle.sheet_reader.proofs.part.+read_block+read_next+read_part+read_parts+read_record+read_routine+read_scope+read_usable.Lts-read_part
+  as part-lts
 use Rattle.sheet_reader.proofs.part.read_parts.Reads as read-parts
 use Rattle.sheet_reader.proofs.part.read_parts.Kinds as read-parts-kinds
-use Rattle.sheet_reader.proofs.part.+read_block+read_next+read_part+read_parts+read_record+read_routine+read_scope+read_usable.Lts-read_parts as parts-lts
+use Rattle.sheet_reader.proofs.part.+read_block+read_next+read_part+read_parts+read_record+read_routine+read_scope+read_usable.Lts-read_parts
+  as parts-lts
 use Rattle.sheet_reader.proofs.part.read_record.Reads as read-record
 use Rattle.sheet_reader.proofs.part.read_record.Kinds as read-record-kinds
-use Rattle.sheet_reader.proofs.part.+read_block+read_next+read_part+read_parts+read_record+read_routine+read_scope+read_usable.Lts-read_record as record-lts
+use Rattle.sheet_reader.proofs.part.+read_block+read_next+read_part+read_parts+read_record+read_routine+read_scope+read_usable.Lts-read_record
+  as record-lts
 use Rattle.sheet_reader.proofs.part.read_routine.Reads as read-routine
 use Rattle.sheet_reader.proofs.part.read_routine.Kinds as read-routine-kinds
-use Rattle.sheet_reader.proofs.part.+read_block+read_next+read_part+read_parts+read_record+read_routine+read_scope+read_usable.Lts-read_routine as routine-lts
+use Rattle.sheet_reader.proofs.part.+read_block+read_next+read_part+read_parts+read_record+read_routine+read_scope+read_usable.Lts-read_routine
+  as routine-lts
 use Rattle.sheet_reader.proofs.part.read_scope.Reads as read-scope
 use Rattle.sheet_reader.proofs.part.read_scope.Kinds as read-scope-kinds
-use Rattle.sheet_reader.proofs.part.+read_block+read_next+read_part+read_parts+read_record+read_routine+read_scope+read_usable.Lts-read_scope as scope-lts
+use Rattle.sheet_reader.proofs.part.+read_block+read_next+read_part+read_parts+read_record+read_routine+read_scope+read_usable.Lts-read_scope
+  as scope-lts
 use Rattle.sheet_reader.proofs.part.read_usable.Reads as read-usable
 use Rattle.sheet_reader.proofs.part.read_usable.Kinds as read-usable-kinds
-use Rattle.sheet_reader.proofs.part.+read_block+read_next+read_part+read_parts+read_record+read_routine+read_scope+read_usable.Lts-read_usable as usable-lts
+use Rattle.sheet_reader.proofs.part.+read_block+read_next+read_part+read_parts+read_record+read_routine+read_scope+read_usable.Lts-read_usable
+  as usable-lts
 use Rattle.sheet_parts.proofs.scope.enter.Reads as enter-reads
 use Rattle.sheet_heads.proofs.head.bare_record.Reads as bare-record-reads
 use Rattle.sheet_parts.proofs.typing.accepts_part.Reads as accepts-part-reads
