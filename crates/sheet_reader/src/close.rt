@@ -240,8 +240,8 @@ fn new_row(n: Numbers, found: u8, holds: u32) -> Sum
     }
 }
 
-// The row of a record whose last part has type last. Its kind is tested too: the weight goes by it, and a record by
-// itself does not say that it is that of the rule.
+// The row of a record whose last part has type last, in the order in which document 001 defines the plays. Its kind is
+// tested too: the weight goes by it, and a record by itself does not say that it is that of the rule.
 fn sum_row(t: &[u16], n: Numbers, r: Record, last: u8) -> Sum
     requires { ⌜ r .place < 4096 ⌝ }
     ensures { λ x. ⌜ SumRow (now (t .entry)) n r last x ⌝ }
@@ -252,13 +252,13 @@ fn sum_row(t: &[u16], n: Numbers, r: Record, last: u8) -> Sum
         Rule::Diverge => Sum::Other,
         Rule::Truth => Sum::Other,
         Rule::Number => Sum::Other,
+        Rule::Operate => operate_row(t, r),
+        Rule::Sequence => plain_row(r.kind, SEQUENCE, last, 2),
+        Rule::While => plain_row(r.kind, WHILE, COMMAND, 2),
+        Rule::If => plain_row(r.kind, IF, last, 3),
         Rule::Use => Sum::Other,
         Rule::Fetch => plain_row(r.kind, FETCH, held_type(last), 1),
-        Rule::Operate => operate_row(t, r),
         Rule::Assign => assign_row(t, r),
-        Rule::Sequence => plain_row(r.kind, SEQUENCE, last, 2),
-        Rule::If => plain_row(r.kind, IF, last, 3),
-        Rule::While => plain_row(r.kind, WHILE, COMMAND, 2),
         Rule::New => new_row(n, r.kind, r.b),
         Rule::Procedure => Sum::Other,
     }

@@ -23,14 +23,15 @@ pub record LeafKind (kind detail : ℕ) : Type 0 where
   pub plain : kind ≡ PROCEDURE → ⊥
   pub none : partsOf kind detail ≡ 0
 
--- the record at a place has n parts, of which the first and the second weigh as often as said, a third once
+-- the record at a place has n parts, of which the first and the second weigh as often as said, a third once; in the
+-- order in which document 001 defines the plays
 pub data SumKind (t : List ℕ) (at kind detail n first second : ℕ) : Type 0 where
-  sum-fetch : kind ≡ FETCH → n ≡ 1 → first ≡ 1 → SumKind t at kind detail n first second
   sum-operate : kind ≡ OPERATE → n ≡ 2 → first ≡ 1 → word t at PARTS < most-bytes →
     second ≡ word t (word t at PARTS) VALUES → SumKind t at kind detail n first second
+  sum-sequence : kind ≡ SEQUENCE → n ≡ 2 → first ≡ 1 → second ≡ 1 → SumKind t at kind detail n first second
+  sum-while : kind ≡ WHILE → n ≡ 2 → first ≡ 1 → second ≡ 1 → SumKind t at kind detail n first second
+  sum-if : kind ≡ IF → n ≡ 3 → first ≡ 1 → second ≡ 1 → SumKind t at kind detail n first second
+  sum-fetch : kind ≡ FETCH → n ≡ 1 → first ≡ 1 → SumKind t at kind detail n first second
   sum-assign : kind ≡ ASSIGN → n ≡ 2 → word t at PARTS < most-bytes → first ≡ word t (word t at PARTS) VALUES →
     second ≡ 1 → SumKind t at kind detail n first second
-  sum-sequence : kind ≡ SEQUENCE → n ≡ 2 → first ≡ 1 → second ≡ 1 → SumKind t at kind detail n first second
-  sum-if : kind ≡ IF → n ≡ 3 → first ≡ 1 → second ≡ 1 → SumKind t at kind detail n first second
-  sum-while : kind ≡ WHILE → n ≡ 2 → first ≡ 1 → second ≡ 1 → SumKind t at kind detail n first second
   sum-new : kind ≡ NEW → n ≡ 1 → first ≡ detail → SumKind t at kind detail n first second
