@@ -1,4 +1,6 @@
 // The services for callers in C and Rust. Each has its answer written as words (crate abi_words).
+#![tactic(auto)]
+
 ghost use Rattle.std.specs.Prelude.{◌≡◌};
 ghost use Rattle.sheet_reader.specs.Reader.{read_sheet};
 ghost use Rattle.sheet_judge.specs.Check.{checked_of};

@@ -1,6 +1,7 @@
 // The answers of the services as words. An answer is eleven words: its kind and its values, five words; then the names
 // used, three words for the sheet checked or the old one and three for the new one. A count or a place takes two words,
 // its low and its high half, so that it is given whole.
+#![tactic(auto)]
 
 // The halves of a number.
 mod half;

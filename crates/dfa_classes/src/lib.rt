@@ -5,6 +5,7 @@
 // Behind the graph, from word g = 6 n + 1 + 2 E on: word g + t begins the list of the edges that lead to the state t;
 // word g + n + c is how many members of class c are touched; from word g + 2 n on stand the touched classes, from word
 // g + 3 n on a copy of the members of one class.
+#![tactic(auto)]
 
 // The words of states, classes and edges.
 pub mod words;

@@ -1,4 +1,6 @@
 // The first difference of two states of an automaton in lent words.
+#![tactic(auto)]
+
 pub mod search; // search.rt: the first difference
 
 // No word of at most so many letters tells the two states apart; or the word of that entry does, and is the first.
@@ -9,7 +11,7 @@ pub enum Verdict {
 }
 
 // n states; the two to compare; the accepting ones, which may be one; the most letters of a word that is looked for.
-#[derive(Drop)]
+#[derive(Clone, Copy)]
 pub struct Task {
     pub n: usize,
     pub p: usize,

@@ -2,6 +2,8 @@
 // Of the work space below word 5 n, a word below n begins a list of edges and holds an entry of a queue of states, and
 // from word n on stand the marks. Each edge has a word more: the first 3 n from word 2 n on, the others behind the
 // graph.
+#![tactic(auto)]
+
 ghost use Rattle.std.specs.Prelude.{◌≡◌, true, ◌↔◌, ◌+◌, ◌*◌, ◌≤◌, ◌<◌, length, get_or};
 ghost use Rattle.dfa.specs.Graph.{rest, SameEdges};
 ghost use Rattle.dfa_live.specs.Marks.{Markable, Marks};

@@ -1,6 +1,8 @@
 // What the search for the first difference of two states keeps in lent words.
 // Of the work space below word 5 n, the words below n are the parents of the classes, and from word n + 4 k on stand the
 // four words of entry k of the queue: two states, the entry from which it came, and the letter.
+#![tactic(auto)]
+
 pub mod classes; // classes.rt: the classes of states
 pub mod word; // word.rt: the word of an entry
 

@@ -1,4 +1,6 @@
 // Silent states of an automaton in lent words: edges led past them.
+#![tactic(auto)]
+
 ghost use Rattle.std.specs.Prelude.{◌*◌};
 ghost use Rattle.dfa.specs.Graph.{Graph, rest};
 ghost use Rattle.dfa_silent.specs.Silent.{Silent, Settling};

@@ -1,5 +1,7 @@
 // The classes of the states of an automaton in lent words: two states are in one class exactly if they accept the same
 // words. The words are those of crate dfa_classes.
+#![tactic(auto)]
+
 ghost use Rattle.std.specs.Prelude.{◌*◌};
 ghost use Rattle.dfa.specs.Graph.{rest};
 ghost use Rattle.dfa_sorting.specs.Sorted.{Sortable, Sorted};

@@ -1,5 +1,6 @@
 // Classes of states split by the letters that lead into one class. The words are those of crate dfa_classes; in place of
 // the copy stand the signs of states, word g + 3 n + p that of the state p.
+#![tactic(auto)]
 
 // By which letters a state goes into a class.
 mod into;

@@ -1,5 +1,7 @@
 // What the programs read, print and write. Where a sheet cannot be read to its end, or something cannot be printed or
 // written whole, a line on standard error says so.
+#![tactic(auto)]
+
 ghost use Rattle.files.specs.Reading.{Within};
 
 use libc::{ENOENT, STDOUT_FILENO};

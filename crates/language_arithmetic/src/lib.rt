@@ -1,4 +1,5 @@
 // The arithmetic of the language.
+#![tactic(auto)]
 
 // The nine operators on codes.
 pub mod operator;

@@ -1,6 +1,8 @@
 // Compares old.sheet and new.sheet, and prints that they have the same complete plays, or the first play that only
 // one of them has. Where a file is there and cannot be read to its end, it prints nothing but a line on standard error;
 // so it does where its text cannot be printed whole.
+#![tactic(auto)]
+
 use files::{Read, print, read_sheet};
 
 // The bytes read of a file: one more than a sheet may have, so that a longer one is refused.

@@ -1,4 +1,5 @@
 // Plays by the words of automata: how far a play's records lead, and the play that a search has found.
+#![tactic(auto)]
 
 // A play's records walked through an automaton.
 pub mod walk;

@@ -1,4 +1,6 @@
 // What the program prints: the answer of compare as text.
+#![tactic(auto)]
+
 ghost use Rattle.std.specs.Prelude.{◌≡◌};
 ghost use Rattle.print_text.specs.Page.{page, pushes, Counts};
 ghost use Rattle.print_text.specs.Text.{text_of};

@@ -1,3 +1,5 @@
 // The lines that the programs print, written at a cursor.
+#![tactic(auto)]
+
 pub mod lines;
 pub mod write;

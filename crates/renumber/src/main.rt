@@ -2,6 +2,8 @@
 // sheet as new.sheet. Where the sheet is refused it prints the refusal and writes nothing. Where old.sheet is there and
 // cannot be read to its end it prints nothing but a line on standard error. Such a line comes also where its text cannot
 // be printed whole, and then nothing is written, and where new.sheet cannot be written, which then stays as it was.
+#![tactic(auto)]
+
 use files::{Read, print, read_sheet, write_sheet};
 use print_report::changes::report_changes;
 

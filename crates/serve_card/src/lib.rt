@@ -1,4 +1,6 @@
 // The service card: a card for each routine. Document 02, [12].
+#![tactic(auto)]
+
 use sheet_records::refusal::Cause;
 
 // How many bytes card asks to be lent.

@@ -1,4 +1,6 @@
 // The services: check (crate sheet_judge), follow, compare and look.
+#![tactic(auto)]
+
 use play_words::Decision;
 use sheet_judge::mark::Uses;
 use sheet_records::refusal::Cause;

@@ -1,4 +1,5 @@
 // What a call must meet beside that its sheets are in order: like headings, enough working words, enough play space.
+#![tactic(auto)]
 
 // Whether two headings are the same.
 pub mod heading;

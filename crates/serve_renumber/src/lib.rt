@@ -1,4 +1,6 @@
 // The service renumber, document 02 [4]: a sheet in which each inner name that hides an outer one gets another id.
+#![tactic(auto)]
+
 mod bytes;
 mod part;
 pub mod renumber;

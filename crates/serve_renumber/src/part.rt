@@ -115,7 +115,7 @@ fn choose_parameters(
 }
 
 // Renumbers the part at a place.
-#[cycle(renumber_block_renumber_call_renumber_part_renumber_parts_renumber_routine)]
+#[cycle(renumber)]
 pub(crate) fn renumber_part(
     s: &[u8],
     scope: &[u16; IDS],
@@ -161,7 +161,7 @@ pub(crate) fn renumber_part(
 }
 
 // Renumbers `count` parts, the first at a place.
-#[cycle(renumber_block_renumber_call_renumber_part_renumber_parts_renumber_routine)]
+#[cycle(renumber)]
 fn renumber_parts(
     s: &[u8],
     scope: &[u16; IDS],
@@ -203,7 +203,7 @@ fn renumber_parts(
 }
 
 // Renumbers the use at a place.
-#[cycle(renumber_block_renumber_call_renumber_part_renumber_parts_renumber_routine)]
+#[cycle(renumber)]
 fn renumber_call(
     s: &[u8],
     scope: &[u16; IDS],
@@ -227,7 +227,7 @@ fn renumber_call(
 }
 
 // Renumbers the new at a place, and its block.
-#[cycle(renumber_block_renumber_call_renumber_part_renumber_parts_renumber_routine)]
+#[cycle(renumber)]
 fn renumber_block(
     s: &[u8],
     scope: &[u16; IDS],
@@ -257,7 +257,7 @@ fn renumber_block(
 }
 
 // Renumbers the procedure at a place, its term and the term in which it may be used.
-#[cycle(renumber_block_renumber_call_renumber_part_renumber_parts_renumber_routine)]
+#[cycle(renumber)]
 fn renumber_routine(
     s: &[u8],
     scope: &[u16; IDS],

@@ -22,7 +22,7 @@ use sheet_records::standing::{FREE, RETIRED, count_of, is_named};
 // after it. Of a use, `a` is the id, `b` its standing, and the parts are its arguments; of a new, `a` is the id and `b`
 // the data; of a procedure, `a` is the id and `b` the number of its parameters; of any other, `a` is the one byte of
 // the body, if it has one.
-#[derive(Drop)]
+#[derive(Clone, Copy)]
 pub struct Record {
     pub place: usize,
     pub kind: u8,

@@ -27,8 +27,8 @@ use Rattle.sheet_reader.proofs.NameBytes.{Declared, declared-there, declared-goo
 use Rattle.sheet_reader.proofs.NameList.{Extends, extends-last, extends-declare, extends-retire, matches-same}
 use Rattle.sheet_reader.proofs.NameList.{free-standing}
 use Rattle.sheet_reader.proofs.CompleteNames.{declare-shape, kind-of}
-use Rattle.sheet_reader.proofs.Hides.{Hides, hides-as}
-use Rattle.sheet_reader.proofs.Hidden.{hidden-part}
+use Rattle.sheet_reader.proofs.HidingBytes.{Hides, hides-as}
+use Rattle.sheet_reader.proofs.HiddenBytes.{hidden-part}
 
 module _ (N : Numbers) (s : List ℕ) (π : ℕ → ℕ) (names : List Name) (W : Written) (fine : Fine N names [] W)
     (shallow : depth W ≤ 32) where

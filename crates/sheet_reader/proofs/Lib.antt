@@ -17,8 +17,8 @@ pub mod Parse
 pub mod Sound
 pub mod Widths
 pub mod Complete
-pub mod Hides
-pub mod Hidden
+pub mod HidingBytes
+pub mod HiddenBytes
 pub mod NameBytes
 pub mod NameList
 pub mod CompleteNames

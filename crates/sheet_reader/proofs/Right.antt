@@ -31,7 +31,7 @@ use Rattle.sheet_reader.proofs.Answers.{All, one, none', pick_all, bind_all}
 use Rattle.sheet_reader.proofs.Sound.{Sound, sound}
 use Rattle.sheet_reader.proofs.NameList.{extends-first, NamesRead, names-read, names-all}
 use Rattle.sheet_reader.proofs.CompleteNames.{RestRead, complete-names}
-use Rattle.sheet_reader.proofs.Hides.{Hides}
+use Rattle.sheet_reader.proofs.HidingBytes.{Hides}
 use Rattle.sheet_reader.proofs.HiddenNames.{names-hide}
 
 -- a sheet that is read passed every test but that of its size

@@ -45,7 +45,7 @@ fn read_term(
 }
 
 // Reads name records, `left` of them still allowed, and the term.
-#[cycle(read_after_read_names)]
+#[cycle(names)]
 pub(crate) fn read_names(
     edition: Edition,
     s: &[u8],
@@ -84,7 +84,7 @@ pub(crate) fn read_names(
 }
 
 // Goes on after the name record at a place, once its bytes are judged; its id gets standing c.
-#[cycle(read_after_read_names)]
+#[cycle(names)]
 fn read_after(
     edition: Edition,
     s: &[u8],

@@ -64,7 +64,7 @@ fn close_record(s: &[u8], t: &mut [u16], n: Numbers, around: u8, r: Record, part
 
 // Reads the part at a place, with `left` levels of depth left, inside `around` binders. Where no level is left its head
 // is refused.
-#[cycle(read_block_read_next_read_part_read_parts_read_record_read_routine_read_scope_read_usable)]
+#[cycle(parts)]
 fn read_part(
     edition: Edition,
     s: &[u8],
@@ -100,7 +100,7 @@ fn read_part(
 }
 
 // Reads a record whose head is judged: a use with its arguments, or another with its parts.
-#[cycle(read_block_read_next_read_part_read_parts_read_record_read_routine_read_scope_read_usable)]
+#[cycle(parts)]
 fn read_record(
     edition: Edition,
     s: &[u8],
@@ -122,7 +122,7 @@ fn read_record(
 }
 
 // Reads the parts of a record, in the scopes that it opens.
-#[cycle(read_block_read_next_read_part_read_parts_read_record_read_routine_read_scope_read_usable)]
+#[cycle(parts)]
 fn read_scope(
     edition: Edition,
     s: &[u8],
@@ -152,7 +152,7 @@ fn read_scope(
 }
 
 // Reads the block of a new, in which its variable is seen.
-#[cycle(read_block_read_next_read_part_read_parts_read_record_read_routine_read_scope_read_usable)]
+#[cycle(parts)]
 fn read_block(
     edition: Edition,
     s: &[u8],
@@ -192,7 +192,7 @@ fn read_block(
 }
 
 // Reads the two terms of a procedure: in the first its parameters are seen, in the second the procedure itself.
-#[cycle(read_block_read_next_read_part_read_parts_read_record_read_routine_read_scope_read_usable)]
+#[cycle(parts)]
 fn read_routine(
     edition: Edition,
     s: &[u8],
@@ -237,7 +237,7 @@ fn read_routine(
 }
 
 // Reads the second term of a procedure, at a place; the first has type prev.
-#[cycle(read_block_read_next_read_part_read_parts_read_record_read_routine_read_scope_read_usable)]
+#[cycle(parts)]
 fn read_usable(
     edition: Edition,
     s: &[u8],
@@ -280,7 +280,7 @@ fn read_usable(
 
 // Reads `count` parts, from part j on, of the record at a place whose rule and body bytes are given; the part before
 // them has type prev.
-#[cycle(read_block_read_next_read_part_read_parts_read_record_read_routine_read_scope_read_usable)]
+#[cycle(parts)]
 fn read_parts(
     edition: Edition,
     s: &[u8],
@@ -318,7 +318,7 @@ fn read_parts(
 }
 
 // Reads the first of these parts, whose place is in the row already, and the others.
-#[cycle(read_block_read_next_read_part_read_parts_read_record_read_routine_read_scope_read_usable)]
+#[cycle(parts)]
 fn read_next(
     edition: Edition,
     s: &[u8],

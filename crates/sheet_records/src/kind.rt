@@ -50,7 +50,7 @@ pub const PARAMETER_IDS: usize = 4;
 pub const PARAMETER_TYPES: usize = 5;
 
 // What a part of a term is: how its body is judged and its parts are typed.
-#[derive(Drop)]
+#[derive(Clone, Copy)]
 pub enum Rule {
     Skip,
     Diverge,

@@ -1,4 +1,6 @@
 // Records of a sheet: their kinds, the limits of sheets, the standings of ids, and the numbers of refusals.
+#![tactic(auto)]
+
 pub mod edition;
 pub mod kind;
 pub mod limits;

@@ -1,4 +1,6 @@
 // The rows that records leave in the table of parts.
+#![tactic(auto)]
+
 pub mod class;
 pub mod kind;
 pub mod pack;

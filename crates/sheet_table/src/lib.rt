@@ -1,1 +1,2 @@
 // Theory: what reading a sheet leaves in the table of its parts.
+#![tactic(auto)]

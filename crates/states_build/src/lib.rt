@@ -1,2 +1,4 @@
 // The automata of one or two sheets in the working words.
+#![tactic(auto)]
+
 pub mod build;

@@ -1,5 +1,6 @@
 // The states of a whole sheet by number, and the path of parts in which a state lies: kept from state to state, it says
 // what the state does and where its steps lead.
+#![tactic(auto)]
 
 // What a state of a whole sheet does.
 pub mod whole;
@@ -14,7 +15,7 @@ use states_positions::{Frame, Out};
 
 // Where the automaton of a sheet stands: the root in its table of parts, how many states the words have, and its
 // first state there.
-#[derive(Drop)]
+#[derive(Clone, Copy)]
 pub struct Site {
     pub root: usize,
     pub n: usize,
@@ -37,7 +38,7 @@ pub(crate) struct Level {
 }
 
 // How far a path goes, and what is done there.
-#[derive(Drop)]
+#[derive(Clone, Copy)]
 pub struct Stop {
     pub levels: usize,
     pub out: Out,

@@ -2,6 +2,7 @@
 //
 // A position of a term is a number below its weight. A type is its class and the number of values of its data, and a
 // value is its code.
+#![tactic(auto)]
 
 // The kinds of moves, and the roles of parts.
 pub mod moves;
@@ -12,7 +13,7 @@ pub mod row;
 pub mod types;
 
 // A move: its kind, the place where it is made (argument 0 is the name itself) and its value.
-#[derive(Drop)]
+#[derive(Clone, Copy)]
 pub struct Move {
     pub kind: usize,
     pub id: usize,
@@ -23,7 +24,7 @@ pub struct Move {
 // What is done at a position: a silent step, an exit with an answer, a move that the term says, a wait in which it
 // hears the moves of the name at a place, whose first `count` arguments may be asked, or nothing. A block is 0 where no
 // private variable is written, else 1 more than the row of the variable's new.
-#[derive(Drop)]
+#[derive(Clone, Copy)]
 pub enum Out {
     Go {
         next: usize,

@@ -47,7 +47,7 @@ struct Turn {
 }
 
 // Expands the part at a place, which comes down to no parameter.
-#[cycle(enter_expand_expand_own_expand_part_expand_parts_expand_record_expand_row)]
+#[cycle(expand)]
 fn expand(
     t: &[u16; TABLE],
     marks: &[u16; MOST_BYTES],
@@ -82,7 +82,7 @@ fn expand(
 
 // Expands the part at a place in its own copy of the slots: the scopes and the terms of procedures that it comes to are
 // the turns of a loop.
-#[cycle(enter_expand_expand_own_expand_part_expand_parts_expand_record_expand_row)]
+#[cycle(expand)]
 fn expand_own(
     t: &[u16; TABLE],
     marks: &[u16; MOST_BYTES],
@@ -132,7 +132,7 @@ fn expand_own(
 
 // Enters the procedure that is used at a place: the arguments that it uses are expanded in the slots of the caller,
 // then its slots become their rows. What is left is its term.
-#[cycle(enter_expand_expand_own_expand_part_expand_parts_expand_record_expand_row)]
+#[cycle(expand)]
 fn enter(
     t: &[u16; TABLE],
     marks: &[u16; MOST_BYTES],
@@ -160,7 +160,7 @@ fn enter(
 }
 
 // Makes row n for a part that is neither the scope nor the use of a procedure.
-#[cycle(enter_expand_expand_own_expand_part_expand_parts_expand_record_expand_row)]
+#[cycle(expand)]
 fn expand_record(
     t: &[u16; TABLE],
     marks: &[u16; MOST_BYTES],
@@ -186,7 +186,7 @@ fn expand_record(
 
 // Makes row n for the part at a place, after the rows of its parts, and says how many are made then. A part without
 // parts, as every second one is, has a shorter way.
-#[cycle(enter_expand_expand_own_expand_part_expand_parts_expand_record_expand_row)]
+#[cycle(expand)]
 fn expand_row(
     t: &[u16; TABLE],
     marks: &[u16; MOST_BYTES],
@@ -211,7 +211,7 @@ fn expand_row(
 }
 
 // Expands those parts of the part at a place whose bits are wanted, in their order.
-#[cycle(enter_expand_expand_own_expand_part_expand_parts_expand_record_expand_row)]
+#[cycle(expand)]
 fn expand_parts(
     t: &[u16; TABLE],
     marks: &[u16; MOST_BYTES],
@@ -255,7 +255,7 @@ fn expand_parts(
 
 // Expands part j of the part at a place, where it is wanted: one that comes down to a parameter is that parameter's
 // row.
-#[cycle(enter_expand_expand_own_expand_part_expand_parts_expand_record_expand_row)]
+#[cycle(expand)]
 fn expand_part(
     t: &[u16; TABLE],
     marks: &[u16; MOST_BYTES],

@@ -1,4 +1,6 @@
 // The services of silent, difference and live on automata made by hand: what they answer is written to standard output.
+#![tactic(auto)]
+
 use crate::checked::{Answer, Life, compare_checked, live_checked, settle_checked};
 use dfa_difference::Task;
 use libc::STDOUT_FILENO;

@@ -1,5 +1,7 @@
 // Document 01's examples of what check refuses, sheets at the ends of Z, sheets with procedures, ids that enclosing
 // binders hold, and names that ask once, through the service check.
+#![tactic(auto)]
+
 use libc::STDOUT_FILENO;
 use sheet_judge::check::{Checked, check};
 use sheet_records::refusal::{NEW_SHEET, OLD_SHEET};

@@ -1,6 +1,7 @@
 // Sheets worked through: document 01's table, document 001's examples for every range and rule, document 02's
 // remainders, procedures, names that ask once and infinities, sheets for each refusal, and what the services are lent.
 // The answers, made by the same function as the program's, go to standard output.
+#![tactic(auto)]
 
 // Titles, sheets and reports.
 mod show;

@@ -1,4 +1,5 @@
 // What a record is weighed and marked by: its row, the factors of its parts, what they come down to.
+#![tactic(auto)]
 
 // Words of rows and of the stack of forms.
 pub mod row;

@@ -1,0 +1,14 @@
+-- The words that `answer_card` writes are `card_words`, where there is room for them.
+use borrow.Author.Rules.{rules}
+use Rattle.abi_words.proofs.Wording.{returned-as, words-card, words-no-card}
+use Rattle.abi_words.proofs.card.answer_card.Goals as goal
+
+pub returns-in-Card : goal.returns-in-Card
+returns-in-Card c =
+    returned-as _ _ _ _ _ (words-card _ _ _ _ c.in-Card.is
+    c.low_half-low.ensures c.high_half-high.ensures) c.answer.ensures.0 c.answer.ensures.1
+
+pub returns-in-Refused : goal.returns-in-Refused
+returns-in-Refused c =
+    returned-as _ _ _ _ _ (words-no-card _ _ c.in-Refused.is)
+    c.refuse.ensures.0 c.refuse.ensures.1

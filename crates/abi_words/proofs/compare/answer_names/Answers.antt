@@ -1,0 +1,6 @@
+-- The words that `answer_names` writes: five words, and three for each sheet.
+use borrow.Author.Rules.{rules}
+use Rattle.abi_words.proofs.compare.answer_names.Goals as goal
+
+pub returns : goal.returns
+returns c = (c.answer.ensures.0, c.answer.ensures.1)

@@ -1,0 +1,19 @@
+-- The words that `answer_follow` writes are `follow_words`, where there is room for them.
+use borrow.Author.Rules.{rules}
+use Rattle.abi_words.proofs.Wording.{returned-as, words-complete, words-begun, words-not-followed}
+use Rattle.abi_words.proofs.follow.answer_follow.Goals as goal
+
+pub returns-then-complete : goal.returns-then-complete
+returns-then-complete c =
+    returned-as _ _ _ _ _ (words-complete _ _ _ _ _ c.in-Follows.is c.if-complete.true c.low_half-low.ensures c.high_half-high.ensures)
+    c.answer.ensures.0 c.answer.ensures.1
+
+pub returns-else-complete : goal.returns-else-complete
+returns-else-complete c =
+    returned-as _ _ _ _ _ (words-begun _ _ _ _ _ c.in-Follows.is c.if-complete.false c.low_half-low.ensures c.high_half-high.ensures)
+    c.answer-in-Follows.ensures.0 c.answer-in-Follows.ensures.1
+
+pub returns-in-Refused : goal.returns-in-Refused
+returns-in-Refused c =
+    returned-as _ _ _ _ _ (words-not-followed _ _ c.in-Refused.is)
+    c.refuse.ensures.0 c.refuse.ensures.1

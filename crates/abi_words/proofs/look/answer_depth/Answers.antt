@@ -1,0 +1,8 @@
+-- The words that `answer_depth` writes, where there is room for them.
+use borrow.Author.Rules.{rules}
+use Rattle.abi_words.proofs.Wording.{returned-as, words-depth}
+use Rattle.abi_words.proofs.look.answer_depth.Goals as goal
+
+pub returns : goal.returns
+returns c = returned-as _ _ _ _ _ (words-depth _ _ _ _ _ _ _ c.low_half-low.ensures c.high_half-high.ensures)
+    c.answer_names.ensures.0 c.answer_names.ensures.1

@@ -1,0 +1,21 @@
+-- The words that `answer_look` writes are `look_words`, where there is room for them.
+use borrow.Author.Rules.{rules}
+use Rattle.abi_words.proofs.Wording.{returned-as, words-looked-same, words-looked-apart, words-looked-so-far}
+use Rattle.abi_words.proofs.Wording.{words-not-looked}
+use Rattle.abi_words.proofs.look.answer_look.Goals as goal
+
+pub returns-in-Same : goal.returns-in-Same
+returns-in-Same c = returned-as _ _ _ _ _ (words-looked-same _ _ _ _ c.in-Same.is)
+    c.answer_depth.ensures.0 c.answer_depth.ensures.1
+
+pub returns-in-Apart : goal.returns-in-Apart
+returns-in-Apart c = returned-as _ _ _ _ _ (words-looked-apart _ _ _ _ _ c.in-Apart.is)
+    c.answer_depth-in-Apart.ensures.0 c.answer_depth-in-Apart.ensures.1
+
+pub returns-in-SoFar : goal.returns-in-SoFar
+returns-in-SoFar c = returned-as _ _ _ _ _ (words-looked-so-far _ _ _ _ c.in-SoFar.is)
+    c.answer_depth-in-SoFar.ensures.0 c.answer_depth-in-SoFar.ensures.1
+
+pub returns-in-Refused : goal.returns-in-Refused
+returns-in-Refused c = returned-as _ _ _ _ _ (words-not-looked _ _ c.in-Refused.is)
+    c.refuse.ensures.0 c.refuse.ensures.1

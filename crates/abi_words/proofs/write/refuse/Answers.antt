@@ -1,0 +1,9 @@
+-- The words that `refuse` writes are `refusal_words`, where there is room for them.
+use borrow.Author.Rules.{rules}
+use Rattle.abi_words.proofs.Wording.{returned-as, words-refused}
+use Rattle.abi_words.proofs.write.refuse.Goals as goal
+
+pub returns : goal.returns
+returns c =
+    returned-as _ _ _ _ _ (words-refused _ _ _ c.low_half-low.ensures c.high_half-high.ensures) c.answer.ensures.0
+    c.answer.ensures.1

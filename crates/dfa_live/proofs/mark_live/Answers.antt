@@ -1,0 +1,27 @@
+-- `mark_live` keeps what `Marks` says.
+use native.Mathlib.Omega.{arith}
+use Prim.Native.Nat.{◌*◌}
+use lib.ListN.{length-take}
+use borrow.Author.Rules.{rules}
+use Rattle.dfa_live.proofs.laws.Marked.{linkable, marked, unmarked}
+use Rattle.dfa_live.proofs.mark_live.Goals as goal
+
+pub slice_bounds-clear-end-2 : goal.slice_bounds-clear-end-2
+slice_bounds-clear-end-2 c = omega (
+  arith,
+  length-take (2 * c.args.n)
+      c.args.words.now,
+  c.requires.room,
+)
+
+pub link_edges-requires : goal.link_edges-requires
+link_edges-requires c = linkable _ _ _ _ c.requires
+    c.clear.ensures
+
+pub mark-requires : goal.mark-requires
+mark-requires c = unmarked _ _ _ _ c.requires c.clear.ensures _
+    c.link_edges.ensures
+
+pub returns : goal.returns
+returns c = marked _ _ _ _ c.requires c.clear.ensures _ c.link_edges.ensures
+    c.mark.new.0 c.mark.ensures c.mark.auto.0

@@ -1,0 +1,15 @@
+use mathlib.Core.List.{List}
+use mathlib.Core.Path.{◌≡◌}
+use Prim.Native.Nat.{◌-◌, ℕ}
+use native.Mathlib.Omega.{arith}
+use Rattle.dfa_numbering.specs.inner.Counting.{Meeting}
+use Rattle.dfa_numbering.proofs.laws.Counting.{meet-again, meet-first, meet-last, meet_low, meet-room, note-asks}
+use Rattle.dfa_numbering.proofs.laws.Counting.{target-asks}
+use Rattle.dfa_numbering.proofs.number.meet.Given as goal
+
+abbrev pub invariant-loop-e : goal.invariant-loop-e
+invariant-loop-e l = (G : List ℕ) (g : ℕ) (own : ℕ → ℕ) (head : ℕ) → l.dead ≡ own (l.n - 1)
+    → Meeting G l.n g own head l.p l.initial.words l.initial.e l.end l.initial.k l.initial.words → Meeting G l.n g own head l.p l.initial.words l.e l.end l.k l.words
+
+abbrev pub decreases-loop-e : goal.decreases-loop-e
+decreases-loop-e l = l.end - l.e

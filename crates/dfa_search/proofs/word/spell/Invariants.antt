@@ -1,0 +1,12 @@
+use native.Mathlib.Omega.{arith}
+use Prim.Native.Nat.{◌+◌, ◌*◌}
+use Rattle.dfa_search.proofs.Spell.{trail-wide, spells-first, spells-pos, spells-old, spells-less}
+use Rattle.dfa_search.proofs.Spell.{spells-again, spells-last}
+use Rattle.dfa_search.specs.Trace.{Spells}
+use Rattle.dfa_search.proofs.word.spell.Given as goal
+
+abbrev pub invariant-loop-e : goal.invariant-loop-e
+invariant-loop-e l = Spells l.n l.k l.d l.initial.words l.words l.i l.e
+
+abbrev pub decreases-loop-e : goal.decreases-loop-e
+decreases-loop-e l = l.e

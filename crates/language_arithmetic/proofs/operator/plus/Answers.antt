@@ -1,0 +1,17 @@
+-- As the table settles it.
+use borrow.Author.Rules.{rules}
+use Rattle.language.specs.Operator.{plus_of}
+use Rattle.language_arithmetic.proofs.OperatorSteps.{settled-arithmetic, settled-class}
+use Rattle.language_arithmetic.proofs.operator.plus.Goals as goal
+
+pub returns-then-k-eq-ARITHMETIC : goal.returns-then-k-eq-ARITHMETIC
+unfolding plus_of
+returns-then-k-eq-ARITHMETIC c =
+    settled-arithmetic c.args.n _ _ c.by_classes-k.ensures
+    c.if-k-eq-ARITHMETIC.true c.sum.ensures
+
+pub returns : goal.returns
+unfolding plus_of
+returns c =
+    settled-class c.args.n _ _ c.by_classes-k.ensures
+    c.if-k-eq-ARITHMETIC.false c.outside.ensures

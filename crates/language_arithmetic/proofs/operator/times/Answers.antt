@@ -1,0 +1,17 @@
+-- As the table settles it.
+use borrow.Author.Rules.{rules}
+use Rattle.language.specs.Operator.{times_of}
+use Rattle.language_arithmetic.proofs.OperatorSteps.{settled-arithmetic, settled-class}
+use Rattle.language_arithmetic.proofs.operator.times.Goals as goal
+
+pub returns-then-k-eq-ARITHMETIC : goal.returns-then-k-eq-ARITHMETIC
+unfolding times_of
+returns-then-k-eq-ARITHMETIC c =
+    settled-arithmetic c.args.n _ _ c.by_classes-k.ensures
+    c.if-k-eq-ARITHMETIC.true c.product.ensures
+
+pub returns : goal.returns
+unfolding times_of
+returns c =
+    settled-class c.args.n _ _ c.by_classes-k.ensures
+    c.if-k-eq-ARITHMETIC.false c.outside.ensures

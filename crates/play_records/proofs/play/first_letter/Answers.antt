@@ -1,0 +1,8 @@
+-- What `first_letter` gives is what `first_letter` says, case by case.
+use borrow.Author.Rules.{rules}
+use Rattle.play_records.specs.Bytes.{first_letter}
+use Rattle.play_records.proofs.play.first_letter.Goals as goal
+
+pub returns : goal.returns
+unfolding first_letter
+returns c = simp (← c.byte_at.ensures, ← c.byte_at-2.ensures, ← c.byte_at-3.ensures, ← c.byte_at-4.ensures, ← c.letter_from.ensures)

@@ -1,0 +1,6 @@
+-- The byte that is stored is the remainder.
+use borrow.Author.Rules.{rules}
+use Rattle.play_records.proofs.play.put.Goals as goal
+
+pub returns : goal.returns
+returns c = c.put_byte.ensures

@@ -1,0 +1,14 @@
+use borrow.Author.Rules.{rules}
+use native.Mathlib.Omega.{arith}
+use Prim.Native.Nat.{◌*◌, ◌-◌}
+use Rattle.dfa.proofs.laws.Rest.{rest-length}
+use Rattle.play_words.proofs.WalkingPlays.{walked-again}
+use Rattle.play_words.proofs.SearchingPlays.{Searched, search-first, search-marked, search-unmarked, search-last}
+use Rattle.play_words.proofs.SearchingPlays.{not-marked}
+use Rattle.play_words.proofs.walk.longest.Given as goal
+
+abbrev pub invariant-loop-i : goal.invariant-loop-i
+invariant-loop-i l = Searched l.n l.words l.play l.total l.p l.at l.i l.count
+
+abbrev pub decreases-loop-i : goal.decreases-loop-i
+decreases-loop-i l = l.total - l.i

@@ -1,0 +1,8 @@
+-- `report` keeps what `Reported` says.
+use borrow.Author.Rules.{rules}
+use Rattle.print_report.proofs.Fits.{counts}
+use Rattle.print_report.proofs.report.Goals as goal
+
+pub returns : goal.returns
+returns c =
+    (record { answer = _; compared = c.compare-r.ensures; written = c.answer.ensures }, counts _ _ _ _ c.answer.ensures)

@@ -1,0 +1,24 @@
+-- `after` gives the place after a record, which is within the bytes.
+use borrow.Author.Rules.{rules}
+use Rattle.print_text.proofs.Printed.{width-short, width-long, room, no_room}
+use Rattle.print_text.proofs.lines.after.Goals as goal
+
+pub returns-then-left-lt-BARE_BYTES : goal.returns-then-left-lt-BARE_BYTES
+returns-then-left-lt-BARE_BYTES c =
+    no_room c.args.s.now c.args.place 3
+    (width-short c.args.s.now c.args.place _ c.byte_at.ensures c.if-byte_at-lt-VALUE.true) c.requires c.if-left-lt-BARE_BYTES.true
+
+pub returns-then-byte_at-lt-VALUE : goal.returns-then-byte_at-lt-VALUE
+returns-then-byte_at-lt-VALUE c =
+    room c.args.s.now c.args.place 3
+    (width-short c.args.s.now c.args.place _ c.byte_at.ensures c.if-byte_at-lt-VALUE.true) c.requires c.if-left-lt-BARE_BYTES.false
+
+pub returns-then-left-lt-VALUED_BYTES : goal.returns-then-left-lt-VALUED_BYTES
+returns-then-left-lt-VALUED_BYTES c =
+    no_room c.args.s.now c.args.place 4
+    (width-long c.args.s.now c.args.place _ c.byte_at.ensures c.if-byte_at-lt-VALUE.false) c.requires c.if-left-lt-VALUED_BYTES.true
+
+pub returns : goal.returns
+returns c =
+    room c.args.s.now c.args.place 4
+    (width-long c.args.s.now c.args.place _ c.byte_at.ensures c.if-byte_at-lt-VALUE.false) c.requires c.if-left-lt-VALUED_BYTES.false

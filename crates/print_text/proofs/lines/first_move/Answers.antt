@@ -1,0 +1,9 @@
+-- What `first_move` writes is the text `first_move`.
+use borrow.Author.Rules.{rules}
+use Rattle.print_text.proofs.Answers.{move-line}
+use Rattle.print_text.proofs.lines.first_move.Goals as goal
+
+pub returns : goal.returns
+returns c =
+    move-line _ _ _ _ _ _ c.byte_at.ensures c.byte_at-2.ensures c.byte_at-3.ensures c.byte_at-4.ensures
+    c.move_line.ensures

@@ -1,0 +1,81 @@
+-- `card` keeps what `CardPromise` says.
+use borrow.Author.Rules.{rules}
+use mathlib.Core.Path.{◌∙◌, ap, refl, sym}
+use native.Mathlib.Omega.{arith}
+use lib.ListN.{replicate}
+use Rattle.serve_compare.proofs.FollowAnswers.{one-ready}
+use Rattle.serve_compare.proofs.ReadSheets.{fit-as, refused-sheet, size_small, taken}
+use Rattle.serve_card.proofs.Answers.{card-drawable, carded, heading-in, refuses-lent, refuses-sheet, rooted}
+use Rattle.serve_card.proofs.Answers.{words-enough}
+use Rattle.serve_card.proofs.card.card.Goals as goal
+
+pub returns-in_default : goal.returns-in_default
+returns-in_default c =
+    let a = c.args in
+    let e = c.in_default.is in
+    refuses-sheet a.sheet.now a.words.now a.space.now
+    (refused-sheet _ _ c.load-x.ensures e) e c.cause_of.ensures
+
+pub lent_number-number-requires : goal.lent_number-number-requires
+lent_number-number-requires c =
+    let A = taken _ _ c.load-x.ensures c.in-Sheet.is in
+    omega (arith, size_small A)
+
+-- from here on d is what is known when the number has been looked at
+pub returns-then-number-ne-NOT_REFUSED : goal.returns-then-number-ne-NOT_REFUSED
+returns-then-number-ne-NOT_REFUSED c =
+    let d = c.before in
+    let A = taken _ _ d.before.before.before.before.before.before.load.ensures
+    d.before.before.before.before.x.given.1 in
+    let F = fit-as A (sym d.before.before.Numbers-of.ensures) refl in
+    let a = d.before.before.before.before.before.before.before.before.before.before.before.args in
+    refuses-lent F a.words.now a.space.now d.before.lent-number.ensures d.if1.true
+    c.both_cause.ensures
+
+pub one_from_rows-requires : goal.one_from_rows-requires
+one_from_rows-requires c =
+    let d = c.before.before in
+    let A = taken _ _ d.before.before.before.before.before.before.load.ensures
+    d.before.before.before.before.x.given.1 in
+    let F = fit-as A (sym d.before.before.Numbers-of.ensures) refl in
+    let a = d.before.before.before.before.before.before.before.before.before.before.before.args in
+    one-ready F a.words.now
+    (words-enough F a.words.now a.space.now d.before.lent-number.ensures d.if1.false)
+
+pub write_heading-place-requires : goal.write_heading-place-requires
+write_heading-place-requires c =
+    let d = c.before.before.before.before.before.before in
+    let A = taken _ _ d.before.before.before.before.before.before.load.ensures
+    d.before.before.before.before.x.given.1 in
+    heading-in A
+
+pub write_table-length-requires : goal.write_table-length-requires
+write_table-length-requires c =
+    let d = c.before.before.before.before.before.before.before.before.before.before.before in
+    let A = taken _ _ d.before.before.before.before.before.before.load.ensures
+    d.before.before.before.before.x.given.1 in
+    let F = fit-as A (sym d.before.before.Numbers-of.ensures) refl in
+    let a = d.before.before.before.before.before.before.before.before.before.before.before.args in
+    let o = c.one_from_rows in
+    let h = c.write_heading-place.ensures in (
+      a.sheet.now,
+      (
+        _,
+        card-drawable F a.words.now a.space.now d.before.lent-number.ensures d.if1.false
+            _ _ _ (rooted A F) h.0 o.auto.1.1.1.1.0 o.ensures,
+      ),
+    )
+
+pub returns : goal.returns
+returns c =
+    let d = c.before.before.before.before.before.before.before.before.before.before.before.before.before.before.before.before.before.before.before.before in
+    let A = taken _ _ d.before.before.before.before.before.before.load.ensures
+    d.before.before.before.before.x.given.1 in
+    let F = fit-as A (sym d.before.before.Numbers-of.ensures) refl in
+    let a = d.before.before.before.before.before.before.before.before.before.before.before.args in
+    let o = c.one_from_rows in
+    let h = c.write_heading-place.ensures in
+    let t = c.write_table-length in
+    carded F a.words.now a.space.now d.before.lent-number.ensures d.if1.left _ _ _ _ _ _ _ (rooted A F)
+    (heading-in A).0 h.0 o.kept.1.1.1.1.0 o.ensures h.1 t.ensures
+    (c.clear.ensures ∙ ap (λ k. replicate k 0) (t.auto.0 ∙ o.kept.1.1.1.1.0))

@@ -1,0 +1,17 @@
+-- What `alike` gives is what `matching` says, case by case.
+use borrow.Author.Rules.{rules}
+use borrow.Author.Tests.{eq-eqb, ne_eqb, not-true, not-false}
+use Rattle.serve_conditions.specs.Pair.{matching}
+use Rattle.serve_conditions.proofs.heading.alike.Goals as goal
+
+pub returns-then-root-other : goal.returns-then-root-other
+unfolding matching
+returns-then-root-other c = simp (ne_eqb _ _ c.if-root-other.true)
+
+pub returns-then-not-same_first : goal.returns-then-not-same_first
+unfolding matching
+returns-then-not-same_first c = simp (← c.same_first.ensures, eq-eqb _ _ c.if-root-other.false, not-true c.same_first.result c.if-not-same_first.true)
+
+pub returns : goal.returns
+unfolding matching
+returns c = simp (← c.same_first.ensures, eq-eqb _ _ c.if-root-other.false, not-false c.same_first.result c.if-not-same_first.false)

@@ -1,0 +1,13 @@
+use Prim.Native.Nat.{◌≤◌, ◌-◌, max}
+use native.Mathlib.Omega.{arith}
+use mathlib.Core.Path.{refl}
+use lib.ListN.{length}
+use borrow.Author.Rules.{rules}
+use Rattle.serve_profile.proofs.Walking.{Walks, walks-first, walks-on, walks-found, walks-last}
+use Rattle.serve_profile.proofs.offence.first_offence.Given as goal
+
+abbrev pub invariant-loop-at : goal.invariant-loop-at
+invariant-loop-at l = (l.at ≤ max l.root 8192) × Walks l.s l.t l.root l.until l.at
+
+abbrev pub decreases-loop-at : goal.decreases-loop-at
+decreases-loop-at l = length l.s - l.at

@@ -1,0 +1,37 @@
+-- What `fill` gives is what `edges_after` says, and what it leaves what `filled_of` says.
+use borrow.Author.Rules.{rules}
+use Rattle.states_path.specs.Kept.{KeptPath}
+use Rattle.states_path.proofs.PathDeeper.{kept-none, kept-fewer}
+use native.Mathlib.Omega.{arith}
+use Prim.Native.Nat.{◌-◌, ◌≤◌}
+use mathlib.Core.Path.{◌≡◌, refl}
+use lib.ListN.{length}
+use Rattle.states_words.specs.inner.Moves.{row_of}
+use Rattle.states_words.proofs.Loops.{Filled, filled-first, filled-again, filled-last}
+use Rattle.states_words.proofs.fill.fill.Goals as goal
+
+pub loop-k-init : goal.loop-k-init
+loop-k-init c = (omega arith, (refl, (kept-none _ _ _ c.requires.1.1, filled-first _ _ _ _ _)))
+
+pub go_to-at-requires : goal.go_to-at-requires
+go_to-at-requires c = (
+  c.requires.0,
+  (
+    c.loop-k.invariant.1.1.0,
+    omega
+        (arith, c.loop-k-test.true, c.spots_of-all.ensures, c.requires.1.0),
+  ),
+)
+
+pub write_row-next-requires : goal.write_row-next-requires
+write_row-next-requires c = (c.requires.0, c.go_to-at.ensures)
+
+pub loop-k-preserved : goal.loop-k-preserved
+loop-k-preserved c = (search rules, (search rules, (kept-fewer _ _ c.go_to-at.ensures.kept (omega arith) (omega arith), filled-again c.loop-k.invariant.1.1.1 c.write_row-next.ensures.0 c.write_row-next.ensures.1)))
+
+pub returns : goal.returns
+returns c =
+    let r = filled-last _ _ _ _ _ _ _ _ _ _ _ c.loop-k.invariant.1.1.1
+    (omega (arith, c.loop-k.invariant.0, c.loop-k-test.false))
+    c.spots_of-all.ensures c.sum.ensures c.write_head.ensures in
+    (r.0, (r.1, c.loop-k.invariant.1.1.0.sound.room))

@@ -1,0 +1,32 @@
+-- `hear_all` writes the edges `heard_edges`, and gives the number of the edge after them.
+use borrow.Author.Rules.{rules}
+use native.Mathlib.Omega.{arith}
+use Prim.Native.Nat.{◌-◌, ◌≤◌}
+use mathlib.Core.Path.{◌≡◌, refl}
+use lib.ListN.{length}
+use Rattle.states_words.specs.inner.Moves.{heard_edges}
+use Rattle.states_words.proofs.Loops.{Wrote, told, wrote, heard-first, heard-again, heard-last}
+use Rattle.states_words.proofs.hear.hear_all.Goals as goal
+
+pub loop-b-init : goal.loop-b-init
+loop-b-init c = (omega arith, (refl, heard-first _ _ _ _ _ _))
+
+pub hear_block-next-requires : goal.hear_block-next-requires
+hear_block-next-requires c = (c.requires.0, c.requires.1)
+
+pub loop-b-preserved : goal.loop-b-preserved
+loop-b-preserved c = (
+  search rules,
+  (
+    search rules,
+    heard-again _ _ _ _ _ _ _ _ _ _ _ c.loop-b.invariant.1.1 (wrote c.hear_block-next.ensures.0
+        c.hear_block-next.ensures.1),
+  ),
+)
+
+pub shape_of-words : goal.shape_of-words
+shape_of-words c = c.loop-b.invariant.1.0
+
+pub returns : goal.returns
+returns c = told (heard-last _ _ _ _ _ _ _ _ _ (omega (arith, c.loop-b.invariant.0, c.loop-b-test.false))
+    c.loop-b.invariant.1.1)

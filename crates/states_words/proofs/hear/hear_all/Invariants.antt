@@ -1,0 +1,15 @@
+use borrow.Author.Rules.{rules}
+use native.Mathlib.Omega.{arith}
+use Prim.Native.Nat.{◌-◌, ◌≤◌}
+use mathlib.Core.Path.{◌≡◌, refl}
+use lib.ListN.{length}
+use Rattle.states_words.specs.inner.Moves.{heard_edges}
+use Rattle.states_words.proofs.Loops.{Wrote, told, wrote, heard-first, heard-again, heard-last}
+use Rattle.states_words.proofs.hear.hear_all.Given as goal
+
+abbrev pub invariant-loop-b : goal.invariant-loop-b
+invariant-loop-b l = (l.b ≤ 35) × ((length l.words ≡ length l.initial.words) × Wrote l.initial.words
+    l.s.n l.e (heard_edges l.t l.n l.s l.wait l.b) l.next l.words)
+
+abbrev pub decreases-loop-b : goal.decreases-loop-b
+decreases-loop-b l = 35 - l.b

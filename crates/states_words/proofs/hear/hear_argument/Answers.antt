@@ -1,0 +1,19 @@
+-- `hear_argument` writes the edges `block_edges`, and gives the number of the edge after them.
+use borrow.Author.Rules.{rules}
+use native.Mathlib.Omega.{arith}
+use mathlib.Core.Path.{refl}
+use Rattle.states_words.proofs.Loops.{told, wrote, block_none, block-some}
+use Rattle.states_words.proofs.HeardQuestions.{limit-question}
+use Rattle.states_words.proofs.hear.hear_argument.Goals as goal
+
+pub overflow_sub-j : goal.overflow_sub-j
+overflow_sub-j c = omega (arith, c.requires.1.1.some)
+
+pub returns-then-below-eq0 : goal.returns-then-below-eq0
+returns-then-below-eq0 c = told (block_none _ _ _ _ _ _ _ _ _ (limit-question _ _ _ _ _ _ _ c.requires.1.1 c.part_class.ensures c.part_values.ensures c.question_limit-below.ensures) c.if-below-eq0.true)
+
+pub hear_values-requires : goal.hear_values-requires
+hear_values-requires c = (c.requires.0, c.requires.1.0)
+
+pub returns : goal.returns
+returns c = told (block-some _ _ _ _ _ _ _ _ _ _ _ _ (limit-question _ _ _ _ _ _ _ c.requires.1.1 c.part_class.ensures c.part_values.ensures c.question_limit-below.ensures) c.if-below-eq0.false refl (wrote c.hear_values.ensures.0 c.hear_values.ensures.1))

@@ -1,0 +1,14 @@
+-- `hear_block` writes the edges `block_edges`, and gives the number of the edge after them.
+use borrow.Author.Rules.{rules}
+use mathlib.Core.Path.{refl}
+use Rattle.states_words.proofs.Loops.{told, wrote, block_none, block-some}
+use Rattle.states_words.proofs.hear.hear_block.Goals as goal
+
+pub returns-then-below-eq0 : goal.returns-then-below-eq0
+returns-then-below-eq0 c = told (block_none _ _ _ _ _ _ _ _ _ c.limit-below.ensures c.if-below-eq0.true)
+
+pub hear_values-requires : goal.hear_values-requires
+hear_values-requires c = (c.requires.0, c.requires.1)
+
+pub returns : goal.returns
+returns c = told (block-some _ _ _ _ _ _ _ _ _ _ _ _ c.limit-below.ensures c.if-below-eq0.false refl (wrote c.hear_values.ensures.0 c.hear_values.ensures.1))

@@ -1,0 +1,31 @@
+-- `hear_each` writes the edges `value_edges`, and gives the number of the edge after them.
+use borrow.Author.Rules.{rules}
+use native.Mathlib.Omega.{arith}
+use Prim.Native.Nat.{◌-◌, ◌≤◌}
+use mathlib.Core.Path.{◌≡◌, refl}
+use lib.ListN.{length}
+use Rattle.states_words.specs.inner.Moves.{value_edges}
+use Rattle.states_words.proofs.Loops.{Wrote, told, wrote, values-first, values-again, values-last, numbers-all}
+use Rattle.states_words.proofs.hear.hear_each.Goals as goal
+
+pub loop-r-init : goal.loop-r-init
+loop-r-init c = (
+      omega arith,
+      (
+        refl,
+        values-first _
+            _ _ _ _ _ _ _ _,
+      ),
+    )
+
+pub hear_answer-next-requires : goal.hear_answer-next-requires
+hear_answer-next-requires c = (c.requires.0, c.requires.1)
+
+pub loop-r-preserved : goal.loop-r-preserved
+loop-r-preserved c = (search rules, (search rules, values-again _ _ _ _ _ _ _ _ _ _ _ _ _ _ c.loop-r.invariant.1.1 (wrote c.hear_answer-next.ensures.0 c.hear_answer-next.ensures.1)))
+
+pub shape_of-words : goal.shape_of-words
+shape_of-words c = c.loop-r.invariant.1.0
+
+pub returns : goal.returns
+returns c = told (values-last _ _ _ _ _ _ _ _ _ _ _ _ _ (numbers-all _ _ c.numbers-all.ensures c.loop-r.invariant.0 c.loop-r-test.false) c.loop-r.invariant.1.1)

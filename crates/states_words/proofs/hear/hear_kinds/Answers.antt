@@ -1,0 +1,23 @@
+-- `hear_kinds` writes the edges `asked_edges`, and gives the number of the edge after them.
+use borrow.Author.Rules.{rules}
+use native.Mathlib.Omega.{arith}
+use Prim.Native.Nat.{◌-◌, ◌≤◌}
+use mathlib.Core.Path.{◌≡◌, refl}
+use lib.ListN.{length}
+use Rattle.states_words.specs.inner.Moves.{asked_edges}
+use Rattle.states_words.proofs.Loops.{Wrote, told, wrote}
+use Rattle.states_words.proofs.HeardQuestions.{asked-first, asked-again, asked-last}
+use Rattle.states_words.proofs.hear.hear_kinds.Goals as goal
+
+pub loop-kind-init : goal.loop-kind-init
+loop-kind-init c = ((omega arith, c.requires.1.1.1), (refl, asked-first _ _ _ _ _ _ _ _ _ refl))
+
+pub hear_questions-next-requires : goal.hear_questions-next-requires
+hear_questions-next-requires c = (c.requires.0, (c.requires.1.0, c.requires.1.1.0))
+
+pub loop-kind-preserved : goal.loop-kind-preserved
+loop-kind-preserved c = ((omega (arith, c.loop-kind.invariant.0.0), omega (arith, c.loop-kind-test.true)), (search rules, asked-again _ _ _ _ _ _ _ _ _ _ _ _ _ c.loop-kind.invariant.0.0 c.loop-kind.invariant.1.1 (wrote c.hear_questions-next.ensures.0 c.hear_questions-next.ensures.1)))
+
+pub returns : goal.returns
+returns c = told (asked-last _ _ _ _ _ _ _ _ _ _ _ _ (omega (arith, c.loop-kind.invariant.0.1, c.loop-kind-test.false))
+    c.loop-kind.invariant.1.1)

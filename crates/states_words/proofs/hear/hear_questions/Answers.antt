@@ -1,0 +1,41 @@
+-- `hear_questions` writes the edges `question_edges`, and gives the number of the edge after them.
+use borrow.Author.Rules.{rules}
+use native.Mathlib.Omega.{arith}
+use Prim.Native.Nat.{◌-◌, ◌≤◌}
+use mathlib.Core.Path.{◌≡◌, refl, sym, ◌∙◌}
+use lib.ListN.{length}
+use borrow.Author.Tests.{not-true}
+use Rattle.states_words.specs.inner.Moves.{question_edges}
+use Rattle.states_words.proofs.Loops.{Wrote, told, wrote}
+use Rattle.states_words.proofs.HeardQuestions.{argument, questions-none, questions-first, questions-again}
+use Rattle.states_words.proofs.HeardQuestions.{questions-last}
+use Rattle.states_words.proofs.hear.hear_questions.Goals as goal
+
+pub returns-then-not-is_question : goal.returns-then-not-is_question
+returns-then-not-is_question c =
+    told (questions-none _ _ _ _ _ _ _ _ c.requires.1.1.calls (sym c.is_question.ensures ∙ not-true _ c.if-not-is_question.true))
+
+pub loop-arg-init : goal.loop-arg-init
+loop-arg-init c = (
+      omega arith,
+      (
+        refl,
+        questions-first _ _ _
+            _ _ _ _,
+      ),
+    )
+
+pub hear_argument-next-requires : goal.hear_argument-next-requires
+hear_argument-next-requires c =
+    (c.requires.0, (c.requires.1.0, argument _ _ _ c.requires.1.1 c.loop-arg-test.true))
+
+pub loop-arg-preserved : goal.loop-arg-preserved
+loop-arg-preserved c =
+    (search rules, (search rules, questions-again _ _ _ _ _ _ _ _ _ _ _ _ c.loop-arg.invariant.1.1 (wrote c.hear_argument-next.ensures.0 c.hear_argument-next.ensures.1)))
+
+pub shape_of-words : goal.shape_of-words
+shape_of-words c = c.loop-arg.invariant.1.0
+
+pub returns : goal.returns
+returns c = told (questions-last _ _ _ _ _ _ _ _ _ _ _ (omega (arith, c.loop-arg.invariant.0, c.loop-arg-test.false))
+    c.loop-arg.invariant.1.1)

@@ -1,0 +1,18 @@
+use borrow.Author.Rules.{rules}
+use native.Mathlib.Omega.{arith}
+use Prim.Native.Nat.{◌-◌, ◌≤◌}
+use mathlib.Core.Path.{◌≡◌, refl, sym, ◌∙◌}
+use lib.ListN.{length}
+use borrow.Author.Tests.{not-true}
+use Rattle.states_words.specs.inner.Moves.{question_edges}
+use Rattle.states_words.proofs.Loops.{Wrote, told, wrote}
+use Rattle.states_words.proofs.HeardQuestions.{argument, questions-none, questions-first, questions-again}
+use Rattle.states_words.proofs.HeardQuestions.{questions-last}
+use Rattle.states_words.proofs.hear.hear_questions.Given as goal
+
+abbrev pub invariant-loop-arg : goal.invariant-loop-arg
+invariant-loop-arg l = (l.arg ≤ l.count) ×
+    ((length l.words ≡ length l.initial.words) × Wrote l.initial.words l.s.n l.e (question_edges l.t l.n l.s l.wait l.kind l.arg) l.next l.words)
+
+abbrev pub decreases-loop-arg : goal.decreases-loop-arg
+decreases-loop-arg l = l.count - l.arg

@@ -1,0 +1,14 @@
+-- `hear_single` writes the one edge of the values below 1, and gives the number of the edge after it.
+use borrow.Author.Rules.{rules}
+use native.Mathlib.Omega.{arith}
+use mathlib.Core.Path.{sym, ◌∙◌}
+use Rattle.states_words.proofs.Loops.{told}
+use Rattle.states_words.proofs.HeardSingle.{single-wrote}
+use Rattle.states_words.proofs.hear.hear_single.Goals as goal
+
+pub exit-requires : goal.exit-requires
+exit-requires c = c.requires.sound
+
+pub returns : goal.returns
+returns c = told (single-wrote _ _ _ _ _ _ _ _ _ _ _ _ c.letter_of.ensures
+    (c.exit.ensures ∙ sym (c.requires.exits 0 (omega arith))) c.write_edge.ensures c.sum.ensures)

@@ -1,0 +1,20 @@
+-- Four stores within the rows.
+use borrow.Author.Rules.{rules}
+use native.Mathlib.Omega.{arith}
+use mathlib.Core.Path.{refl}
+use lib.ListN.{length-set}
+use Rattle.term_closing.specs.Close.{four_at}
+use Rattle.term_closing.proofs.close.put_four.Goals as goal
+
+pub bounds-rows-at-2 : goal.bounds-rows-at-2
+bounds-rows-at-2 c = simp length-set (omega arith)
+
+pub bounds-rows-at-3 : goal.bounds-rows-at-3
+bounds-rows-at-3 c = simp length-set (omega arith)
+
+pub bounds-rows-at-4 : goal.bounds-rows-at-4
+bounds-rows-at-4 c = simp length-set (omega arith)
+
+pub returns : goal.returns
+unfolding four_at
+returns c = refl

@@ -1,0 +1,24 @@
+-- By the number of arguments.
+use Rattle.term_closing.specs.Close.{first_bits}
+use borrow.Author.Tests.{ne_eqb}
+use Rattle.term_closing.proofs.words.first_bits.Goals as goal
+
+pub returns-in-0 : goal.returns-in-0
+unfolding first_bits
+returns-in-0 c = simp c.in-0.is
+
+pub returns-in-1 : goal.returns-in-1
+unfolding first_bits
+returns-in-1 c = simp c.in-1.is
+
+pub returns-in-2 : goal.returns-in-2
+unfolding first_bits
+returns-in-2 c = simp c.in-2.is
+
+pub returns-in-3 : goal.returns-in-3
+unfolding first_bits
+returns-in-3 c = simp c.in-3.is
+
+pub returns-in_default : goal.returns-in_default
+unfolding first_bits
+returns-in_default c = simp (ne_eqb _ _ c.in_default.rest.1, ne_eqb _ _ c.in_default.rest.0.1, ne_eqb _ _ c.in_default.rest.0.0.1, ne_eqb _ _ c.in_default.rest.0.0.0.1)

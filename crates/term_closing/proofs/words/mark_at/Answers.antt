@@ -1,0 +1,6 @@
+-- The word at the place.
+use borrow.Author.Rules.{rules}
+use Rattle.term_closing.proofs.words.mark_at.Goals as goal
+
+pub returns : goal.returns
+returns c = c.short_at.ensures

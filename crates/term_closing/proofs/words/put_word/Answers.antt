@@ -1,0 +1,6 @@
+-- One word of a row.
+use borrow.Author.Rules.{rules}
+use Rattle.term_closing.proofs.words.put_word.Goals as goal
+
+pub returns : goal.returns
+returns c = rw (← c.place_of-j.ensures) c.put.ensures

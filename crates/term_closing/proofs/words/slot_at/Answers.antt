@@ -1,0 +1,6 @@
+-- The word at the number.
+use borrow.Author.Rules.{rules}
+use Rattle.term_closing.proofs.words.slot_at.Goals as goal
+
+pub returns : goal.returns
+returns c = c.short_at.ensures

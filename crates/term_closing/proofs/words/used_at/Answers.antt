@@ -1,0 +1,8 @@
+-- The upper part of the mark.
+use Rattle.term_closing.specs.Close.{used_of}
+use borrow.Author.Rules.{rules}
+use Rattle.term_closing.proofs.words.used_at.Goals as goal
+
+pub returns : goal.returns
+unfolding used_of
+returns c = simp (← c.mark_at.ensures)

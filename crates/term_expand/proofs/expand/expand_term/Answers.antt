@@ -1,0 +1,8 @@
+-- The whole term, in slots that hold no row.
+use borrow.Author.Rules.{rules}
+use mathlib.Core.Path.{refl}
+use Rattle.term_expand.proofs.Expansion.{by-top}
+use Rattle.term_expand.proofs.expand.expand_term.Goals as goal
+
+pub returns : goal.returns
+returns c = by-top _ _ _ _ _ _ _ _ refl c.expand_own.ensures
