@@ -186,6 +186,11 @@ module _ (N : Numbers) where
   of_positive m h = rw (ne_eqb m 0 (λ e. omega arith), le-ltb m 0 (omega arith))
 
   -- THEOREM: what gives not-a-number
+  -- no remainder by zero
+  no-quotient : N.rule ≡ 2 → (x : ℕ) → fit_some N (remainder (signed N x) (signed N 0)) ≡ some (none_of N)
+  unfolding fit_some remainder
+  no-quotient e x = rw (signed-from-0 N 0 (omega arith), eq-eqb N.rule 2 e) refl
+
   no_number : NoNumber N
   unfolding operate plus_of minus_of times_of remainder_of settled
   no_number = record {
@@ -249,9 +254,7 @@ module _ (N : Numbers) where
           rw (not-finite-greatest, signed-from-0 N 0 (omega arith), signed-greatest N))
 
       by_zero : N.rule ≡ 2 → (x : ℕ) → FiniteValue N x → operate N 3 x 0 ≡ some (none_of N)
-      by_zero e x h =
-          rw (finite-class N x h, class-zero) (unfold fit_some remainder in
-          rw (signed-from-0 N 0 (omega arith), eq-eqb N.rule 2 e))
+      by_zero e x h = rw (finite-class N x h, class-zero) (no-quotient e x)
 
       remainder_of : (x y z : ℕ) → Infinite N x y → operate N 3 x z ≡ some (none_of N)
       remainder_of x y z below = rw (class-least, threes (class_of N z) (class-below N z))

@@ -70,27 +70,27 @@ returns-in-28 c = simp (← c.part-in-28.ensures, c.in-28.is)
 
 pub returns-in-0 : goal.returns-in-0
 unfolding shape_of
-returns-in-0 c = simp c.in-0.keys1
+returns-in-0 c = simp c.in-0.in-0-own.keys1
 
 pub returns-in-0-2 : goal.returns-in-0-2
 unfolding shape_of
 returns-in-0-2 c =
     simp (
-      ne_eqb _ _ c.in-0.rest.1,
-      ne_eqb _ _ c.in-0.rest.0.1,
-      ne_eqb _ _ c.in-0.rest.0.0.1,
-      ne_eqb _ _ c.in-0.rest.0.0.0.1,
-      ne_eqb _ _ c.in-0.rest.0.0.0.0.1,
-      ne_eqb _ _ c.in-0.rest.0.0.0.0.0.1,
-      ne_eqb _ _ c.in-0.rest.0.0.0.0.0.0.1,
-      ne_eqb _ _ c.in-0.rest.0.0.0.0.0.0.0.1,
-      ne_eqb _ _ c.in-0.rest.0.0.0.0.0.0.0.0.1,
-      ne_eqb _ _ c.in-0.rest.0.0.0.0.0.0.0.0.0.1,
-      ne_eqb _ _ c.in-0.rest.0.0.0.0.0.0.0.0.0.0.1,
-      ne_eqb _ _ c.in-0.rest.0.0.0.0.0.0.0.0.0.0.0.1,
-      ne_eqb _ _ c.in-0.rest.0.0.0.0.0.0.0.0.0.0.0.0.1,
-      ne_eqb _ _ c.in-0.rest.0.0.0.0.0.0.0.0.0.0.0.0.0.1,
-      ne_eqb _ _ c.in-0.rest.0.0.0.0.0.0.0.0.0.0.0.0.0.0.1,
-      ne_eqb _ _ c.in-0.rest.0.0.0.0.0.0.0.0.0.0.0.0.0.0.0.1,
-      ne_eqb _ _ c.in-0.rest.0.0.0.0.0.0.0.0.0.0.0.0.0.0.0.0.1,
+      ne_eqb _ _ c.in-0.in-0-own.rest.1,
+      ne_eqb _ _ c.in-0.in-0-own.rest.0.1,
+      ne_eqb _ _ c.in-0.in-0-own.rest.0.0.1,
+      ne_eqb _ _ c.in-0.in-0-own.rest.0.0.0.1,
+      ne_eqb _ _ c.in-0.in-0-own.rest.0.0.0.0.1,
+      ne_eqb _ _ c.in-0.in-0-own.rest.0.0.0.0.0.1,
+      ne_eqb _ _ c.in-0.in-0-own.rest.0.0.0.0.0.0.1,
+      ne_eqb _ _ c.in-0.in-0-own.rest.0.0.0.0.0.0.0.1,
+      ne_eqb _ _ c.in-0.in-0-own.rest.0.0.0.0.0.0.0.0.1,
+      ne_eqb _ _ c.in-0.in-0-own.rest.0.0.0.0.0.0.0.0.0.1,
+      ne_eqb _ _ c.in-0.in-0-own.rest.0.0.0.0.0.0.0.0.0.0.1,
+      ne_eqb _ _ c.in-0.in-0-own.rest.0.0.0.0.0.0.0.0.0.0.0.1,
+      ne_eqb _ _ c.in-0.in-0-own.rest.0.0.0.0.0.0.0.0.0.0.0.0.1,
+      ne_eqb _ _ c.in-0.in-0-own.rest.0.0.0.0.0.0.0.0.0.0.0.0.0.1,
+      ne_eqb _ _ c.in-0.in-0-own.rest.0.0.0.0.0.0.0.0.0.0.0.0.0.0.1,
+      ne_eqb _ _ c.in-0.in-0-own.rest.0.0.0.0.0.0.0.0.0.0.0.0.0.0.0.1,
+      ne_eqb _ _ c.in-0.in-0-own.rest.0.0.0.0.0.0.0.0.0.0.0.0.0.0.0.0.1,
     )
