@@ -25,8 +25,9 @@ write_edges-requires c =
 
 pub returns : goal.returns
 returns c =
-    position-written _ _ _ _ _ _ _ _ _ _ _
+    let p = position-written _ _ _ _ _ _ _ _ _ _ _
     c.put.ensures
     c.end_byte.ensures
     c.put-2.ensures
-    c.write_edges.ensures.0 c.write_edges.ensures.1
+    c.write_edges.ensures.returned c.write_edges.ensures.written in
+    record { returned = p.0; written = p.1 }

@@ -36,9 +36,6 @@ shape_of-space c =
     c.put_byte-2.ensures
 
 pub returns : goal.returns
-returns c =
-    let d = c.before.before.before.before in (
-      refl,
-      headed-last _ _ _ _ _ d.before.loop.invariant.0 d.loop-test.false d.before.loop.invariant.1 _ _
-          c.put_byte-2.ensures,
-    )
+returns c = let d = c.before.before.before.before in
+    record { returned = refl; written = headed-last _ _ _ _ _ d.before.loop.invariant.0 d.loop-test.false d.before.loop.invariant.1 _ _
+          c.put_byte-2.ensures }

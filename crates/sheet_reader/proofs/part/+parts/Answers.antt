@@ -32,11 +32,11 @@ read_next-returns-in_default t c =
     let x = c.args in
     let o = c.requires.1.4 in
     next-refused _ _ _ (bare x.place x.rule x.a x.b) _ _ _ _ (λ e. omega (arith, e, o))
-    c.read_part-p.ensures.0 c.in_default.is
+    c.read_part-p.ensures.reads c.in_default.is
 
 pub read_next-overflow_cast-ty : goal.read_next-overflow_cast-ty
 read_next-overflow_cast-ty t c =
-    omega (arith, beyond-typed _ _ c.read_part-p.ensures.1 c.in-Read.is)
+    omega (arith, beyond-typed _ _ c.read_part-p.ensures.beyond c.in-Read.is)
 
 pub read_next-accepts_part-requires : goal.read_next-accepts_part-requires
 unfolding bare
@@ -51,7 +51,7 @@ read_next-returns-then-not-accepts_part t c =
     let b = c.bare_record.ensures in
     rw c.refuse.ensures
     (next-wrong _ _ _ (bare x.place x.rule x.a x.b) _ _ _ _ (λ e. omega (arith, e, o))
-    c.read_part-p.ensures.0 c.in-Read.is
+    c.read_part-p.ensures.reads c.in-Read.is
     (sym (rw b at c.accepts_part.ensures) ∙ not-true _ c.if-not-accepts_part.true))
 
 pub read_next-overflow_sub-count : goal.read_next-overflow_sub-count
@@ -65,7 +65,7 @@ read_next-overflow_add-j t c =
 
 pub read_next-read_parts-requires : goal.read_next-read_parts-requires
 read_next-read_parts-requires t c =
-    let h = beyond-within _ _ c.read_part-p.ensures.1 c.in-Read.is in
+    let h = beyond-within _ _ c.read_part-p.ensures.beyond c.in-Read.is in
     let q = c.requires in
     omega (arith, h, q.0, q.1.0, q.1.1, q.1.2, q.1.3, q.1.4)
 
@@ -76,7 +76,7 @@ read_next-returns t c =
     let o = c.requires.1.4 in
     let b = c.bare_record.ensures in
     next_more _ _ _ (bare x.place x.rule x.a x.b) _ _ _ _ (λ e. omega (arith, e, o))
-    c.read_part-p.ensures.0 c.in-Read.is
+    c.read_part-p.ensures.reads c.in-Read.is
     (sym (rw b at c.accepts_part.ensures) ∙ not-false _ c.if-not-accepts_part.false) c.read_parts.ensures
 
 -- read_part
@@ -113,24 +113,21 @@ read_part-read_record-requires t c =
     )
 
 pub read_part-returns-in-Refused : goal.read_part-returns-in-Refused
-read_part-returns-in-Refused t c =
-    let R = part-bad _ _ _ _ _ _ _ (sym c.head_at-h.ensures ∙ c.in-Refused.is) in
-    (R, part-beyond _ _ _ _ _ _ _ c.type_inv.s R.answer)
+read_part-returns-in-Refused t c = let R = part-bad _ _ _ _ _ _ _ (sym c.head_at-h.ensures ∙ c.in-Refused.is) in
+    record { reads = R; beyond = part-beyond _ _ _ _ _ _ _ c.type_inv.s R.answer }
 
 pub read_part-returns-in-Is : goal.read_part-returns-in-Is
-read_part-returns-in-Is t c =
-    let e = sym c.head_at-h.ensures ∙ c.in-Good.is in
+read_part-returns-in-Is t c = let e = sym c.head_at-h.ensures ∙ c.in-Good.is in
     let L = leaf-is _ _ c.args.around _ (headed _ _ _ _ _ _ _ e) (sym c.leaf_of-leaf.ensures ∙ c.in-Is.is) in
     let C = c.close_leaf.ensures _ c.args.around L.same_kind L.same-detail L.leaf in
     let R = part-good _ _ _ _ _ _ _ e (head-good _ _ _ _ _ _ _ e).depth
     (record-leaf _ _ _ _ _ _ L.inside L.none L.same_type C) in
-    (R, part-beyond _ _ _ _ _ _ _ c.type_inv.s R.answer)
+    record { reads = R; beyond = part-beyond _ _ _ _ _ _ _ c.type_inv.s R.answer }
 
 pub read_part-returns-in-Other : goal.read_part-returns-in-Other
-read_part-returns-in-Other t c =
-    let e = sym c.head_at-h.ensures ∙ c.in-Good.is in
+read_part-returns-in-Other t c = let e = sym c.head_at-h.ensures ∙ c.in-Good.is in
     let R = part-good _ _ _ _ _ _ _ e (head-good _ _ _ _ _ _ _ e).depth c.read_record.ensures in
-    (R, part-beyond _ _ _ _ _ _ _ c.type_inv.s R.answer)
+    record { reads = R; beyond = part-beyond _ _ _ _ _ _ _ c.type_inv.s R.answer }
 
 -- read_parts
 pub read_parts-returns-then-count-eq0 : goal.read_parts-returns-then-count-eq0
@@ -156,7 +153,7 @@ read_record-close_record-requires t c =
 
 pub read_record-returns : goal.read_record-returns
 read_record-returns t c =
-    record-closes _ _ _ _ _ _ c.read_scope-parts.ensures c.close_record.ensures.0 c.close_record.ensures.1
+    record-closes _ _ _ _ _ _ c.read_scope-parts.ensures c.close_record.ensures.answer c.close_record.ensures.table
 
 pub read_routine-overflow_cast-count : goal.read_routine-overflow_cast-count
 read_routine-overflow_cast-count t c = search (rules, c.requires.1.4)
