@@ -29,8 +29,8 @@ pub fn mul(x: i64, y: i64) -> i64
 
 // The exact remainder, with the sign of x.
 fn rem(x: i64, y: i64) -> i64
-    requires x_bound { (nat_abs x ≤ 65535) × (nat_abs y ≤ 65535) }
-    requires fact { nat_abs y ≡ 0 → ⊥ }
+    requires small { (nat_abs x ≤ 65535) × (nat_abs y ≤ 65535) }
+    requires divisor { nat_abs y ≡ 0 → ⊥ }
     ensures { result ≡ rem_z x y }
 {
     x % y
@@ -39,8 +39,8 @@ fn rem(x: i64, y: i64) -> i64
 // The remainder from 0 up to, but not including, the absolute value of y: an exact remainder that is negative is moved up by
 // that value.
 pub fn rem_euclid(x: i64, y: i64) -> i64
-    requires x_bound { (nat_abs x ≤ 65535) × (nat_abs y ≤ 65535) }
-    requires fact { nat_abs y ≡ 0 → ⊥ }
+    requires small { (nat_abs x ≤ 65535) × (nat_abs y ≤ 65535) }
+    requires divisor { nat_abs y ≡ 0 → ⊥ }
     ensures { result ≡ pos (modulo x (nat_abs y)) }
 {
     let r = rem(x, y);

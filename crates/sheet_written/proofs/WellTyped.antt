@@ -345,7 +345,7 @@ pub order-typed : (S : Sheet) → InOrder S → Typed [] (term_of S) (ty_of S.nu
 unfolding term_of type_of meaning
 order-typed S A =
     well_typed S.numbers S.names S.term [] no_terms []
-    (λ id. right-declared S.numbers no_terms [] S.names id (fine-known [] S.names A.Fine-names))
+    (λ id. right-declared S.numbers no_terms [] S.names id (fine-known [] S.names A.fine_names))
     A.fine_term
 
 -- so is that of an accepted sheet

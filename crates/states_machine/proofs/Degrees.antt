@@ -120,12 +120,16 @@ spare-values (suc (suc (suc K))) (suc (suc m)) h l = omega arith
 spare-values (suc (suc (suc K))) (suc zero) h l = absurd (omega arith)
 spare-values (suc (suc zero)) m h l = absurd (omega arith)
 spare-values (suc zero) m h l = absurd (omega arith)
+spare-values zero m h l = absurd (omega arith)
+spare-values (suc (suc (suc K))) zero h l = absurd (omega arith)
 
 spare-variable : (K m : ℕ) → 3 ≤ K → 1 < m → 2 * (1 + m) + 2 * (m + m) + K ≤ (1 + K) * (m + m) + 1
 spare-variable (suc (suc (suc K))) (suc (suc m)) h l = omega arith
 spare-variable (suc (suc (suc K))) (suc zero) h l = absurd (omega arith)
 spare-variable (suc (suc zero)) m h l = absurd (omega arith)
 spare-variable (suc zero) m h l = absurd (omega arith)
+spare-variable zero m h l = absurd (omega arith)
+spare-variable (suc (suc (suc K))) zero h l = absurd (omega arith)
 
 -- the edges of a second wait: as many as the question has answers, and none where the name has no arguments
 unfoldable closings : Ty → Args → Question → ℕ

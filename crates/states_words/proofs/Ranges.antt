@@ -191,7 +191,7 @@ module _ (N : Numbers) (above : 0 < N.z) (ns : List Name) (f : (id : ℕ) → Fe
 pub order-range : (S : Sheet) → InOrder S → InRange S.numbers (term_of S)
 unfolding term_of
 order-range S A =
-    term_in S.numbers A.z_above S.names (few-declared [] S.names A.Fine-names) S.term [] no_terms 0
+    term_in S.numbers A.z_above S.names (few-declared [] S.names A.fine_names) S.term [] no_terms 0
     (nothing-in S.numbers) A.fine_term
 
 -- so is that of an accepted sheet

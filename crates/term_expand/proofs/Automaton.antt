@@ -17,7 +17,7 @@ use Rattle.sheet_written.specs.Meaning.{named, declared, use_type, meaning, ty_o
 use Rattle.sheet_written.specs.Fine.{FineNames, WellFormed}
 use Rattle.sheet_written.specs.Occurs.{IsParameter}
 use Rattle.sheet_written.specs.Context.{whole, binders}
-use Rattle.sheet_written.specs.Shared.{Row, Rep}
+use Rattle.sheet_written.specs.Shared.{Row}
 use Rattle.sheet_written.specs.Expand.{no_slots, Expands, Expansion}
 use Rattle.sheet_written.specs.Rules.{RowsRepresent, FewRows}
 use Rattle.sheet_written.proofs.Expanding.{expands-sheet}

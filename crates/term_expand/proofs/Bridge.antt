@@ -28,7 +28,7 @@ use Rattle.sheet_rows.specs.Rep.{TyRow, count, r_skip, r_diverge, r_const, r_pri
 use Rattle.sheet_rows.specs.Rep.{r_assign, r_seq, r_cond, r_while, r_new, RepArgs, r_none, r_arg}
 use Rattle.term_expand.specs.Words.{counted, argument_weights, Arguments, RowWords, Worded, of_skip, of_diverge, of_const}
 use Rattle.term_expand.specs.Words.{of_private, of_name, of_fetch, of_operate, of_assign, of_seq, of_cond, of_while}
-use Rattle.term_expand.specs.Words.{of_new, AllWorded, Valued, a_block}
+use Rattle.term_expand.specs.Words.{of_new, AllWorded, Valued, a_block, no_block}
 
 -- a row has one type
 ty-unique : (u : List ℕ) (r : ℕ) (S T : Ty) → TyRow u r S → TyRow u r T → S ≡ T
@@ -69,6 +69,7 @@ some-question (variable m) = omega arith
 
 -- the values of a variable whose block has a row
 values_of : {u rs n : List ℕ} {i b : ℕ} → Valued u rs n → Scope rs i b → (m : ℕ) × Scope n i m × (word u b 4 ≡ m)
+values_of {u = u} {i = i} {b = b} no_block x4 = elim x4 [ ]
 values_of (a_block {m = m} e v) here = (m, here, e)
 values_of (a_block e v) (there x) = let y = values_of v x in (y.0, there y.1, y.2)
 

@@ -10,7 +10,7 @@ use Rattle.language.specs.Typing.{operands}
 use Rattle.language.specs.declared.Numbers.{Numbers}
 use Rattle.language.specs.Term.{Often}
 use Rattle.sheet_written.specs.Written.{Name}
-use Rattle.sheet_written.specs.Meaning.{Binder, private, named, declared, meant, a_block, a_parameter, a_procedure}
+use Rattle.sheet_written.specs.Meaning.{Binder, named, declared, meant, a_block, a_parameter, a_procedure}
 use Rattle.sheet_written.specs.Meaning.{meaning, ty_of, id_of}
 use Rattle.sheet_written.specs.Shared as s
 use Rattle.sheet_written.specs.Expand.{operation}

@@ -116,6 +116,8 @@ module _ (N : Numbers) (ns : List Name) (t marks slots : List ℕ) (Γ : Context
         (row.classed ∙ ap class_of f.1) (row.valued ∙ ap (λ (i : ℕ). values N i) f.1) in
         rw (q, g.0.weighs, args-weigh T ws tys (suc j) k y end (omega arith) (omega arith) (omega arith) xs f.2 g.1)
         refl
+    args-weigh T none (ty ∷ tys) j k from end e c l x f g = elim x [ ]
+    args-weigh T (more w ws) [] j k from end e c l x f g = elim x [ ]
 
 four-sum : (f : ℕ → ℕ) → sum_from 4 0 f ≡ f 0 + (f 1 + (f 2 + f 3))
 unfolding sum_from

@@ -83,6 +83,8 @@ module _ (N : Numbers) (ns : List Name) (t : List ℕ) where
     unfolding many
     args-many none [] j from shown_none = refl
     args-many (more w ws) (ty ∷ tys) j from (shown_more {b = b} p s r) = ap suc (args-many ws tys (suc j) b r)
+    args-many none (ty ∷ tys) j from x'' = elim x'' [ ]
+    args-many (more w ws) [] j from x3 = elim x3 [ ]
 
     -- arguments of a name
     name-jobs : (ws : Writtens) (tys : List ℕ) (j from detail : ℕ) (g f : Form) →
@@ -110,6 +112,8 @@ module _ (N : Numbers) (ns : List Name) (t : List ℕ) where
         one_more {j = j} q a p s (λ t' A. ap held (e t' A)) e' (same-itself (plus (plus g (times q y)) (only a)))
         (name-jobs ws tys (suc j) b detail (plus (plus g (times q y)) (only a)) f r x.2
         (argument-first g q a y rest f S))
+    name-jobs none (ty ∷ tys) j from detail g f x7 x S = elim x7 [ ]
+    name-jobs (more w ws) [] j from detail g f x7 x S = elim x7 [ ]
 
     pub plan-name : (id ty from : ℕ) (often : Often) (tys : List ℕ) (ws : Writtens) →
         meaning ns (binders Γ) id ≡ named often ty tys →
@@ -155,6 +159,8 @@ module _ (N : Numbers) (ns : List Name) (t : List ℕ) where
         (same_more k j f (form_of N ns (binders Γ) (forms N ns Γ) w) xs y)
         (use-jobs ws tys (suc j) b count detail f g xs c
         (λ i. let u : j + suc i ≡ suc j + i = omega arith in x (suc i) ∙ ap xs u) r (omega arith) S)
+    use-jobs none (ty ∷ tys) j from count detail f g xs c x x11 n S = elim x11 [ ]
+    use-jobs (more w ws) [] j from count detail f g xs c x x9 n S = elim x9 [ ]
 
     -- what the arguments come down to
     comes-read : (l : ℕ) → length (binders Γ) + 4 * suc l ≤ 128 → (ws : Writtens) (tys : List ℕ) (M : List ℕ)
@@ -176,6 +182,8 @@ module _ (N : Numbers) (ns : List Name) (t : List ℕ) where
         rw (lt-ltb (suc j) (suc (length tys)) (omega arith)) (rw e at e'))
         (λ e. let g : length tys ≤ j = ltb-false j (length tys) e in
         rw (le-ltb (suc j) (suc (length tys)) (omega arith)) (rw e at e')))
+    comes-read l few none (ty ∷ tys) M b from j x6 m d = elim x6 [ ]
+    comes-read l few (more w ws) [] M b from j x5 m d = elim x5 [ ]
 
   own-step : (M : List ℕ) (at count k s : ℕ) → through_of t M at count k (suc s)
       ≡ pick (ltb s k) (suc s) (argument_of t M at count (s - k))

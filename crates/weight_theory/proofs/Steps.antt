@@ -209,6 +209,18 @@ by-procedure : (N : Numbers) (ns : List Name) (t : List ℕ) (Γ : Context) (π 
     Weighed N ns t (weighed_procedure at (word t at DETAIL) t) Γ at W h
 by-procedure N ns t Γ π at end (procedure id ty ps body rest) l h k it-is G =
     procedure-done N ns t Γ π at end id ty ps body rest l h k G.shown G
+by-procedure N ns t Γ π at end Rattle.sheet_written.specs.Written.skip l h k x'' G = elim x'' [ ]
+by-procedure N ns t Γ π at end (Rattle.sheet_written.specs.Written.diverge _) l h k x4 G = elim x4 [ ]
+by-procedure N ns t Γ π at end (Rattle.sheet_written.specs.Written.truth _) l h k x5 G = elim x5 [ ]
+by-procedure N ns t Γ π at end (Rattle.sheet_written.specs.Written.number _) l h k x6 G = elim x6 [ ]
+by-procedure N ns t Γ π at end (Rattle.sheet_written.specs.Written.call _ _) l h k x8 G = elim x8 [ ]
+by-procedure N ns t Γ π at end (Rattle.sheet_written.specs.Written.fetch _) l h k x8 G = elim x8 [ ]
+by-procedure N ns t Γ π at end (Rattle.sheet_written.specs.Written.operate _ _ _) l h k x11 G = elim x11 [ ]
+by-procedure N ns t Γ π at end (Rattle.sheet_written.specs.Written.assign _ _) l h k x11 G = elim x11 [ ]
+by-procedure N ns t Γ π at end (Rattle.sheet_written.specs.Written.sequence _ _) l h k x12 G = elim x12 [ ]
+by-procedure N ns t Γ π at end (Rattle.sheet_written.specs.Written.while _ _) l h k x13 G = elim x13 [ ]
+by-procedure N ns t Γ π at end (Rattle.sheet_written.specs.Written.choose _ _ _) l h k x15 G = elim x15 [ ]
+by-procedure N ns t Γ π at end (Rattle.sheet_written.specs.Written.new _ _ _) l h k x16 G = elim x16 [ ]
 
 -- THEOREM: a record is weighed
 pub record-weighed : RecordWeighed

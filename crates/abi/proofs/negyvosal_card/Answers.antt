@@ -11,4 +11,4 @@ returns-then-out-lt-ANSWER_WORDS c = no_room c.if-out-lt-ANSWER_WORDS.true refl 
 pub returns : goal.returns
 returns c =
     card-returned _ _ _ _ _ _ _ _ _ c.if-out-lt-ANSWER_WORDS.false c.card-r.ensures
-    c.answer_card.ensures.0 c.answer_card.ensures.1
+    c.answer_card.ensures.returned c.answer_card.ensures.written

@@ -11,4 +11,4 @@ returns-then-out-lt-ANSWER_WORDS c = no_room c.if-out-lt-ANSWER_WORDS.true refl 
 pub returns : goal.returns
 returns c =
     compare-returned _ _ _ _ _ _ _ _ _ _ c.if-out-lt-ANSWER_WORDS.false c.compare-r.ensures
-    c.answer_compare.ensures.0 c.answer_compare.ensures.1
+    c.answer_compare.ensures.returned c.answer_compare.ensures.written

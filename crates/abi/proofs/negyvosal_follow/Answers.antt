@@ -10,5 +10,5 @@ returns-then-out-lt-ANSWER_WORDS c = no_room c.if-out-lt-ANSWER_WORDS.true refl 
 
 pub returns : goal.returns
 returns c =
-    follow-returned _ _ _ _ _ _ _ _ c.if-out-lt-ANSWER_WORDS.false c.follow-r.ensures c.answer_follow.ensures.0
-    c.answer_follow.ensures.1
+    follow-returned _ _ _ _ _ _ _ _ c.if-out-lt-ANSWER_WORDS.false c.follow-r.ensures c.answer_follow.ensures.returned
+    c.answer_follow.ensures.written

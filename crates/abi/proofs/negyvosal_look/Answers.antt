@@ -11,4 +11,4 @@ returns-then-out-lt-ANSWER_WORDS c = no_room c.if-out-lt-ANSWER_WORDS.true refl 
 pub returns : goal.returns
 returns c =
     look-returned _ _ _ _ _ _ _ _ _ _ _ c.if-out-lt-ANSWER_WORDS.false c.look-r.ensures
-    c.answer_look.ensures.0 c.answer_look.ensures.1
+    c.answer_look.ensures.returned c.answer_look.ensures.written

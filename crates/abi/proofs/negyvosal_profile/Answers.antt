@@ -5,5 +5,6 @@ use Rattle.abi.proofs.negyvosal_profile.Goals as goal
 
 pub returns : goal.returns
 returns c =
-    check-returned _ _ _ _ _ c.profile-p.ensures
-    c.answer_check.ensures.0 c.answer_check.ensures.1
+    let p = check-returned _ _ _ _ _ c.profile-p.ensures
+    c.answer_check.ensures.returned c.answer_check.ensures.written in
+    record { returned = p.0; written = p.1 }

@@ -11,4 +11,4 @@ returns-then-out-lt-ANSWER_WORDS c = no_room c.if-out-lt-ANSWER_WORDS.true refl 
 pub returns : goal.returns
 returns c =
     renumber-returned _ _ _ _ _ _ _ _ _ c.if-out-lt-ANSWER_WORDS.false c.renumber-r.ensures
-    c.answer_renumber.ensures.0 c.answer_renumber.ensures.1
+    c.answer_renumber.ensures.returned c.answer_renumber.ensures.written

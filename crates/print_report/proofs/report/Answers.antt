@@ -4,5 +4,4 @@ use Rattle.print_report.proofs.Fits.{counts}
 use Rattle.print_report.proofs.report.Goals as goal
 
 pub returns : goal.returns
-returns c =
-    (record { answer = _; compared = c.compare-r.ensures; written = c.answer.ensures }, counts _ _ _ _ c.answer.ensures)
+returns c = record { reported = record { answer = _; compared = c.compare-r.ensures; written = c.answer.ensures }; counted = counts _ _ _ _ c.answer.ensures }

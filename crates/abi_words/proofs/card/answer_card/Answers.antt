@@ -5,10 +5,12 @@ use Rattle.abi_words.proofs.card.answer_card.Goals as goal
 
 pub returns-in-Card : goal.returns-in-Card
 returns-in-Card c =
-    returned-as _ _ _ _ _ (words-card _ _ _ _ c.in-Card.is
-    c.low_half-low.ensures c.high_half-high.ensures) c.answer.ensures.0 c.answer.ensures.1
+    let p = returned-as _ _ _ _ _ (words-card _ _ _ _ c.in-Card.is
+    c.low_half-low.ensures c.high_half-high.ensures) c.answer.ensures.returned c.answer.ensures.written in
+    record { returned = p.0; written = p.1 }
 
 pub returns-in-Refused : goal.returns-in-Refused
 returns-in-Refused c =
-    returned-as _ _ _ _ _ (words-no-card _ _ c.in-Refused.is)
-    c.refuse.ensures.0 c.refuse.ensures.1
+    let p = returned-as _ _ _ _ _ (words-no-card _ _ c.in-Refused.is)
+    c.refuse.ensures.returned c.refuse.ensures.written in
+    record { returned = p.0; written = p.1 }

@@ -5,10 +5,12 @@ use Rattle.abi_words.proofs.check.answer_check.Goals as goal
 
 pub returns-in-Accepted : goal.returns-in-Accepted
 returns-in-Accepted c =
-    returned-as _ _ _ _ _ (words-accepted _ _ _ _ c.in-Accepted.is)
-    c.answer.ensures.0 c.answer.ensures.1
+    let p = returned-as _ _ _ _ _ (words-accepted _ _ _ _ c.in-Accepted.is)
+    c.answer.ensures.returned c.answer.ensures.written in
+    record { returned = p.0; written = p.1 }
 
 pub returns-in-Refused : goal.returns-in-Refused
 returns-in-Refused c =
-    returned-as _ _ _ _ _ (words-not-accepted _ _ c.in-Refused.is)
-    c.refuse.ensures.0 c.refuse.ensures.1
+    let p = returned-as _ _ _ _ _ (words-not-accepted _ _ c.in-Refused.is)
+    c.refuse.ensures.returned c.refuse.ensures.written in
+    record { returned = p.0; written = p.1 }

@@ -3,4 +3,4 @@ use borrow.Author.Rules.{rules}
 use Rattle.abi_words.proofs.compare.answer_names.Goals as goal
 
 pub returns : goal.returns
-returns c = (c.answer.ensures.0, c.answer.ensures.1)
+returns c = record { returned = c.answer.ensures.returned; written = c.answer.ensures.written }

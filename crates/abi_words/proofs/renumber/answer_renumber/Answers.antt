@@ -5,8 +5,10 @@ use Rattle.abi_words.proofs.renumber.answer_renumber.Goals as goal
 
 pub returns-in-Changed : goal.returns-in-Changed
 returns-in-Changed c =
-    returned-as _ _ _ _ _ (words-renumbered _ _ c.in-Changed.is) c.answer.ensures.0 c.answer.ensures.1
+    let p = returned-as _ _ _ _ _ (words-renumbered _ _ c.in-Changed.is) c.answer.ensures.returned c.answer.ensures.written in
+    record { returned = p.0; written = p.1 }
 
 pub returns-in-Refused : goal.returns-in-Refused
 returns-in-Refused c =
-    returned-as _ _ _ _ _ (words-not-renumbered _ _ c.in-Refused.is) c.refuse.ensures.0 c.refuse.ensures.1
+    let p = returned-as _ _ _ _ _ (words-not-renumbered _ _ c.in-Refused.is) c.refuse.ensures.returned c.refuse.ensures.written in
+    record { returned = p.0; written = p.1 }

@@ -7,7 +7,9 @@ use Rattle.abi_words.proofs.Writing.{Written, short, written-length, written-ins
 use Rattle.abi_words.proofs.write.answer.Goals as goal
 
 pub returns-then-out-lt-ANSWER_WORDS : goal.returns-then-out-lt-ANSWER_WORDS
-returns-then-out-lt-ANSWER_WORDS c = short c.args.out.now _ c.if-out-lt-ANSWER_WORDS.true
+returns-then-out-lt-ANSWER_WORDS c =
+    let p = short c.args.out.now _ c.if-out-lt-ANSWER_WORDS.true in
+    record { returned = p.0; written = p.1 }
 
 pub loop-i-init : goal.loop-i-init
 loop-i-init c = (omega arith, refl)
@@ -47,6 +49,7 @@ shape_of-out c =
 
 pub returns : goal.returns
 returns c =
-    long c.args.t2 c.args.out.now c.loop-i.out
+    let p = long c.args.t2 c.args.out.now c.loop-i.out
     c.loop-i.i c.well_formed.1.0.1.0.1 c.if-out-lt-ANSWER_WORDS.false
-    c.loop-i-test.false c.loop-i.invariant
+    c.loop-i-test.false c.loop-i.invariant in
+    record { returned = p.0; written = p.1 }

@@ -5,5 +5,6 @@ use Rattle.abi_words.proofs.write.refuse.Goals as goal
 
 pub returns : goal.returns
 returns c =
-    returned-as _ _ _ _ _ (words-refused _ _ _ c.low_half-low.ensures c.high_half-high.ensures) c.answer.ensures.0
-    c.answer.ensures.1
+    let p = returned-as _ _ _ _ _ (words-refused _ _ _ c.low_half-low.ensures c.high_half-high.ensures) c.answer.ensures.returned
+    c.answer.ensures.written in
+    record { returned = p.0; written = p.1 }

@@ -19,8 +19,10 @@ pub at-requires : goal.at-requires
 at-requires c = let E = c.requires.0 in omega (arith, E.some, E.room)
 
 pub returns-then-c-at : goal.returns-then-c-at
-returns-then-c-at c = edge_none _ _ _ _ _ _ c.edge_target.ensures c.at-c.ensures
-    c.at.ensures c.if-c-at.true _ _
+returns-then-c-at c =
+    let p = edge_none _ _ _ _ _ _ c.edge_target.ensures c.at-c.ensures
+    c.at.ensures c.if-c-at.true _ _ in
+    record { returned = p.0; written = p.1 }
 
 pub edge_letter-requires : goal.edge_letter-requires
 edge_letter-requires c =
@@ -40,11 +42,12 @@ write_move-requires c = c.requires.1
 
 pub returns : goal.returns
 returns c =
-    edge-some _ _ _ _ _ _
+    let p = edge-some _ _ _ _ _ _
     c.edge_target.ensures
     c.at-c.ensures
     c.at.ensures
     c.if-c-at.false _ _
     c.edge_letter.ensures
-    c.position_of.ensures _ _ _ _ c.write_move.ensures.0
-    c.write_move.ensures.1
+    c.position_of.ensures _ _ _ _ c.write_move.ensures.returned
+    c.write_move.ensures.written in
+    record { returned = p.0; written = p.1 }

@@ -8,28 +8,26 @@ pub write_record-end-requires : goal.write_record-end-requires
 write_record-end-requires c = omega (arith, c.requires)
 
 pub overflow_sub-end : goal.overflow_sub-end
-overflow_sub-end c = let w = record-end _ _ _ c.write_record-end.ensures.0 in omega (arith, w.0)
+overflow_sub-end c = let w = record-end _ _ _ c.write_record-end.ensures.returned in omega (arith, w.0)
 
 pub overflow_sub-end-2 : goal.overflow_sub-end-2
 overflow_sub-end-2 c =
-    let w = record-end _ _ _ c.write_record-end.ensures.0 in
+    let w = record-end _ _ _ c.write_record-end.ensures.returned in
     omega (arith, w.0)
 
 pub overflow_add-end : goal.overflow_add-end
 overflow_add-end c =
-    let before = c.before.before.before.before.before.before.before.before.before.before.before.before in
-    let w = record-end _ _ _ before.write-record.ensures.0 in
-    omega (arith, w.1, before.before.before.before.requires)
+    let w = record-end _ _ _ c.write_record-end.ensures.0 in
+    omega (arith, w.1, c.requires)
 
 pub overflow_add-result : goal.overflow_add-result
 overflow_add-result c =
-    let before = c.before.before.before.before.before.before.before.before.before.before.before.before in
-    let w = record-end _ _ _ before.before.before.before.write-record.ensures.0 in
-    omega (arith, w.1, before.before.before.before.before.before.before.requires)
+    let w = record-end _ _ _ c.write_record-end.ensures.0 in
+    omega (arith, w.1, c.requires)
 
 pub returns : goal.returns
 returns c =
-    let before = c.before.before.before.before.before.before.before.before.before.before in
-    let w = before.before.before.before.before.before.write-record.ensures in
-    move-done _ _ _ _ _ _ _ _ _ _ w.0 w.1 before.before.move-kind.ensures before.put.ensures
-    c.put-2.ensures c.put-3.ensures
+    let p = let w = c.write_record-end.ensures in
+    move-done _ _ _ _ _ _ _ _ _ _ w.0 w.1 c.move_kind.ensures c.put.ensures
+    c.put-2.ensures c.put-3.ensures in
+    record { returned = p.0; written = p.1 }

@@ -44,11 +44,13 @@ loop-e-smaller c = omega (arith, c.loop-e-test.true)
 
 pub loop-e-preserved : goal.loop-e-preserved
 loop-e-preserved c = edging-again _ _ _ _ _ _ _ _ _ c.loop-e.invariant
-    c.loop-e-test.true _ _ c.write_edge-i.ensures.0
-    c.write_edge-i.ensures.1
+    c.loop-e-test.true _ _ c.write_edge-i.ensures.returned
+    c.write_edge-i.ensures.written
 
 pub shape_of-s : goal.shape_of-s
 shape_of-s c = c.loop-e.invariant.laying.same_length
 
 pub returns : goal.returns
-returns c = edging-last _ _ _ _ _ _ _ _ _ c.loop-e.invariant c.loop-e-test.false
+returns c =
+    let p = edging-last _ _ _ _ _ _ _ _ _ c.loop-e.invariant c.loop-e-test.false in
+    record { returned = p.0; written = p.1 }

@@ -20,13 +20,13 @@ overflow_add-place-2 c = omega (
 
 pub write_edges-requires : goal.write_edges-requires
 write_edges-requires c =
-    let before = c.before.before.before.before.before.before.before.before.before.before.before.before in
-    (before.requires.0, (before.requires.1.0, position-length _ _ _ _ _ _ before.requires.1.1))
+    (c.requires.0, (c.requires.1.0, position-length _ _ _ _ _ _ c.requires.1.1))
 
 pub returns : goal.returns
 returns c =
-    position-written _ _ _ _ _ _ _ _ _ _ _
+    let p = position-written _ _ _ _ _ _ _ _ _ _ _
     c.put.ensures
     c.end_byte.ensures
     c.put-2.ensures
-    c.write_edges.ensures.0 c.write_edges.ensures.1
+    c.write_edges.ensures.returned c.write_edges.ensures.written in
+    record { returned = p.0; written = p.1 }

@@ -46,10 +46,12 @@ loop-k-smaller c = omega (arith, c.loop-k-test.true)
 pub loop-k-preserved : goal.loop-k-preserved
 loop-k-preserved c = placing-again _ _ _ _ _ _ _ _ _ c.loop-k.invariant
     c.loop-k-test.true _ c.at-p.ensures _ _
-    c.write_position-i.ensures.0 c.write_position-i.ensures.1
+    c.write_position-i.ensures.returned c.write_position-i.ensures.written
 
 pub shape_of-s : goal.shape_of-s
 shape_of-s c = c.loop-k.invariant.laying.same_length
 
 pub returns : goal.returns
-returns c = placing-last _ _ _ _ _ _ _ _ _ c.loop-k.invariant c.loop-k-test.false
+returns c =
+    let p = placing-last _ _ _ _ _ _ _ _ _ c.loop-k.invariant c.loop-k-test.false in
+    record { returned = p.0; written = p.1 }

@@ -40,7 +40,7 @@ pub returns-in_default : goal.returns-in_default
 unfolding operate
 returns-in_default c =
     let o = c.args.op in
-    let h = c.in_default.rest in
+    let h = c.in_default.in_default-own.rest in
     rw (
       ne_eqb o 0 h.0.0.0.0.0.0.0.1,
       ne_eqb o 1 h.0.0.0.0.0.0.1,

@@ -10,12 +10,12 @@ add-requires c =
     let a = c.args in
     let s = c.signed in
     let t = c.signed-2 in
-    operands a.n a.x a.y s.type-inv s.ensures t.type-inv t.ensures (omega arith) (omega arith) (omega arith)
+    operands a.n a.x a.y s.type_inv s.ensures t.type_inv t.ensures (omega arith) (omega arith) (omega arith)
 
 pub returns : goal.returns
 returns c =
     let a = c.args in
     let s = c.signed in
     let t = c.signed-2 in
-    exact-result a.n a.x a.y s.type-inv s.ensures t.type-inv t.ensures ◌+ℤ◌
+    exact-result a.n a.x a.y s.type_inv s.ensures t.type_inv t.ensures ◌+ℤ◌
     c.add.type_inv c.add.ensures c.fit.ensures

@@ -4,39 +4,31 @@ use Rattle.language_codes.proofs.ExactSteps.{movable, not-moved, moved-by-negati
 use Rattle.language_codes.proofs.exact.rem_euclid.Goals as goal
 
 pub rem-r-requires : goal.rem-r-requires
-rem-r-requires c = (
-  (rw (back c.ranges.x) c.requires.0.0, rw (back c.ranges.y) c.requires.0.1),
-  λ e. c.requires.1 (rw (back c.ranges.y) at e),
-)
+rem-r-requires c = record { small = (rw (back c.ranges.x) c.requires.small.0, rw (back c.ranges.y) c.requires.small.1); divisor = λ e. c.requires.divisor (rw (back c.ranges.y) at e) }
 
 pub sub-requires : goal.sub-requires
 sub-requires c =
-    let e = c.before.before.before in
     let r = c.rem-r in
-    movable e.args.x e.args.y e.ranges.x e.ranges.y r.type-inv r.ensures e.requires.0.0 e.requires.0.1
+    movable c.args.x c.args.y c.ranges.x c.ranges.y r.type_inv r.ensures c.requires.small.0 c.requires.small.1
 
 pub returns-then-y-lt0 : goal.returns-then-y-lt0
 returns-then-y-lt0 c =
-    let e = c.before.before.before.before in
     let r = c.rem-r in
-    moved-by-negative e.args.x e.args.y e.ranges.x e.ranges.y r.type-inv r.ensures e.requires.1
+    moved-by-negative c.args.x c.args.y c.ranges.x c.ranges.y r.type_inv r.ensures c.requires.divisor
     c.if-r-lt0.true c.sub.type_inv c.if-y-lt0.true c.sub.ensures
 
 pub add-requires : goal.add-requires
 add-requires c =
-    let e = c.before.before.before in
     let r = c.rem-r in
-    movable e.args.x e.args.y e.ranges.x e.ranges.y r.type-inv r.ensures e.requires.0.0 e.requires.0.1
+    movable c.args.x c.args.y c.ranges.x c.ranges.y r.type_inv r.ensures c.requires.small.0 c.requires.small.1
 
 pub returns-then-r-lt0 : goal.returns-then-r-lt0
 returns-then-r-lt0 c =
-    let e = c.before.before.before.before in
     let r = c.rem-r in
-    moved-by-positive e.args.x e.args.y e.ranges.x e.ranges.y r.type-inv r.ensures e.requires.1
+    moved-by-positive c.args.x c.args.y c.ranges.x c.ranges.y r.type_inv r.ensures c.requires.divisor
     c.if-r-lt0.true c.add.type_inv c.if-y-lt0.false c.add.ensures
 
 pub returns : goal.returns
 returns c =
-    let e = c.before.before in
     let r = c.rem-r in
-    not-moved e.args.x e.args.y e.ranges.x e.ranges.y r.type-inv r.ensures e.requires.1 c.if-r-lt0.false
+    not-moved c.args.x c.args.y c.ranges.x c.ranges.y r.type_inv r.ensures c.requires.divisor c.if-r-lt0.false

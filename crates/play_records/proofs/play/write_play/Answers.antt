@@ -14,8 +14,8 @@ overflow_cast-words c = omega (arith, c.type_inv.words (c.args.base + c.loop-i.i
 
 pub loop-i-preserved : goal.loop-i-preserved
 loop-i-preserved c =
-    writing-again c.loop-i.invariant _ _ _ c.loop-i-test.true c.requires.1 refl c.write_record-at.ensures.0
-    c.write_record-at.ensures.1
+    writing-again c.loop-i.invariant _ _ _ c.loop-i-test.true c.requires.1 refl c.write_record-at.ensures.returned
+    c.write_record-at.ensures.written
 
 pub shape_of-s : goal.shape_of-s
 shape_of-s c = c.loop-i.invariant.same_length

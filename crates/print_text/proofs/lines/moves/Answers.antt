@@ -15,11 +15,11 @@ pub loop-i-preserved : goal.loop-i-preserved
 loop-i-preserved c = (
   search rules,
   (
-    c.after-place.ensures.0,
+    c.after-place.ensures.within,
     (
       search rules,
       moves-again _ _ c.loop-i.i c.loop-i.place _ _
-          c.loop-i.invariant.1.1.1 _ c.after-place.result c.loop-i-test.true c.first_move-next.ensures c.after-place.ensures.1,
+          c.loop-i.invariant.1.1.1 _ c.after-place.result c.loop-i-test.true c.first_move-next.ensures c.after-place.ensures.rest,
     ),
   ),
 )

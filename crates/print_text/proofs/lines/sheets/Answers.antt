@@ -5,4 +5,4 @@ use Rattle.print_text.proofs.lines.sheets.Goals as goal
 
 pub returns : goal.returns
 returns c =
-    sheets-lines _ _ _ _ _ _ _ _ _ c.figures_of-a.ensures.0 c.figures_of-b.ensures.0 c.figures_of-a.ensures.1 c.figures_of-b.ensures.1 c.sizes-next.ensures c.uses.ensures
+    sheets-lines _ _ _ _ _ _ _ _ _ c.figures_of-a.ensures.size c.figures_of-b.ensures.size c.figures_of-a.ensures.declared c.figures_of-b.ensures.declared c.sizes-next.ensures c.uses.ensures

@@ -24,58 +24,53 @@ lent_number-number-requires c =
 -- from here on d is what is known when the number has been looked at
 pub returns-then-number-ne-NOT_REFUSED : goal.returns-then-number-ne-NOT_REFUSED
 returns-then-number-ne-NOT_REFUSED c =
-    let d = c.before in
-    let A = taken _ _ d.before.before.before.before.before.before.load.ensures
-    d.before.before.before.before.x.given.1 in
-    let F = fit-as A (sym d.before.before.Numbers-of.ensures) refl in
-    let a = d.before.before.before.before.before.before.before.before.before.before.before.args in
-    refuses-lent F a.words.now a.space.now d.before.lent-number.ensures d.if1.true
+    let A = taken _ _ c.load-x.ensures
+    c.in-Sheet.is in
+    let F = fit-as A (sym c.numbers_of-n.ensures) refl in
+    let a = c.args in
+    refuses-lent F a.words.now a.space.now c.lent_number-number.ensures c.if-number-ne-NOT_REFUSED.true
     c.both_cause.ensures
 
 pub one_from_rows-requires : goal.one_from_rows-requires
 one_from_rows-requires c =
-    let d = c.before.before in
-    let A = taken _ _ d.before.before.before.before.before.before.load.ensures
-    d.before.before.before.before.x.given.1 in
-    let F = fit-as A (sym d.before.before.Numbers-of.ensures) refl in
-    let a = d.before.before.before.before.before.before.before.before.before.before.before.args in
+    let A = taken _ _ c.load-x.ensures
+    c.in-Sheet.is in
+    let F = fit-as A (sym c.numbers_of-n.ensures) refl in
+    let a = c.args in
     one-ready F a.words.now
-    (words-enough F a.words.now a.space.now d.before.lent-number.ensures d.if1.false)
+    (words-enough F a.words.now a.space.now c.lent_number-number.ensures c.if-number-ne-NOT_REFUSED.false)
 
 pub write_heading-place-requires : goal.write_heading-place-requires
 write_heading-place-requires c =
-    let d = c.before.before.before.before.before.before in
-    let A = taken _ _ d.before.before.before.before.before.before.load.ensures
-    d.before.before.before.before.x.given.1 in
+    let A = taken _ _ c.load-x.ensures
+    c.in-Sheet.is in
     heading-in A
 
 pub write_table-length-requires : goal.write_table-length-requires
 write_table-length-requires c =
-    let d = c.before.before.before.before.before.before.before.before.before.before.before in
-    let A = taken _ _ d.before.before.before.before.before.before.load.ensures
-    d.before.before.before.before.x.given.1 in
-    let F = fit-as A (sym d.before.before.Numbers-of.ensures) refl in
-    let a = d.before.before.before.before.before.before.before.before.before.before.before.args in
+    let A = taken _ _ c.load-x.ensures
+    c.in-Sheet.is in
+    let F = fit-as A (sym c.numbers_of-n.ensures) refl in
+    let a = c.args in
     let o = c.one_from_rows in
     let h = c.write_heading-place.ensures in (
       a.sheet.now,
       (
         _,
-        card-drawable F a.words.now a.space.now d.before.lent-number.ensures d.if1.false
+        card-drawable F a.words.now a.space.now c.lent_number-number.ensures c.if-number-ne-NOT_REFUSED.false
             _ _ _ (rooted A F) h.0 o.auto.1.1.1.1.0 o.ensures,
       ),
     )
 
 pub returns : goal.returns
 returns c =
-    let d = c.before.before.before.before.before.before.before.before.before.before.before.before.before.before.before.before.before.before.before.before in
-    let A = taken _ _ d.before.before.before.before.before.before.load.ensures
-    d.before.before.before.before.x.given.1 in
-    let F = fit-as A (sym d.before.before.Numbers-of.ensures) refl in
-    let a = d.before.before.before.before.before.before.before.before.before.before.before.args in
+    let A = taken _ _ c.load-x.ensures
+    c.in-Sheet.is in
+    let F = fit-as A (sym c.numbers_of-n.ensures) refl in
+    let a = c.args in
     let o = c.one_from_rows in
     let h = c.write_heading-place.ensures in
     let t = c.write_table-length in
-    carded F a.words.now a.space.now d.before.lent-number.ensures d.if1.left _ _ _ _ _ _ _ (rooted A F)
+    carded F a.words.now a.space.now c.lent_number-number.ensures c.if-number-ne-NOT_REFUSED.left _ _ _ _ _ _ _ (rooted A F)
     (heading-in A).0 h.0 o.kept.1.1.1.1.0 o.ensures h.1 t.ensures
     (c.clear.ensures ∙ ap (λ k. replicate k 0) (t.auto.0 ∙ o.kept.1.1.1.1.0))

@@ -11,19 +11,18 @@ loop-i-init c = (omega arith, headed-first _ _)
 
 pub overflow_add-i : goal.overflow_add-i
 overflow_add-i c =
-    let d = c.before.before.before.before.before in
-    omega (arith, d.loop-test.true, d.before.before.before.before.requires.1)
+    omega (arith, c.loop-i-test.true, c.requires.1)
 
 pub loop-i-smaller : goal.loop-i-smaller
 loop-i-smaller c = omega (arith, c.loop-i-test.true)
 
 pub loop-i-preserved : goal.loop-i-preserved
 loop-i-preserved c =
-    let d = c.before.before.before.before.before in (
-      omega (arith, d.loop-test.true),
-      headed-again _ _ _ _ d.before.loop.invariant.1 _ _
+    (
+      omega (arith, c.loop-i-test.true),
+      headed-again _ _ _ _ c.loop-i.invariant.1 _ _
           c.put_byte.ensures
-          (omega (arith, d.loop-test.true, d.before.before.before.before.requires.0))
+          (omega (arith, c.loop-i-test.true, c.requires.0))
           c.byte_at.ensures,
     )
 
@@ -36,9 +35,5 @@ shape_of-space c =
     c.put_byte-2.ensures
 
 pub returns : goal.returns
-returns c =
-    let d = c.before.before.before.before in (
-      refl,
-      headed-last _ _ _ _ _ d.before.loop.invariant.0 d.loop-test.false d.before.loop.invariant.1 _ _
-          c.put_byte-2.ensures,
-    )
+returns c = record { returned = refl; written = headed-last _ _ _ _ _ c.loop-i.invariant.0 c.loop-i-test.false c.loop-i.invariant.1 _ _
+          c.put_byte-2.ensures }

@@ -36,16 +36,14 @@ overflow_sub-all-2 c =
 
 pub write_positions-requires : goal.write_positions-requires
 write_positions-requires c =
-    let d = c.before.before.before.before in
-    let D = d.before.before.before.before.before.before.before.before.requires.1.1 in
-    let O = d.before.before.before.before.sort-states.ensures in
-    let M = d.number-states.ensures _ _ _ (drawn-countable _ _ _ _ _ D _ _ O) in
+    let D = c.requires.1.1 in
+    let O = c.sort_states.ensures in
+    let M = c.number_states-count.ensures _ _ _ (drawn-countable _ _ _ _ _ D _ _ O) in
     (drawn-legible _ _ _ _ _ D _ _ O _ _ M, (drawn-states _ _ _ _ _ D _ _ O _ _ M, drawn-room _ _ _ _ _ D _ _ O _ _ M))
 
 pub returns : goal.returns
 returns c = λ s ty D.
-    let d = c.before.before.before.before.before.before.before in
-    let O = d.before.before.before.before.sort-states.ensures in
-    let M = d.number-states.ensures _ _ _ (drawn-countable _ _ _ _ _ D _ _ O) in
+    let O = c.sort_states.ensures in
+    let M = c.number_states-count.ensures _ _ _ (drawn-countable _ _ _ _ _ D _ _ O) in
     let W = c.write_positions.ensures in
     drawn _ _ _ _ _ D _ _ O _ _ M _ _ _ W.0 W.1

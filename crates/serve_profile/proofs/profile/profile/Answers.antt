@@ -18,13 +18,10 @@ first_offence-found-requires c =
 
 pub returns-in-Nothing : goal.returns-in-Nothing
 returns-in-Nothing c =
-    let x = c.before.before.before.before.before in
-    profiled-quiet _ _ x.before.before.judge-sheet.ensures x.x.given.1
+    profiled-quiet _ _ c.judge_sheet-x.ensures c.in-Sheet.is
     c.first_offence-found.ensures c.in-Nothing.is
 
 pub returns-in-At : goal.returns-in-At
 returns-in-At c =
-    let f = c.before.before.before.before.before in
-    let x = f.before.before.before in
-    profiled-loud _ _ x.before.before.judge-sheet.ensures x.x.given.1 f.first-offence.ensures
+    profiled-loud _ _ c.judge_sheet-x.ensures c.in-Sheet.is c.first_offence-found.ensures
     c.in-At.is c.refuse.ensures c.of_sheet-in-At.ensures

@@ -187,7 +187,7 @@ renumber_part-returns t c =
 -- renumber_parts
 pub renumber_parts-returns-then-count-eq0 : goal.renumber_parts-returns-then-count-eq0
 renumber_parts-returns-then-count-eq0 t c =
-    no_part _ _ _ _ _ _ _ _ _ c.if-count-eq0.true c.requires.1.1 c.requires.1.2
+    no_part _ _ _ _ _ _ _ _ _ c.if-count-eq0.true c.requires.1 c.requires.2
 
 pub renumber_parts-renumber_part-x-requires : goal.renumber_parts-renumber_part-x-requires
 renumber_parts-renumber_part-x-requires t c = search rules
@@ -268,21 +268,21 @@ pub renumber_routine-returns-in_default-y : goal.renumber_routine-returns-in_def
 renumber_routine-returns-in_default-y t c = routine-full-parameter _ _ _ _ _ _ _ _ _ _ _ _ _ _ _ _ _ _ _ _ _ _ _ c.byte-id.ensures.0 c.byte.ensures.0 c.least-count.ensures c.choose_id-own.ensures c.in-Done.is c.choose_parameters-y.ensures c.in_default-y.is
 
 pub renumber_routine-overflow_add-from : goal.renumber_routine-overflow_add-from
-renumber_routine-overflow_add-from t c = omega (arith, c.requires.1.2)
+renumber_routine-overflow_add-from t c = omega (arith, c.requires.2)
 
 pub renumber_routine-body_of-requires : goal.renumber_routine-body_of-requires
 renumber_routine-body_of-requires t c = search rules
 
 pub renumber_routine-overflow_add-from-2 : goal.renumber_routine-overflow_add-from-2
-renumber_routine-overflow_add-from-2 t c = omega (arith, c.requires.1.2, c.body_of.ensures.1)
+renumber_routine-overflow_add-from-2 t c = omega (arith, c.requires.2, c.body_of.ensures.1)
 
 pub renumber_routine-renumber_part-z-requires : goal.renumber_routine-renumber_part-z-requires
 renumber_routine-renumber_part-z-requires t c = omega (
   arith,
+  c.decreases,
   c.requires.0,
-  c.requires.1.0,
-  c.requires.1.1,
-  c.requires.1.2,
+  c.requires.1,
+  c.requires.2,
   within-changes _ _ _ _ _ c.choose_id-own.ensures.within c.in-Done.is,
   within-changes _ _ _ _
       _ c.choose_parameters-y.ensures.within c.in-Done-y.is,
@@ -306,7 +306,7 @@ pub renumber_routine-enter-requires : goal.renumber_routine-enter-requires
 renumber_routine-enter-requires t c = search rules
 
 pub renumber_routine-renumber_part-requires : goal.renumber_routine-renumber_part-requires
-renumber_routine-renumber_part-requires t c = omega (arith, c.requires.0, c.requires.1.0, onward-value _ _ _ c.renumber_part-z.ensures.onward c.in-Done-z.is, onward-changes _ _ _ c.renumber_part-z.ensures.onward c.in-Done-z.is)
+renumber_routine-renumber_part-requires t c = omega (arith, c.decreases, c.requires.0, onward-value _ _ _ c.renumber_part-z.ensures.onward c.in-Done-z.is, onward-changes _ _ _ c.renumber_part-z.ensures.onward c.in-Done-z.is)
 
 pub renumber_routine-returns : goal.renumber_routine-returns
 renumber_routine-returns t c = routine-found _ _ _ _ _ _ _ _ _ _ _ _ _ _ _ _ _ _ _ _ _ _ _ _ _ _ _ _ _ _ _ _ _ _ _

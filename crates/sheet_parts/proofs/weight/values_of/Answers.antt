@@ -17,6 +17,6 @@ returns-in-3 c = (simp c.in-3.is, omega arith)
 pub returns-in_default : goal.returns-in_default
 unfolding values
 returns-in_default c = (
-  simp (ne_eqb _ _ c.in_default.rest.1, ne_eqb _ _ c.in_default.rest.0.1, c.numbers.ensures),
+  simp (ne_eqb _ _ c.in_default.in_default-own.rest.1, ne_eqb _ _ c.in_default.in_default-own.rest.0.1, c.numbers.ensures),
   omega (arith, c.numbers.ensures, numbers-within c.args.n),
 )

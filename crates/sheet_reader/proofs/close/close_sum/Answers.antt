@@ -6,7 +6,7 @@ use Rattle.sheet_reader.proofs.Sums.{sum_is, sum-few, sum-here, sum-at, sum-kind
 use Rattle.sheet_reader.proofs.close.close_sum.Goals as goal
 
 pub returns-in_default : goal.returns-in_default
-returns-in_default c = ((λ e. search rules), (λ e. absurd (omega (arith, e))))
+returns-in_default c = record { other = (λ e. search rules); closed = (λ e. absurd (omega (arith, e))) }
 
 pub weigh_parts-requires : goal.weigh_parts-requires
 weigh_parts-requires c =
@@ -16,20 +16,16 @@ weigh_parts-requires c =
     )
 
 pub returns-then-weigh_parts : goal.returns-then-weigh_parts
-returns-then-weigh_parts c =
-    let S = sum_is _ _ _ _ c.sum_row-row.ensures c.in-Is.is in
+returns-then-weigh_parts c = let S = sum_is _ _ _ _ c.sum_row-row.ensures c.in-Is.is in
     let w = c.write_typed.ensures in
     let W = c.weigh_parts.ensures (used_number c.args.r) _ _ (sum-at
     _ _ _ _ _ S w c.requires.0) (sum-kind _ _ _ _ _ S w) in
-    ((λ e. absurd (omega (arith, e))), (λ e s around. sum-closed _ _ _ _ _ S w (rw c.if-weigh_parts.true at W) s around))
+    record { other = (λ e. absurd (omega (arith, e))); closed = (λ e s around. sum-closed _ _ _ _ _ S w (rw c.if-weigh_parts.true at W) s around) }
 
 pub returns : goal.returns
-returns c =
-    let S = sum_is _ _ _ _ c.sum_row-row.ensures c.in-Is.is in
+returns c = let S = sum_is _ _ _ _ c.sum_row-row.ensures c.in-Is.is in
     let w = c.write_typed.ensures in
     let W = c.weigh_parts.ensures 0 _ _ (sum-at _ _ _ _ _ S
     w c.requires.0) (sum-kind _ _ _ _ _ S w) in
-    let v = rw c.if-weigh_parts.false at W in (
-      (λ e. absurd (omega (arith, e))),
-      (λ e s around. sum-closed _ _ _ _ _ S w (sum-weighed _ _ _ _ _ S w (rw v at c.weigh_record.ensures)) s around),
-    )
+    let v = rw c.if-weigh_parts.false at W in
+    record { other = (λ e. absurd (omega (arith, e))); closed = (λ e s around. sum-closed _ _ _ _ _ S w (sum-weighed _ _ _ _ _ S w (rw v at c.weigh_record.ensures)) s around) }

@@ -8,7 +8,7 @@ use Rattle.sheet_reader.proofs.part.close_record.Goals as goal
 
 pub returns-in_default : goal.returns-in_default
 unfolding closed_answer closed_table
-returns-in_default c = (simp c.in_default.is, simp c.in_default.is)
+returns-in_default c = record { answer = simp c.in_default.is; table = simp c.in_default.is }
 
 pub overflow_cast-last : goal.overflow_cast-last
 overflow_cast-last c =
@@ -20,7 +20,8 @@ close_sum-closed-requires c =
 
 pub returns-then-closed-gt0 : goal.returns-then-closed-gt0
 returns-then-closed-gt0 c =
-    closed-as _ _ _ _ _ c.in-Read.is (c.close_sum-closed.ensures.1 c.if-closed-gt0.true _ c.args.around)
+    let p = closed-as _ _ _ _ _ c.in-Read.is (c.close_sum-closed.ensures.closed c.if-closed-gt0.true _ c.args.around) in
+    record { answer = p.0; table = p.1 }
 
 pub overflow_cast-last-2 : goal.overflow_cast-last-2
 overflow_cast-last-2 c =
@@ -32,13 +33,10 @@ write_row-requires c =
 
 pub weigh_record-requires : goal.weigh_record-requires
 weigh_record-requires c =
-    (omega (arith, c.requires.0), omega (arith, c.used_number-k.ensures.1))
+    (omega (arith, c.requires.0), omega (arith, c.used_number-k.ensures.small))
 
 pub returns : goal.returns
 unfolding closed_answer
-returns c = (
-  simp (c.in-Read.is, ← c.type_of-ty.ensures),
-  closed-table _ _ _ _ _ c.in-Read.is c.type_of-ty.ensures (c.close_sum-closed.ensures.0 (omega (arith, c.if-closed-gt0.false)))
+returns c = record { answer = simp (c.in-Read.is, ← c.type_of-ty.ensures); table = closed-table _ _ _ _ _ c.in-Read.is c.type_of-ty.ensures (c.close_sum-closed.ensures.other (omega (arith, c.if-closed-gt0.false)))
       c.write_row.ensures
-      c.note_use.ensures c.used_number-k.ensures.0 c.weigh_record.ensures,
-)
+      c.note_use.ensures c.used_number-k.ensures.number c.weigh_record.ensures }

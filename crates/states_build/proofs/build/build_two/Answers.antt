@@ -7,20 +7,20 @@ use Rattle.states_build.proofs.Building.{old-fits, new-fits, two-settles, two-bu
 use Rattle.states_build.proofs.build.build_two.Goals as goal
 
 pub overflow_add-states : goal.overflow_add-states
-overflow_add-states c = record { fits = omega (arith, asked_low _ _ c.requires.1.room) }
+overflow_add-states c = record { fits = omega (arith, asked_low _ _ c.requires.two_ready.room) }
 
 pub overflow_add-states-2 : goal.overflow_add-states-2
-overflow_add-states-2 c = record { fits = omega (arith, asked_low _ _ c.requires.1.room) }
+overflow_add-states-2 c = record { fits = omega (arith, asked_low _ _ c.requires.two_ready.room) }
 
 pub fill-e-requires : goal.fill-e-requires
-fill-e-requires c = ((c.requires.1.long, c.requires.0.0), (old-fits c.requires.1 c.requires.0.0, refl))
+fill-e-requires c = record { term_rows = (c.requires.two_ready.long, c.requires.words.0); root_bound = (old-fits c.requires.two_ready c.requires.words.0, refl) }
 
 pub fill-e2-requires : goal.fill-e2-requires
-fill-e2-requires c = ((c.requires.1.other_long, c.requires.0.1), (new-fits c.requires.1 c.requires.0.1, c.fill-e.ensures.1.1))
+fill-e2-requires c = record { term_rows = (c.requires.two_ready.other_long, c.requires.words.1); root_bound = (new-fits c.requires.two_ready c.requires.words.1, c.fill-e.ensures.lent) }
 
 pub settle-requires : goal.settle-requires
-settle-requires c = two-settles c.requires.1 c.requires.0.0 c.requires.0.1
-    c.fill-e.ensures.1.0 c.fill-e.ensures.0 c.fill-e2.ensures.1.0 c.fill-e2.ensures.0 c.close.ensures
+settle-requires c = two-settles c.requires.two_ready c.requires.words.0 c.requires.words.1
+    c.fill-e.ensures.written c.fill-e.ensures.returned c.fill-e2.ensures.written c.fill-e2.ensures.returned c.close.ensures
 
 pub returns : goal.returns
-returns c = λ R. two-built R c.requires.0.0 c.requires.0.1 c.fill-e.ensures.1.0 c.fill-e.ensures.0 c.fill-e2.ensures.1.0 c.fill-e2.ensures.0 c.close.ensures c.settle.ensures
+returns c = λ R. two-built R c.requires.words.0 c.requires.words.1 c.fill-e.ensures.written c.fill-e.ensures.returned c.fill-e2.ensures.written c.fill-e2.ensures.returned c.close.ensures c.settle.ensures

@@ -6,7 +6,7 @@ pub shorts-requires : goal.shorts-requires
 shorts-requires c = c.requires.long
 
 pub build_one-requires : goal.build_one-requires
-build_one-requires c = (c.shorts.ensures, c.requires)
+build_one-requires c = record { words = c.shorts.ensures; one_ready = c.requires }
 
 pub returns : goal.returns
 returns c = c.build_one.ensures

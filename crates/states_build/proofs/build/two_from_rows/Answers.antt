@@ -9,7 +9,7 @@ pub shorts-requires-2 : goal.shorts-requires-2
 shorts-requires-2 c = c.requires.other_long
 
 pub build_two-requires : goal.build_two-requires
-build_two-requires c = ((c.shorts.ensures, c.shorts-2.ensures), c.requires)
+build_two-requires c = record { words = (c.shorts.ensures, c.shorts-2.ensures); two_ready = c.requires }
 
 pub returns : goal.returns
 returns c = c.build_two.ensures

@@ -4,17 +4,14 @@ use native.Mathlib.Omega.{arith}
 use Rattle.states_path.proofs.path.go_to.Goals as goal
 
 pub leave-left-requires : goal.leave-left-requires
-leave-left-requires c = c.requires.1.0.sound
+leave-left-requires c = c.requires.kept_path.0.sound
 
 pub enter-requires : goal.enter-requires
-enter-requires c = (
-  c.requires.0,
-  (
-    kept-fewer _ _ c.requires.1.0
+enter-requires c = record { term_rows = c.requires.term_rows; kept_path = (
+    kept-fewer _ _ c.requires.kept_path.0
         c.leave-left.ensures.0 (omega arith),
-    (c.leave-left.ensures.1, c.requires.1.1),
-  ),
-)
+    (c.leave-left.ensures.1, c.requires.kept_path.1),
+  ) }
 
 pub returns : goal.returns
 returns c = c.enter.ensures

@@ -12,12 +12,12 @@ returns-then-k-eq0 c = simp (eq-eqb _ _ c.if-k-eq0.true)
 
 pub value_at-requires : goal.value_at-requires
 value_at-requires c = (
-  c.requires.1,
+  c.requires.sound,
   omega (
     arith,
     c.cell-row.ensures,
     small_word
-        c.args.t.now c.requires.0.1 c.args.at 4,
+        c.args.t.now c.requires.term_rows.1 c.args.at 4,
   ),
 )
 

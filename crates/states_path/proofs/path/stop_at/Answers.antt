@@ -11,7 +11,7 @@ unfolding stop_of
 returns-then-c-eq0 c = simp (← c.after_of.ensures, eq-eqb _ _ c.if-c-eq0.true)
 
 pub field-requires : goal.field-requires
-field-requires c = (omega (arith, c.requires.1.few), omega arith)
+field-requires c = (omega (arith, c.requires.sound.few), omega arith)
 
 pub returns : goal.returns
 unfolding stop_of level_at

@@ -42,4 +42,6 @@ pub shape_of-words : goal.shape_of-words
 shape_of-words c = c.loop-r.invariant.1.0
 
 pub returns : goal.returns
-returns c = told (to_last _ _ _ _ _ _ _ _ _ _ (numbers-all _ _ c.numbers-all.ensures c.loop-r.invariant.0 c.loop-r-test.false) c.loop-r.invariant.1.1)
+returns c =
+    let p = told (to_last _ _ _ _ _ _ _ _ _ _ (numbers-all _ _ c.numbers-all.ensures c.loop-r.invariant.0 c.loop-r-test.false) c.loop-r.invariant.1.1) in
+    record { returned = p.0; written = p.1 }

@@ -12,15 +12,15 @@ pub loop-b-init : goal.loop-b-init
 loop-b-init c = (omega arith, (refl, heard-first _ _ _ _ _ _))
 
 pub hear_block-next-requires : goal.hear_block-next-requires
-hear_block-next-requires c = (c.requires.0, c.requires.1)
+hear_block-next-requires c = record { long = c.requires.long; listening = c.requires.listening }
 
 pub loop-b-preserved : goal.loop-b-preserved
 loop-b-preserved c = (
   search rules,
   (
     search rules,
-    heard-again _ _ _ _ _ _ _ _ _ _ _ c.loop-b.invariant.1.1 (wrote c.hear_block-next.ensures.0
-        c.hear_block-next.ensures.1),
+    heard-again _ _ _ _ _ _ _ _ _ _ _ c.loop-b.invariant.1.1 (wrote c.hear_block-next.ensures.returned
+        c.hear_block-next.ensures.written),
   ),
 )
 
@@ -28,5 +28,7 @@ pub shape_of-words : goal.shape_of-words
 shape_of-words c = c.loop-b.invariant.1.0
 
 pub returns : goal.returns
-returns c = told (heard-last _ _ _ _ _ _ _ _ _ (omega (arith, c.loop-b.invariant.0, c.loop-b-test.false))
-    c.loop-b.invariant.1.1)
+returns c =
+    let p = told (heard-last _ _ _ _ _ _ _ _ _ (omega (arith, c.loop-b.invariant.0, c.loop-b-test.false))
+    c.loop-b.invariant.1.1) in
+    record { returned = p.0; written = p.1 }

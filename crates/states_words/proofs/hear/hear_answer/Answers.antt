@@ -5,10 +5,14 @@ use Rattle.states_words.proofs.Loops.{told, value_none, value-some}
 use Rattle.states_words.proofs.hear.hear_answer.Goals as goal
 
 pub returns-then-below-value : goal.returns-then-below-value
-returns-then-below-value c = told (value_none _ _ _ _ _ _ _ _ _ _ _ c.code_at-value.ensures c.if-below-value.true)
+returns-then-below-value c =
+    let p = told (value_none _ _ _ _ _ _ _ _ _ _ _ c.code_at-value.ensures c.if-below-value.true) in
+    record { returned = p.0; written = p.1 }
 
 pub exit-requires : goal.exit-requires
-exit-requires c = c.requires.1.sound
+exit-requires c = c.requires.answering.sound
 
 pub returns : goal.returns
-returns c = told (value-some _ _ _ _ _ _ _ _ _ _ _ _ _ _ _ c.code_at-value.ensures c.if-below-value.false c.letter_of.ensures (c.exit.ensures ∙ sym (c.requires.1.exits _ c.if-below-value.false)) c.write_edge.ensures c.sum.ensures)
+returns c =
+    let p = told (value-some _ _ _ _ _ _ _ _ _ _ _ _ _ _ _ c.code_at-value.ensures c.if-below-value.false c.letter_of.ensures (c.exit.ensures ∙ sym (c.requires.answering.exits _ c.if-below-value.false)) c.write_edge.ensures c.sum.ensures) in
+    record { returned = p.0; written = p.1 }

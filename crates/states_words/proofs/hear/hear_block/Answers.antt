@@ -5,10 +5,14 @@ use Rattle.states_words.proofs.Loops.{told, wrote, block_none, block-some}
 use Rattle.states_words.proofs.hear.hear_block.Goals as goal
 
 pub returns-then-below-eq0 : goal.returns-then-below-eq0
-returns-then-below-eq0 c = told (block_none _ _ _ _ _ _ _ _ _ c.limit-below.ensures c.if-below-eq0.true)
+returns-then-below-eq0 c =
+    let p = told (block_none _ _ _ _ _ _ _ _ _ c.limit-below.ensures c.if-below-eq0.true) in
+    record { returned = p.0; written = p.1 }
 
 pub hear_values-requires : goal.hear_values-requires
-hear_values-requires c = (c.requires.0, c.requires.1)
+hear_values-requires c = record { long = c.requires.long; listening = c.requires.listening }
 
 pub returns : goal.returns
-returns c = told (block-some _ _ _ _ _ _ _ _ _ _ _ _ c.limit-below.ensures c.if-below-eq0.false refl (wrote c.hear_values.ensures.0 c.hear_values.ensures.1))
+returns c =
+    let p = told (block-some _ _ _ _ _ _ _ _ _ _ _ _ c.limit-below.ensures c.if-below-eq0.false refl (wrote c.hear_values.ensures.returned c.hear_values.ensures.written)) in
+    record { returned = p.0; written = p.1 }

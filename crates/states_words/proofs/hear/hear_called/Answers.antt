@@ -7,19 +7,21 @@ use Rattle.states_words.proofs.HeardQuestions.{arguments, called-told}
 use Rattle.states_words.proofs.hear.hear_called.Goals as goal
 
 pub hear_kinds-asked-requires : goal.hear_kinds-asked-requires
-hear_kinds-asked-requires c = (c.requires.0, (c.requires.1.0, (arguments _ _ c.requires.1.1 c.asking-count.ensures, omega arith)))
+hear_kinds-asked-requires c = record { long = c.requires.long; listening = (c.requires.listening.0, (arguments _ _ c.requires.listening.1 c.asking-count.ensures, omega arith)) }
 
 pub hear_block-answered-requires : goal.hear_block-answered-requires
-hear_block-answered-requires c = (c.requires.0, c.requires.1.0)
+hear_block-answered-requires c = record { long = c.requires.long; listening = c.requires.listening.0 }
 
 pub overflow_add-own : goal.overflow_add-own
 overflow_add-own c = omega (arith, own-small _ _ _ c.answer_kind-own.ensures)
 
 pub hear_kinds-requires : goal.hear_kinds-requires
-hear_kinds-requires c = (c.requires.0, (c.requires.1.0, (arguments _ _ c.requires.1.1 c.asking-count.ensures, omega (arith, own-small _ _ _ c.answer_kind-own.ensures))))
+hear_kinds-requires c = record { long = c.requires.long; listening = (c.requires.listening.0, (arguments _ _ c.requires.listening.1 c.asking-count.ensures, omega (arith, own-small _ _ _ c.answer_kind-own.ensures))) }
 
 pub returns : goal.returns
-returns c = called-told _ _ _ _ _ _ _ _ _ _ _ _ _ _ _ c.requires.1.1 c.cell.ensures c.answer_kind-own.ensures c.asking-count.ensures
-    (wrote c.hear_kinds-asked.ensures.0
-    c.hear_kinds-asked.ensures.1) (wrote
-    c.hear_block-answered.ensures.0 c.hear_block-answered.ensures.1) (wrote c.hear_kinds.ensures.0 c.hear_kinds.ensures.1)
+returns c =
+    let p = called-told _ _ _ _ _ _ _ _ _ _ _ _ _ _ _ c.requires.listening.1 c.cell.ensures c.answer_kind-own.ensures c.asking-count.ensures
+    (wrote c.hear_kinds-asked.ensures.returned
+    c.hear_kinds-asked.ensures.written) (wrote
+    c.hear_block-answered.ensures.returned c.hear_block-answered.ensures.written) (wrote c.hear_kinds.ensures.returned c.hear_kinds.ensures.written) in
+    record { returned = p.0; written = p.1 }

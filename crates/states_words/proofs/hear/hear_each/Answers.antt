@@ -19,13 +19,15 @@ loop-r-init c = (
     )
 
 pub hear_answer-next-requires : goal.hear_answer-next-requires
-hear_answer-next-requires c = (c.requires.0, c.requires.1)
+hear_answer-next-requires c = record { long = c.requires.long; answering = c.requires.answering }
 
 pub loop-r-preserved : goal.loop-r-preserved
-loop-r-preserved c = (search rules, (search rules, values-again _ _ _ _ _ _ _ _ _ _ _ _ _ _ c.loop-r.invariant.1.1 (wrote c.hear_answer-next.ensures.0 c.hear_answer-next.ensures.1)))
+loop-r-preserved c = (search rules, (search rules, values-again _ _ _ _ _ _ _ _ _ _ _ _ _ _ c.loop-r.invariant.1.1 (wrote c.hear_answer-next.ensures.returned c.hear_answer-next.ensures.written)))
 
 pub shape_of-words : goal.shape_of-words
 shape_of-words c = c.loop-r.invariant.1.0
 
 pub returns : goal.returns
-returns c = told (values-last _ _ _ _ _ _ _ _ _ _ _ _ _ (numbers-all _ _ c.numbers-all.ensures c.loop-r.invariant.0 c.loop-r-test.false) c.loop-r.invariant.1.1)
+returns c =
+    let p = told (values-last _ _ _ _ _ _ _ _ _ _ _ _ _ (numbers-all _ _ c.numbers-all.ensures c.loop-r.invariant.0 c.loop-r-test.false) c.loop-r.invariant.1.1) in
+    record { returned = p.0; written = p.1 }

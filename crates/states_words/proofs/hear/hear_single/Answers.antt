@@ -10,5 +10,7 @@ pub exit-requires : goal.exit-requires
 exit-requires c = c.requires.sound
 
 pub returns : goal.returns
-returns c = told (single-wrote _ _ _ _ _ _ _ _ _ _ _ _ c.letter_of.ensures
-    (c.exit.ensures ∙ sym (c.requires.exits 0 (omega arith))) c.write_edge.ensures c.sum.ensures)
+returns c =
+    let p = told (single-wrote _ _ _ _ _ _ _ _ _ _ _ _ c.letter_of.ensures
+    (c.exit.ensures ∙ sym (c.requires.exits 0 (omega arith))) c.write_edge.ensures c.sum.ensures) in
+    record { returned = p.0; written = p.1 }

@@ -16,17 +16,17 @@ loop-r-init c = (
 )
 
 pub hear_value-next-requires : goal.hear_value-next-requires
-hear_value-next-requires c =
-    (c.requires.0, c.requires.1)
+hear_value-next-requires c = record { long = c.requires.long; listening = c.requires.listening }
 
 pub loop-r-preserved : goal.loop-r-preserved
 loop-r-preserved c =
-    (search rules, (search rules, values-again _ _ _ _ _ _ _ _ _ _ _ _ _ _ c.loop-r.invariant.1.1 (wrote c.hear_value-next.ensures.0 c.hear_value-next.ensures.1)))
+    (search rules, (search rules, values-again _ _ _ _ _ _ _ _ _ _ _ _ _ _ c.loop-r.invariant.1.1 (wrote c.hear_value-next.ensures.returned c.hear_value-next.ensures.written)))
 
 pub shape_of-words : goal.shape_of-words
 shape_of-words c = c.loop-r.invariant.1.0
 
 pub returns : goal.returns
 returns c =
-    told (values-to _ _ _ _ _ _ _ _ _ _ _ _ _ c.end_place-end.ensures c.loop-r.invariant.0
-    c.loop-r-test.false c.loop-r.invariant.1.1)
+    let p = told (values-to _ _ _ _ _ _ _ _ _ _ _ _ _ c.end_place-end.ensures c.loop-r.invariant.0
+    c.loop-r-test.false c.loop-r.invariant.1.1) in
+    record { returned = p.0; written = p.1 }

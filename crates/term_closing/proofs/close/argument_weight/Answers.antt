@@ -1,7 +1,6 @@
 -- A held product and a held sum are the held whole.
 use Rattle.term_closing.specs.Close.{argument_weight}
 use native.Mathlib.Omega.{arith}
-use borrow.Author.Rules.{rules}
 use borrow.Author.Tests.{lt-ltb, le-ltb}
 use Rattle.term_closing.proofs.close.argument_weight.Goals as goal
 

@@ -3,7 +3,6 @@ use mathlib.Core.Path.{sym, ap₂, ◌∙◌}
 use Rattle.term_closing.specs.Close.{leaf_weight}
 use Rattle.term_closing.proofs.Stores.{row-closed}
 use Rattle.term_closing.proofs.Leaves.{leaf-weighs}
-use borrow.Author.Rules.{rules}
 use Rattle.term_closing.proofs.close.close_leaf.Goals as goal
 
 pub returns : goal.returns

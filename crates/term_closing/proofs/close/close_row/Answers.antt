@@ -1,6 +1,5 @@
 -- All words of the row.
 use Rattle.term_closing.proofs.Stores.{row-closed}
-use borrow.Author.Rules.{rules}
 use Rattle.term_closing.proofs.close.close_row.Goals as goal
 
 pub returns : goal.returns

@@ -1,6 +1,5 @@
 -- A word of the row of the first part.
 use Rattle.term_closing.specs.Close.{first_values}
-use borrow.Author.Rules.{rules}
 use Rattle.term_closing.proofs.close.first_values.Goals as goal
 
 pub returns : goal.returns

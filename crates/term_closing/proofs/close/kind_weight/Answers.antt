@@ -1,7 +1,6 @@
 -- By the kind; held sums and products.
 use Rattle.term_closing.specs.Close.{kind_weight}
 use native.Mathlib.Omega.{arith}
-use borrow.Author.Rules.{rules}
 use borrow.Author.Tests.{lt-ltb, le-ltb, eq-eqb, ne_eqb}
 use Rattle.term_closing.proofs.close.kind_weight.Goals as goal
 

@@ -1,6 +1,5 @@
 -- By the kind.
 use Rattle.term_closing.specs.Close.{leaf_weight}
-use borrow.Author.Rules.{rules}
 use borrow.Author.Tests.{eq-eqb, ne_eqb, lt-ltb, le-ltb}
 use Rattle.term_closing.proofs.close.leaf_weight.Goals as goal
 

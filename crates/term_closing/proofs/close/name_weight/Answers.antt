@@ -1,7 +1,6 @@
 -- Sums of held numbers, held, are the held sum.
 use Rattle.term_closing.proofs.Stores.{held-sum, own_held}
 use Rattle.term_closing.specs.Close.{name_weight}
-use borrow.Author.Rules.{rules}
 use Rattle.term_closing.proofs.close.name_weight.Goals as goal
 
 pub returns : goal.returns

@@ -1,6 +1,5 @@
 -- By the kind.
 use Rattle.term_closing.specs.Close.{parts_of}
-use borrow.Author.Rules.{rules}
 use borrow.Author.Tests.{eq-eqb, ne_eqb}
 use Rattle.term_closing.proofs.close.parts_of.Goals as goal
 

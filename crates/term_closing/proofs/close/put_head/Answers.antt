@@ -1,5 +1,4 @@
 -- With one test, or word by word.
-use borrow.Author.Rules.{rules}
 use native.Mathlib.Omega.{arith}
 use Rattle.term_closing.proofs.Stores.{cell-on, head_at}
 use Rattle.term_closing.proofs.close.put_head.Goals as goal

@@ -1,6 +1,5 @@
 -- Five words, one after another.
 use Rattle.term_closing.proofs.Stores.{five-put}
-use borrow.Author.Rules.{rules}
 use Rattle.term_closing.proofs.close.put_head_each.Goals as goal
 
 pub returns : goal.returns

@@ -1,6 +1,5 @@
 -- Four words, one after another.
 use Rattle.term_closing.proofs.Stores.{four-put}
-use borrow.Author.Rules.{rules}
 use Rattle.term_closing.proofs.close.put_parts_each.Goals as goal
 
 pub returns : goal.returns

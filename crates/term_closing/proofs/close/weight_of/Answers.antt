@@ -1,7 +1,6 @@
 -- The kind, and the weights of the parts.
 use Rattle.term_closing.specs.Close.{weight_of}
 use native.Mathlib.Omega.{arith}
-use borrow.Author.Rules.{rules}
 use Rattle.term_closing.proofs.close.weight_of.Goals as goal
 
 pub overflow_cast-result : goal.overflow_cast-result

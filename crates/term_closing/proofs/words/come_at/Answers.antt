@@ -1,6 +1,5 @@
 -- The lower part of the mark.
 use Rattle.term_closing.specs.Close.{come_of}
-use borrow.Author.Rules.{rules}
 use Rattle.term_closing.proofs.words.come_at.Goals as goal
 
 pub returns : goal.returns

@@ -1,5 +1,4 @@
 -- The word at the place.
-use borrow.Author.Rules.{rules}
 use Rattle.term_closing.proofs.words.mark_at.Goals as goal
 
 pub returns : goal.returns

@@ -1,7 +1,6 @@
 -- A sum, or the greatest word.
 use Rattle.term_closing.specs.Close.{more_of}
 use native.Mathlib.Omega.{arith}
-use borrow.Author.Rules.{rules}
 use Rattle.term_closing.proofs.words.more.Goals as goal
 
 pub returns-then-y-x : goal.returns-then-y-x

@@ -1,6 +1,5 @@
 -- Four slots, one after another.
 use Rattle.term_closing.proofs.Stores.{four-passed}
-use borrow.Author.Rules.{rules}
 use Rattle.term_closing.proofs.words.pass.Goals as goal
 
 pub returns : goal.returns

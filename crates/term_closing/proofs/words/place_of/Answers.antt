@@ -1,7 +1,6 @@
 -- Nine words a row.
 use Rattle.sheet_rows.specs.Row.{cell}
 use native.Mathlib.Omega.{arith}
-use borrow.Author.Rules.{rules}
 use Rattle.term_closing.proofs.words.place_of.Goals as goal
 
 pub returns : goal.returns

@@ -1,5 +1,4 @@
 -- One word of a row.
-use borrow.Author.Rules.{rules}
 use Rattle.term_closing.proofs.words.put_word.Goals as goal
 
 pub returns : goal.returns

@@ -1,5 +1,4 @@
 -- The word at the number.
-use borrow.Author.Rules.{rules}
 use Rattle.term_closing.proofs.words.slot_at.Goals as goal
 
 pub returns : goal.returns

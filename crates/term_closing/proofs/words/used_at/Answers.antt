@@ -1,6 +1,5 @@
 -- The upper part of the mark.
 use Rattle.term_closing.specs.Close.{used_of}
-use borrow.Author.Rules.{rules}
 use Rattle.term_closing.proofs.words.used_at.Goals as goal
 
 pub returns : goal.returns

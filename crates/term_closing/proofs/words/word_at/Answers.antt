@@ -1,6 +1,5 @@
 -- The word at the place of the row.
 use Rattle.sheet_rows.specs.Row.{word}
-use borrow.Author.Rules.{rules}
 use Rattle.term_closing.proofs.words.word_at.Goals as goal
 
 pub returns : goal.returns

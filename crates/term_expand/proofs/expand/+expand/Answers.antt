@@ -1,13 +1,10 @@
 -- The cycle of the expansion: a bound of the turns to come falls.
-use Prim.Native.Nat.{◌+◌, ◌*◌, ℕ, ◌<◌}
-use borrow.Author.Rules.{rules}
-use borrow.Author.Tests.{not-false}
 use native.Mathlib.Omega.{arith}
 use mathlib.Core.Path.{refl, sym}
 use Rattle.term_expand.proofs.Joins.{piece-none, piece-some, pieces-two, pieces-four, row_made, entered, record-block}
 use Rattle.term_expand.proofs.Joins.{record-plain, kind-stays, leaf-made, no-parts}
 use Rattle.term_expand.proofs.Expansion.{by-come, by_end, by_kind}
-use Rattle.term_expand.proofs.Turns.{Led, led-first, led-end, led-come, led-scope, led-use, led-record}
+use Rattle.term_expand.proofs.Turns.{led-first, led-end, led-come, led-scope, led-use, led-record}
 use Rattle.term_expand.proofs.expand.+expand.Goals as goal
 
 -- enter
@@ -23,8 +20,8 @@ expand-returns-then-left-eq0 t c = by_end _ _ _ _ _ _ _ _ c.if-left-eq0.true
 
 -- expand
 pub expand-returns : goal.expand-returns
-expand-returns t c = by_kind _ _ _ _ _ _ _ _ _ (sym c.requires.1) (omega arith) c.if-left-eq0.false
-    (kind-stays _ _ _ _ _ _ _ _ _ _ _ _ c.word_at-kind.ensures c.stays.ensures (not-false _ c.if-not-stays.false) refl c.expand_row-count.ensures)
+expand-returns t c = by_kind _ _ _ _ _ _ _ _ _ (sym c.requires) (omega arith) c.if-left-eq0.false
+    (kind-stays _ _ _ _ _ _ _ _ _ _ _ _ c.word_at-kind.ensures c.stays.ensures c.if-not-stays.false refl c.expand_row-count.ensures)
 
 pub expand_own-loop-turns-init : goal.expand_own-loop-turns-init
 expand_own-loop-turns-init t c = led-first _ _ _ _ _ _ _ _
@@ -40,15 +37,9 @@ expand_own-loop-turns-smaller-then-kind-eq-PROCEDURE t c = omega (arith, c.loop-
 pub expand_own-loop-turns-preserved-then-kind-eq-PROCEDURE : goal.expand_own-loop-turns-preserved-then-kind-eq-PROCEDURE
 expand_own-loop-turns-preserved-then-kind-eq-PROCEDURE t c = led-scope _ _ _ _ _ _ _ _ _ _ _ _ _ _ c.loop-turns.invariant _ c.come_at-come.ensures c.if-come-gt0.false c.loop-turns-test.true _ c.word_at-kind.ensures _ _ c.if-kind-eq-PROCEDURE.true c.word_at-here.ensures c.more-around.ensures
 
-pub expand_own-expand_record-requires : goal.expand_own-expand_record-requires
-expand_own-expand_record-requires t c = omega (arith, c.requires.0, c.loop-turns.invariant.fewer, c.loop-turns-test.true)
-
 pub expand_own-returns-then-kind-ne-ROUTINE : goal.expand_own-returns-then-kind-ne-ROUTINE
 expand_own-returns-then-kind-ne-ROUTINE t c = led-record _ _ _ _ _ _ _ _ _ _ _ _ _ _ c.loop-turns.invariant _ c.come_at-come.ensures c.if-come-gt0.false c.loop-turns-test.true _
     c.word_at-kind.ensures _ _ _ c.if-kind-eq-PROCEDURE.false c.if-kind-ne-ROUTINE.true c.expand_record.ensures
-
-pub expand_own-enter-next-requires : goal.expand_own-enter-next-requires
-expand_own-enter-next-requires t c = omega (arith, c.requires.0, c.loop-turns.invariant.fewer, c.loop-turns-test.true)
 
 pub expand_own-loop-turns-smaller : goal.expand_own-loop-turns-smaller
 expand_own-loop-turns-smaller t c = omega (arith, c.loop-turns-test.true)
@@ -69,7 +60,7 @@ pub expand_part-returns-then-come-gt0 : goal.expand_part-returns-then-come-gt0
 expand_part-returns-then-come-gt0 t c = piece-some _ _ _ _ _ _ _ _ _ _ _ _ _ _ c.if-wants-eq0.false c.word_at-part.ensures (by-come _ _ _ _ _ _ _ _ c.come_at-come.ensures c.if-come-gt0.true c.slot_at.ensures)
 
 pub expand_part-expand-requires : goal.expand_part-expand-requires
-expand_part-expand-requires t c = (omega (arith, c.requires.0), omega (arith, c.come_at-come.ensures, c.if-come-gt0.false))
+expand_part-expand-requires t c = omega (arith, c.come_at-come.ensures, c.if-come-gt0.false)
 
 pub expand_part-returns : goal.expand_part-returns
 expand_part-returns t c = piece-some _ _ _ _ _ _ _ _ _ _ _ _ _ _ c.if-wants-eq0.false c.word_at-part.ensures c.expand.ensures

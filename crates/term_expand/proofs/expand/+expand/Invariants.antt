@@ -1,12 +1,5 @@
-use Prim.Native.Nat.{◌+◌, ◌*◌, ℕ, ◌<◌}
-use borrow.Author.Rules.{rules}
-use borrow.Author.Tests.{not-false}
-use native.Mathlib.Omega.{arith}
-use mathlib.Core.Path.{refl, sym}
-use Rattle.term_expand.proofs.Joins.{piece-none, piece-some, pieces-two, pieces-four, row_made, entered, record-block}
-use Rattle.term_expand.proofs.Joins.{record-plain, kind-stays, leaf-made, no-parts}
-use Rattle.term_expand.proofs.Expansion.{by-come, by_end, by_kind}
-use Rattle.term_expand.proofs.Turns.{Led, led-first, led-end, led-come, led-scope, led-use, led-record}
+use Prim.Native.Nat.{◌+◌, ◌*◌}
+use Rattle.term_expand.proofs.Turns.{Led}
 use Rattle.term_expand.proofs.expand.+expand.Given as goal
 
 abbrev pub decreases-enter : goal.decreases-enter

@@ -1,5 +1,4 @@
 -- The whole term, in slots that hold no row.
-use borrow.Author.Rules.{rules}
 use mathlib.Core.Path.{refl}
 use Rattle.term_expand.proofs.Expansion.{by-top}
 use Rattle.term_expand.proofs.expand.expand_term.Goals as goal
