@@ -37,6 +37,9 @@ has_either (x ∷ xs) ys p (has_later h) = go (has_either xs ys p h)
 hit-found : (j l : Bool) (at p : ℕ) → Has (hit j l at) p → (j ≡ true) × (l ≡ true) × (p ≡ at)
 unfolding hit
 hit-found true true at p has_first = (refl, refl, refl)
+hit-found false l at p x' = elim x' [ ]
+hit-found true false at p x3 = elim x3 [ ]
+hit-found true true at p (has_later x8) = elim x8 [ ]
 
 module _ (ns : List Name) where
   -- the record and its parts
