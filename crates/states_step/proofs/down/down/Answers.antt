@@ -46,5 +46,5 @@ returns-in-27 c = simp (← c.cell-kind.ensures, ← c.in_new.ensures, c.in-27.i
 
 pub returns-in_default : goal.returns-in_default
 returns-in_default c =
-    rw (← c.cell-kind.ensures) (down-other _ _ _ _ _ _ _ c.in_default.rest.0.0.0.0.0.0.0.0.0.1
-    c.in_default.rest.0.0.0.0.0.0.0.0.1 c.in_default.rest.0.0.0.0.0.0.0.1 c.in_default.rest.0.0.0.0.0.0.1 c.in_default.rest.0.0.0.0.0.1 c.in_default.rest.0.0.0.0.1 c.in_default.rest.0.0.0.1 c.in_default.rest.0.0.1 c.in_default.rest.0.1 c.in_default.rest.1)
+    rw (← c.cell-kind.ensures) (down-other _ _ _ _ _ _ _ c.in_default.in_default-own.rest.0.0.0.0.0.0.0.0.0.1
+    c.in_default.in_default-own.rest.0.0.0.0.0.0.0.0.1 c.in_default.in_default-own.rest.0.0.0.0.0.0.0.1 c.in_default.in_default-own.rest.0.0.0.0.0.0.1 c.in_default.in_default-own.rest.0.0.0.0.0.1 c.in_default.in_default-own.rest.0.0.0.0.1 c.in_default.in_default-own.rest.0.0.0.1 c.in_default.in_default-own.rest.0.0.1 c.in_default.in_default-own.rest.0.1 c.in_default.in_default-own.rest.1)
