@@ -1,5 +1,4 @@
 -- What `down` gives is what `down_bare` says, case by case.
-use borrow.Author.Rules.{rules}
 use Rattle.states_step.specs.walk.Down.{down_as}
 use Rattle.states_step.proofs.Steps.{down-other}
 use Rattle.states_step.proofs.down.down.Goals as goal
