@@ -11,13 +11,13 @@ use Rattle.states_words.proofs.Loops.{Filled, filled-first, filled-again, filled
 use Rattle.states_words.proofs.fill.fill.Goals as goal
 
 pub loop-k-init : goal.loop-k-init
-loop-k-init c = (omega arith, (refl, (kept-none _ _ _ c.requires.root_bound.1, filled-first _ _ _ _ _)))
+loop-k-init c = (omega arith, (refl, (kept-none _ _ _ c.requires.room.1, filled-first _ _ _ _ _)))
 
 pub go_to-at-requires : goal.go_to-at-requires
 go_to-at-requires c = record { term_rows = c.requires.term_rows; kept_path = (
     c.loop-k.invariant.1.1.0,
     omega
-        (arith, c.loop-k-test.true, c.spots_of-all.ensures, c.requires.root_bound.0),
+        (arith, c.loop-k-test.true, c.spots_of-all.ensures, c.requires.room.0),
   ) }
 
 pub write_row-next-requires : goal.write_row-next-requires
