@@ -2,7 +2,6 @@
 use mathlib.Core.Path.{refl}
 use Prim.Native.Nat.{◌+◌, ◌*◌}
 use native.Mathlib.Omega.{arith}
-use borrow.Author.Rules.{rules}
 use Rattle.play_words.proofs.ShowPlay.{play-room, shown-old, shown_new}
 use Rattle.play_words.proofs.show.show.Goals as goal
 
