@@ -1,9 +1,14 @@
 # Compiles programs over crates that nothing proves, for the scripts that source this.
 #
-# A program goes through the kit's `rattle-cases`, with a compiler that keeps the module that it is to compile with -O3.
+# A program goes through `rattle-cases`, which older kits have, with a compiler that keeps the module that it is to
+# compile with -O3. What today's `rt try` compiles tests each step as it runs, so that its times say nothing.
 kit=$(dirname "$(dirname "$(readlink -f "$(rt doc)")")")
 own=$kit/on/$(uname -m)
 target=x86_64-unknown-linux-gnu
+if [ ! -x "$own/bin/rattle-cases" ]; then
+    echo "bench: this kit compiles only what is proved; one with rattle-cases is needed" >&2
+    exit 2
+fi
 
 # sources REPOSITORY NAME...: words that name the sources of these crates and of all that they reach, the lowest first;
 # crates.txt has each crate after those that it uses.
@@ -12,6 +17,7 @@ sources() {
     shift
     tac "$repository/crates.txt" | awk -F: -v names="$*" -v place="$repository/crates" '
         BEGIN { n = split(names, name, " "); for (i = 1; i <= n; i++) reached[name[i]] = 1 }
+        { sub(/ .*/, "", $1) }
         reached[$1] {
             print "--lib " $1 "=" place "/" $1 "/src/lib.rt"
             n = split($2, used, " ")
@@ -60,7 +66,7 @@ write_module() {
         -o "$room/module.ll" "$room/module.bc"
 }
 
-# compile_module ROOM: ROOM/module.o of ROOM/module.ll, with the words with which `rt staticlib` compiles.
+# compile_module ROOM: ROOM/module.o of ROOM/module.ll, with the words with which such a kit compiles a static library.
 compile_module() {
     "$own/toolchain/bin/clang" --target=$target -march=x86-64 -ffunction-sections -fdata-sections \
         -mllvm -trap-unreachable -mllvm -no-trap-after-noreturn --no-default-config -no-canonical-prefixes \

@@ -5,7 +5,6 @@ use Prim.Native.Nat.{◌*◌, ◌+◌, ◌-◌, ◌<◌, ◌≤◌, suc, zero, �
 use native.Mathlib.Omega.{arith}
 use lib.ListN.{get_or, length, set}
 use lib.Seq.{get_or-set_other, get_or-set_same}
-use Rattle.dfa.specs.Graph.{rest}
 use Rattle.dfa_search.specs.Spelled.{Spelled, Trail, Written, more, none}
 use Rattle.dfa_search.specs.Trace.{Counting, Tracing}
 

@@ -1,10 +1,8 @@
 -- No table with fewer positions has the words, and the smallest table has them. Assumes nothing.
 use mathlib.Core.List.{List, [], ◌++◌, ◌∷◌}
-use mathlib.Core.Logic.{◌↔◌}
-use mathlib.Core.Path.{◌∙◌, ◌≡◌, ap, refl, subst, sym}
+use mathlib.Core.Path.{◌≡◌, refl, subst}
 use Prim.Native.Nat.{◌<◌, ◌≤◌, ℕ}
 use native.Mathlib.Decide.{dec_lt}
-use native.Mathlib.Omega.{arith}
 use lib.ListN.{get_or, length}
 use Rattle.dfa_smallest.specs.Table.{Alike, Path, Place, Recognises, Smallest, nowhere, start, step}
 use Rattle.dfa_smallest.proofs.Arcs.{has_one}

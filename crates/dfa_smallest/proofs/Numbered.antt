@@ -3,14 +3,14 @@
 use mathlib.Core.Bool.{Bool, false, true}
 use mathlib.Core.List.{List, [], ◌++◌, ◌∷◌}
 use mathlib.Core.Logic.{◌≢◌, ◌↔◌, ◌⊎◌, inl, inr}
-use mathlib.Core.Path.{◌∙◌, ◌≡◌, ap, refl, subst, sym}
+use mathlib.Core.Path.{◌∙◌, ◌≡◌, ap, refl, sym}
 use Prim.Native.Nat.{◌+◌, ◌<◌, ◌≤◌, suc, zero, ℕ}
-use native.Mathlib.Decide.{dec_lt, ℕ_discrete}
+use native.Mathlib.Decide.{ℕ_discrete}
 use native.Mathlib.Omega.{arith}
 use lib.ListN.{get_or, length}
 use Rattle.dfa.specs.Word.{Less, after}
 use Rattle.dfa_smallest.specs.Table.{Alike, Begins, Foremost, Has, Leads, Place, Rising, Smallest, nowhere}
-use Rattle.dfa_smallest.specs.Classes.{Accepting, Classes, Equal, Finite}
+use Rattle.dfa_smallest.specs.Classes.{Classes, Finite}
 use Rattle.dfa_smallest.specs.Numbered.{Met, Numbered}
 use Rattle.dfa_smallest.proofs.Order.{less-irrefl, less-trans}
 use Rattle.dfa_smallest.proofs.Refining.{after-append, after-low, equal-on}

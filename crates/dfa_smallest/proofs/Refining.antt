@@ -1,14 +1,14 @@
 -- Splitting by one class more keeps what `Refining` says, and once no splitter is left the classes are those of the
 -- automaton. Assumes nothing.
-use mathlib.Core.Bool.{Bool, false, true}
-use mathlib.Core.List.{List, [], ◌++◌, ◌∷◌, append_assoc}
-use mathlib.Core.Logic.{◌≢◌, ◌↔◌, ◌⊎◌, inl, inr}
-use mathlib.Core.Path.{◌∙◌, ◌≡◌, ap, refl, subst, sym}
-use Prim.Native.Nat.{◌+◌, ◌<◌, ◌≤◌, suc, ℕ}
+use mathlib.Core.Bool.{Bool}
+use mathlib.Core.List.{List, [], ◌++◌, ◌∷◌}
+use mathlib.Core.Logic.{◌≢◌, ◌⊎◌, inl, inr}
+use mathlib.Core.Path.{◌∙◌, ◌≡◌, ap, refl, sym}
+use Prim.Native.Nat.{◌<◌, ◌≤◌, suc, ℕ}
 use native.Mathlib.Decide.{ℕ_discrete}
 use native.Mathlib.Omega.{arith}
 use Rattle.dfa.specs.Word.{after}
-use Rattle.dfa_smallest.specs.Classes.{Accepting, Classes, Equal, Finite, Into, Refining, SameInto, Split}
+use Rattle.dfa_smallest.specs.Classes.{Accepting, Classes, Equal, Finite, Into, Refining, Split}
 
 -- a word and then more
 pub after-append : (δ : ℕ → ℕ → ℕ) (p : ℕ) (u x : List ℕ) → after δ p (u ++ x) ≡ after δ (after δ p x) u

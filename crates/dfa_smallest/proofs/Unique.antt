@@ -3,13 +3,13 @@ use mathlib.Core.Bool.{Bool, false, true}
 use mathlib.Core.List.{List, [], ◌++◌, ◌∷◌, append_assoc}
 use mathlib.Core.Logic.{◌↔◌, ◌⊎◌, inl, inr}
 use mathlib.Core.Path.{◌∙◌, ◌≡◌, ap, refl, subst, sym}
-use Prim.Native.Nat.{◌+◌, ◌<◌, ◌≤◌, suc, zero, ℕ}
+use Prim.Native.Nat.{◌<◌, ◌≤◌, suc, zero, ℕ}
 use native.Mathlib.Decide.{dec_lt, ℕ_discrete}
 use native.Mathlib.Omega.{arith}
 use lib.ListN.{get_or, length}
 use lib.Seq.{ext_get_or}
 use Rattle.dfa.specs.Word.{Less}
-use Rattle.dfa_smallest.specs.Table.{Alike, Arc, Begins, Foremost, Has, Leads, Path, Place, Rising, Smallest, nowhere}
+use Rattle.dfa_smallest.specs.Table.{Alike, Begins, Foremost, Leads, Path, Place, Smallest, nowhere}
 use Rattle.dfa_smallest.specs.Table.{start, step}
 use Rattle.dfa_smallest.proofs.Order.{less-irrefl, less-total, less-trans}
 use Rattle.dfa_smallest.proofs.Arcs.{arcs-same}

@@ -1,9 +1,6 @@
 -- What is known where a sheet was read.
-use Prim.Native.Nat.{ℕ}
-use mathlib.Core.Path.{◌≡◌}
-use mathlib.Core.List.{List}
-use Rattle.io.specs.Counts.{IsPrefixLen}
-use Rattle.files.specs.Reading.{Within}
+use Rattle.std.specs.Prelude.{List, ℕ, ◌≡◌}
+use Rattle.files.specs.Reading.{IsPrefixLen, Within}
 use Rattle.files.specs.declared.Read.{Read}
 use Rattle.files.specs.declared.Read.TheVariants.{Sheet}
 

@@ -2,9 +2,13 @@
 // written whole, a line on standard error says so.
 #![tactic(auto)]
 
+ghost use Rattle.std.specs.Io.{ReadsAtMost};
 ghost use Rattle.files.specs.Reading.{Within};
 
-use libc::{ENOENT, STDOUT_FILENO};
+use std::fs::{OpenFile, OpenOptions};
+use std::io::{ErrorKind, Write};
+use std::rt::Files;
+use std::{fs, io};
 
 // What was read of a file: a sheet, which so many bytes of the buffer are, or nothing that can be judged.
 #[derive(Drop)]
@@ -13,88 +17,107 @@ pub enum Read {
     Failed,
 }
 
-// Whether the file ends where it was read to. A read that fails does not find the end.
-fn at_end(file: i32) -> bool {
-    let mut next = [0u8; 1];
-    libc::read(file, &mut next) == 0
+// The system's words for an error, without the number that std puts behind them.
+fn words(text: &str) -> &str {
+    match text.split_once(" (os error ") {
+        Some((before, _)) => before,
+        None => text,
+    }
 }
 
-// What is read where no file could be opened: a missing file counts as empty, another is a failure.
-fn read_none(buf: &[u8]) -> Read
-    ensures { Within result buf.now }
-{
-    if os::errno() == ENOENT {
-        return Read::Sheet(io::count(0, buf));
+// Says on standard error what failed, and why.
+fn tell(rt: &(impl Eprint + Alloc), what: &str, why: io::Error) {
+    match why.to_string(rt.alloc()) {
+        Ok(text) => {
+            let _ = eprintln!(rt; "{what}: {}", words(text.as_str()));
+        }
+        Err(_) => {
+            let _ = eprintln!(rt; "{what}: {why}");
+        }
     }
-    Read::Failed
 }
 
-// Reads an open file from its start into buf, to its end or until buf is full.
-fn read_open(file: i32, buf: &mut [u8]) -> Read
-    ensures { Within result buf.new }
+// How many bytes are read where no file could be opened: a missing file counts as empty, another is a failure.
+fn read_none(why: io::Error, buf: &[u8]) -> io::Result<usize>
+    ensures { ReadsAtMost result buf.now }
 {
-    let count = io::read_full(file, buf);
-    if count == buf.len() || at_end(file) {
-        return Read::Sheet(count);
+    if why.kind() == ErrorKind::NotFound {
+        return Ok(0);
     }
-    Read::Failed
+    Err(why)
 }
 
-// Reads the file from its start into buf.
-fn read_path(path: &[u8], buf: &mut [u8]) -> Read
-    ensures { Within result buf.new }
+// Reads an open file from its start into buf, to its end or until buf is full: how many bytes. A read that fails does
+// not find the end.
+fn read_open(file: &mut impl io::Read, buf: &mut [u8]) -> io::Result<usize>
+    ensures { ReadsAtMost result buf.new }
 {
-    let file = os::open_read(path);
-    if file < 0 {
-        return read_none(buf);
+    let mut count = 0;
+    while count < buf.len() {
+        let more = file.read(&mut buf[count..])?;
+        if more == 0 {
+            break;
+        }
+        count += more;
     }
-    let read = read_open(file, buf);
-    libc::close(file);
-    read
+    Ok(count)
+}
+
+// Reads the file from its start into buf: how many bytes.
+fn read_path(rt: &impl Files, path: &str, buf: &mut [u8]) -> io::Result<usize>
+    ensures { ReadsAtMost result buf.new }
+{
+    match fs::open(rt, path) {
+        Ok(mut file) => read_open(&mut file, buf),
+        Err(why) => read_none(why, buf),
+    }
 }
 
 // Reads the sheet that the file at path is into buf; where that fails, standard error says so.
-pub fn read_sheet(path: &[u8], buf: &mut [u8]) -> Read
+pub fn read_sheet(rt: &(impl Files + Eprint + Alloc), path: &str, buf: &mut [u8]) -> Read
     ensures { Within result buf.new }
 {
-    let read = read_path(path, buf);
-    if let Read::Failed = read {
-        os::fail(path);
+    match read_path(rt, path, buf) {
+        Ok(count) => Read::Sheet(count),
+        Err(why) => {
+            tell(rt, path, why);
+            Read::Failed
+        }
     }
-    read
 }
 
 // Prints the text on standard output: whether it is all printed.
-pub fn print(text: &[u8]) -> bool {
-    let whole = io::write_all(STDOUT_FILENO, text);
-    if !whole {
-        os::fail(b"standard output");
+pub fn print(rt: &(impl Print + Eprint + Alloc), text: &[u8]) -> bool {
+    match rt.write_all(text) {
+        Ok(()) => true,
+        Err(why) => {
+            tell(rt, "standard output", why);
+            false
+        }
     }
-    whole
 }
 
-// Writes the bytes as the whole of a new file, in the place of one of that name: whether they are all written.
-fn write_part(part: &[u8], bytes: &[u8]) -> bool {
-    os::unlink(part);
-    let file = os::create(part);
-    if file < 0 {
-        return false;
-    }
-    let whole = io::write_all(file, bytes);
-    let closed = libc::close(file) == 0;
-    whole && closed
+// Writes the bytes as the whole of a new file, in the place of one of that name; it fails where they are not all written.
+fn write_part(rt: &impl Files, part: &str, bytes: &[u8]) -> io::Result<()> {
+    let _ = fs::remove_file(rt, part);
+    let mut file = OpenOptions::new()
+        .write(true)
+        .create_new(true)
+        .open(rt, part)?;
+    file.write_all(bytes)?;
+    file.sync_all()
 }
 
 // Writes the bytes as the whole of the file at path; where that fails, standard error says so. They are written to a
 // file part beside it, which takes the name path when it is whole, so that no half a sheet ever has that name.
-pub fn write_sheet(path: &[u8], part: &[u8], bytes: &[u8]) {
-    if !write_part(part, bytes) {
-        os::fail(part);
-        os::unlink(part);
+pub fn write_sheet(rt: &(impl Files + Eprint + Alloc), path: &str, part: &str, bytes: &[u8]) {
+    if let Err(why) = write_part(rt, part, bytes) {
+        tell(rt, part, why);
+        let _ = fs::remove_file(rt, part);
         return;
     }
-    if os::rename(part, path) < 0 {
-        os::fail(path);
-        os::unlink(part);
+    if let Err(why) = fs::rename(rt, part, path) {
+        tell(rt, path, why);
+        let _ = fs::remove_file(rt, part);
     }
 }

@@ -15,18 +15,18 @@ const SPACE: usize = 2040;
 
 const TEXT: usize = 8192;
 
-fn main() {
+fn main(rt: HostRuntime) {
     let mut old = [0u8; LONGEST];
-    let Read::Sheet(n) = read_sheet(b"old.sheet", &mut old) else {
+    let Read::Sheet(n) = read_sheet(&rt, "old.sheet", &mut old) else {
         return;
     };
     let mut new = [0u8; LONGEST];
-    let Read::Sheet(m) = read_sheet(b"new.sheet", &mut new) else {
+    let Read::Sheet(m) = read_sheet(&rt, "new.sheet", &mut new) else {
         return;
     };
     let mut words = [0u32; WORDS];
     let mut space = [0u8; SPACE];
     let mut out = [0u8; TEXT];
     let count = print_report::report(&old[..n], &new[..m], &mut words, &mut space, &mut out);
-    print(&out[..count]);
+    print(&rt, &out[..count]);
 }

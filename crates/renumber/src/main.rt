@@ -16,9 +16,9 @@ const LIST: usize = 1020;
 // How many bytes there are for the text, which do for every text.
 const TEXT: usize = 4096;
 
-fn main() {
+fn main(rt: HostRuntime) {
     let mut old = [0u8; LONGEST];
-    let Read::Sheet(n) = read_sheet(b"old.sheet", &mut old) else {
+    let Read::Sheet(n) = read_sheet(&rt, "old.sheet", &mut old) else {
         return;
     };
     let mut new = [0u8; LONGEST];
@@ -26,8 +26,8 @@ fn main() {
     let mut text = [0u8; TEXT];
     let told = report_changes(&old[..n], &mut new, &mut list, &mut text);
     let count = told.count;
-    if print(&text[..count]) && told.renumbered {
+    if print(&rt, &text[..count]) && told.renumbered {
         // The sheet written is as long as the one read.
-        write_sheet(b"new.sheet", b"new.sheet.part", &new[..n]);
+        write_sheet(&rt, "new.sheet", "new.sheet.part", &new[..n]);
     }
 }

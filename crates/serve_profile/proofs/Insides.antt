@@ -17,6 +17,7 @@ use Rattle.serve_profile.specs.Inside.{has_later, OffenceRule}
 use Rattle.serve_profile.proofs.Pieces.{item, items, offs, total, offs-open, width-open, own-some}
 
 has_left : (xs ys : List ℕ) (p : ℕ) → Has xs p → Has (xs ++ ys) p
+has_left [] ys p x' = elim x' [ ]
 has_left (x ∷ xs) ys p has_first = has_first
 has_left (x ∷ xs) ys p (has_later h) = has_later (has_left xs ys p h)
 
@@ -37,6 +38,9 @@ has_either (x ∷ xs) ys p (has_later h) = go (has_either xs ys p h)
 hit-found : (j l : Bool) (at p : ℕ) → Has (hit j l at) p → (j ≡ true) × (l ≡ true) × (p ≡ at)
 unfolding hit
 hit-found true true at p has_first = (refl, refl, refl)
+hit-found false l at p x' = elim x' [ ]
+hit-found true false at p x3 = elim x3 [ ]
+hit-found true true at p (has_later x8) = elim x8 [ ]
 
 module _ (ns : List Name) where
   -- the record and its parts
@@ -203,6 +207,7 @@ module _ (ns : List Name) where
       Has (offending ns bs i at W) p → Why i bs at W p) →
       (qs : List Piece) (j : Bool) (at p : ℕ) → total qs ≤ n → Has (offs ns at (items j qs [])) p → WhyIn j at qs p
   unfolding offs items item total
+  find-in n f [] j at p h m = elim m [ ]
   find-in n f (q ∷ qs) j at p h m =
       go (has_either (offending ns q.around j at q.term) _ p m)
       (λ x. find-in n f qs j (at + width q.term) p (omega (arith, h)) x)

@@ -4,7 +4,7 @@ use mathlib.Core.Logic.{inl, inr}
 use mathlib.Core.List.{[], ◌∷◌, ◌++◌}
 use Rattle.language.specs.Ty.{Ty, expression, Question, ask, read, Answer}
 use Rattle.language.specs.Ty.{Answers, to_ask, to_read}
-use Rattle.language.specs.Move.{question, answer, at, private, move, Word}
+use Rattle.language.specs.Move.{question, answer, at, move, Word}
 use Rattle.language.specs.Term as t
 use Rattle.language.specs.Term.{Term, skip, diverge, const, name, fetch, operate, assign, seq, while, cond, new}
 use Rattle.language.specs.Term.{Args, no_args, arg, Often, freely, once}
@@ -55,6 +55,7 @@ calm-answer asked (to_ask h) = gives
 calm-answer fetched (to_read h) = gives
 
 calm-private : {q : Question} {a : Answer} → Asked q → VarPair q a → Calm (answer a)
+calm-private {a = a} asked x3 = elim x3 [ ]
 calm-private fetched reading = gives
 
 -- an expression is only asked

@@ -43,7 +43,7 @@ module _ (N : Numbers) (ns : List Name) (t : List ℕ) where
   ready-later [] R h no_more = no_more
   ready-later {p = p} (x ∷ xs) R h (one_more F S s Q) =
       one_more F S (R.later h (omega (arith, width_some x.term)) s)
-      (ready-later xs R (omega (arith, h)) Q)
+      (ready-later {p = p + width x.term} xs R (omega (arith, h)) Q)
 
   -- the parts of a record and those after it
   ready-parts : {until at end : ℕ} {j : Bool} (ps : List Piece) (p : ℕ) (xs : List Item) → Side until at end j →

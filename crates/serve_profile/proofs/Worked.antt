@@ -2,7 +2,6 @@
 use Prim.Native.Nat.{ℕ}
 use mathlib.Core.Path.{◌≡◌, refl}
 use mathlib.Core.List.{List, [], ◌∷◌}
-use Rattle.language.specs.Number.{numbers}
 use Rattle.language.specs.Ty.{command, variable}
 use Rattle.language.specs.Term as t
 use Rattle.language.specs.Term.{freely}

@@ -358,6 +358,7 @@ module _ {ed : Edition} (N : Numbers) (s : List ℕ) (ns : List Name) where
       (left : ℕ) {bs : List Binder} {π : ℕ → ℕ} {at : ℕ} {t : Tree} {ty next : ℕ} →
       Parsed ed N s ns left bs π at t ty next → Sound ed N s ns left bs at (written s t) ty next
   unfolding writtens build first rest
+  sound Prim.Native.Nat.zero x = elim x [ ]
   sound (suc left) (p-skip {at = at} {bs = bs} {r = r} S) =
       rw (built s r Skip 0 (length bs) (at + 1) leaf S.ruled) (sound-skip ed N s ns left bs at S.byte)
   sound (suc left) (p-diverge {at = at} {bs = bs} {r = r} S b l) =

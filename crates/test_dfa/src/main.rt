@@ -3,7 +3,6 @@
 
 use crate::checked::{Answer, Life, compare_checked, live_checked, settle_checked};
 use dfa_difference::Task;
-use libc::STDOUT_FILENO;
 
 mod tested; // tested.rt: whether the words are an automaton
 mod checked; // checked.rt: the services with their requirements tested
@@ -39,50 +38,50 @@ fn fill(words: &mut [u32], base: usize, part: &[u32]) {
     }
 }
 
-fn say(text: &[u8]) {
-    io::write_all(STDOUT_FILENO, text);
+fn say(rt: &impl Print, text: &[u8]) {
+    let _ = rt.write_all(text);
 }
 
 // count words from base on, and a line's end
-fn list(words: &[u32], base: usize, count: usize) {
+fn list(rt: &impl Print, words: &[u32], base: usize, count: usize) {
     let mut i = 0;
     while i < count {
-        say(b" ");
-        io::print_decimal(STDOUT_FILENO, word(words, base, i));
+        say(rt, b" ");
+        let _ = rt.print(word(words, base, i));
         i += 1;
     }
-    say(b"\n");
+    say(rt, b"\n");
 }
 
-fn show(words: &[u32], base: usize, a: Answer) {
+fn show(rt: &impl Print, words: &[u32], base: usize, a: Answer) {
     match a {
-        Answer::Invalid => say(b" refused\n"),
-        Answer::Equivalent => say(b" alike\n"),
-        Answer::Distinguished(len) => list(words, base, len),
+        Answer::Invalid => say(rt, b" refused\n"),
+        Answer::Equivalent => say(rt, b" alike\n"),
+        Answer::Distinguished(len) => list(rt, words, base, len),
     }
 }
 
-fn tell(l: Life) {
+fn tell(rt: &impl Print, l: Life) {
     match l {
-        Life::Invalid => say(b" refused\n"),
-        Life::Live => say(b" accepts\n"),
-        Life::Dead => say(b" accepts nothing\n"),
+        Life::Invalid => say(rt, b" refused\n"),
+        Life::Live => say(rt, b" accepts\n"),
+        Life::Dead => say(rt, b" accepts nothing\n"),
     }
 }
 
 // 0 goes by 1 to 1, by 2 to 3; 1 and 2 run silently for ever; 3 goes silently to 4; 5 is dead.
-fn silent() {
+fn silent(rt: &impl Print) {
     let mut w = [0u32; 48];
     let s = [0, 3, 2, 5, 0, 0];
     let g = [0, 2, 2, 2, 2, 2, 2, 1, 1, 2, 3];
     fill(&mut w, 0, &s);
     fill(&mut w, 30, &g);
     if !settle_checked(&mut w, 6) {
-        say(b"not settled\n");
+        say(rt, b"not settled\n");
     }
-    say(b"settled:");
-    list(&w, 37, 4);
-    say(b"after a silent loop:");
+    say(rt, b"settled:");
+    list(rt, &w, 37, 4);
+    say(rt, b"after a silent loop:");
     let a = compare_checked(
         &mut w,
         Task {
@@ -94,15 +93,15 @@ fn silent() {
             most: 6,
         },
     );
-    show(&w, 30, a);
+    show(rt, &w, 30, a);
 }
 
 // 0 goes by 5 to 2, 1 goes by 3 and by 5 to 2, which accepts; 3 is dead.
-fn one_side() {
+fn one_side(rt: &impl Print) {
     let mut w = [0u32; 40];
     let g = [0, 1, 3, 3, 3, 5, 2, 3, 2, 5, 2];
     fill(&mut w, 20, &g);
-    say(b"a letter on one side:");
+    say(rt, b"a letter on one side:");
     let a = compare_checked(
         &mut w,
         Task {
@@ -114,15 +113,15 @@ fn one_side() {
             most: 4,
         },
     );
-    show(&w, 20, a);
+    show(rt, &w, 20, a);
 }
 
 // 0 and 1 take turns by 1 and 2, and so do 2 and 3; 0 and 2 accept; 4 is dead.
-fn equal() {
+fn equal(rt: &impl Print) {
     let mut w = [0u32; 48];
     let g = [0, 1, 2, 3, 4, 4, 1, 1, 2, 0, 1, 3, 2, 2];
     fill(&mut w, 25, &g);
-    say(b"equal automata:");
+    say(rt, b"equal automata:");
     let a = compare_checked(
         &mut w,
         Task {
@@ -134,37 +133,37 @@ fn equal() {
             most: 5,
         },
     );
-    show(&w, 25, a);
+    show(rt, &w, 25, a);
 }
 
 // 0 accepts; 1 goes by 4 to itself; 2 is dead.
-fn dead() {
+fn dead(rt: &impl Print) {
     let mut w = [0u32; 32];
     let g = [0, 0, 1, 1, 4, 1];
     fill(&mut w, 15, &g);
-    say(b"the accepting state:");
-    tell(live_checked(&mut w, 3, 0, 0));
-    say(b"a state that goes round:");
-    tell(live_checked(&mut w, 3, 1, 0));
-    say(b"a state that is none:");
-    tell(live_checked(&mut w, 3, 3, 0));
+    say(rt, b"the accepting state:");
+    tell(rt, live_checked(&mut w, 3, 0, 0));
+    say(rt, b"a state that goes round:");
+    tell(rt, live_checked(&mut w, 3, 1, 0));
+    say(rt, b"a state that is none:");
+    tell(rt, live_checked(&mut w, 3, 3, 0));
 }
 
 // 0 goes by 1 to 1 and by 2 to 2; 1 goes by 1 to itself; 2 goes by 1 to 3, which accepts; 4 is dead.
-fn reached() {
+fn reached(rt: &impl Print) {
     let mut w = [0u32; 48];
     let g = [0, 2, 3, 4, 4, 4, 1, 1, 2, 2, 1, 1, 1, 3];
     fill(&mut w, 25, &g);
-    say(b"a state two steps away:");
-    tell(live_checked(&mut w, 5, 0, 3));
-    say(b"one that leads nowhere:");
-    tell(live_checked(&mut w, 5, 1, 3));
-    say(b"the dead state:");
-    tell(live_checked(&mut w, 5, 4, 3));
+    say(rt, b"a state two steps away:");
+    tell(rt, live_checked(&mut w, 5, 0, 3));
+    say(rt, b"one that leads nowhere:");
+    tell(rt, live_checked(&mut w, 5, 1, 3));
+    say(rt, b"the dead state:");
+    tell(rt, live_checked(&mut w, 5, 4, 3));
     let mut short = [0u32; 42];
     fill(&mut short, 25, &g);
-    say(b"no room to mark:");
-    tell(live_checked(&mut short, 5, 0, 3));
+    say(rt, b"no room to mark:");
+    tell(rt, live_checked(&mut short, 5, 0, 3));
 }
 
 // The steps of the chain.
@@ -195,10 +194,10 @@ fn chain(words: &mut [u32]) {
 }
 
 // 120 accepts, and 121 is dead: 0 is told from 1 by 119 letters.
-fn long() {
+fn long(rt: &impl Print) {
     let mut w = [0u32; 1024];
     chain(&mut w);
-    say(b"a long word:");
+    say(rt, b"a long word:");
     let a = compare_checked(
         &mut w,
         Task {
@@ -210,16 +209,16 @@ fn long() {
             most: STATES,
         },
     );
-    show(&w, GRAPH, a);
-    long_enough(119);
-    long_enough(118);
+    show(rt, &w, GRAPH, a);
+    long_enough(rt, 119);
+    long_enough(rt, 118);
 }
 
 // The same words, looked for up to a number of letters.
-fn long_enough(most: usize) {
+fn long_enough(rt: &impl Print, most: usize) {
     let mut w = [0u32; 1024];
     chain(&mut w);
-    say(b"of at most as many letters:");
+    say(rt, b"of at most as many letters:");
     let a = compare_checked(
         &mut w,
         Task {
@@ -231,15 +230,15 @@ fn long_enough(most: usize) {
             most,
         },
     );
-    show(&w, GRAPH, a);
+    show(rt, &w, GRAPH, a);
 }
 
 // An edge that leads to no state.
-fn wrong() {
+fn wrong(rt: &impl Print) {
     let mut w = [0u32; 32];
     let g = [0, 1, 1, 1, 4, 3];
     fill(&mut w, 15, &g);
-    say(b"an edge to no state:");
+    say(rt, b"an edge to no state:");
     let a = compare_checked(
         &mut w,
         Task {
@@ -251,15 +250,15 @@ fn wrong() {
             most: 3,
         },
     );
-    show(&w, 15, a);
+    show(rt, &w, 15, a);
 }
 
-fn main() {
-    silent();
-    one_side();
-    equal();
-    dead();
-    reached();
-    long();
-    wrong();
+fn main(rt: HostRuntime) {
+    silent(&rt);
+    one_side(&rt);
+    equal(&rt);
+    dead(&rt);
+    reached(&rt);
+    long(&rt);
+    wrong(&rt);
 }

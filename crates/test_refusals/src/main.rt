@@ -2,43 +2,50 @@
 // binders hold, and names that ask once, through the service check.
 #![tactic(auto)]
 
-use libc::STDOUT_FILENO;
 use sheet_judge::check::{Checked, check};
 use sheet_records::refusal::{NEW_SHEET, OLD_SHEET};
 
+fn say(rt: &impl Print, s: &[u8]) {
+    let _ = rt.write_all(s);
+}
+
+fn number(rt: &impl Print, n: u64) {
+    let _ = rt.print(n);
+}
+
 // Writes the name of the sheet that a refusal names; any other number stands for both.
-fn name(sheet: u8) {
+fn name(rt: &impl Print, sheet: u8) {
     match sheet {
         OLD_SHEET => {
-            io::write_all(STDOUT_FILENO, b" old ");
+            say(rt, b" old ");
         }
         NEW_SHEET => {
-            io::write_all(STDOUT_FILENO, b" new ");
+            say(rt, b" new ");
         }
         _ => {
-            io::write_all(STDOUT_FILENO, b" both ");
+            say(rt, b" both ");
         }
     }
 }
 
 // Writes the answer to a sheet as one line.
-fn show(s: &[u8]) {
+fn show(rt: &impl Print, s: &[u8]) {
     let r = check(s);
     match r {
         Checked::Accepted { ty, size, uses: _ } => {
-            io::write_all(STDOUT_FILENO, b"accepted type ");
-            io::print_decimal(STDOUT_FILENO, ty as u64);
-            io::write_all(STDOUT_FILENO, b" size ");
-            io::print_decimal(STDOUT_FILENO, size as u64);
+            say(rt, b"accepted type ");
+            number(rt, ty as u64);
+            say(rt, b" size ");
+            number(rt, size as u64);
         }
         Checked::Refused(x) => {
-            io::write_all(STDOUT_FILENO, b"refused ");
-            io::print_decimal(STDOUT_FILENO, x.number as u64);
-            name(x.sheet);
-            io::print_decimal(STDOUT_FILENO, x.place as u64);
+            say(rt, b"refused ");
+            number(rt, x.number as u64);
+            name(rt, x.sheet);
+            number(rt, x.place as u64);
         }
     }
-    io::write_all(STDOUT_FILENO, b"\n");
+    say(rt, b"\n");
 }
 
 // Byte base + i becomes v, where there is such a byte.
@@ -60,7 +67,7 @@ fn fill(s: &mut [u8], base: usize, part: &[u8]) {
 }
 
 // The sheet in which 8 (c) is a command and 9 is retired, with a term of at most 240 bytes.
-fn named(term: &[u8]) {
+fn named(rt: &impl Print, term: &[u8]) {
     let mut s = [0u8; 252];
     fill(
         &mut s,
@@ -70,41 +77,71 @@ fn named(term: &[u8]) {
     fill(&mut s, 12, term);
     let n = term.len();
     if n <= 240 {
-        show(&s[..12 + n]);
+        show(rt, &s[..12 + n]);
     }
 }
 
 // Document 02, [1]: the bytes of a procedure's record.
-fn procedures() {
-    named(b"\x1c\xff");
-    named(b"\x1c\x08");
-    named(b"\x1c\x09\x00\x00\xff\xff\xff\xff\xff\xff\xff\xff\x10\x10");
-    named(b"\x1c\x02\x05");
-    named(b"\x1c\x02\x00\x05");
-    named(b"\x1c\x02\x00\x01\xff");
-    named(b"\x1c\x02\x00\x01\x08");
-    named(b"\x1c\x02\x00\x01\x09\x07");
-    named(b"\x1c\x02\x00\x02\x04\x00\x04\x00");
-    named(b"\x1c\x02\x00\x02\x04\x05\x04\x00");
-    named(b"\x1c\x02\x00\x01\x02\x00\xff\xff\xff\xff\xff\xff\x14\x02\x14\x02\x14\x08");
-    named(b"\x1c\x02\x00\x01\x04\x00\x04");
-    named(b"\x1c\x02\x00\x01\x04\x00\xff\x00");
-    named(b"\x1c\x02\x00\x01\x04");
-    named(b"\x1c\x02\x00\x00\xff\xff\xff\xff\xff\xff\xff\xff");
-    named(b"\x1c\x02\x00\x00\xff\xff\xff\xff\xff\xff\xff\xff\x10");
+fn procedures(rt: &impl Print) {
+    named(rt, b"\x1c\xff");
+    named(rt, b"\x1c\x08");
+    named(
+        rt,
+        b"\x1c\x09\x00\x00\xff\xff\xff\xff\xff\xff\xff\xff\x10\x10",
+    );
+    named(rt, b"\x1c\x02\x05");
+    named(rt, b"\x1c\x02\x00\x05");
+    named(rt, b"\x1c\x02\x00\x01\xff");
+    named(rt, b"\x1c\x02\x00\x01\x08");
+    named(rt, b"\x1c\x02\x00\x01\x09\x07");
+    named(rt, b"\x1c\x02\x00\x02\x04\x00\x04\x00");
+    named(rt, b"\x1c\x02\x00\x02\x04\x05\x04\x00");
+    named(
+        rt,
+        b"\x1c\x02\x00\x01\x02\x00\xff\xff\xff\xff\xff\xff\x14\x02\x14\x02\x14\x08",
+    );
+    named(rt, b"\x1c\x02\x00\x01\x04\x00\x04");
+    named(rt, b"\x1c\x02\x00\x01\x04\x00\xff\x00");
+    named(rt, b"\x1c\x02\x00\x01\x04");
+    named(rt, b"\x1c\x02\x00\x00\xff\xff\xff\xff\xff\xff\xff\xff");
+    named(rt, b"\x1c\x02\x00\x00\xff\xff\xff\xff\xff\xff\xff\xff\x10");
 }
 
 // The scopes and types of procedures.
-fn scopes() {
-    named(b"\x1c\x02\x00\x00\xff\xff\xff\xff\xff\xff\xff\xff\x14\x02\x10");
-    named(b"\x1c\x02\x00\x01\x04\x00\xff\xff\xff\xff\xff\xff\x14\x04\x14\x04");
-    named(b"\x1c\x02\x00\x00\xff\xff\xff\xff\xff\xff\xff\xff\x14\x09\x10");
-    named(b"\x1c\x02\x01\x00\xff\xff\xff\xff\xff\xff\xff\xff\x10");
-    named(b"\x1c\x02\x00\x01\x05\x02\xff\xff\xff\xff\xff\xff\x10\x14\x02\x10");
-    named(b"\x1c\x02\x00\x01\x04\x00\xff\xff\xff\xff\xff\xff\x10\x14\x02");
-    named(b"\x1c\x02\x00\x00\xff\xff\xff\xff\xff\xff\xff\xff\x10\x14\x02\x10");
-    named(b"\x1c\x02\x00\x00\xff\xff\xff\xff\xff\xff\xff\xff\x10\x10\x1c");
-    named(b"\x1c\x02\x00\x00\xff\xff\xff\xff\xff\xff\xff\xff\x10\x01");
+fn scopes(rt: &impl Print) {
+    named(
+        rt,
+        b"\x1c\x02\x00\x00\xff\xff\xff\xff\xff\xff\xff\xff\x14\x02\x10",
+    );
+    named(
+        rt,
+        b"\x1c\x02\x00\x01\x04\x00\xff\xff\xff\xff\xff\xff\x14\x04\x14\x04",
+    );
+    named(
+        rt,
+        b"\x1c\x02\x00\x00\xff\xff\xff\xff\xff\xff\xff\xff\x14\x09\x10",
+    );
+    named(rt, b"\x1c\x02\x01\x00\xff\xff\xff\xff\xff\xff\xff\xff\x10");
+    named(
+        rt,
+        b"\x1c\x02\x00\x01\x05\x02\xff\xff\xff\xff\xff\xff\x10\x14\x02\x10",
+    );
+    named(
+        rt,
+        b"\x1c\x02\x00\x01\x04\x00\xff\xff\xff\xff\xff\xff\x10\x14\x02",
+    );
+    named(
+        rt,
+        b"\x1c\x02\x00\x00\xff\xff\xff\xff\xff\xff\xff\xff\x10\x14\x02\x10",
+    );
+    named(
+        rt,
+        b"\x1c\x02\x00\x00\xff\xff\xff\xff\xff\xff\xff\xff\x10\x10\x1c",
+    );
+    named(
+        rt,
+        b"\x1c\x02\x00\x00\xff\xff\xff\xff\xff\xff\xff\xff\x10\x01",
+    );
 }
 
 // Thirty-one sequences, each the second part of the one before, from the first byte on; 62 bytes.
@@ -117,23 +154,23 @@ fn sequences(t: &mut [u8]) {
 }
 
 // Procedures at depths 31, 32 and 33.
-fn depths() {
+fn depths(rt: &impl Print) {
     let procedure = b"\x1c\x02\x00\x00\xff\xff\xff\xff\xff\xff\xff\xff\x10\x10";
     let mut t = [0u8; 74];
     sequences(&mut t);
     fill(&mut t, 60, procedure);
-    named(&t);
+    named(rt, &t);
     let mut deeper = [0u8; 76];
     sequences(&mut deeper);
     fill(&mut deeper, 62, procedure);
-    named(&deeper);
+    named(rt, &deeper);
     let mut deepest = [0u8; 64];
     sequences(&mut deepest);
     fill(&mut deepest, 62, b"\x15\x1c");
-    named(&deepest);
+    named(rt, &deepest);
     // An unknown kind.
     fill(&mut deepest, 62, b"\x15\x1d");
-    named(&deepest);
+    named(rt, &deepest);
 }
 
 // A procedure with a parameter s (4) that uses another procedure of s, and that again; 18 bytes from byte base on.
@@ -178,16 +215,16 @@ fn chain(t: &mut [u8]) {
 }
 
 // 1,025 uses of c; 2,049, which are too many; and these in an argument that is not used.
-fn weights() {
+fn weights(rt: &impl Print) {
     let mut t = [0u8; 201];
     chain(&mut t);
     fill(&mut t, 197, &[20, 30, 20, 8]);
-    named(&t);
+    named(rt, &t);
     let mut longer = [0u8; 219];
     chain(&mut longer);
     link(&mut longer, 197, 31, 30);
     fill(&mut longer, 215, &[20, 31, 20, 8]);
-    named(&longer);
+    named(rt, &longer);
     let mut idle = [0u8; 234];
     chain(&mut idle);
     link(&mut idle, 197, 31, 30);
@@ -196,63 +233,96 @@ fn weights() {
         215,
         b"\x1c\x02\x00\x01\x04\x00\xff\xff\xff\xff\xff\xff\x10\x14\x02\x14\x1f\x14\x08",
     );
-    named(&idle);
+    named(rt, &idle);
 }
 
 // Document 02, [3]: news inside others and side by side.
-fn blocks() {
+fn blocks(rt: &impl Print) {
     // A new inside one with its id.
-    show(b"\x01\x00\x1b\x01\x02\x1b\x01");
+    show(rt, b"\x01\x00\x1b\x01\x02\x1b\x01");
     // In a part of a part.
-    show(b"\x01\x00\x1b\x01\x02\x18\x10\x1b\x01\x02\x10");
+    show(rt, b"\x01\x00\x1b\x01\x02\x18\x10\x1b\x01\x02\x10");
     // With another new between them.
-    show(b"\x01\x00\x1b\x01\x02\x1b\x02\x01\x1b\x01");
+    show(rt, b"\x01\x00\x1b\x01\x02\x1b\x02\x01\x1b\x01");
     // Side by side.
-    show(b"\x01\x00\x18\x1b\x01\x02\x10\x1b\x01\x02\x10");
+    show(rt, b"\x01\x00\x18\x1b\x01\x02\x10\x1b\x01\x02\x10");
     // Before the size.
-    show(b"\x07\x00\x1b\x00\x02\x1b\x00\x02\x17\x14\x00\x13\x00");
+    show(rt, b"\x07\x00\x1b\x00\x02\x1b\x00\x02\x17\x14\x00\x13\x00");
     // A retired id is 4.
-    show(b"\x01\x00\x02\x09\x1b\x01\x02\x1b\x09");
+    show(rt, b"\x01\x00\x02\x09\x1b\x01\x02\x1b\x09");
     // The range comes first.
-    show(b"\x01\x00\x1b\x01\x02\x1b\xff");
+    show(rt, b"\x01\x00\x1b\x01\x02\x1b\xff");
 }
 
 // Procedures and parameters inside others with their ids.
-fn inner() {
+fn inner(rt: &impl Print) {
     // A procedure inside a new with its id.
-    show(b"\x01\x00\x1b\x01\x02\x1c\x01");
+    show(rt, b"\x01\x00\x1b\x01\x02\x1c\x01");
     // A parameter inside a new with its id.
-    show(b"\x01\x00\x1b\x01\x02\x1c\x02\x00\x02\x01");
+    show(rt, b"\x01\x00\x1b\x01\x02\x1c\x02\x00\x02\x01");
     // Where a procedure may be used, a new, a procedure and a parameter with its id.
-    show(b"\x01\x00\x1c\x02\x00\x00\xff\xff\xff\xff\xff\xff\xff\xff\x10\x1b\x02");
-    show(b"\x01\x00\x1c\x02\x00\x00\xff\xff\xff\xff\xff\xff\xff\xff\x10\x1c\x02");
-    show(b"\x01\x00\x1c\x02\x00\x00\xff\xff\xff\xff\xff\xff\xff\xff\x10\x1c\x03\x00\x01\x02");
+    show(
+        rt,
+        b"\x01\x00\x1c\x02\x00\x00\xff\xff\xff\xff\xff\xff\xff\xff\x10\x1b\x02",
+    );
+    show(
+        rt,
+        b"\x01\x00\x1c\x02\x00\x00\xff\xff\xff\xff\xff\xff\xff\xff\x10\x1c\x02",
+    );
+    show(
+        rt,
+        b"\x01\x00\x1c\x02\x00\x00\xff\xff\xff\xff\xff\xff\xff\xff\x10\x1c\x03\x00\x01\x02",
+    );
     // An argument stands there too.
-    show(b"\x01\x00\x1c\x02\x00\x01\x04\x00\xff\xff\xff\xff\xff\xff\x10\x14\x02\x1b\x02");
+    show(
+        rt,
+        b"\x01\x00\x1c\x02\x00\x01\x04\x00\xff\xff\xff\xff\xff\xff\x10\x14\x02\x1b\x02",
+    );
     // In the procedure's term, a new, a procedure and a parameter with the id of a parameter.
-    show(b"\x01\x00\x1c\x02\x00\x01\x04\x00\xff\xff\xff\xff\xff\xff\x1b\x04");
-    show(b"\x01\x00\x1c\x02\x00\x01\x04\x00\xff\xff\xff\xff\xff\xff\x1c\x04");
-    show(b"\x01\x00\x1c\x02\x00\x01\x04\x00\xff\xff\xff\xff\xff\xff\x1c\x03\x00\x01\x04");
+    show(
+        rt,
+        b"\x01\x00\x1c\x02\x00\x01\x04\x00\xff\xff\xff\xff\xff\xff\x1b\x04",
+    );
+    show(
+        rt,
+        b"\x01\x00\x1c\x02\x00\x01\x04\x00\xff\xff\xff\xff\xff\xff\x1c\x04",
+    );
+    show(
+        rt,
+        b"\x01\x00\x1c\x02\x00\x01\x04\x00\xff\xff\xff\xff\xff\xff\x1c\x03\x00\x01\x04",
+    );
     // The procedure's own id there, where a parameter has it.
-    show(b"\x01\x00\x1c\x02\x00\x01\x02\x00\xff\xff\xff\xff\xff\xff\x1b\x02");
+    show(
+        rt,
+        b"\x01\x00\x1c\x02\x00\x01\x02\x00\xff\xff\xff\xff\xff\xff\x1b\x02",
+    );
     // The parameters of a record do not enclose each other: 4.
-    show(b"\x01\x00\x1b\x01\x02\x1c\x02\x00\x02\x05\x00\x05");
+    show(rt, b"\x01\x00\x1b\x01\x02\x1c\x02\x00\x02\x05\x00\x05");
 }
 
 // Ids that no enclosing binder holds.
-fn free() {
+fn free(rt: &impl Print) {
     // A parameter with the procedure's own id.
-    show(b"\x01\x00\x1c\x02\x00\x01\x02\x00\xff\xff\xff\xff\xff\xff\x14\x02\x10");
+    show(
+        rt,
+        b"\x01\x00\x1c\x02\x00\x01\x02\x00\xff\xff\xff\xff\xff\xff\x14\x02\x10",
+    );
     // A new with the procedure's own id in its term.
-    show(b"\x01\x00\x1c\x02\x00\x00\xff\xff\xff\xff\xff\xff\xff\xff\x1b\x02\x01\x10\x10");
+    show(
+        rt,
+        b"\x01\x00\x1c\x02\x00\x00\xff\xff\xff\xff\xff\xff\xff\xff\x1b\x02\x01\x10\x10",
+    );
     // A new with the id of a parameter where the procedure may be used.
-    show(b"\x01\x00\x1c\x02\x00\x01\x04\x00\xff\xff\xff\xff\xff\xff\x10\x1b\x04\x02\x10");
+    show(
+        rt,
+        b"\x01\x00\x1c\x02\x00\x01\x04\x00\xff\xff\xff\xff\xff\xff\x10\x1b\x04\x02\x10",
+    );
     // Two procedures side by side.
     let procedure = b"\x1c\x02\x00\x00\xff\xff\xff\xff\xff\xff\xff\xff\x10\x10";
     let mut t = [24u8; 29];
     fill(&mut t, 1, procedure);
     fill(&mut t, 15, procedure);
-    named(&t);
+    named(rt, &t);
     // A procedure in the term of another with its id.
     let mut inner = [16u8; 27];
     fill(
@@ -261,52 +331,55 @@ fn free() {
         b"\x1c\x02\x00\x00\xff\xff\xff\xff\xff\xff\xff\xff",
     );
     fill(&mut inner, 12, procedure);
-    named(&inner);
+    named(rt, &inner);
 }
 
 // Document 02, [5]: the bytes of a name record of kind 3, which are judged as those of kind 1.
-fn once() {
+fn once(rt: &impl Print) {
     // Cut short.
-    show(b"\x01\x00\x03");
+    show(rt, b"\x01\x00\x03");
     // The id, the result type, the number of arguments and an argument type out of range.
-    show(b"\x01\x00\x03\xff");
-    show(b"\x01\x00\x03\x07\x05");
-    show(b"\x01\x00\x03\x07\x00\x05");
-    show(b"\x01\x00\x03\x07\x00\x01\x05");
+    show(rt, b"\x01\x00\x03\xff");
+    show(rt, b"\x01\x00\x03\x07\x05");
+    show(rt, b"\x01\x00\x03\x07\x00\x05");
+    show(rt, b"\x01\x00\x03\x07\x00\x01\x05");
     // An unused argument type that is not 255, before the end and at the end.
-    show(b"\x01\x00\x03\x07\x00\x01\x00\xff\x00");
-    show(b"\x01\x00\x03\x07\x00\x03\x00\x00\x00\xfe");
+    show(rt, b"\x01\x00\x03\x07\x00\x01\x00\xff\x00");
+    show(rt, b"\x01\x00\x03\x07\x00\x03\x00\x00\x00\xfe");
     // An id that kind 1 declares, one that kind 3 declares, and a new on such a one.
-    show(b"\x01\x00\x01\x07\x00\x00\xff\xff\xff\xff\x03\x07");
-    show(b"\x01\x00\x03\x07\x00\x00\xff\xff\xff\xff\x01\x07");
-    show(b"\x01\x00\x03\x07\x00\x00\xff\xff\xff\xff\x1b\x07");
+    show(rt, b"\x01\x00\x01\x07\x00\x00\xff\xff\xff\xff\x03\x07");
+    show(rt, b"\x01\x00\x03\x07\x00\x00\xff\xff\xff\xff\x01\x07");
+    show(rt, b"\x01\x00\x03\x07\x00\x00\xff\xff\xff\xff\x1b\x07");
     // An argument of the wrong type.
-    show(b"\x01\x00\x03\x07\x00\x01\x00\xff\xff\xff\x14\x07\x13\x01");
+    show(
+        rt,
+        b"\x01\x00\x03\x07\x00\x01\x00\xff\xff\xff\x14\x07\x13\x01",
+    );
     // Inside the term, kind 3 is unknown.
-    show(b"\x01\x00\x18\x03\x07\x10");
+    show(rt, b"\x01\x00\x18\x03\x07\x10");
     // Accepted, without arguments and with one.
-    show(b"\x01\x00\x03\x07\x00\x00\xff\xff\xff\xff\x14\x07");
-    show(b"\x01\x00\x03\x07\x00\x01\x00\xff\xff\xff\x14\x07\x10");
+    show(rt, b"\x01\x00\x03\x07\x00\x00\xff\xff\xff\xff\x14\x07");
+    show(rt, b"\x01\x00\x03\x07\x00\x01\x00\xff\xff\xff\x14\x07\x10");
 }
 
-fn main() {
-    show(b"");
-    show(b"\x00");
-    show(b"\x01\x00");
-    show(b"\x01\x00\x13\x02");
-    show(b"\x01\x00\x14\x05");
-    show(b"\x01\x00\x02\x05\x14\x05");
-    show(b"\x01\x00\x02\x05\x1b\x05\x02\x10");
-    show(b"\x01\x00\x1a\x10\x10");
-    show(b"\x01\x00\x10\x10");
-    show(b"\x20\x00\x10");
-    show(b"\x1f\x00\x10");
-    procedures();
-    scopes();
-    depths();
-    weights();
-    blocks();
-    inner();
-    free();
-    once();
+fn main(rt: HostRuntime) {
+    show(&rt, b"");
+    show(&rt, b"\x00");
+    show(&rt, b"\x01\x00");
+    show(&rt, b"\x01\x00\x13\x02");
+    show(&rt, b"\x01\x00\x14\x05");
+    show(&rt, b"\x01\x00\x02\x05\x14\x05");
+    show(&rt, b"\x01\x00\x02\x05\x1b\x05\x02\x10");
+    show(&rt, b"\x01\x00\x1a\x10\x10");
+    show(&rt, b"\x01\x00\x10\x10");
+    show(&rt, b"\x20\x00\x10");
+    show(&rt, b"\x1f\x00\x10");
+    procedures(&rt);
+    scopes(&rt);
+    depths(&rt);
+    weights(&rt);
+    blocks(&rt);
+    inner(&rt);
+    free(&rt);
+    once(&rt);
 }

@@ -25,41 +25,48 @@ const SWITCH_BY_TRUTH: [u8; 24] = [
 ];
 
 // One range and rule.
-fn range(z: u8, rule: u8, names: &[u8], old: &[u8], new: &[u8]) {
-    say(b"Z ");
-    number(z as u64);
-    say(b" rule ");
-    number(rule as u64);
-    say(b"\n");
-    with_room(z, rule, names, old, new);
+fn range(rt: &impl Print, z: u8, rule: u8, names: &[u8], old: &[u8], new: &[u8]) {
+    say(rt, b"Z ");
+    number(rt, z as u64);
+    say(rt, b" rule ");
+    number(rt, rule as u64);
+    say(rt, b"\n");
+    with_room(rt, z, rule, names, old, new);
 }
 
 // Every range.
-fn ranges(rule: u8, names: &[u8], old: &[u8], new: &[u8]) {
+fn ranges(rt: &impl Print, rule: u8, names: &[u8], old: &[u8], new: &[u8]) {
     let mut z = 1;
     while z < 8 {
-        range(z, rule, names, old, new);
+        range(rt, z, rule, names, old, new);
         z += 1;
     }
 }
 
-fn example(what: &[u8], names: &[u8], old: &[u8], new: &[u8]) {
-    title(what);
-    ranges(0, names, old, new);
-    ranges(1, names, old, new);
-    ranges(2, names, old, new);
+fn example(rt: &impl Print, what: &[u8], names: &[u8], old: &[u8], new: &[u8]) {
+    title(rt, what);
+    ranges(rt, 0, names, old, new);
+    ranges(rt, 1, names, old, new);
+    ranges(rt, 2, names, old, new);
 }
 
-pub(crate) fn all() {
-    example(b"5.1 locality", &C, &[27, 1, 2, 20, 8], &[20, 8]);
-    example(b"5.2 snapback", &F, &SNAPBACK, &[20, 7, 17, 0]);
-    example(b"5.3 invariant", &F, &EVEN, &DIVERGE);
+pub(crate) fn all(rt: &impl Print) {
+    example(rt, b"5.1 locality", &C, &[27, 1, 2, 20, 8], &[20, 8]);
+    example(rt, b"5.2 snapback", &F, &SNAPBACK, &[20, 7, 17, 0]);
+    example(rt, b"5.3 invariant", &F, &EVEN, &DIVERGE);
     example(
+        rt,
         b"5.4 representation",
         &F_TWO,
         &OFF_AS_ONE,
         &OFF_AS_MINUS_ONE,
     );
-    example(b"5.5 parametricity", &F, &COUNTING, &[20, 7, 16]);
-    example(b"5.6 switch", &F_TWO, &SWITCH_BY_NUMBER, &SWITCH_BY_TRUTH);
+    example(rt, b"5.5 parametricity", &F, &COUNTING, &[20, 7, 16]);
+    example(
+        rt,
+        b"5.6 switch",
+        &F_TWO,
+        &SWITCH_BY_NUMBER,
+        &SWITCH_BY_TRUTH,
+    );
 }

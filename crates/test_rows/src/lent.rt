@@ -11,17 +11,17 @@ const SKIP: [u8; 3] = [1, 0, 16];
 
 const DIVERGE: [u8; 4] = [1, 0, 17, 0];
 
-pub(crate) fn compared() {
+pub(crate) fn compared(rt: &impl Print) {
     let mut words = [0u32; 288];
     let mut fewer = [0u32; 287];
     let mut space = [0u8; 28];
     let mut short = [0u8; 27];
-    title(b"288 words, 28 bytes");
-    show(&SKIP, &DIVERGE, &mut words, &mut space);
-    title(b"287 words, 28 bytes");
-    show(&SKIP, &DIVERGE, &mut fewer, &mut space);
-    title(b"288 words, 27 bytes");
-    show(&SKIP, &DIVERGE, &mut words, &mut short);
+    title(rt, b"288 words, 28 bytes");
+    show(rt, &SKIP, &DIVERGE, &mut words, &mut space);
+    title(rt, b"287 words, 28 bytes");
+    show(rt, &SKIP, &DIVERGE, &mut fewer, &mut space);
+    title(rt, b"288 words, 27 bytes");
+    show(rt, &SKIP, &DIVERGE, &mut words, &mut short);
 }
 
 // Writes a refusal from the start of out: its length.
@@ -32,34 +32,34 @@ fn refusal(out: &mut [u8], x: Cause) -> usize
 }
 
 // Prints how many moves follow finds, and whether the play is complete; or the refusal.
-fn print(r: Following) {
+fn print(rt: &impl Print, r: Following) {
     match r {
         Following::Follows { count, complete } => {
-            number(count as u64);
+            number(rt, count as u64);
             if complete {
-                say(b" yes\n")
+                say(rt, b" yes\n")
             } else {
-                say(b" no\n")
+                say(rt, b" no\n")
             }
         }
         Following::Refused(x) => {
             let mut out = [0u8; 64];
             let n = refusal(&mut out, x);
-            say(&out[..n]);
+            say(rt, &out[..n]);
         }
     }
 }
 
-fn play(what: &[u8], sheet: &[u8], play: &[u8]) {
+fn play(rt: &impl Print, what: &[u8], sheet: &[u8], play: &[u8]) {
     let mut words = [0u32; 160];
-    title(what);
-    print(follow(sheet, play, &mut words));
+    title(rt, what);
+    print(rt, follow(sheet, play, &mut words));
 }
 
-pub(crate) fn followed() {
-    play(b"run on skip", &SKIP, &[0, 255, 0]);
-    play(b"run on diverge", &DIVERGE, &[0, 255, 0]);
-    play(b"run and done on skip", &SKIP, &[0, 255, 0, 1, 255, 0]);
-    play(b"a record cut short", &SKIP, &[0, 255, 0, 1, 255]);
-    play(b"kind 7", &SKIP, &[0, 255, 0, 7, 255, 0]);
+pub(crate) fn followed(rt: &impl Print) {
+    play(rt, b"run on skip", &SKIP, &[0, 255, 0]);
+    play(rt, b"run on diverge", &DIVERGE, &[0, 255, 0]);
+    play(rt, b"run and done on skip", &SKIP, &[0, 255, 0, 1, 255, 0]);
+    play(rt, b"a record cut short", &SKIP, &[0, 255, 0, 1, 255]);
+    play(rt, b"kind 7", &SKIP, &[0, 255, 0, 7, 255, 0]);
 }

@@ -26,26 +26,26 @@ mod lent;
 // Terms that try the automata.
 mod tried;
 
-fn main() {
-    table::rows();
-    table::more_rows();
-    examples::all();
-    refused::sheets();
-    refused::more_sheets();
-    refused::enclosed();
-    refused::pairs();
-    lent::compared();
-    lent::followed();
-    tried::blocks();
-    tried::calls();
-    remainders::rows();
-    routines::saints();
-    routines::inlined();
-    routines::weights();
-    routines::variables();
-    routines::ids();
-    routines::parameters();
-    routines::expressions();
-    once::rows();
-    moon::rows();
+fn main(rt: HostRuntime) {
+    table::rows(&rt);
+    table::more_rows(&rt);
+    examples::all(&rt);
+    refused::sheets(&rt);
+    refused::more_sheets(&rt);
+    refused::enclosed(&rt);
+    refused::pairs(&rt);
+    lent::compared(&rt);
+    lent::followed(&rt);
+    tried::blocks(&rt);
+    tried::calls(&rt);
+    remainders::rows(&rt);
+    routines::saints(&rt);
+    routines::inlined(&rt);
+    routines::weights(&rt);
+    routines::variables(&rt);
+    routines::ids(&rt);
+    routines::parameters(&rt);
+    routines::expressions(&rt);
+    once::rows(&rt);
+    moon::rows(&rt);
 }

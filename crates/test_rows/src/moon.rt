@@ -12,24 +12,28 @@ const NOTED: [u8; 27] = [
 
 // f goes through the table: each use of its argument moves v one line on. The old routine has c note that the table has
 // run out, the new one has not.
-fn table(what: &[u8], rule: u8) {
-    row(what, 1, rule, &F_AND_C, &NOTED, &COUNTING);
+fn table(rt: &impl Print, what: &[u8], rule: u8) {
+    row(rt, what, 1, rule, &F_AND_C, &NOTED, &COUNTING);
 }
 
-pub(crate) fn rows() {
+pub(crate) fn rows(rt: &impl Print) {
     table(
+        rt,
         b"a moon table with a note at its end | without it, rule 0",
         0,
     );
     table(
+        rt,
         b"a moon table with a note at its end | without it, rule 1",
         1,
     );
     table(
+        rt,
         b"a moon table with a note at its end | without it, rule 2",
         2,
     );
     row(
+        rt,
         b"e remainder 0 | diverge, rule 2",
         1,
         2,

@@ -8,9 +8,10 @@ const F_ONCE: [u8; 8] = [3, 7, 0, 1, 0, 255, 255, 255];
 // f takes two commands, is a command and asks once.
 const F_TWO_ONCE: [u8; 8] = [3, 7, 0, 2, 0, 0, 255, 255];
 
-pub(crate) fn rows() {
+pub(crate) fn rows(rt: &impl Print) {
     // new v in f(v := !v + 1) | f(skip)
     row(
+        rt,
         b"counting | f(skip), rule 0, f asks once",
         1,
         0,
@@ -19,6 +20,7 @@ pub(crate) fn rows() {
         &[20, 7, 16],
     );
     row(
+        rt,
         b"f(f(skip)) | f(skip), f asks once",
         1,
         0,
@@ -27,6 +29,7 @@ pub(crate) fn rows() {
         &[20, 7, 16],
     );
     row(
+        rt,
         b"f(skip, diverge) | f(skip, skip), f asks once",
         1,
         0,

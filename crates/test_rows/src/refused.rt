@@ -14,75 +14,92 @@ const RETIRED: [u8; 67] = [
     27, 2, 28, 2, 29, 2, 30, 2, 31, 2,
 ];
 
-fn sheet(what: &[u8], s: &[u8]) {
-    title(what);
-    as_program(s, b"");
-    as_program(&[1, 0, 16], s);
+fn sheet(rt: &impl Print, what: &[u8], s: &[u8]) {
+    title(rt, what);
+    as_program(rt, s, b"");
+    as_program(rt, &[1, 0, 16], s);
 }
 
-pub(crate) fn sheets() {
-    sheet(b"1 over 4,096 bytes", &[0; 4097]);
-    sheet(b"2 empty", b"");
-    sheet(b"2 no term", &[1, 0]);
-    sheet(b"3 Z = 0", &[0]);
-    sheet(b"3 Z = 32", &[32, 0, 16]);
-    sheet(b"3 constant 2", &[1, 0, 19, 2]);
-    sheet(b"4 an id retired twice", &[1, 0, 2, 0, 2, 0]);
-    sheet(b"4 a new on a retired id", &[1, 0, 2, 5, 27, 5, 2, 16]);
+pub(crate) fn sheets(rt: &impl Print) {
+    sheet(rt, b"1 over 4,096 bytes", &[0; 4097]);
+    sheet(rt, b"2 empty", b"");
+    sheet(rt, b"2 no term", &[1, 0]);
+    sheet(rt, b"3 Z = 0", &[0]);
+    sheet(rt, b"3 Z = 32", &[32, 0, 16]);
+    sheet(rt, b"3 constant 2", &[1, 0, 19, 2]);
+    sheet(rt, b"4 an id retired twice", &[1, 0, 2, 0, 2, 0]);
+    sheet(rt, b"4 a new on a retired id", &[1, 0, 2, 5, 27, 5, 2, 16]);
 }
 
-pub(crate) fn more_sheets() {
-    sheet(b"5 use of an id that nothing declares", &[1, 0, 20, 5]);
-    sheet(b"6 use of a retired id", &[1, 0, 2, 5, 20, 5]);
-    sheet(b"7 while with a command as its test", &[1, 0, 26, 16, 16]);
-    sheet(b"8 fetches to depth 33", &FETCHES);
-    sheet(b"9 33 retired ids", &RETIRED);
-    sheet(b"10 bytes after the term", &[1, 0, 16, 16]);
+pub(crate) fn more_sheets(rt: &impl Print) {
+    sheet(rt, b"5 use of an id that nothing declares", &[1, 0, 20, 5]);
+    sheet(rt, b"6 use of a retired id", &[1, 0, 2, 5, 20, 5]);
     sheet(
+        rt,
+        b"7 while with a command as its test",
+        &[1, 0, 26, 16, 16],
+    );
+    sheet(rt, b"8 fetches to depth 33", &FETCHES);
+    sheet(rt, b"9 33 retired ids", &RETIRED);
+    sheet(rt, b"10 bytes after the term", &[1, 0, 16, 16]);
+    sheet(
+        rt,
         b"11 size 6,978",
         &[7, 0, 27, 0, 2, 27, 1, 2, 23, 20, 0, 19, 0],
     );
 }
 
 // Document 02, [3]: a binder with the id of an enclosing one.
-pub(crate) fn enclosed() {
+pub(crate) fn enclosed(rt: &impl Print) {
     sheet(
+        rt,
         b"16 a new inside one with its id",
         &[1, 0, 27, 1, 2, 27, 1, 2, 16],
     );
     sheet(
+        rt,
         b"16 a procedure inside a new with its id",
         &[1, 0, 27, 1, 2, 28, 1],
     );
     sheet(
+        rt,
         b"16 a parameter inside a new with its id",
         &[1, 0, 27, 1, 2, 28, 2, 0, 1, 1],
     );
     sheet(
+        rt,
         b"16 a procedure inside another with its id",
         b"\x01\x00\x1c\x02\x00\x00\xff\xff\xff\xff\xff\xff\xff\xff\x10\x1c\x02",
     );
     sheet(
+        rt,
         b"16 a new with a parameter's id in the procedure's term",
         b"\x01\x00\x1c\x02\x00\x01\x04\x00\xff\xff\xff\xff\xff\xff\x1b\x04",
     );
 }
 
-fn pair(what: &[u8], old: &[u8], new: &[u8]) {
-    title(what);
-    as_program(old, new);
+fn pair(rt: &impl Print, what: &[u8], old: &[u8], new: &[u8]) {
+    title(rt, what);
+    as_program(rt, old, new);
 }
 
-pub(crate) fn pairs() {
-    pair(b"12 the rules differ", &[1, 0, 16], &[1, 1, 16]);
-    pair(b"12 the result types differ", &[1, 0, 16], &[1, 0, 17, 1]);
+pub(crate) fn pairs(rt: &impl Print) {
+    pair(rt, b"12 the rules differ", &[1, 0, 16], &[1, 1, 16]);
     pair(
+        rt,
+        b"12 the result types differ",
+        &[1, 0, 16],
+        &[1, 0, 17, 1],
+    );
+    pair(
+        rt,
         b"13 sizes 3,378 and 4",
         &[7, 0, 27, 0, 2, 27, 1, 2, 27, 2, 2, 16],
         &[7, 0, 16],
     );
-    pair(b"Z = 31, sizes 4 and 4", &[31, 0, 16], &[31, 0, 17, 0]);
+    pair(rt, b"Z = 31, sizes 4 and 4", &[31, 0, 16], &[31, 0, 17, 0]);
     pair(
+        rt,
         b"13 Z = 31, sizes 66 and 66",
         &[31, 0, 19, 31],
         &[31, 0, 19, 30],

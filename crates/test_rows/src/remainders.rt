@@ -2,8 +2,9 @@
 use crate::show::row;
 use crate::terms::E;
 
-pub(crate) fn rows() {
+pub(crate) fn rows(rt: &impl Print) {
     row(
+        rt,
         b"-1 remainder 7 | 6, rule 0",
         7,
         0,
@@ -12,6 +13,7 @@ pub(crate) fn rows() {
         &[19, 6],
     );
     row(
+        rt,
         b"-1 remainder 7 | 6, rule 1",
         7,
         1,
@@ -20,6 +22,7 @@ pub(crate) fn rows() {
         &[19, 6],
     );
     row(
+        rt,
         b"-1 remainder -7 | 6",
         7,
         0,
@@ -28,6 +31,7 @@ pub(crate) fn rows() {
         &[19, 6],
     );
     row(
+        rt,
         b"-7 remainder 7 | 0",
         7,
         0,
@@ -36,6 +40,7 @@ pub(crate) fn rows() {
         &[19, 0],
     );
     row(
+        rt,
         b"e remainder 0 | diverge",
         7,
         1,

@@ -141,8 +141,9 @@ const SUM: [u8; 24] = [
 ];
 
 // Six lines for each saint, written out and written once.
-pub(crate) fn saints() {
+pub(crate) fn saints(rt: &impl Print) {
     row(
+        rt,
         b"six lines for each saint | a procedure of six lines",
         7,
         0,
@@ -151,6 +152,7 @@ pub(crate) fn saints() {
         &SIX_LINES_ONCE,
     );
     row(
+        rt,
         b"six lines for each saint | the same with day and rank exchanged",
         7,
         0,
@@ -161,8 +163,9 @@ pub(crate) fn saints() {
 }
 
 // A procedure and its text.
-pub(crate) fn inlined() {
+pub(crate) fn inlined(rt: &impl Print) {
     row(
+        rt,
         b"procedure p(s) = s; s in p(c) | c; c",
         1,
         0,
@@ -171,6 +174,7 @@ pub(crate) fn inlined() {
         &[24, 20, 8, 20, 8],
     );
     row(
+        rt,
         b"procedure p(s) = s; s in p(c) | c",
         1,
         0,
@@ -180,6 +184,7 @@ pub(crate) fn inlined() {
     );
     // A use in the argument of another.
     row(
+        rt,
         b"procedure p(s) = c; s in p(p(skip)) | c; (c; skip)",
         1,
         0,
@@ -188,6 +193,7 @@ pub(crate) fn inlined() {
         &[24, 20, 8, 24, 20, 8, 16],
     );
     row(
+        rt,
         b"procedure p(s) = f(s) in p(c) | f(c)",
         1,
         0,
@@ -198,9 +204,10 @@ pub(crate) fn inlined() {
 }
 
 // What is not used weighs nothing, however often it is said.
-pub(crate) fn weights() {
+pub(crate) fn weights(rt: &impl Print) {
     // An argument that is not used weighs nothing: by itself it would be 50,625.
     row(
+        rt,
         b"procedure p(s) = skip in p(four blocks) | skip, Z 7",
         7,
         0,
@@ -210,6 +217,7 @@ pub(crate) fn weights() {
     );
     // A procedure that is not used.
     row(
+        rt,
         b"procedure p(s) = diverge in c | c",
         1,
         0,
@@ -219,6 +227,7 @@ pub(crate) fn weights() {
     );
     // 512 uses that come down to one.
     row(
+        rt,
         b"p(s) = p(p(s)), nine times, first s | c",
         1,
         0,
@@ -229,9 +238,10 @@ pub(crate) fn weights() {
 }
 
 // Private variables of the caller and of the procedure.
-pub(crate) fn variables() {
+pub(crate) fn variables(rt: &impl Print) {
     // A private variable of the caller with the id of one of the procedure.
     row(
+        rt,
         b"procedure p(s) = new v in (s; v := 0) in new v in (p(v := 1); x := !v) | x := 1",
         1,
         0,
@@ -241,6 +251,7 @@ pub(crate) fn variables() {
     );
     // The procedure's own variable begins anew at each use.
     row(
+        rt,
         b"procedure p() = new v in (x := !v; v := 1) in p; p | x := 0; x := 0",
         1,
         0,
@@ -250,6 +261,7 @@ pub(crate) fn variables() {
     );
     // An outer variable is the variable, not its value.
     row(
+        rt,
         b"new v in procedure p() = v := !v + 1 in (p; (p; x := !v)) | x := 2, Z 2",
         2,
         0,
@@ -259,6 +271,7 @@ pub(crate) fn variables() {
     );
     // A variable as an argument.
     row(
+        rt,
         b"procedure p(w) = w := !w + 1 in new v in (p(v); (p(v); x := !v)) | x := 2, Z 2",
         2,
         0,
@@ -269,9 +282,10 @@ pub(crate) fn variables() {
 }
 
 // What an id means where it stands.
-pub(crate) fn ids() {
+pub(crate) fn ids(rt: &impl Print) {
     // A procedure uses one that is around it.
     row(
+        rt,
         b"procedure p() = c in procedure q() = p; p in q | c; c",
         1,
         0,
@@ -281,6 +295,7 @@ pub(crate) fn ids() {
     );
     // In its own term the procedure's id is free.
     row(
+        rt,
         b"procedure p() = new p in (p := 1; x := !p) in p | x := 1",
         1,
         0,
@@ -290,6 +305,7 @@ pub(crate) fn ids() {
     );
     // A variable around the procedure, used inside another.
     row(
+        rt,
         b"new v in (v := 1; procedure p() = x := !v in new u in p) | x := 1",
         1,
         0,
@@ -300,9 +316,10 @@ pub(crate) fn ids() {
 }
 
 // What an id and an argument mean in a procedure with a parameter.
-pub(crate) fn parameters() {
+pub(crate) fn parameters(rt: &impl Print) {
     // A parameter with the procedure's own id.
     row(
+        rt,
         b"procedure p(p) = p; p in p(c) | c; c",
         1,
         0,
@@ -312,6 +329,7 @@ pub(crate) fn parameters() {
     );
     // The argument is not reckoned beforehand.
     row(
+        rt,
         b"new v in procedure p(n) = (v := 1; x := n) in p(!v) | x := 1",
         1,
         0,
@@ -322,9 +340,10 @@ pub(crate) fn parameters() {
 }
 
 // Procedures that are expressions.
-pub(crate) fn expressions() {
+pub(crate) fn expressions(rt: &impl Print) {
     // The argument is played anew at each use.
     row(
+        rt,
         b"procedure p(n) = n - n in p(e) | 0",
         1,
         0,
@@ -333,6 +352,7 @@ pub(crate) fn expressions() {
         &[19, 0],
     );
     row(
+        rt,
         b"procedure p(n) = n - n in p(e) | e - e",
         1,
         0,
@@ -342,6 +362,7 @@ pub(crate) fn expressions() {
     );
     // A procedure that is an expression.
     row(
+        rt,
         b"procedure p(n) = n + 1 in p(p(0)) | 2, Z 2",
         2,
         0,

@@ -2,9 +2,10 @@
 use crate::show::row;
 use crate::terms::{C, COUNTING, DIVERGE, E, EVEN, F, SNAPBACK};
 
-pub(crate) fn rows() {
-    row(b"skip | diverge", 1, 0, b"", &[16], &DIVERGE);
+pub(crate) fn rows(rt: &impl Print) {
+    row(rt, b"skip | diverge", 1, 0, b"", &[16], &DIVERGE);
     row(
+        rt,
         b"while true do skip | diverge",
         1,
         0,
@@ -13,6 +14,7 @@ pub(crate) fn rows() {
         &DIVERGE,
     );
     row(
+        rt,
         b"c; diverge | diverge",
         1,
         0,
@@ -21,6 +23,7 @@ pub(crate) fn rows() {
         &DIVERGE,
     );
     row(
+        rt,
         b"new number v in c | c",
         1,
         0,
@@ -28,14 +31,15 @@ pub(crate) fn rows() {
         &[27, 1, 2, 20, 8],
         &[20, 8],
     );
-    row(b"c; c | c", 1, 0, &C, &[24, 20, 8, 20, 8], &[20, 8]);
-    row(b"e + 0 | e", 1, 0, &E, &[22, 0, 20, 9, 19, 0], &[20, 9]);
-    row(b"e - e | 0", 1, 0, &E, &[22, 1, 20, 9, 20, 9], &[19, 0]);
+    row(rt, b"c; c | c", 1, 0, &C, &[24, 20, 8, 20, 8], &[20, 8]);
+    row(rt, b"e + 0 | e", 1, 0, &E, &[22, 0, 20, 9, 19, 0], &[20, 9]);
+    row(rt, b"e - e | 0", 1, 0, &E, &[22, 1, 20, 9, 20, 9], &[19, 0]);
 }
 
-pub(crate) fn more_rows() {
+pub(crate) fn more_rows(rt: &impl Print) {
     // new v in (v := 0; f(v := 1); if !v = 1 then diverge else skip) | f(diverge)
     row(
+        rt,
         b"snapback | f(diverge)",
         1,
         0,
@@ -45,6 +49,7 @@ pub(crate) fn more_rows() {
     );
     // new v in f(v := !v + 1) | f(skip)
     row(
+        rt,
         b"counting | f(skip), rule 1",
         1,
         1,
@@ -53,6 +58,7 @@ pub(crate) fn more_rows() {
         &[20, 7, 16],
     );
     row(
+        rt,
         b"counting | f(skip), rule 0",
         1,
         0,
@@ -61,6 +67,6 @@ pub(crate) fn more_rows() {
         &[20, 7, 16],
     );
     // new v in (v := 0; f(v := !v + 2); if !v remainder 2 = 0 then diverge else skip) | diverge
-    row(b"even | diverge, Z 2 rule 0", 2, 0, &F, &EVEN, &DIVERGE);
-    row(b"even | diverge, Z 2 rule 1", 2, 1, &F, &EVEN, &DIVERGE);
+    row(rt, b"even | diverge, Z 2 rule 0", 2, 0, &F, &EVEN, &DIVERGE);
+    row(rt, b"even | diverge, Z 2 rule 1", 2, 1, &F, &EVEN, &DIVERGE);
 }

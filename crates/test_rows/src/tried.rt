@@ -33,8 +33,9 @@ const FIFTY_NINE: [u8; 176] = [
 ];
 
 // A silent loop, an argument that enters a block again, a write that ends a block.
-pub(crate) fn blocks() {
+pub(crate) fn blocks(rt: &impl Print) {
     row(
+        rt,
         b"while true do new v in v := 0 | diverge",
         1,
         0,
@@ -43,6 +44,7 @@ pub(crate) fn blocks() {
         &DIVERGE,
     );
     row(
+        rt,
         b"a block entered again by an argument | f(c)",
         1,
         0,
@@ -51,6 +53,7 @@ pub(crate) fn blocks() {
         &[20, 7, 20, 8],
     );
     row(
+        rt,
         b"c; new v in v := 1 | c",
         1,
         0,
@@ -61,8 +64,9 @@ pub(crate) fn blocks() {
 }
 
 // Nested arguments, moves that only one sheet has, a difference of 120 moves.
-pub(crate) fn calls() {
+pub(crate) fn calls(rt: &impl Print) {
     row(
+        rt,
         b"f(f(c)) | f(c)",
         1,
         0,
@@ -70,8 +74,9 @@ pub(crate) fn calls() {
         &[20, 7, 20, 7, 20, 8],
         &[20, 7, 20, 8],
     );
-    row(b"c | f(c)", 1, 0, &NAMES, &[20, 8], &[20, 7, 20, 8]);
+    row(rt, b"c | f(c)", 1, 0, &NAMES, &[20, 8], &[20, 7, 20, 8]);
     row(
+        rt,
         b"60 times c | 59 times c",
         1,
         0,

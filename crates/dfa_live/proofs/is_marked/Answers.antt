@@ -1,5 +1,4 @@
 -- `is_marked` says whether the word of the state's mark is 1.
-use borrow.Author.Rules.{rules}
 use borrow.Author.Tests.{eq-eqb, eqb-true}
 use mathlib.Core.Path.{sym, ◌∙◌}
 use Rattle.dfa_live.proofs.is_marked.Goals as goal

@@ -2,7 +2,6 @@
 use native.Mathlib.Omega.{arith}
 use Prim.Native.Nat.{◌*◌}
 use lib.ListN.{length-take}
-use borrow.Author.Rules.{rules}
 use Rattle.dfa_live.proofs.laws.Marked.{linkable, marked, unmarked}
 use Rattle.dfa_live.proofs.mark_live.Goals as goal
 
@@ -24,4 +23,4 @@ mark-requires c = unmarked _ _ _ _ c.requires c.clear.ensures _
 
 pub returns : goal.returns
 returns c = marked _ _ _ _ c.requires c.clear.ensures _ c.link_edges.ensures
-    c.mark.new.0 c.mark.ensures c.mark.auto.0
+    c.mark.new.words c.mark.ensures c.mark.auto.words

@@ -1,5 +1,4 @@
 -- `settle` keeps what `Settling` says.
-use borrow.Author.Rules.{rules}
 use Rattle.dfa_silent.proofs.laws.Settle.{steps_of, graph-of, settling}
 use Rattle.dfa_silent.proofs.laws.Paths.{begun-paths, whole_of}
 use Rattle.dfa_silent.proofs.settle.Goals as goal

@@ -1,7 +1,6 @@
 -- `sort_states` links the edges, begins with two classes and makes them finer.
 use native.Mathlib.Omega.{arith}
 use Rattle.dfa_sorting.proofs.laws.Starting.{end_is, g-is, linkable, refinable, sorted, start-asks, zero-asks}
-use borrow.Author.Rules.{rules}
 use Rattle.dfa_sorting.proofs.sort_states.Goals as goal
 
 pub overflow_mul-g-2 : goal.overflow_mul-g-2

@@ -267,21 +267,21 @@ module _ (G : List ℕ) (n : ℕ) (cls : ℕ → ℕ) (s : ℕ) (some : 0 < s) (
       refuted : (LeftAlike G n cls s i ie j je → ⊥) → SameInto (δ G n) cls s p q → ⊥
       refuted x y = x (I.same.1 (whole_is.0 y))
 
-      no : {A : Type 0} → (A → ⊥) → (false ≡ true) ↔ A
-      no f = ((λ e. no_true e), (λ a. absurd (f a)))
+      never : {A : Type 0} → (A → ⊥) → (false ≡ true) ↔ A
+      never f = ((λ e. no_true e), (λ a. absurd (f a)))
 
       -- the answers
       pub more_left : i < ie → je ≤ j → (false ≡ true) ↔ SameInto (δ G n) cls s p q
-      more_left h k = no (refuted (left-only i ie j je I.edges_other h k (I.hit h)))
+      more_left h k = never (refuted (left-only i ie j je I.edges_other h k (I.hit h)))
 
       pub other-letter : i < ie → j < je → letter G n i ≢ letter G n j → (false ≡ true) ↔ SameInto (δ G n) cls s p q
       other-letter h k ne =
-          no (refuted (letters-differ i ie j je I.edges I.edges_other h k (I.hit h) (I.hit_other k) ne))
+          never (refuted (letters-differ i ie j je I.edges I.edges_other h k (I.hit h) (I.hit_other k) ne))
 
       pub at-end : (b : Bool) → ie ≤ i → (b ≡ true → je ≤ j) → (b ≡ false → j < je)
           → (b ≡ true) ↔ SameInto (δ G n) cls s p q
       at-end true h f g = ((λ e. told (none_left i ie j je I.edges I.edges_other h (f refl))), (λ x. refl))
-      at-end false h f g = no (refuted (right-only i ie j je I.edges (g refl) h (I.hit_other (g refl))))
+      at-end false h f g = never (refuted (right-only i ie j je I.edges (g refl) h (I.hit_other (g refl))))
 
 -- the loop of same_into begins
 pub started : (G : List ℕ) (g n s p q : ℕ) (ws : List ℕ) → Comparing G g n s p q ws → (a ie b je i j : ℕ)

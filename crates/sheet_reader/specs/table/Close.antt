@@ -21,7 +21,7 @@ use Rattle.sheet_records.specs.declared.standing.Standing.TheVariants.{Procedure
 use Rattle.sheet_reader.specs.declared.close.Leaf.{Leaf}
 use Rattle.sheet_reader.specs.declared.close.Leaf.TheVariants.{Is, Other}
 use Rattle.sheet_reader.specs.declared.close.Sum.{Sum}
-use Rattle.sheet_reader.specs.declared.close.Sum.TheVariants.{Is as Row, Other as None}
+use Rattle.sheet_reader.specs.declared.close.Sum.TheVariants.{Is as Row, Other as NoSum}
 
 -- the row of a use without arguments: of a declared name and of a variable
 unfoldable pub leaf_use : List ℕ → Record → Standing → Leaf
@@ -63,4 +63,4 @@ pub record SumIs (t : List ℕ) (N : Numbers) (r : Record) (last ty detail n fir
 
 unfoldable pub SumRow : List ℕ → Numbers → Record → ℕ → Sum → Type 0
 SumRow t N r last (Row ty detail n first second) = SumIs t N r last ty detail n first second
-SumRow t N r last None = Unit
+SumRow t N r last NoSum = Unit

@@ -1,7 +1,6 @@
 -- What `next_state` gives is what `δ` says, case by case.
 use native.Mathlib.Omega.{arith}
 use Prim.Native.Nat.{◌*◌}
-use borrow.Author.Rules.{rules}
 use Rattle.dfa.proofs.laws.Rest.{rest-length}
 use Rattle.dfa.proofs.graph.next_state.Goals as goal
 

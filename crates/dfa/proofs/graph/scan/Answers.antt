@@ -1,8 +1,6 @@
 -- What `scan` gives is what `δ` says, case by case.
 use native.Mathlib.Omega.{arith}
-use Prim.Native.Nat.{◌-◌}
 use Rattle.dfa.proofs.laws.Scan.{scan-first, scan-hit, scan-again, scan-last}
-use Rattle.dfa.specs.inner.Scan.{Scanning}
 use Rattle.dfa.proofs.graph.scan.Goals as goal
 
 pub at-i-requires : goal.at-i-requires

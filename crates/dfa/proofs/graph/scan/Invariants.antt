@@ -1,6 +1,4 @@
-use native.Mathlib.Omega.{arith}
 use Prim.Native.Nat.{◌-◌}
-use Rattle.dfa.proofs.laws.Scan.{scan-first, scan-hit, scan-again, scan-last}
 use Rattle.dfa.specs.inner.Scan.{Scanning}
 use Rattle.dfa.proofs.graph.scan.Given as goal
 

@@ -1,7 +1,6 @@
 -- `past` keeps what `Past` says.
 use native.Mathlib.Omega.{arith}
 use mathlib.Core.Path.{sym, ◌∙◌}
-use borrow.Author.Rules.{rules}
 use Rattle.dfa.proofs.laws.Look.{past-hit, past-stay}
 use Rattle.dfa.proofs.step.past.Goals as goal
 

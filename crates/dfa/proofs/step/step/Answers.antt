@@ -1,5 +1,4 @@
 -- `step` keeps what `Moved` says.
-use borrow.Author.Rules.{rules}
 use Rattle.dfa.proofs.laws.Step.{next}
 use Rattle.dfa.proofs.step.step.Goals as goal
 

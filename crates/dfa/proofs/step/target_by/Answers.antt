@@ -1,7 +1,6 @@
 -- What `target_by` gives is what `look` says, case by case.
 use native.Mathlib.Omega.{arith}
 use mathlib.Core.Path.{sym, ◌∙◌}
-use borrow.Author.Rules.{rules}
 use Rattle.dfa.proofs.laws.Look.{look_at, look-before}
 use Rattle.dfa.proofs.step.target_by.Goals as goal
 

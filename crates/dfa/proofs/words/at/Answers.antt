@@ -1,6 +1,5 @@
 -- `at` gives the word at its place.
 use native.Mathlib.Omega.{arith}
-use borrow.Author.Rules.{rules}
 use Rattle.dfa.proofs.words.at.Goals as goal
 
 pub overflow_cast-result : goal.overflow_cast-result

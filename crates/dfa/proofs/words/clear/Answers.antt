@@ -1,9 +1,7 @@
 -- `clear` leaves only zeros: so far the words below i are 0, and the others as they were.
 use borrow.Author.Rules.{rules}
 use native.Mathlib.Omega.{arith}
-use Prim.Native.Nat.{ℕ, ◌-◌, ◌≤◌, ◌<◌}
-use mathlib.Core.Path.{◌≡◌, refl}
-use lib.ListN.{length, get_or}
+use mathlib.Core.Path.{refl}
 use Rattle.dfa.proofs.laws.Clear.{clear-again, clear-last}
 use Rattle.dfa.proofs.words.clear.Goals as goal
 

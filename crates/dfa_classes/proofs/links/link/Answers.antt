@@ -1,5 +1,4 @@
 -- `link` stores an edge in front of a list.
-use borrow.Author.Rules.{rules}
 use Rattle.dfa_classes.proofs.links.link.Goals as goal
 
 pub returns : goal.returns

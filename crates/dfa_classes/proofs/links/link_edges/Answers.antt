@@ -1,7 +1,5 @@
 -- `link_edges` puts edge after edge in the list of its target.
-use mathlib.Core.List.{List}
-use mathlib.Core.Path.{◌≡◌, subst, sym}
-use Prim.Native.Nat.{◌-◌, ℕ}
+use mathlib.Core.Path.{subst, sym}
 use native.Mathlib.Omega.{arith}
 use lib.ListN.{get_or}
 use Rattle.dfa_classes.specs.inner.Linking.{Linking}

@@ -1,11 +1,8 @@
 use mathlib.Core.List.{List}
-use mathlib.Core.Path.{◌≡◌, subst, sym}
+use mathlib.Core.Path.{◌≡◌}
 use Prim.Native.Nat.{◌-◌, ℕ}
-use native.Mathlib.Omega.{arith}
 use lib.ListN.{get_or}
 use Rattle.dfa_classes.specs.inner.Linking.{Linking}
-use Rattle.dfa_classes.proofs.laws.Linking.{edge-asks, end_is, ends-asks, first-is, head-asks, link-again}
-use Rattle.dfa_classes.proofs.laws.Linking.{link-asks}
 use Rattle.dfa_classes.proofs.links.link_edges.Given as goal
 
 abbrev pub invariant-loop-e : goal.invariant-loop-e

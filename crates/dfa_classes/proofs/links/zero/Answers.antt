@@ -1,6 +1,5 @@
 -- `zero` clears word after word.
 use mathlib.Core.Path.{subst}
-use Prim.Native.Nat.{◌-◌, ◌≤◌}
 use native.Mathlib.Omega.{arith}
 use Rattle.dfa_classes.specs.inner.Linking.{Zeroed}
 use Rattle.dfa_classes.proofs.laws.Linking.{zeroed-again, zeroed_first}

@@ -1,8 +1,5 @@
-use mathlib.Core.Path.{subst}
 use Prim.Native.Nat.{◌-◌, ◌≤◌}
-use native.Mathlib.Omega.{arith}
 use Rattle.dfa_classes.specs.inner.Linking.{Zeroed}
-use Rattle.dfa_classes.proofs.laws.Linking.{zeroed-again, zeroed_first}
 use Rattle.dfa_classes.proofs.links.zero.Given as goal
 
 abbrev pub invariant-loop-i : goal.invariant-loop-i

@@ -1,5 +1,4 @@
 -- `copy_members` copies the states place by place.
-use Prim.Native.Nat.{◌-◌, ◌≤◌}
 use native.Mathlib.Omega.{arith}
 use mathlib.Core.Path.{subst}
 use Rattle.dfa_classes.specs.inner.Sources.{CopiedTo}

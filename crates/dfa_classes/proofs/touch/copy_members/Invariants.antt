@@ -1,8 +1,5 @@
 use Prim.Native.Nat.{◌-◌, ◌≤◌}
-use native.Mathlib.Omega.{arith}
-use mathlib.Core.Path.{subst}
 use Rattle.dfa_classes.specs.inner.Sources.{CopiedTo}
-use Rattle.dfa_classes.proofs.laws.Sources.{copied-again, copied-asks, copied-first, member-asks}
 use Rattle.dfa_classes.proofs.touch.copy_members.Given as goal
 
 abbrev pub invariant-loop-i : goal.invariant-loop-i

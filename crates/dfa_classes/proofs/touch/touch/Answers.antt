@@ -1,6 +1,5 @@
 -- `touch` brings a state to the touched ones of its class.
 use native.Mathlib.Omega.{arith}
-use borrow.Author.Rules.{rules}
 use Rattle.dfa_classes.proofs.laws.Touching.{class_low, class-sum, exchange-asks, listed-asks, touch-done}
 use Rattle.dfa_classes.proofs.laws.Touching.{touch-room}
 use Rattle.dfa_classes.proofs.laws.Touching.{touched-asks, touched-more, touched-new}

@@ -1,12 +1,9 @@
 use mathlib.Core.List.{List}
-use mathlib.Core.Path.{◌∙◌, ◌≡◌}
+use mathlib.Core.Path.{◌≡◌}
 use Prim.Native.Nat.{◌-◌, ◌<◌, ℕ}
-use native.Mathlib.Omega.{arith}
 use Rattle.dfa_classes.specs.Places.{from_at, to_at}
 use Rattle.dfa_classes.specs.inner.Sources.{AllTouching, Copied}
 use Rattle.dfa_classes.specs.inner.Touching.{Touching}
-use Rattle.dfa_classes.proofs.laws.Sources.{all-again, all_first, all-last, class-asks, copied-room, copy-asks}
-use Rattle.dfa_classes.proofs.laws.Sources.{t-inside, t-low}
 use Rattle.dfa_classes.proofs.touch.touch_all.Given as goal
 
 abbrev pub invariant-loop-j : goal.invariant-loop-j

@@ -1,9 +1,6 @@
 -- `touch_sources` touches the sources of the edges in the list of a state.
-use mathlib.Core.List.{List}
-use mathlib.Core.Path.{◌≡◌, refl}
-use Prim.Native.Nat.{ℕ}
+use mathlib.Core.Path.{refl}
 use native.Mathlib.Omega.{arith}
-use Rattle.dfa_classes.specs.inner.Sources.{Sourcing}
 use Rattle.dfa_classes.proofs.laws.Sources.{edge-asks, source-asks, source_goes, sources-again, sources-first}
 use Rattle.dfa_classes.proofs.laws.Sources.{sources-last, sources-less}
 use Rattle.dfa_classes.proofs.laws.Touching.{touch-room}

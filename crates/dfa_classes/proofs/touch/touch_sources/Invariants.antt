@@ -1,11 +1,7 @@
 use mathlib.Core.List.{List}
-use mathlib.Core.Path.{◌≡◌, refl}
+use mathlib.Core.Path.{◌≡◌}
 use Prim.Native.Nat.{ℕ}
-use native.Mathlib.Omega.{arith}
 use Rattle.dfa_classes.specs.inner.Sources.{Sourcing}
-use Rattle.dfa_classes.proofs.laws.Sources.{edge-asks, source-asks, source_goes, sources-again, sources-first}
-use Rattle.dfa_classes.proofs.laws.Sources.{sources-last, sources-less}
-use Rattle.dfa_classes.proofs.laws.Touching.{touch-room}
 use Rattle.dfa_classes.proofs.touch.touch_sources.Given as goal
 
 abbrev pub invariant-loop-next : goal.invariant-loop-next

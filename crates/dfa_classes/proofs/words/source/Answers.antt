@@ -1,6 +1,6 @@
 -- `source` halves the states between two whose edges begin at e or before, and behind.
 use mathlib.Core.Path.{subst}
-use Prim.Native.Nat.{◌*◌, ◌+◌, ◌-◌, ◌<◌, ◌≤◌}
+use Prim.Native.Nat.{◌*◌, ◌+◌, ◌<◌}
 use native.Mathlib.Omega.{arith}
 use lib.ListN.{get_or}
 use Rattle.dfa_classes.proofs.words.source.Goals as goal

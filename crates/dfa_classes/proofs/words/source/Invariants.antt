@@ -1,6 +1,4 @@
-use mathlib.Core.Path.{subst}
 use Prim.Native.Nat.{◌*◌, ◌+◌, ◌-◌, ◌<◌, ◌≤◌}
-use native.Mathlib.Omega.{arith}
 use lib.ListN.{get_or}
 use Rattle.dfa_classes.proofs.words.source.Given as goal
 

@@ -1,5 +1,4 @@
 -- `alike` says whether two states both accept, or neither.
-use borrow.Author.Rules.{rules}
 use borrow.Author.Tests.{ne_eqb}
 use mathlib.Core.Path.{◌∙◌}
 use Rattle.dfa_difference.proofs.laws.Alike.{first-is-f, first-is-g, second-is-f}

@@ -1,5 +1,4 @@
 -- `alike_at` says it of the two states of an entry.
-use borrow.Author.Rules.{rules}
 use Rattle.dfa_difference.proofs.search.alike_at.Goals as goal
 
 pub returns : goal.returns

@@ -1,12 +1,11 @@
 -- `expand` keeps what `State` says.
 use native.Mathlib.Omega.{arith}
-use Prim.Native.Nat.{◌+◌, ◌-◌, ◌*◌}
+use Prim.Native.Nat.{◌*◌}
 use mathlib.Core.Path.{refl}
 use lib.ListN.{length-take}
 use Rattle.dfa.proofs.laws.Rest.{rest-length, front_at}
 use Rattle.dfa_difference.proofs.laws.Run.{within, expand-within, expand-again, expand-last, grown-first}
 use Rattle.dfa_difference.proofs.laws.Turn.{p-at, q-at, turn-first, turn-less, visit-pre}
-use Rattle.dfa_difference.specs.inner.State.{Expanding}
 use Rattle.dfa_difference.proofs.search.expand.Goals as goal
 
 pub overflow_mul-cut : goal.overflow_mul-cut
@@ -154,7 +153,7 @@ loop-i-smaller c = turn-less _ _ _ _ _ _ _ _ _ c.step-s.ensures.next
 pub loop-i-preserved : goal.loop-i-preserved
 loop-i-preserved c = expand-again _ _ _ _ _ _ _ _ _ _ _ _ _
     c.loop-i.invariant
-    c.step-s.ensures c.visit-last.auto.0
+    c.step-s.ensures c.visit-last.auto.work
     c.visit-last.ensures
 
 pub shape_of-words : goal.shape_of-words

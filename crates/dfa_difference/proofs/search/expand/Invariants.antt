@@ -1,10 +1,4 @@
-use native.Mathlib.Omega.{arith}
-use Prim.Native.Nat.{◌+◌, ◌-◌, ◌*◌}
-use mathlib.Core.Path.{refl}
-use lib.ListN.{length-take}
-use Rattle.dfa.proofs.laws.Rest.{rest-length, front_at}
-use Rattle.dfa_difference.proofs.laws.Run.{within, expand-within, expand-again, expand-last, grown-first}
-use Rattle.dfa_difference.proofs.laws.Turn.{p-at, q-at, turn-first, turn-less, visit-pre}
+use Prim.Native.Nat.{◌+◌, ◌-◌}
 use Rattle.dfa_difference.specs.inner.State.{Expanding}
 use Rattle.dfa_difference.proofs.search.expand.Given as goal
 

@@ -1,11 +1,8 @@
 -- `expand_level` keeps what `Leveled` says.
-use borrow.Author.Tests.{not-true, not-false}
 use native.Mathlib.Omega.{arith}
-use Prim.Native.Nat.{◌-◌}
 use mathlib.Core.Path.{sym, ◌∙◌}
 use Rattle.dfa_difference.proofs.laws.Search.{leveling-first, level-again, level-last, level-on, level-room}
 use Rattle.dfa_difference.proofs.laws.Search.{level-told}
-use Rattle.dfa_difference.specs.inner.Search.{Leveling}
 use Rattle.dfa_difference.proofs.search.expand_level.Goals as goal
 
 pub loop-head-init : goal.loop-head-init
@@ -21,7 +18,7 @@ shape_of-words-then-not-alike_at c = c.loop-head.invariant.len
 pub returns-then-not-alike_at : goal.returns-then-not-alike_at
 returns-then-not-alike_at c = (
   level-told _ _ _ _ _ _ _ c.loop-head.invariant c.loop-head-test.true
-      (sym c.alike_at.ensures ∙ not-true _ c.if-not-alike_at.true),
+      (sym c.alike_at.ensures ∙ c.if-not-alike_at.true),
   c.loop-head.invariant.graph,
 )
 
@@ -29,7 +26,7 @@ pub expand-tail-requires : goal.expand-tail-requires
 expand-tail-requires c = (
   c.loop-head.invariant.set_at,
   level-on _ _ _ _ _ _ _ c.loop-head.invariant c.loop-head-test.true c.requires.1.1
-      (sym c.alike_at.ensures ∙ not-false _ c.if-not-alike_at.false),
+      (sym c.alike_at.ensures ∙ c.if-not-alike_at.false),
 )
 
 pub overflow_add-head : goal.overflow_add-head
@@ -40,7 +37,7 @@ pub loop-head-smaller : goal.loop-head-smaller
 loop-head-smaller c = omega (arith, c.loop-head-test.true)
 
 pub loop-head-preserved : goal.loop-head-preserved
-loop-head-preserved c = level-again _ _ _ _ _ _ _ c.loop-head.invariant c.loop-head-test.true _ _ c.expand-tail.auto.0 c.expand-tail.ensures
+loop-head-preserved c = level-again _ _ _ _ _ _ _ c.loop-head.invariant c.loop-head-test.true _ _ c.expand-tail.auto.words c.expand-tail.ensures
 
 pub shape_of-words : goal.shape_of-words
 shape_of-words c = c.loop-head.invariant.len

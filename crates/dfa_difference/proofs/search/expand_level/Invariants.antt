@@ -1,9 +1,4 @@
-use borrow.Author.Tests.{not-true, not-false}
-use native.Mathlib.Omega.{arith}
 use Prim.Native.Nat.{◌-◌}
-use mathlib.Core.Path.{sym, ◌∙◌}
-use Rattle.dfa_difference.proofs.laws.Search.{leveling-first, level-again, level-last, level-on, level-room}
-use Rattle.dfa_difference.proofs.laws.Search.{level-told}
 use Rattle.dfa_difference.specs.inner.Search.{Leveling}
 use Rattle.dfa_difference.proofs.search.expand_level.Given as goal
 

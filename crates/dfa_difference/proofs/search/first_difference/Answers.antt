@@ -3,7 +3,6 @@ use native.Mathlib.Omega.{arith}
 use Prim.Native.Nat.{◌*◌}
 use mathlib.Core.Path.{refl, ◌∙◌, ap}
 use lib.ListN.{length-take, take}
-use borrow.Author.Rules.{rules}
 use Rattle.dfa.proofs.laws.Rest.{back-rest}
 use Rattle.dfa_difference.proofs.laws.Run.{prepared, outcome-of}
 use Rattle.dfa.specs.Graph.{δ, rest}
@@ -45,22 +44,22 @@ prepare-requires c = (
 
 pub run-requires : goal.run-requires
 run-requires c = prepared _ _ _ c.requires.1
-    c.prepare.auto.0 c.requires.0
+    c.prepare.auto.work c.requires.0
     c.prepare.ensures
 
 pub returns : goal.returns
 returns c = (
   outcome-of c.args.t
       c.args.words.now
-      c.prepare.new.0
+      c.prepare.new.work
       (take (5 * c.args.t.n)
-      c.run.new.0) c.run.result
+      c.run.new.words) c.run.result
       c.requires.1
-      c.prepare.auto.0 c.run.ensures.0,
+      c.prepare.auto.work c.run.ensures.0,
   c.run.ensures.1
       ∙ back-rest (5 * c.args.t.n)
       c.args.words.now
-      c.prepare.new.0
+      c.prepare.new.work
       c.requires.1
-      c.prepare.auto.0,
+      c.prepare.auto.work,
 )

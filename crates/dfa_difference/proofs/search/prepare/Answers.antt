@@ -1,5 +1,4 @@
 use native.Mathlib.Omega.{arith}
-use borrow.Author.Rules.{rules}
 use Rattle.dfa_difference.proofs.laws.Run.{start-state}
 use Rattle.dfa_difference.proofs.search.prepare.Goals as goal
 
@@ -14,7 +13,7 @@ link-requires c = let n = c.requires.1.0 in
 
 pub returns : goal.returns
 returns c = λ G s. start-state G _ s
-    c.requires.1.1.1.1 c.singles.new.0
+    c.requires.1.1.1.1 c.singles.new.work
     (omega (
       arith,
       c.singles.auto,

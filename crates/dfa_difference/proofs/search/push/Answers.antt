@@ -1,5 +1,4 @@
 -- What `push` leaves is what `pushed` says.
-use borrow.Author.Rules.{rules}
 use Rattle.dfa_difference.proofs.search.push.Goals as goal
 
 pub returns : goal.returns

@@ -1,11 +1,9 @@
 -- `run` keeps what `Outcome` says.
-use borrow.Author.Rules.{rules}
 use native.Mathlib.Omega.{arith}
 use mathlib.Core.Path.{◌∙◌}
 use Rattle.dfa_difference.specs.declared.Verdict.TheVariants.{Apart}
 use Rattle.dfa_difference.proofs.laws.Search.{runs-again, runs-deep, runs-first, runs-out, runs_same, runs-shallow}
 use Rattle.dfa_difference.proofs.laws.Search.{leveled-alike, leveled-apart}
-use Rattle.dfa_difference.specs.inner.Search.{Runs}
 use Rattle.dfa_difference.proofs.search.run.Goals as goal
 
 pub loop-head-init : goal.loop-head-init
@@ -37,7 +35,7 @@ expand_level-l-requires c = (
 )
 
 pub shape_of-words-in-Apart : goal.shape_of-words-in-Apart
-shape_of-words-in-Apart c = c.expand_level-l.auto.0 ∙ c.loop-head.invariant.len
+shape_of-words-in-Apart c = c.expand_level-l.auto.words ∙ c.loop-head.invariant.len
 
 pub returns-in-Apart : goal.returns-in-Apart
 returns-in-Apart c = (
@@ -50,7 +48,7 @@ pub loop-head-smaller : goal.loop-head-smaller
 loop-head-smaller c = omega (arith, c.if-left-eq0.false)
 
 pub loop-head-preserved : goal.loop-head-preserved
-loop-head-preserved c = runs-again _ _ _ _ _ _ c.loop-head.invariant _ _ _ (omega (arith, c.if-left-eq0.false)) c.expand_level-l.auto.0
+loop-head-preserved c = runs-again _ _ _ _ _ _ c.loop-head.invariant _ _ _ (omega (arith, c.if-left-eq0.false)) c.expand_level-l.auto.words
     (leveled-alike _ _ _ _ _ _ _ _ c.in-Alike.is c.expand_level-l.ensures.0) c.expand_level-l.ensures.1
 
 pub shape_of-words : goal.shape_of-words

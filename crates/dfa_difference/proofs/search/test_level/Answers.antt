@@ -1,10 +1,7 @@
 -- `test_level` keeps what `Outcome` says.
-use borrow.Author.Tests.{not-true, not-false}
 use native.Mathlib.Omega.{arith}
-use Prim.Native.Nat.{◌-◌}
 use mathlib.Core.Path.{sym, ◌∙◌}
 use Rattle.dfa_difference.proofs.laws.Search.{room_of, test-same, test-told, testing-again}
-use Rattle.dfa_difference.specs.inner.Search.{Testing}
 use Rattle.dfa_difference.proofs.search.test_level.Goals as goal
 
 pub loop-head-init : goal.loop-head-init
@@ -15,7 +12,7 @@ alike_at-requires c = let h = room_of _ _ _ _ c.requires.0 c.requires.1.0 in ome
 
 pub returns-then-not-alike_at : goal.returns-then-not-alike_at
 returns-then-not-alike_at c = test-told _ _ _ _ c.requires.0 c.requires.1.0 c.requires.1.1 _ c.loop-head.invariant c.loop-head-test.true
-    (sym c.alike_at.ensures ∙ not-true _ c.if-not-alike_at.true)
+    (sym c.alike_at.ensures ∙ c.if-not-alike_at.true)
 
 pub overflow_add-head : goal.overflow_add-head
 overflow_add-head c = let h = room_of _ _ _ _ c.requires.0 c.requires.1.0 in omega (arith, h, c.loop-head-test.true)
@@ -25,7 +22,7 @@ loop-head-smaller c = omega (arith, c.loop-head-test.true)
 
 pub loop-head-preserved : goal.loop-head-preserved
 loop-head-preserved c = testing-again _ _ _ _ c.loop-head.invariant (sym c.alike_at.ensures ∙
-    not-false _ c.if-not-alike_at.false)
+    c.if-not-alike_at.false)
 
 pub returns : goal.returns
 returns c = test-same _ _ _ _ c.requires.0 c.requires.1.0 c.requires.1.1 _ c.loop-head.invariant c.loop-head-test.false

@@ -1,8 +1,4 @@
-use borrow.Author.Tests.{not-true, not-false}
-use native.Mathlib.Omega.{arith}
 use Prim.Native.Nat.{◌-◌}
-use mathlib.Core.Path.{sym, ◌∙◌}
-use Rattle.dfa_difference.proofs.laws.Search.{room_of, test-same, test-told, testing-again}
 use Rattle.dfa_difference.specs.inner.Search.{Testing}
 use Rattle.dfa_difference.proofs.search.test_level.Given as goal
 

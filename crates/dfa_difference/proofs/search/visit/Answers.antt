@@ -2,7 +2,6 @@
 use native.Mathlib.Omega.{arith}
 use Rattle.dfa_search.proofs.ClassLaws.{sinks-of}
 use native.Mathlib.Numerals.{add-one}
-use borrow.Author.Rules.{rules}
 use Rattle.dfa_difference.proofs.laws.Queue.{visit-same, visit-new}
 use Rattle.dfa_difference.proofs.search.visit.Goals as goal
 

@@ -1,9 +1,6 @@
-use native.Mathlib.Omega.{arith}
 use Prim.Native.Nat.{◌*◌, ◌+◌, ◌-◌}
 use Rattle.dfa.specs.Graph.{rest}
 use Rattle.dfa_live.specs.inner.Links.{Linking}
-use Rattle.dfa_live.proofs.laws.Links.{bounds, link-first, link_on, link-low, link-less, link_fits, link_at}
-use Rattle.dfa_live.proofs.laws.Links.{link-again, link-last}
 use Rattle.dfa_live.proofs.links.link_edges.Given as goal
 
 abbrev pub invariant-loop-e : goal.invariant-loop-e

@@ -1,5 +1,4 @@
 -- Before the graph or behind it.
-use borrow.Author.Rules.{rules}
 use borrow.Author.Tests.{lt-ltb, le-ltb}
 use Rattle.dfa_live.specs.inner.Links.{link_place}
 use Rattle.dfa_live.proofs.links.link_place.Goals as goal

@@ -1,9 +1,7 @@
 -- `mark` keeps what `Marks` says.
 use native.Mathlib.Omega.{arith}
-use Prim.Native.Nat.{◌%◌, ◌*◌, ◌+◌, ◌-◌, ◌/◌, ℕ}
+use Prim.Native.Nat.{◌%◌, ◌/◌}
 use mathlib.Core.Path.{ap}
-use mathlib.Core.List.{List}
-use Rattle.dfa_live.specs.inner.Marking.{Marking, Unmarked}
 use Rattle.dfa_live.proofs.laws.Links.{bounds}
 use Rattle.dfa_live.proofs.laws.Marking.{few-queued, mark-first, mark-take, mark-along, mark-last}
 use Rattle.dfa_live.proofs.laws.Marking.{after_less, entry-low, list_low, source-low, along-place, along-room}

@@ -1,11 +1,6 @@
-use native.Mathlib.Omega.{arith}
-use Prim.Native.Nat.{◌%◌, ◌*◌, ◌+◌, ◌-◌, ◌/◌, ℕ}
-use mathlib.Core.Path.{ap}
+use Prim.Native.Nat.{◌*◌, ◌+◌, ◌-◌, ℕ}
 use mathlib.Core.List.{List}
 use Rattle.dfa_live.specs.inner.Marking.{Marking, Unmarked}
-use Rattle.dfa_live.proofs.laws.Links.{bounds}
-use Rattle.dfa_live.proofs.laws.Marking.{few-queued, mark-first, mark-take, mark-along, mark-last}
-use Rattle.dfa_live.proofs.laws.Marking.{after_less, entry-low, list_low, source-low, along-place, along-room}
 use Rattle.dfa_live.proofs.marks.mark.Given as goal
 
 abbrev pub invariant-loop-head : goal.invariant-loop-head

@@ -1,10 +1,7 @@
 use mathlib.Core.List.{List}
 use mathlib.Core.Path.{◌≡◌}
 use Prim.Native.Nat.{◌-◌, ℕ}
-use native.Mathlib.Omega.{arith}
 use Rattle.dfa_numbering.specs.inner.Counting.{Meeting}
-use Rattle.dfa_numbering.proofs.laws.Counting.{meet-again, meet-first, meet-last, meet_low, meet-room, note-asks}
-use Rattle.dfa_numbering.proofs.laws.Counting.{target-asks}
 use Rattle.dfa_numbering.proofs.number.meet.Given as goal
 
 abbrev pub invariant-loop-e : goal.invariant-loop-e

@@ -1,6 +1,5 @@
 -- `note` numbers a class that has no number.
 use Rattle.dfa_numbering.proofs.laws.Counting.{noted-fresh, noted-known, noted-lost}
-use borrow.Author.Rules.{rules}
 use Rattle.dfa_numbering.proofs.number.note.Goals as goal
 
 pub returns-then-c-dead : goal.returns-then-c-dead

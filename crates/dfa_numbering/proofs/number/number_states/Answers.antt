@@ -1,10 +1,6 @@
 -- `number_states` goes through the numbered classes.
-use mathlib.Core.List.{List}
-use mathlib.Core.Path.{◌∙◌, ◌≡◌, refl}
-use Prim.Native.Nat.{◌-◌, ℕ}
+use mathlib.Core.Path.{◌∙◌, refl}
 use native.Mathlib.Omega.{arith}
-use lib.ListN.{length}
-use Rattle.dfa_numbering.specs.inner.Counting.{Counted}
 use Rattle.dfa_numbering.proofs.laws.Counting.{count-first, count-last, count_room, first-asks, noted-length}
 use Rattle.dfa_numbering.proofs.laws.Counting.{turn-again}
 use Rattle.dfa_numbering.proofs.laws.Counting.{turn-asks, turn-counting, turn-few, turn_small}

@@ -1,12 +1,8 @@
 use mathlib.Core.List.{List}
-use mathlib.Core.Path.{◌∙◌, ◌≡◌, refl}
+use mathlib.Core.Path.{◌≡◌}
 use Prim.Native.Nat.{◌-◌, ℕ}
-use native.Mathlib.Omega.{arith}
 use lib.ListN.{length}
 use Rattle.dfa_numbering.specs.inner.Counting.{Counted}
-use Rattle.dfa_numbering.proofs.laws.Counting.{count-first, count-last, count_room, first-asks, noted-length}
-use Rattle.dfa_numbering.proofs.laws.Counting.{turn-again}
-use Rattle.dfa_numbering.proofs.laws.Counting.{turn-asks, turn-counting, turn-few, turn_small}
 use Rattle.dfa_numbering.proofs.number.number_states.Given as goal
 
 abbrev pub invariant-loop-head : goal.invariant-loop-head

@@ -1,8 +1,6 @@
 -- `find` keeps what `Found` says.
 use native.Mathlib.Omega.{arith}
-use mathlib.Core.Path.{◌≡◌, sym, ◌∙◌}
-use lib.ListN.{get_or}
-use Rattle.dfa_search.specs.Classes.{Finding}
+use mathlib.Core.Path.{sym, ◌∙◌}
 use Rattle.dfa_search.proofs.ClassLaws.{find_first, find-again, find-parent, find-last}
 use Rattle.dfa_search.proofs.classes.find.Goals as goal
 

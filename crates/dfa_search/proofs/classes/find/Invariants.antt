@@ -1,8 +1,6 @@
-use native.Mathlib.Omega.{arith}
-use mathlib.Core.Path.{◌≡◌, sym, ◌∙◌}
+use mathlib.Core.Path.{◌≡◌}
 use lib.ListN.{get_or}
 use Rattle.dfa_search.specs.Classes.{Finding}
-use Rattle.dfa_search.proofs.ClassLaws.{find_first, find-again, find-parent, find-last}
 use Rattle.dfa_search.proofs.classes.find.Given as goal
 
 abbrev pub invariant-loop-p : goal.invariant-loop-p

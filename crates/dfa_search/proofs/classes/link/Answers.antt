@@ -1,6 +1,5 @@
 -- What `link` leaves is what `linked` says.
 use borrow.Author.Tests.{lt-ltb, le-ltb}
-use borrow.Author.Rules.{rules}
 use Rattle.dfa_search.proofs.classes.link.Goals as goal
 
 pub returns-then-a-b : goal.returns-then-a-b

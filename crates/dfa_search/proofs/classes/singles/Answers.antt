@@ -1,9 +1,6 @@
 -- After `singles` each state is alone in its class.
 use borrow.Author.Rules.{rules}
 use native.Mathlib.Omega.{arith}
-use Prim.Native.Nat.{ℕ, ◌≤◌, ◌<◌, ◌-◌}
-use mathlib.Core.Path.{◌≡◌}
-use lib.ListN.{length, get_or}
 use Rattle.dfa_search.proofs.ClassLaws.{single_more}
 use Rattle.dfa_search.proofs.classes.singles.Goals as goal
 

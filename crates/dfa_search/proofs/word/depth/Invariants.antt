@@ -1,7 +1,5 @@
-use native.Mathlib.Omega.{arith}
 use Prim.Native.Nat.{ℕ, ◌≤◌, ◌+◌}
 use mathlib.Core.List.{List}
-use Rattle.dfa_search.proofs.Trace.{count-more, count-last}
 use Rattle.dfa_search.specs.Spelled.{Spelled}
 use Rattle.dfa_search.specs.Trace.{Counting}
 use Rattle.dfa_search.proofs.word.depth.Given as goal

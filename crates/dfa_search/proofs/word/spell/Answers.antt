@@ -3,7 +3,6 @@ use native.Mathlib.Omega.{arith}
 use Prim.Native.Nat.{◌+◌, ◌*◌}
 use Rattle.dfa_search.proofs.Spell.{trail-wide, spells-first, spells-pos, spells-old, spells-less}
 use Rattle.dfa_search.proofs.Spell.{spells-again, spells-last}
-use Rattle.dfa_search.specs.Trace.{Spells}
 use Rattle.dfa_search.proofs.word.spell.Goals as goal
 
 pub overflow_mul-base : goal.overflow_mul-base

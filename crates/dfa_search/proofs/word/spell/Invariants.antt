@@ -1,7 +1,3 @@
-use native.Mathlib.Omega.{arith}
-use Prim.Native.Nat.{◌+◌, ◌*◌}
-use Rattle.dfa_search.proofs.Spell.{trail-wide, spells-first, spells-pos, spells-old, spells-less}
-use Rattle.dfa_search.proofs.Spell.{spells-again, spells-last}
 use Rattle.dfa_search.specs.Trace.{Spells}
 use Rattle.dfa_search.proofs.word.spell.Given as goal
 

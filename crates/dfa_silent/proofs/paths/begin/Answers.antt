@@ -1,8 +1,6 @@
 -- `begin` keeps what `Begun` says.
 use native.Mathlib.Omega.{arith}
-use Prim.Native.Nat.{◌-◌}
 use Rattle.dfa_silent.proofs.laws.Paths.{begin-first, begin-small, begin-again, begin-last}
-use Rattle.dfa_silent.specs.inner.Settle.{Begun}
 use Rattle.dfa_silent.proofs.paths.begin.Goals as goal
 
 pub loop-p-init : goal.loop-p-init

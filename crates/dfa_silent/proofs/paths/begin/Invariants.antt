@@ -1,6 +1,4 @@
-use native.Mathlib.Omega.{arith}
 use Prim.Native.Nat.{◌-◌}
-use Rattle.dfa_silent.proofs.laws.Paths.{begin-first, begin-small, begin-again, begin-last}
 use Rattle.dfa_silent.specs.inner.Settle.{Begun}
 use Rattle.dfa_silent.proofs.paths.begin.Given as goal
 

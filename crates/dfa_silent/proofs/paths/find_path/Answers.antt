@@ -1,6 +1,5 @@
 -- `find_path` keeps what `PathFound` says.
 use mathlib.Core.Path.{sym}
-use borrow.Author.Rules.{rules}
 use Rattle.dfa_silent.proofs.laws.Only.{steps-same}
 use Rattle.dfa_silent.proofs.laws.Paths.{found-dead, found-small, found-other}
 use Rattle.dfa_silent.proofs.paths.find_path.Goals as goal

@@ -1,8 +1,6 @@
 -- `find_paths` keeps what `Through` says.
 use native.Mathlib.Omega.{arith}
-use Prim.Native.Nat.{◌-◌}
 use Rattle.dfa_silent.proofs.laws.Paths.{through-first, through-again, through-last}
-use Rattle.dfa_silent.specs.inner.Settle.{Through}
 use Rattle.dfa_silent.proofs.paths.find_paths.Goals as goal
 
 pub loop-p-init : goal.loop-p-init

@@ -1,6 +1,4 @@
-use native.Mathlib.Omega.{arith}
 use Prim.Native.Nat.{◌-◌}
-use Rattle.dfa_silent.proofs.laws.Paths.{through-first, through-again, through-last}
 use Rattle.dfa_silent.specs.inner.Settle.{Through}
 use Rattle.dfa_silent.proofs.paths.find_paths.Given as goal
 

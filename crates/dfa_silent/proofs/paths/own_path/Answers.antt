@@ -1,6 +1,5 @@
 -- What `own_path` gives is what `own` says, case by case.
 use mathlib.Core.Path.{sym, ◌∙◌}
-use borrow.Author.Rules.{rules}
 use Rattle.dfa_silent.proofs.laws.Paths.{own-here, own-none}
 use Rattle.dfa_silent.proofs.paths.own_path.Goals as goal
 

@@ -2,7 +2,6 @@
 use native.Mathlib.Omega.{arith}
 use mathlib.Core.Path.{sym, ◌∙◌}
 use Rattle.dfa_silent.proofs.laws.Replace.{replace-first, replace-only, replace-less, replace-again}
-use Rattle.dfa_silent.specs.inner.Settle.{Replacing, unlike}
 use Rattle.dfa_silent.proofs.paths.replace.Goals as goal
 
 pub loop-words-init : goal.loop-words-init

@@ -1,6 +1,3 @@
-use native.Mathlib.Omega.{arith}
-use mathlib.Core.Path.{sym, ◌∙◌}
-use Rattle.dfa_silent.proofs.laws.Replace.{replace-first, replace-only, replace-less, replace-again}
 use Rattle.dfa_silent.specs.inner.Settle.{Replacing, unlike}
 use Rattle.dfa_silent.proofs.paths.replace.Given as goal
 

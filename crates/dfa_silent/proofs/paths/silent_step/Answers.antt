@@ -1,6 +1,5 @@
 -- What `silent_step` gives is what `stepped` says, case by case.
 use mathlib.Core.Path.{sym, ◌∙◌}
-use borrow.Author.Rules.{rules}
 use Rattle.dfa_silent.proofs.laws.Settle.{step-stay, step-go}
 use Rattle.dfa_silent.proofs.paths.silent_step.Goals as goal
 

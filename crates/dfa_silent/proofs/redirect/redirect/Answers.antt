@@ -1,9 +1,7 @@
 -- `redirect` keeps what `Redirected` says.
 use native.Mathlib.Omega.{arith}
-use Prim.Native.Nat.{◌-◌}
 use Rattle.dfa_silent.proofs.laws.Settle.{scan, redirect-first, redirect-whole, redirect-target, ended-lt}
 use Rattle.dfa_silent.proofs.laws.Settle.{redirect-again, redirect-last}
-use Rattle.dfa_silent.specs.inner.Settle.{Redirected}
 use Rattle.dfa_silent.proofs.redirect.redirect.Goals as goal
 
 pub overflow_mul-base : goal.overflow_mul-base

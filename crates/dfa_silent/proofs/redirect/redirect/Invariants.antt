@@ -1,7 +1,4 @@
-use native.Mathlib.Omega.{arith}
 use Prim.Native.Nat.{◌-◌}
-use Rattle.dfa_silent.proofs.laws.Settle.{scan, redirect-first, redirect-whole, redirect-target, ended-lt}
-use Rattle.dfa_silent.proofs.laws.Settle.{redirect-again, redirect-last}
 use Rattle.dfa_silent.specs.inner.Settle.{Redirected}
 use Rattle.dfa_silent.proofs.redirect.redirect.Given as goal
 

@@ -2,7 +2,6 @@
 use native.Mathlib.Omega.{arith}
 use mathlib.Core.Path.{ap}
 use Prim.Native.Nat.{◌-◌}
-use borrow.Author.Rules.{rules}
 use Rattle.dfa_silent.proofs.redirect.settled_at.Goals as goal
 
 pub overflow_sub-result : goal.overflow_sub-result

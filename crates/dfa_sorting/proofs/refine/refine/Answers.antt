@@ -1,10 +1,6 @@
 -- `refine` takes the classes as splitters, one after the other.
-use mathlib.Core.List.{List}
-use mathlib.Core.Path.{◌∙◌, ◌≡◌, refl}
-use lib.ListN.{length}
-use Prim.Native.Nat.{◌-◌, ℕ}
+use mathlib.Core.Path.{◌∙◌, refl}
 use native.Mathlib.Omega.{arith}
-use Rattle.dfa_splitting.specs.inner.Refining.{Refinable, RefineState}
 use Rattle.dfa_splitting.proofs.laws.Refining.{refine-again, refine-first, refine-last, turn-few, turn-touched}
 use Rattle.dfa_splitting.proofs.laws.Refining.{turn-touching}
 use Rattle.dfa_classes.proofs.laws.Touching.{few-classes}

@@ -1,12 +1,8 @@
 use mathlib.Core.List.{List}
-use mathlib.Core.Path.{◌∙◌, ◌≡◌, refl}
+use mathlib.Core.Path.{◌≡◌}
 use lib.ListN.{length}
 use Prim.Native.Nat.{◌-◌, ℕ}
-use native.Mathlib.Omega.{arith}
 use Rattle.dfa_splitting.specs.inner.Refining.{Refinable, RefineState}
-use Rattle.dfa_splitting.proofs.laws.Refining.{refine-again, refine-first, refine-last, turn-few, turn-touched}
-use Rattle.dfa_splitting.proofs.laws.Refining.{turn-touching}
-use Rattle.dfa_classes.proofs.laws.Touching.{few-classes}
 use Rattle.dfa_sorting.proofs.refine.refine.Given as goal
 
 abbrev pub invariant-loop-s : goal.invariant-loop-s

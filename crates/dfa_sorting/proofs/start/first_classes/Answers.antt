@@ -1,6 +1,5 @@
 -- `first_classes` makes class 1 of one state.
 use Rattle.dfa_sorting.proofs.laws.Starting.{exchange-asks₂, started}
-use borrow.Author.Rules.{rules}
 use Rattle.dfa_sorting.proofs.start.first_classes.Goals as goal
 
 pub exchange-requires : goal.exchange-requires

@@ -1,6 +1,5 @@
 -- `place_states` places state after state.
 use mathlib.Core.Path.{ap, subst}
-use Prim.Native.Nat.{◌-◌, ◌≤◌}
 use native.Mathlib.Omega.{arith}
 use Rattle.dfa_sorting.specs.inner.Starting.{Placed}
 use Rattle.dfa_sorting.proofs.laws.Starting.{placed-again, placed_first}

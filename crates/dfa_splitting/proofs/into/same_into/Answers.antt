@@ -1,11 +1,7 @@
 -- `same_into` goes through the edges into the class side by side.
-use mathlib.Core.List.{List}
 use mathlib.Core.Path.{◌∙◌, sym}
-use Prim.Native.Nat.{◌-◌, ℕ}
 use native.Mathlib.Omega.{arith}
 use borrow.Author.Tests.{leb-false, leb-true}
-use Rattle.dfa_classes.specs.Places.{class_at}
-use Rattle.dfa_splitting.specs.inner.Into.{Comparing, Into-loop}
 use Rattle.dfa_splitting.proofs.laws.Into.{at-end, comparing-room, left-letter, left-room, loop-again as again}
 use Rattle.dfa_splitting.proofs.laws.Into.{more_left, other-letter, right-letter, right-room, skip-next-left}
 use Rattle.dfa_splitting.proofs.laws.Into.{skip-next-right, skip-p, skip-q, started}

@@ -1,9 +1,6 @@
 use Prim.Native.Nat.{◌-◌, ◌≤◌, ℕ}
-use native.Mathlib.Omega.{arith}
 use Rattle.dfa_classes.specs.Parted.{Parted}
 use Rattle.dfa_splitting.specs.inner.Renaming.{RenamedUpTo}
-use Rattle.dfa_splitting.proofs.laws.Renaming.{still-parted, upto-again, upto-first, upto-last}
-use Rattle.dfa_classes.proofs.laws.Touching.{few-classes}
 use Rattle.dfa_splitting.proofs.rename.rename.Given as goal
 
 abbrev pub invariant-loop-c : goal.invariant-loop-c

@@ -1,10 +1,5 @@
 -- `rename_one` goes through the places of a class.
-use mathlib.Core.Path.{◌≡◌}
-use Prim.Native.Nat.{◌-◌, ◌<◌, ◌≤◌, ℕ}
 use native.Mathlib.Omega.{arith}
-use Rattle.dfa_classes.specs.Parted.{Parted}
-use Rattle.dfa_classes.specs.Places.{from_at}
-use Rattle.dfa_splitting.specs.inner.Renaming.{RenamedTo}
 use Rattle.dfa_splitting.proofs.laws.Renaming.{p-low, rename-asks, renamed-again, renamed-first, renamed-last}
 use Rattle.dfa_splitting.proofs.laws.Renaming.{to-top}
 use Rattle.dfa_splitting.proofs.rename.rename_one.Goals as goal

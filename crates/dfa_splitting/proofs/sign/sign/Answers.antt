@@ -1,10 +1,7 @@
 -- `sign` puts the letters together, edge by edge.
-use mathlib.Core.List.{List}
 use mathlib.Core.Path.{◌∙◌, sym}
-use Prim.Native.Nat.{◌-◌, ◌<◌, ℕ}
 use native.Mathlib.Omega.{arith}
 use Rattle.dfa.proofs.laws.Live.{no_true}
-use Rattle.dfa_splitting.specs.inner.Signs.{SignLoop, Signing}
 use Rattle.dfa_splitting.proofs.laws.Signs.{sign-edge, sign-first, sign-last, sign-less, sign-more, sign-room}
 use Rattle.dfa_splitting.proofs.laws.Signs.{signing-room}
 use Rattle.dfa_splitting.proofs.sign.sign.Goals as goal

@@ -1,7 +1,6 @@
 -- `carve` cuts the places of a class in two.
 use mathlib.Core.Path.{refl}
 use Rattle.dfa_splitting.specs.inner.Splitting.{front, rear}
-use borrow.Author.Rules.{rules}
 use Rattle.dfa_splitting.proofs.split.carve.Goals as goal
 
 pub returns-then-d-eq0 : goal.returns-then-d-eq0

@@ -1,9 +1,6 @@
 -- `group` brings the states that go into the class as the first does to the front.
-use mathlib.Core.List.{List}
-use Prim.Native.Nat.{◌-◌, ℕ}
 use native.Mathlib.Omega.{arith}
 use mathlib.Core.Path.{refl}
-use Rattle.dfa_splitting.specs.inner.Grouping.{Groupable, GroupedTo, Quick}
 use Rattle.dfa_splitting.proofs.laws.Grouping.{exchange-asks, first-low, group-asks, group-bring, group-first}
 use Rattle.dfa_splitting.proofs.laws.Grouping.{group-last, group-leave, group-pass, group-small, group-sure}
 use Rattle.dfa_splitting.proofs.laws.Grouping.{pass-asks, same-asks, sign-asks}
@@ -123,16 +120,16 @@ loop-i-preserved-then-alike c =
     c.loop-i.invariant
     G own count k A Q in
     group-bring _ _ _ _ _ _ _ _ _ _ A _ _ _ D
-    still.taken
+    still.true
     _ _ member2-2.ensures
     member-2.ensures
     _ _
     (c.alike.ensures G _ (same-asks _ _ _ _ _ _ _ _ _ _ A _ _ _ D
-    still.taken
+    still.true
     _ _ member2-2.ensures
     member-2.ensures)
     (group-sure _ _ _ _ _ _ _ _ _ _ A _ _ _ D
-    still.taken
+    still.true
     _ _ member2-2.ensures
     member-2.ensures
     _ _ Q

@@ -1,11 +1,6 @@
 use mathlib.Core.List.{List}
 use Prim.Native.Nat.{◌-◌, ℕ}
-use native.Mathlib.Omega.{arith}
-use mathlib.Core.Path.{refl}
 use Rattle.dfa_splitting.specs.inner.Grouping.{Groupable, GroupedTo, Quick}
-use Rattle.dfa_splitting.proofs.laws.Grouping.{exchange-asks, first-low, group-asks, group-bring, group-first}
-use Rattle.dfa_splitting.proofs.laws.Grouping.{group-last, group-leave, group-pass, group-small, group-sure}
-use Rattle.dfa_splitting.proofs.laws.Grouping.{pass-asks, same-asks, sign-asks}
 use Rattle.dfa_splitting.proofs.split.group.Given as goal
 
 abbrev pub invariant-loop-i : goal.invariant-loop-i

@@ -1,10 +1,7 @@
 use mathlib.Core.List.{List}
 use Prim.Native.Nat.{◌-◌, ℕ}
-use native.Mathlib.Omega.{arith}
 use Rattle.dfa_splitting.specs.inner.Refining.{Touched}
 use Rattle.dfa_splitting.specs.inner.Signs.{SigningAll}
-use Rattle.dfa_splitting.proofs.laws.Refining.{d-class, d-touched, few-m, signs-able, signs-again, signs-asks}
-use Rattle.dfa_splitting.proofs.laws.Refining.{signs-first, signs-last, signs-listed, till-low}
 use Rattle.dfa_splitting.proofs.split.sign_all.Given as goal
 
 abbrev pub invariant-loop-x : goal.invariant-loop-x

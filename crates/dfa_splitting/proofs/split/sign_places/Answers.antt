@@ -1,8 +1,6 @@
 -- `sign_places` goes from place to place.
-use mathlib.Core.List.{List}
-use Prim.Native.Nat.{◌-◌, ◌<◌, ◌≤◌, ℕ}
+use Prim.Native.Nat.{◌<◌}
 use native.Mathlib.Omega.{arith}
-use Rattle.dfa_splitting.specs.inner.Signs.{Signable, SignedTo}
 use Rattle.dfa_splitting.proofs.laws.Signs.{p-low, places-again, places-first, places-last, places-member}
 use Rattle.dfa_splitting.proofs.laws.Signs.{places-room, places-signing}
 use Rattle.dfa_splitting.proofs.split.sign_places.Goals as goal

@@ -1,9 +1,6 @@
 use mathlib.Core.List.{List}
-use Prim.Native.Nat.{◌-◌, ◌<◌, ◌≤◌, ℕ}
-use native.Mathlib.Omega.{arith}
+use Prim.Native.Nat.{◌-◌, ◌≤◌, ℕ}
 use Rattle.dfa_splitting.specs.inner.Signs.{Signable, SignedTo}
-use Rattle.dfa_splitting.proofs.laws.Signs.{p-low, places-again, places-first, places-last, places-member}
-use Rattle.dfa_splitting.proofs.laws.Signs.{places-room, places-signing}
 use Rattle.dfa_splitting.proofs.split.sign_places.Given as goal
 
 abbrev pub invariant-loop-i : goal.invariant-loop-i

@@ -1,14 +1,7 @@
 use mathlib.Core.List.{List}
-use mathlib.Core.Path.{◌∙◌, ap}
-use lib.ListN.{length, length-set}
 use Prim.Native.Nat.{◌-◌, ℕ}
-use native.Mathlib.Omega.{arith}
 use Rattle.dfa_splitting.specs.inner.Signs.{Signed}
 use Rattle.dfa_splitting.specs.inner.Splitting.{CarveState}
-use Rattle.dfa_splitting.proofs.laws.Splitting.{carve-first, class-asks, signed-set, split-last, state-able}
-use Rattle.dfa_splitting.proofs.laws.Splitting.{state-again, state-asks, state-none, state-quick, sum-small}
-use Rattle.dfa_splitting.proofs.laws.Splitting.{touched-asks}
-use Rattle.dfa_splitting.proofs.laws.Splitting.{zero-asks}
 use Rattle.dfa_splitting.proofs.split.split.Given as goal
 
 abbrev pub invariant-loop-low : goal.invariant-loop-low

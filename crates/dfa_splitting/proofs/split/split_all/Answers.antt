@@ -1,10 +1,6 @@
 -- `split_all` goes through the listed classes.
-use mathlib.Core.List.{List}
 use mathlib.Core.Path.{◌∙◌}
-use Prim.Native.Nat.{◌-◌, ℕ}
 use native.Mathlib.Omega.{arith}
-use Rattle.dfa_splitting.specs.inner.Refining.{SplitState, Touched}
-use Rattle.dfa_splitting.specs.inner.Signs.{Signed}
 use Rattle.dfa_splitting.proofs.laws.Refining.{d_low, d-some, listed-asks, split-again, split_done, split-first}
 use Rattle.dfa_splitting.proofs.laws.Refining.{split_from}
 use Rattle.dfa_splitting.proofs.split.split_all.Goals as goal

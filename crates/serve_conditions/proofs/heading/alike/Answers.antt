@@ -10,8 +10,8 @@ returns-then-root-other c = simp (ne_eqb _ _ c.if-root-other.true)
 
 pub returns-then-not-same_first : goal.returns-then-not-same_first
 unfolding matching
-returns-then-not-same_first c = simp (← c.same_first.ensures, eq-eqb _ _ c.if-root-other.false, not-true c.same_first.result c.if-not-same_first.true)
+returns-then-not-same_first c = simp (← c.same_first.ensures, eq-eqb _ _ c.if-root-other.false, c.if-not-same_first.true)
 
 pub returns : goal.returns
 unfolding matching
-returns c = simp (← c.same_first.ensures, eq-eqb _ _ c.if-root-other.false, not-false c.same_first.result c.if-not-same_first.false)
+returns c = simp (← c.same_first.ensures, eq-eqb _ _ c.if-root-other.false, c.if-not-same_first.false)

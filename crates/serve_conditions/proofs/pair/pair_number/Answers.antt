@@ -6,18 +6,18 @@ use Rattle.serve_conditions.proofs.pair.pair_number.Goals as goal
 
 pub returns-then-not-matching : goal.returns-then-not-matching
 unfolding number_of
-returns-then-not-matching c = simp (not-true c.args.matching c.if-not-matching.true)
+returns-then-not-matching c = simp (c.if-not-matching.true)
 
 pub returns-then-words-words_asked : goal.returns-then-words-words_asked
 unfolding number_of
-returns-then-words-words_asked c = simp (not-false c.args.matching c.if-not-matching.false, ← c.words_asked.ensures, lt-ltb _ _ c.if-words-words_asked.true)
+returns-then-words-words_asked c = simp (c.if-not-matching.false, ← c.words_asked.ensures, lt-ltb _ _ c.if-words-words_asked.true)
 
 pub returns-then-space-size : goal.returns-then-space-size
 unfolding number_of
 returns-then-space-size c =
-    simp (not-false c.args.matching c.if-not-matching.false, ← c.words_asked.ensures, le-ltb _ _ c.if-words-words_asked.false, lt-ltb _ _ c.if-space-size.true)
+    simp (c.if-not-matching.false, ← c.words_asked.ensures, le-ltb _ _ c.if-words-words_asked.false, lt-ltb _ _ c.if-space-size.true)
 
 pub returns : goal.returns
 unfolding number_of
 returns c =
-    simp (not-false c.args.matching c.if-not-matching.false, ← c.words_asked.ensures, le-ltb _ _ c.if-words-words_asked.false, le-ltb _ _ c.if-space-size.false)
+    simp (c.if-not-matching.false, ← c.words_asked.ensures, le-ltb _ _ c.if-words-words_asked.false, le-ltb _ _ c.if-space-size.false)

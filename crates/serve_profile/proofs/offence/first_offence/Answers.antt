@@ -1,10 +1,7 @@
 -- Record by record.
-use Prim.Native.Nat.{◌≤◌, ◌-◌, max}
 use native.Mathlib.Omega.{arith}
 use mathlib.Core.Path.{refl}
-use lib.ListN.{length}
-use borrow.Author.Rules.{rules}
-use Rattle.serve_profile.proofs.Walking.{Walks, walks-first, walks-on, walks-found, walks-last}
+use Rattle.serve_profile.proofs.Walking.{walks-first, walks-on, walks-found, walks-last}
 use Rattle.serve_profile.proofs.offence.first_offence.Goals as goal
 
 pub loop-at-init : goal.loop-at-init

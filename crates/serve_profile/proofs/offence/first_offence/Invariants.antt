@@ -1,9 +1,6 @@
 use Prim.Native.Nat.{◌≤◌, ◌-◌, max}
-use native.Mathlib.Omega.{arith}
-use mathlib.Core.Path.{refl}
 use lib.ListN.{length}
-use borrow.Author.Rules.{rules}
-use Rattle.serve_profile.proofs.Walking.{Walks, walks-first, walks-on, walks-found, walks-last}
+use Rattle.serve_profile.proofs.Walking.{Walks}
 use Rattle.serve_profile.proofs.offence.first_offence.Given as goal
 
 abbrev pub invariant-loop-at : goal.invariant-loop-at

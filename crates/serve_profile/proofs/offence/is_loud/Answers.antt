@@ -1,4 +1,3 @@
-use borrow.Author.Rules.{rules}
 use Rattle.serve_profile.proofs.Leaves.{loud-sequence, loud-procedure, loud-used, loud-other}
 use Rattle.serve_profile.proofs.offence.is_loud.Goals as goal
 

@@ -1,4 +1,3 @@
-use borrow.Author.Rules.{rules}
 use Rattle.serve_profile.proofs.Leaves.{offends-outside, offends-inside}
 use Rattle.serve_profile.proofs.offence.offends.Goals as goal
 

@@ -1,4 +1,3 @@
-use borrow.Author.Rules.{rules}
 use Rattle.serve_profile.proofs.Leaves.{reach-inside, reach-opens, reach-outside}
 use Rattle.serve_profile.proofs.offence.reach.Goals as goal
 

@@ -1,5 +1,4 @@
 -- The judgement of the sheet, and then the first record that offends.
-use borrow.Author.Rules.{rules}
 use mathlib.Core.Path.{refl}
 use Rattle.sheet_table.proofs.Noting.{blank-made}
 use Rattle.serve_profile.proofs.Profiling.{profiled-refused, profiled-quiet, profiled-loud, judged-short}

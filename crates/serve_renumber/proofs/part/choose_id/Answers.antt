@@ -9,14 +9,14 @@ use Rattle.serve_renumber.proofs.part.choose_id.Goals as goal
 pub returns-then-not-held : goal.returns-then-not-held
 returns-then-not-held c =
     id-kept _ _ _ _ _ _ _ _ (omega arith) c.word.ensures.0 c.held.ensures
-    (not-true _ c.if-not-held.true)
+    (c.if-not-held.true)
 
 pub returns-then-low-ge-IDS : goal.returns-then-low-ge-IDS
 returns-then-low-ge-IDS c =
-    id-none _ _ _ _ _ _ _ _ _ c.word.ensures.0 c.held.ensures (not-false _ c.if-not-held.false)
+    id-none _ _ _ _ _ _ _ _ _ c.word.ensures.0 c.held.ensures (c.if-not-held.false)
     c.lowest_free-low.ensures.0 c.if-low-ge-IDS.true
 
 pub returns : goal.returns
 returns c =
-    id-given _ _ _ _ _ _ _ _ _ _ _ _ c.word.ensures.0 c.held.ensures (not-false _ c.if-not-held.false) c.lowest_free-low.ensures.0 c.if-low-ge-IDS.false
+    id-given _ _ _ _ _ _ _ _ _ _ _ _ c.word.ensures.0 c.held.ensures (c.if-not-held.false) c.lowest_free-low.ensures.0 c.if-low-ge-IDS.false
     c.note_change.ensures c.put.ensures refl

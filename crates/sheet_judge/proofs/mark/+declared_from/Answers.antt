@@ -10,13 +10,13 @@ pub returns-then-left-eq0 : goal.returns-then-left-eq0
 returns-then-left-eq0 t c = mask-none _ _ _ c.if-left-eq0.true
 
 pub overflow_mul-result : goal.overflow_mul-result
-overflow_mul-result t c = let h = mask_fits _ _ _ _ c.declared_from.ensures c.requires.1.0 in omega arith
+overflow_mul-result t c = let h = mask_fits _ _ _ _ c.declared_from.ensures c.requires.0 in omega arith
 
 pub overflow_mul-result-in-Declare : goal.overflow_mul-result-in-Declare
-overflow_mul-result-in-Declare t c = let h = mask_fits _ _ _ _ c.declared_from-in-Declare.ensures c.requires.1.0 in omega arith
+overflow_mul-result-in-Declare t c = let h = mask_fits _ _ _ _ c.declared_from-in-Declare.ensures c.requires.0 in omega arith
 
 pub overflow_add-result : goal.overflow_add-result
-overflow_add-result t c = let h = mask_fits _ _ _ _ c.declared_from-in-Declare.ensures c.requires.1.0 in omega arith
+overflow_add-result t c = let h = mask_fits _ _ _ _ c.declared_from-in-Declare.ensures c.requires.0 in omega arith
 
 pub returns-in-Unknown : goal.returns-in-Unknown
 returns-in-Unknown t c = mask-unknown _ _ _ c.if-left-eq0.false c.byte_at-kind.ensures c.shape_of-shape.ensures c.in-Unknown.is

@@ -10,21 +10,21 @@ pub returns-then-left-eq0 : goal.returns-then-left-eq0
 returns-then-left-eq0 t c = mask-none _ _ _ c.if-left-eq0.true
 
 pub overflow_mul-result : goal.overflow_mul-result
-overflow_mul-result t c = let h = mask_fits _ _ _ _ c.mark_from.ensures c.requires.1.0 in omega arith
+overflow_mul-result t c = let h = mask_fits _ _ _ _ c.mark_from.ensures c.requires.0 in omega arith
 
 pub overflow_mul-result-then-is_noted : goal.overflow_mul-result-then-is_noted
-overflow_mul-result-then-is_noted t c = let h = mask_fits _ _ _ _ c.mark_from-rest.ensures c.requires.1.0 in omega
+overflow_mul-result-then-is_noted t c = let h = mask_fits _ _ _ _ c.mark_from-rest.ensures c.requires.0 in omega
     arith
 
 pub overflow_add-result : goal.overflow_add-result
-overflow_add-result t c = let h = mask_fits _ _ _ _ c.mark_from-rest.ensures c.requires.1.0 in omega
+overflow_add-result t c = let h = mask_fits _ _ _ _ c.mark_from-rest.ensures c.requires.0 in omega
     arith
 
 pub returns-then-is_noted : goal.returns-then-is_noted
 returns-then-is_noted t c = mask-set _ _ _ c.if-left-eq0.false c.byte_at-kind.ensures c.shape_of-shape.ensures c.in-Declare.is c.mark_from-rest.ensures c.byte_at-id.ensures c.is_noted.ensures c.if-is_noted.true
 
 pub overflow_mul-result-in-Declare : goal.overflow_mul-result-in-Declare
-overflow_mul-result-in-Declare t c = let h = mask_fits _ _ _ _ c.mark_from-rest.ensures c.requires.1.0 in omega
+overflow_mul-result-in-Declare t c = let h = mask_fits _ _ _ _ c.mark_from-rest.ensures c.requires.0 in omega
     arith
 
 pub returns-in-Unknown : goal.returns-in-Unknown

@@ -9,7 +9,7 @@ use Rattle.sheet_reader.proofs.heading.judge_fresh.Goals as goal
 pub returns-then-standing_of-eq-FREE : goal.returns-then-standing_of-eq-FREE
 unfolding fresh and_then
 returns-then-standing_of-eq-FREE c =
-    simp (c.in-Good.is, ← c.judge_below-range.ensures, ← c.byte_at-id.ensures, ← c.standing_of.ensures, c.in-Good.keys2, eq-eqb _ _ c.if-standing_of-eq-FREE.true)
+    simp (c.in-Good.is, ← c.judge_below-range.ensures, ← c.byte_at-id.ensures, ← c.standing_of.ensures, c.in-Good.in-Good-own.keys2, eq-eqb _ _ c.if-standing_of-eq-FREE.true)
 
 pub returns-in-Refused : goal.returns-in-Refused
 unfolding fresh and_then
@@ -18,4 +18,4 @@ returns-in-Refused c = simp (sym c.judge_below-range.ensures ∙ c.in-Refused.is
 pub returns-else-standing_of-eq-FREE : goal.returns-else-standing_of-eq-FREE
 unfolding fresh and_then
 returns-else-standing_of-eq-FREE c =
-    simp (← c.refuse.ensures, c.in-Good.is, ← c.judge_below-range.ensures, ← c.byte_at-id.ensures, ← c.standing_of.ensures, c.in-Good.keys2, ne_eqb _ _ c.if-standing_of-eq-FREE.false)
+    simp (← c.refuse.ensures, c.in-Good.is, ← c.judge_below-range.ensures, ← c.byte_at-id.ensures, ← c.standing_of.ensures, c.in-Good.in-Good-own.keys2, ne_eqb _ _ c.if-standing_of-eq-FREE.false)

@@ -17,7 +17,7 @@ use Rattle.sheet_reader.proofs.Leaves.{leaf-is}
 use Rattle.sheet_reader.proofs.part.+parts.Goals as goal
 
 pub read_block-enter-requires : goal.read_block-enter-requires
-read_block-enter-requires t c = c.requires.1.4
+read_block-enter-requires t c = c.requires.4
 
 -- read_block
 pub read_block-returns : goal.read_block-returns
@@ -30,7 +30,7 @@ pub read_next-returns-in_default : goal.read_next-returns-in_default
 unfolding bare
 read_next-returns-in_default t c =
     let x = c.args in
-    let o = c.requires.1.4 in
+    let o = c.requires.4 in
     next-refused _ _ _ (bare x.place x.rule x.a x.b) _ _ _ _ (λ e. omega (arith, e, o))
     c.read_part-p.ensures.reads c.in_default.is
 
@@ -41,51 +41,48 @@ read_next-overflow_cast-ty t c =
 pub read_next-accepts_part-requires : goal.read_next-accepts_part-requires
 unfolding bare
 read_next-accepts_part-requires t c =
-    rw c.bare_record.ensures (omega (arith, c.requires.1.2))
+    rw c.bare_record.ensures (omega (arith, c.requires.2))
 
 pub read_next-returns-then-not-accepts_part : goal.read_next-returns-then-not-accepts_part
 unfolding bare
 read_next-returns-then-not-accepts_part t c =
     let x = c.args in
-    let o = c.requires.1.4 in
+    let o = c.requires.4 in
     let b = c.bare_record.ensures in
     rw c.refuse.ensures
     (next-wrong _ _ _ (bare x.place x.rule x.a x.b) _ _ _ _ (λ e. omega (arith, e, o))
     c.read_part-p.ensures.reads c.in-Read.is
-    (sym (rw b at c.accepts_part.ensures) ∙ not-true _ c.if-not-accepts_part.true))
+    (sym (rw b at c.accepts_part.ensures) ∙ c.if-not-accepts_part.true))
 
 pub read_next-overflow_sub-count : goal.read_next-overflow_sub-count
 read_next-overflow_sub-count t c =
-    search (rules, c.requires.1.4)
+    search (rules, c.requires.4)
 
 pub read_next-overflow_add-j : goal.read_next-overflow_add-j
 read_next-overflow_add-j t c =
-    let q = c.requires.1 in
-    search (rules, q.3, q.4)
+    search (rules, c.requires.3, c.requires.4)
 
 pub read_next-read_parts-requires : goal.read_next-read_parts-requires
 read_next-read_parts-requires t c =
     let h = beyond-within _ _ c.read_part-p.ensures.beyond c.in-Read.is in
-    let q = c.requires in
-    omega (arith, h, q.0, q.1.0, q.1.1, q.1.2, q.1.3, q.1.4)
+    omega (arith, h, c.decreases, c.requires.0, c.requires.1, c.requires.2, c.requires.3, c.requires.4)
 
 pub read_next-returns : goal.read_next-returns
 unfolding bare
 read_next-returns t c =
     let x = c.args in
-    let o = c.requires.1.4 in
+    let o = c.requires.4 in
     let b = c.bare_record.ensures in
     next_more _ _ _ (bare x.place x.rule x.a x.b) _ _ _ _ (λ e. omega (arith, e, o))
     c.read_part-p.ensures.reads c.in-Read.is
-    (sym (rw b at c.accepts_part.ensures) ∙ not-false _ c.if-not-accepts_part.false) c.read_parts.ensures
+    (sym (rw b at c.accepts_part.ensures) ∙ c.if-not-accepts_part.false) c.read_parts.ensures
 
 -- read_part
 pub read_part-close_leaf-requires : goal.read_part-close_leaf-requires
 read_part-close_leaf-requires t c =
     let e = sym c.head_at-h.ensures ∙ c.in-Good.is in
     let g = head-good _ _ _ _ _ _ _ e in
-    let q = c.requires in
-    (omega (arith, g.place, g.inside, q.1.0), omega (arith, g.next-inside, q.1.0))
+    (omega (arith, g.place, g.inside, c.requires.0), omega (arith, g.next-inside, c.requires.0))
 
 pub read_part-overflow_sub-left : goal.read_part-overflow_sub-left
 read_part-overflow_sub-left t c =
@@ -145,9 +142,9 @@ read_parts-returns t c =
 -- read_record
 pub read_record-close_record-requires : goal.read_record-close_record-requires
 read_record-close_record-requires t c =
-    let q = c.requires.1 in (
-      q.2,
-      ends-further _ _ _ q.0 (scope_ends _ _ _ _ _ _ _ c.type_inv.s q.3
+    (
+      c.requires.2,
+      ends-further _ _ _ c.requires.0 (scope_ends _ _ _ _ _ _ _ c.type_inv.s c.requires.3
           c.read_scope-parts.ensures.answer),
     )
 
@@ -156,23 +153,20 @@ read_record-returns t c =
     record-closes _ _ _ _ _ _ c.read_scope-parts.ensures c.close_record.ensures.answer c.close_record.ensures.table
 
 pub read_routine-overflow_cast-count : goal.read_routine-overflow_cast-count
-read_routine-overflow_cast-count t c = search (rules, c.requires.1.4)
+read_routine-overflow_cast-count t c = search (rules, c.requires.4)
 
 -- read_routine
 pub read_routine-enter_parameters-requires : goal.read_routine-enter_parameters-requires
 read_routine-enter_parameters-requires t c =
-    let q = c.requires.1 in
-    (omega (arith, q.2), omega (arith, q.1, q.4))
+    (omega (arith, c.requires.2), omega (arith, c.requires.1, c.requires.4))
 
 pub read_routine-overflow_add-around : goal.read_routine-overflow_add-around
 read_routine-overflow_add-around t c =
-    let q = c.requires.1 in
-    search (rules, q.1, q.4)
+    search (rules, c.requires.1, c.requires.4)
 
 pub read_routine-read_parts-own-requires : goal.read_routine-read_parts-own-requires
 read_routine-read_parts-own-requires t c =
-    let q = c.requires in
-    omega (arith, q.0, q.1.0, q.1.1, q.1.2, q.1.3, q.1.4)
+    omega (arith, c.decreases, c.requires.0, c.requires.1, c.requires.2, c.requires.3, c.requires.4)
 
 pub read_routine-returns-in_default : goal.read_routine-returns-in_default
 read_routine-returns-in_default t c =
@@ -181,18 +175,16 @@ read_routine-returns-in_default t c =
 pub read_routine-overflow_cast-ty : goal.read_routine-overflow_cast-ty
 unfolding bare
 read_routine-overflow_cast-ty t c =
-    let q = c.requires in
-    let h = ends-typed _ (parts-end _ _ _ _ _ _ _ c.type_inv.s _ _ _ _ (omega arith) q.1.3
+    let h = ends-typed _ (parts-end _ _ _ _ _ _ _ c.type_inv.s _ _ _ _ (omega arith) c.requires.3
     c.read_parts-own.ensures.answer) c.in-Read.is in
     omega (arith, h)
 
 pub read_routine-read_usable-requires : goal.read_routine-read_usable-requires
 unfolding bare
 read_routine-read_usable-requires t c =
-    let q = c.requires in
-    let h = ends-within _ (parts-end _ _ _ _ _ _ _ c.type_inv.s _ _ _ _ (omega arith) q.1.3
+    let h = ends-within _ (parts-end _ _ _ _ _ _ _ c.type_inv.s _ _ _ _ (omega arith) c.requires.3
     c.read_parts-own.ensures.answer) c.in-Read.is in
-    omega (arith, h, q.0, q.1.0, q.1.1, q.1.2, q.1.3, q.1.4)
+    omega (arith, h, c.decreases, c.requires.0, c.requires.1, c.requires.2, c.requires.3, c.requires.4)
 
 pub read_routine-returns : goal.read_routine-returns
 read_routine-returns t c =
@@ -202,15 +194,13 @@ read_routine-returns t c =
 -- read_scope
 pub read_scope-read_block-requires : goal.read_scope-read_block-requires
 read_scope-read_block-requires t c =
-    let q = c.requires in
-    let h = q.1.4 (sym c.opens_of-opened.ensures ∙ c.in-Block.is) in
-    (omega (arith, q.0), (q.1.0, q.1.1, q.1.2, q.1.3, h))
+    let h = c.requires.4 (sym c.opens_of-opened.ensures ∙ c.in-Block.is) in
+    (omega (arith, c.decreases), (c.requires.0, c.requires.1, c.requires.2, c.requires.3, h))
 
 pub read_scope-read_routine-requires : goal.read_scope-read_routine-requires
 read_scope-read_routine-requires t c =
-    let q = c.requires in
-    let h = q.1.5 (sym c.opens_of-opened.ensures ∙ c.in-Routine.is) in
-    (omega (arith, q.0), (q.1.0, q.1.1, q.1.2, q.1.3, h))
+    let h = c.requires.5 (sym c.opens_of-opened.ensures ∙ c.in-Routine.is) in
+    (omega (arith, c.decreases), (c.requires.0, c.requires.1, c.requires.2, c.requires.3, h))
 
 pub read_scope-returns-in-Nothing : goal.read_scope-returns-in-Nothing
 read_scope-returns-in-Nothing t c =
