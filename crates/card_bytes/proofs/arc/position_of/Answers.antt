@@ -1,5 +1,4 @@
 -- `position_of` gives the number of a class, from 0 on.
-use borrow.Author.Rules.{rules}
 use mathlib.Core.Path.{ap}
 use Prim.Native.Nat.{◌-◌}
 use native.Mathlib.Omega.{arith}

@@ -1,5 +1,4 @@
 -- `write_edge` writes the bytes of the move by an edge, none where it leads to the dead class.
-use borrow.Author.Rules.{rules}
 use native.Mathlib.Omega.{arith}
 use Rattle.card_bytes.proofs.laws.Edges.{edge-class, edge_none, edge-some}
 use Rattle.card_bytes.proofs.arc.write_edge.Goals as goal

@@ -1,8 +1,5 @@
 use Prim.Native.Nat.{◌-◌}
-use native.Mathlib.Omega.{arith}
 use Rattle.card_bytes.specs.inner.Laying.{Edging}
-use Rattle.card_bytes.proofs.laws.Laying.{laying-place}
-use Rattle.card_bytes.proofs.laws.Positions.{edging-again, edging-edge, edging-first, edging-last}
 use Rattle.card_bytes.proofs.positions.write_edges.Given as goal
 
 abbrev pub invariant-loop-e : goal.invariant-loop-e

@@ -1,5 +1,4 @@
 -- `write_position` writes the bytes of a position.
-use borrow.Author.Rules.{rules}
 use native.Mathlib.Omega.{arith}
 use Rattle.card_bytes.proofs.laws.Positions.{position-length, position-written}
 use Rattle.card_bytes.proofs.positions.write_position.Goals as goal

@@ -1,7 +1,5 @@
 -- `write_positions` goes through the positions.
-use Prim.Native.Nat.{◌-◌}
 use native.Mathlib.Omega.{arith}
-use Rattle.card_bytes.specs.inner.Laying.{Placing}
 use Rattle.card_bytes.proofs.laws.Positions.{placing-again, placing-first, placing-last, placing-room}
 use Rattle.card_bytes.proofs.positions.write_positions.Goals as goal
 

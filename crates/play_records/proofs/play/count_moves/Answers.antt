@@ -1,8 +1,5 @@
 -- What `count_moves` gives is what `counted` says, case by case.
-use borrow.Author.Rules.{rules}
-use Prim.Native.Nat.{◌-◌}
-use lib.ListN.{length}
-use Rattle.play_records.proofs.Counting.{Count, count-first, count-again, count-unknown, count-short, count-last}
+use Rattle.play_records.proofs.Counting.{count-first, count-again, count-unknown, count-short, count-last}
 use Rattle.play_records.proofs.play.count_moves.Goals as goal
 
 pub loop-at-init : goal.loop-at-init

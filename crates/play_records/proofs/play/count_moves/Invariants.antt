@@ -1,7 +1,6 @@
-use borrow.Author.Rules.{rules}
 use Prim.Native.Nat.{◌-◌}
 use lib.ListN.{length}
-use Rattle.play_records.proofs.Counting.{Count, count-first, count-again, count-unknown, count-short, count-last}
+use Rattle.play_records.proofs.Counting.{Count}
 use Rattle.play_records.proofs.play.count_moves.Given as goal
 
 abbrev pub invariant-loop-at : goal.invariant-loop-at

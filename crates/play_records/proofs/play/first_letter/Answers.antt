@@ -1,5 +1,4 @@
 -- What `first_letter` gives is what `first_letter` says, case by case.
-use borrow.Author.Rules.{rules}
 use Rattle.play_records.specs.Bytes.{first_letter}
 use Rattle.play_records.proofs.play.first_letter.Goals as goal
 

@@ -1,5 +1,4 @@
 -- What `letter_from` gives is what `letter_from` says, case by case.
-use borrow.Author.Rules.{rules}
 use borrow.Author.Tests.{lt-ltb, le-ltb}
 use Rattle.play_records.specs.Bytes.{letter_from}
 use Rattle.play_records.proofs.play.letter_from.Goals as goal

@@ -1,5 +1,4 @@
 -- The byte that is stored is the remainder.
-use borrow.Author.Rules.{rules}
 use Rattle.play_records.proofs.play.put.Goals as goal
 
 pub returns : goal.returns

@@ -1,9 +1,8 @@
 -- What `write_play` leaves is the records of the letters.
-use borrow.Author.Rules.{rules}
 use native.Mathlib.Omega.{arith}
-use Prim.Native.Nat.{◌+◌, ◌-◌}
+use Prim.Native.Nat.{◌+◌}
 use mathlib.Core.Path.{refl}
-use Rattle.play_records.proofs.Written.{Writing, writing-first, writing-again, writing-last}
+use Rattle.play_records.proofs.Written.{writing-first, writing-again, writing-last}
 use Rattle.play_records.proofs.play.write_play.Goals as goal
 
 pub loop-i-init : goal.loop-i-init

@@ -1,8 +1,5 @@
-use borrow.Author.Rules.{rules}
-use native.Mathlib.Omega.{arith}
-use Prim.Native.Nat.{◌+◌, ◌-◌}
-use mathlib.Core.Path.{refl}
-use Rattle.play_records.proofs.Written.{Writing, writing-first, writing-again, writing-last}
+use Prim.Native.Nat.{◌-◌}
+use Rattle.play_records.proofs.Written.{Writing}
 use Rattle.play_records.proofs.play.write_play.Given as goal
 
 abbrev pub invariant-loop-i : goal.invariant-loop-i

@@ -1,5 +1,4 @@
 -- `write_record` gives the place after a record, and leaves its bytes.
-use borrow.Author.Rules.{rules}
 use Rattle.play_records.proofs.Written.{put_three, put_four}
 use Rattle.play_records.proofs.play.write_record.Goals as goal
 

@@ -1,10 +1,10 @@
 -- `longest` counts the moves that begin a complete play.
 use borrow.Author.Rules.{rules}
 use native.Mathlib.Omega.{arith}
-use Prim.Native.Nat.{◌*◌, ◌-◌}
+use Prim.Native.Nat.{◌*◌}
 use Rattle.dfa.proofs.laws.Rest.{rest-length}
 use Rattle.play_words.proofs.WalkingPlays.{walked-again}
-use Rattle.play_words.proofs.SearchingPlays.{Searched, search-first, search-marked, search-unmarked, search-last}
+use Rattle.play_words.proofs.SearchingPlays.{search-first, search-marked, search-unmarked, search-last}
 use Rattle.play_words.proofs.SearchingPlays.{not-marked}
 use Rattle.play_words.proofs.walk.longest.Goals as goal
 

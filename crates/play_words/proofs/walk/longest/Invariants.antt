@@ -1,10 +1,5 @@
-use borrow.Author.Rules.{rules}
-use native.Mathlib.Omega.{arith}
-use Prim.Native.Nat.{◌*◌, ◌-◌}
-use Rattle.dfa.proofs.laws.Rest.{rest-length}
-use Rattle.play_words.proofs.WalkingPlays.{walked-again}
-use Rattle.play_words.proofs.SearchingPlays.{Searched, search-first, search-marked, search-unmarked, search-last}
-use Rattle.play_words.proofs.SearchingPlays.{not-marked}
+use Prim.Native.Nat.{◌-◌}
+use Rattle.play_words.proofs.SearchingPlays.{Searched}
 use Rattle.play_words.proofs.walk.longest.Given as goal
 
 abbrev pub invariant-loop-i : goal.invariant-loop-i
