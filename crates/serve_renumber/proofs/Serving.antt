@@ -105,7 +105,7 @@ written-rule s room space b cs S ty n o e =
     let T : Sheet = with_term S W in
     let g = gives Earlier s S ty n e in
     let R : Renumbered S W cs = renumber-rule S W cs M.ids g.1.ordered M.renumbers in
-    let l : length (encode_sheet T) ≡ length (encode_sheet S) = same_bytes S W R.same_width_lem in
+    let l : length (encode_sheet T) ≡ length (encode_sheet S) = same_bytes S W R.same_width in
     let A : (ed : Edition) → fine.AcceptedUnder ed T = λ ed.
     record { ordered = R.accepted.accepted; short = omega (arith, l, g.1.short); apart = λ p. R.accepted.apart } in
     let t : type_of S ≡ type_of T = R.same_sheets.same_type in

@@ -1,15 +1,14 @@
 -- The level of a part that is entered has words of 32 bits.
 use mathlib.Core.Path.{◌≡◌}
-use mathlib.Core.List.{List, [], ◌∷◌}
-use Prim.Native.Nat.{ℕ, zero, suc, ◌+◌, ◌*◌, ◌-◌, ◌≤◌, ◌<◌}
+use mathlib.Core.List.{List, ◌∷◌}
+use Prim.Native.Nat.{ℕ, zero, suc, ◌+◌, ◌-◌, ◌≤◌, ◌<◌}
 use native.Mathlib.Omega.{arith}
 use native.Mathlib.Decide.{dec_lt}
 use lib.Dec.{eqb, ltb}
-use lib.ListN.{length, get_or-eq_default}
+use lib.ListN.{get_or-eq_default}
 use Rattle.sheet_rows.specs.Row.{cell, word}
 use Rattle.states_positions.specs.declared.Frame.{Frame}
 use Rattle.states_positions.specs.declared.Spot.TheVariants.{Inside}
-use Rattle.states_positions.specs.Row.{Long}
 use Rattle.states_names.specs.Name.{no_move}
 use Rattle.states_step.specs.walk.Shows.{TermRows}
 use Rattle.states_path.specs.declared.Level.{Level}

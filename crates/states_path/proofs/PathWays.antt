@@ -11,7 +11,7 @@ use Rattle.language.specs.Choice.{pick}
 use Rattle.language.specs.declared.Numbers.{Numbers}
 use Rattle.states_positions.specs.declared.Frame.{Frame}
 use Rattle.states_positions.specs.declared.Out.TheVariants.{Exit}
-use Rattle.states_positions.specs.Row.{sum_of, mul_add_of}
+use Rattle.states_positions.specs.Row.{mul_add_of}
 use Rattle.states_step.proofs.Sums.{sum-small, mul_add_small}
 use Rattle.states_path.specs.declared.Site.{Site}
 use Rattle.states_path.specs.declared.exits.Ways.{Ways}

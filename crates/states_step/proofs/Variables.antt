@@ -127,8 +127,9 @@ pub held-push : (s : ℕ → ℕ) (r a m : ℕ) {rs : List ℕ} {n : Context} �
     n) →
     Fresh rs r → HeldStore s (held rs n σ) → HeldStore (with_value s a v.0) (held (r ∷ rs) (m ∷ n) (v, σ))
 unfolding HeldStore held with_value
-held-push s r a m e ds v σ f d =
-    rw e (rw (eq-eqb (suc r) (suc r) refl) refl, held-other s r v.0 ds σ f d)
+held-push s r a m {rs} {n} e ds v σ f d =
+    subst (λ (x : ℕ). HeldStore (with_value s x v.0) (held (r ∷ rs) (m ∷ n) (v, σ))) (sym e)
+    (rw (eq-eqb (suc r) (suc r) refl) refl, held-other s r v.0 ds σ f d)
 
 -- the exit of a private variable
 module _ (t : List ℕ) (node : ℕ) (rs : List ℕ) (n : Context) (i m₀ r₀ : ℕ) (rl : word t node 4 ≡ r₀)

@@ -43,7 +43,7 @@ use Rattle.states_step.specs.walk.Shows.{ShowsNext}
 use Rattle.states_step.specs.walk.Shows.{ShowsSaid, waits as awaits, leads as follows, Shows}
 use Rattle.states_step.proofs.Sums.{map-edge, sum-small, mul_add_small, quotient, remainder, times, factors}
 use Rattle.states_step.proofs.Sums.{when-yes, when-no, when-dead}
-use Rattle.states_step.proofs.TypeNumbers.{HasType, has_type, questions-of, answers_of, question-kind, question-value}
+use Rattle.states_step.proofs.TypeNumbers.{HasType, has_type, questions-of, answers_of_lem, question-kind, question-value}
 use Rattle.states_step.proofs.TypeNumbers.{Answered, fitting, unfitting, answer-of, Asked, asking, not-asking}
 use Rattle.states_step.proofs.TypeNumbers.{question-of, no-question}
 use Rattle.states_step.proofs.Parts.{row_of, positive, some-question}
@@ -110,7 +110,7 @@ module _ (N : Numbers) (t : List ℕ) {root : ℕ} {M : Term} {T : Ty} (r : Rep 
   pub spots-of : spots_of t root ≡ spots T M
   unfolding spots_of spots
   spots-of =
-      rw (after-of, answers_of _ _ T typed (omega (arith, few)))
+      rw (after-of, answers_of_lem _ _ T typed (omega (arith, few)))
       (sum-small (1 + questions T * weight M) (answers T) (omega (arith, few)) ∙ omega arith)
 
   -- a question enters its copy of the term

@@ -10,9 +10,9 @@ use borrow.Author.Tests.{lt-ltb, le-ltb, ne_eqb}
 use Rattle.language.specs.declared.Numbers.{Numbers}
 use Rattle.language.specs.Choice.{pick}
 use Rattle.language.specs.Ty.{Ty, command, expression, variable, Question, run, ask, read, write}
-use Rattle.language.specs.Ty.{Answer, value, Fits, fits_run, fits_ask, fits_read, fits_write}
+use Rattle.language.specs.Ty.{Answer, Fits, fits_run, fits_ask, fits_read, fits_write}
 use Rattle.language.specs.Ty.{Answers, to_run, to_ask, to_read, to_write, questions}
-use Rattle.language.specs.Term.{Often, Args, arg, name}
+use Rattle.language.specs.Term.{Often, Args, name}
 use Rattle.states_machine.specs.Action.{Heard, asked, answered, opened, Listen, calling, opening, who, heard, FitsAt, Hears}
 use Rattle.states_machine.specs.Position.{types}
 use Rattle.states_machine.specs.Degree.{answers_to, asks, hearings}
@@ -147,18 +147,18 @@ asked-sum {t = t} (r_arg {at = node} {j} {T = T} r rs) zero a e l =
 asked-sum (r_arg {j = j} r rs) (suc i) a e l = asked-sum rs i a (omega arith) (omega arith)
 
 -- the same where a name may ask all its arguments or none
-taken-limit : {K : Numbers} {t rs n : List ℕ} {left node c : ℕ} {args : Args} {Ts : List Ty} →
+taken-limit : {K : Numbers} {t rs n : List ℕ} {left node : ℕ} {args : Args} {c : ℕ} {Ts : List Ty} →
     RepArgs K t left node 0 rs n args → Takes args Ts c → (j : ℕ) (q : Question) → FitsAt Ts j q →
     (j < c) × (value_q q < question_limit (part_class t node j) (part_values t node j) (kind_q q))
 unfolding FitsAt
 taken-limit ra takes_all j q f = asked-limit ra j j (omega arith) q f
 taken-limit ra takes_none j q f = absurd f
 
-taken-few : {c : ℕ} {args : Args} {Ts : List Ty} → Takes args Ts c → c ≤ count args
+taken-few : {args : Args} {c : ℕ} {Ts : List Ty} → Takes args Ts c → c ≤ count args
 taken-few takes_all = omega arith
 taken-few takes_none = omega arith
 
-taken-sum : {K : Numbers} {t rs n : List ℕ} {left node c : ℕ} {args : Args} {Ts : List Ty} →
+taken-sum : {K : Numbers} {t rs n : List ℕ} {left node : ℕ} {args : Args} {c : ℕ} {Ts : List Ty} →
     RepArgs K t left node 0 rs n args → Takes args Ts c → (j : ℕ) → j < c →
     kinds (question_limit (part_class t node j) (part_values t node j)) ≤ share Ts j
 taken-sum ra takes_all j l = asked-sum ra j j (omega arith) l
@@ -250,8 +250,8 @@ module _ (t : List ℕ) (s node : ℕ) (q : Question) (c : ℕ) where
       few = omega (arith, own, column 0, column 1, column 2, column 3, share-sum Ts);
     }
 
-  name-heeds : {K : Numbers} {rs n : List ℕ} {left i : ℕ} {o : Often} {T : Ty} {args : Args} (Ts : List Ty) →
-      Takes args Ts c → Rep K t left node rs n (name i o T args) T →
+  name-heeds : {K : Numbers} {rs n : List ℕ} {left i : ℕ} {o : Often} {T S : Ty} {args : Args} (Ts : List Ty) →
+      Takes args Ts c → Rep K t left node rs n (name i o T args) S →
       Heeds t (calling i Ts T q) (name_wait t s node q c)
   unfolding name_id
   name-heeds {T = T} Ts h (r_name row i-byte e few ra) =

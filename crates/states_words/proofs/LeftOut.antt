@@ -19,7 +19,7 @@ use Rattle.language.specs.Order.{code_at}
 use Rattle.language.proofs.OrderLaws.{code-at-each}
 use Rattle.states_words.proofs.Codes.{letter-of}
 use Rattle.states_words.proofs.Codes.{kind_small, value_small}
-use Rattle.states_words.proofs.EdgeLists.{Absent, found}
+use Rattle.states_words.proofs.EdgeLists.{Absent}
 use Rattle.states_words.proofs.Heard.{Heeds}
 use Rattle.states_words.proofs.HeardEdges.{of-heard}
 

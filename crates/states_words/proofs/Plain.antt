@@ -3,7 +3,7 @@ use mathlib.Core.Path.{◌≡◌, refl, sym, subst, ◌∙◌, ap}
 use mathlib.Core.List.{List}
 use Prim.Native.Nat.{ℕ, ◌+◌, ◌*◌, ◌<◌, ◌%◌}
 use native.Mathlib.Omega.{arith}
-use lib.ListN.{set, length, length-set}
+use lib.ListN.{length, length-set}
 use Rattle.states_positions.specs.Row.{sum_of, SHORTS, LONGS}
 use Rattle.states_step.proofs.Sums.{sum-small, mul_add_small}
 use Rattle.states_words.specs.inner.Rows.{FIRSTS, EDGES, held, edge_at, with_edge, with_head}

@@ -1,5 +1,5 @@
 -- Writing rows into words shows them.
-use mathlib.Core.Path.{◌≡◌, refl, sym, ◌∙◌, subst}
+use mathlib.Core.Path.{◌≡◌, refl, sym, ◌∙◌, ap, subst}
 use mathlib.Core.Logic.{◌≢◌}
 use mathlib.Core.List.{List, [], ◌∷◌, ◌++◌}
 use Prim.Native.Nat.{ℕ, zero, suc, ◌+◌, ◌*◌, ◌-◌, ◌<◌, ◌≤◌, ◌%◌}
@@ -175,8 +175,10 @@ edges-stand ws n e a (x ∷ xs) R h =
           edge-letter ws n e x.letter x.target one (omega (arith, h.1)),
       stays (6 * n + 2 + 2 * e) (omega arith) ∙
           edge-target ws n e x.letter x.target one (omega (arith, h.2, R.few)),
-      edges-stand (with_edge ws n e x.letter x.target) n (suc e) (suc x.letter) xs
-          (less (with_edge ws n e x.letter x.target) (suc e + length xs) len (omega arith) R) h.3,
+      subst (λ (us : List ℕ). Standing us n (suc e) xs)
+          (ap (λ (j : ℕ). with_edges (with_edge ws n e x.letter x.target) n j xs) (sym q))
+          (edges-stand (with_edge ws n e x.letter x.target) n (suc e) (suc x.letter) xs
+          (less (with_edge ws n e x.letter x.target) (suc e + length xs) len (omega arith) R) h.3),
     )
 
 -- a head that is written is there

@@ -116,7 +116,7 @@ pub fn fill(
     e: usize,
 ) -> usize
     requires term_rows { TermRows t.now }
-    requires root_bound { (spots_of t.now s.root ≤ 65536) × (length p.old ≡ 79885) }
+    requires room { (spots_of t.now s.root ≤ 65536) × (length p.old ≡ 79885) }
     ensures returned { result ≡ edges_after t.now n s e }
     ensures written { words.new ≡ filled_of t.now n s words.old e }
     ensures lent { length p.new ≡ 79885 }

@@ -1,5 +1,4 @@
 -- The bytes compared are those that were read.
-use borrow.Author.Rules.{rules}
 use Rattle.files.proofs.Counted.{counted}
 use Rattle.negyvosal.proofs.main.Goals as goal
 

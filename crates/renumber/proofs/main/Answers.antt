@@ -1,5 +1,4 @@
 -- The bytes renumbered are those that were read; the sheet written has as many, and so has room.
-use borrow.Author.Rules.{rules}
 use native.Mathlib.Omega.{arith}
 use mathlib.Core.Path.{sym}
 use lib.Seq.{length-take-le}

@@ -14,10 +14,13 @@ returns-then-absolute-eq0 c =
     c.if-absolute-eq0.true c.undivided.ensures
 
 pub rem_euclid-requires : goal.rem_euclid-requires
-rem_euclid-requires c = record { small = operands c.args.n c.args.x
+rem_euclid-requires c = record {
+  small = operands c.args.n c.args.x
       c.args.y c.signed.type_inv c.signed.ensures
       c.signed-d.type_inv c.signed-d.ensures
-      (omega arith) (omega arith) (omega arith); divisor = λ e. c.if-absolute-eq0.false (c.absolute.ensures ∙ e) }
+      (omega arith) (omega arith) (omega arith);
+  divisor = λ e. c.if-absolute-eq0.false (c.absolute.ensures ∙ e);
+}
 
 pub returns : goal.returns
 returns c =

@@ -58,7 +58,7 @@ write_table-length-requires c =
       (
         _,
         card-drawable F a.words.now a.space.now c.lent_number-number.ensures c.if-number-ne-NOT_REFUSED.false
-            _ _ _ (rooted A F) h.0 o.auto.1.1.1.1.0 o.ensures,
+            _ _ _ (rooted A F) h.returned o.auto.words o.ensures,
       ),
     )
 
@@ -71,6 +71,6 @@ returns c =
     let o = c.one_from_rows in
     let h = c.write_heading-place.ensures in
     let t = c.write_table-length in
-    carded F a.words.now a.space.now c.lent_number-number.ensures c.if-number-ne-NOT_REFUSED.left _ _ _ _ _ _ _ (rooted A F)
-    (heading-in A).0 h.0 o.kept.1.1.1.1.0 o.ensures h.1 t.ensures
-    (c.clear.ensures ∙ ap (λ k. replicate k 0) (t.auto.0 ∙ o.kept.1.1.1.1.0))
+    carded F a.words.now a.space.now c.lent_number-number.ensures c.if-number-ne-NOT_REFUSED.false _ _ _ _ _ _ _ (rooted A F)
+    (heading-in A).0 h.returned o.auto.words o.ensures h.written t.ensures
+    (c.clear.ensures ∙ ap (λ k. replicate k 0) (t.auto.words ∙ o.auto.words))

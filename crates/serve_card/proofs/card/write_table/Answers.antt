@@ -46,4 +46,4 @@ returns c = λ s ty D.
     let O = c.sort_states.ensures in
     let M = c.number_states-count.ensures _ _ _ (drawn-countable _ _ _ _ _ D _ _ O) in
     let W = c.write_positions.ensures in
-    drawn _ _ _ _ _ D _ _ O _ _ M _ _ _ W.0 W.1
+    drawn _ _ _ _ _ D _ _ O _ _ M _ _ _ W.returned W.written

@@ -23,7 +23,7 @@ show-requires c = (
   (told_of _ (task c.args.all c.args.more
       c.args.most)
       _ _ _ c.in-Apart.is c.first_difference-v.ensures.0).trail,
-  omega (arith, asked_low _ _ c.requires.room, c.first_difference-v.auto.0),
+  omega (arith, asked_low _ _ c.requires.room, c.first_difference-v.auto.words),
 )
 
 pub returns-in-Same : goal.returns-in-Same

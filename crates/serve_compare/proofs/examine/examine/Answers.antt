@@ -54,7 +54,7 @@ decide-found-requires c =
     let P = passed _ _ c.args.words.now c.args.space.now A B c.alike-matching.ensures c.numbers_of-n.ensures c.pair_number-number.ensures
     c.if-number-ne-NOT_REFUSED.false in
     deciding (both A B c.alike-matching.ensures P.matched c.numbers_of-n.ensures) c.args.words.now _ _ P.words-enough
-    c.two_from_rows.auto.1.1.1.1.1.1.1.0 P.space-enough c.two_from_rows.ensures
+    c.two_from_rows.auto.words P.space-enough c.two_from_rows.ensures
 
 pub overflow_add-result : goal.overflow_add-result
 overflow_add-result c =
@@ -76,8 +76,8 @@ returns c =
     c.if-number-ne-NOT_REFUSED.false in
     examined (both A B c.alike-matching.ensures P.matched c.numbers_of-n.ensures) c.args.most c.args.words.now _
     c.decide-found.new.0 _ _ _ _ P.words-enough
-    c.two_from_rows.auto.1.1.1.1.1.1.1.0 P.space-enough
+    c.two_from_rows.auto.words P.space-enough
     c.two_from_rows.ensures c.decide-found.ensures
-    c.decide-found.auto.0 c.clear.ensures
+    c.decide-found.auto.words c.clear.ensures
     (accepted-call _ _ c.args.words.now c.args.space.now A B c.alike-matching.ensures c.numbers_of-n.ensures c.pair_number-number.ensures
     c.if-number-ne-NOT_REFUSED.false)

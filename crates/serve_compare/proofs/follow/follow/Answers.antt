@@ -48,7 +48,7 @@ pub mark_live-requires : goal.mark_live-requires
 mark_live-requires c =
     let F = fit-as (taken _ _ c.load-x.ensures c.in-Sheet.is) (sym c.numbers_of-n.ensures) refl in
     opened-markable F c.args.words.now _ (rw c.words_asked.ensures
-    at c.if-words-words_asked.false) c.one_from_rows.ensures c.one_from_rows.auto.1.1.1.1.0
+    at c.if-words-words_asked.false) c.one_from_rows.ensures c.one_from_rows.auto.words
 
 pub longest-reach-requires : goal.longest-reach-requires
 longest-reach-requires c =
@@ -70,4 +70,4 @@ returns c =
     followed F c.args.words.now _ (rw c.words_asked.ensures at c.if-words-words_asked.false) c.one_from_rows.ensures _ c.mark_live.ensures c.args.play.now _
     (λ i. omega (arith, c.type_inv.play i)) c.count_moves-parsed.ensures c.in-Moves.is
     c.longest-reach.ensures
-    (c.clear.ensures ∙ ap (λ k. replicate k 0) (c.mark_live.auto.0 ∙ c.one_from_rows.auto.1.1.1.1.0))
+    (c.clear.ensures ∙ ap (λ k. replicate k 0) (c.mark_live.auto.words ∙ c.one_from_rows.auto.words))

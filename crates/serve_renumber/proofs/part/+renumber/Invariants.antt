@@ -16,10 +16,6 @@ use Rattle.serve_renumber.proofs.Steps.{past-new, past-procedure}
 use Rattle.serve_renumber.proofs.Routines.{routine-full, routine-full-parameter, routine-full-body, routine-found}
 use Rattle.serve_renumber.proofs.Plain.{part-call, part-block, part-routine, part-plain}
 use Prim.Native.Nat.{ℕ, suc, ◌<◌, ◌+◌, ◌-◌, ◌*◌}
-  statement,
-}
-  close,
-}
 use Rattle.serve_renumber.proofs.part.+renumber.Given as goal
 
 abbrev pub decreases-renumber_block : goal.decreases-renumber_block

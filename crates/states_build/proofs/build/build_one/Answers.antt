@@ -10,7 +10,7 @@ pub overflow_add-states : goal.overflow_add-states
 overflow_add-states c = record { fits = omega (arith, asked_low _ _ c.requires.one_ready.room) }
 
 pub fill-e-requires : goal.fill-e-requires
-fill-e-requires c = record { term_rows = (c.requires.one_ready.long, c.requires.words); root_bound = (one-fits c.requires.one_ready c.requires.words, refl) }
+fill-e-requires c = record { term_rows = (c.requires.one_ready.long, c.requires.words); room = (one-fits c.requires.one_ready c.requires.words, refl) }
 
 pub settle-requires : goal.settle-requires
 settle-requires c = one-settles c.requires.one_ready c.requires.words

@@ -13,10 +13,10 @@ pub overflow_add-states-2 : goal.overflow_add-states-2
 overflow_add-states-2 c = record { fits = omega (arith, asked_low _ _ c.requires.two_ready.room) }
 
 pub fill-e-requires : goal.fill-e-requires
-fill-e-requires c = record { term_rows = (c.requires.two_ready.long, c.requires.words.0); root_bound = (old-fits c.requires.two_ready c.requires.words.0, refl) }
+fill-e-requires c = record { term_rows = (c.requires.two_ready.long, c.requires.words.0); room = (old-fits c.requires.two_ready c.requires.words.0, refl) }
 
 pub fill-e2-requires : goal.fill-e2-requires
-fill-e2-requires c = record { term_rows = (c.requires.two_ready.other_long, c.requires.words.1); root_bound = (new-fits c.requires.two_ready c.requires.words.1, c.fill-e.ensures.lent) }
+fill-e2-requires c = record { term_rows = (c.requires.two_ready.other_long, c.requires.words.1); room = (new-fits c.requires.two_ready c.requires.words.1, c.fill-e.ensures.lent) }
 
 pub settle-requires : goal.settle-requires
 settle-requires c = two-settles c.requires.two_ready c.requires.words.0 c.requires.words.1

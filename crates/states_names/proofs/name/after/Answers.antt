@@ -1,5 +1,4 @@
 -- What `after` gives is what `again_of` says, case by case.
-use borrow.Author.Rules.{rules}
 use Rattle.states_names.specs.Name.{again_of}
 use Rattle.states_names.proofs.name.after.Goals as goal
 

@@ -1,5 +1,4 @@
 -- What `arg_in` gives is what `arg_here` says, case by case.
-use borrow.Author.Rules.{rules}
 use borrow.Author.Tests.{eq-eqb, ne_eqb}
 use Rattle.states_names.specs.Name.{arg_here}
 use Rattle.states_names.proofs.name.arg_in.Goals as goal

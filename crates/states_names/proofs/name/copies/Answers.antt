@@ -1,5 +1,4 @@
 -- What `copies` gives is what `copies_of` says, case by case.
-use borrow.Author.Rules.{rules}
 use Rattle.states_names.specs.Name.{copies_of}
 use Rattle.states_names.proofs.name.copies.Goals as goal
 

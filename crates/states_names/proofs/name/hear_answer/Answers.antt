@@ -1,5 +1,4 @@
 -- What `hear_answer` gives is what `hear_answer` says, case by case.
-use borrow.Author.Rules.{rules}
 use borrow.Author.Tests.{eq-eqb, ne_eqb}
 use Rattle.states_names.specs.Name.{hear_answer}
 use Rattle.states_names.proofs.name.hear_answer.Goals as goal

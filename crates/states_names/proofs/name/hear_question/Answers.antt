@@ -1,5 +1,4 @@
 -- What `hear_question` gives is what `hear_question` says, case by case.
-use borrow.Author.Rules.{rules}
 use borrow.Author.Tests.{le-leb, lt-leb, eq-eqb, ne_eqb}
 use Rattle.states_names.specs.Name.{hear_question}
 use Rattle.states_names.proofs.name.hear_question.Goals as goal

@@ -1,8 +1,6 @@
 -- At each turn of `in_args` the position that is looked for is one of the arguments that are left.
-use borrow.Author.Rules.{rules}
 use native.Mathlib.Omega.{arith}
-use mathlib.Core.Path.{◌≡◌, refl, sym, ◌∙◌}
-use Rattle.states_names.specs.Name.{in_args}
+use mathlib.Core.Path.{refl, sym, ◌∙◌}
 use Rattle.states_names.proofs.Steps.{args-now, args-later, args_none}
 use Rattle.states_names.proofs.name.in_args.Goals as goal
 

@@ -1,8 +1,5 @@
-use borrow.Author.Rules.{rules}
-use native.Mathlib.Omega.{arith}
-use mathlib.Core.Path.{◌≡◌, refl, sym, ◌∙◌}
+use mathlib.Core.Path.{◌≡◌}
 use Rattle.states_names.specs.Name.{in_args}
-use Rattle.states_names.proofs.Steps.{args-now, args-later, args_none}
 use Rattle.states_names.proofs.name.in_args.Given as goal
 
 abbrev pub invariant-loop-left : goal.invariant-loop-left

@@ -1,5 +1,4 @@
 -- What `in_name` gives is what `in_name` says, case by case.
-use borrow.Author.Rules.{rules}
 use borrow.Author.Tests.{lt-ltb, le-ltb, eq-eqb, ne_eqb}
 use Rattle.states_names.specs.Name.{in_name, at_wait, at_spent, spent_of}
 use Rattle.states_names.proofs.name.in_name.Goals as goal

@@ -1,5 +1,4 @@
 -- What `inner` gives is what `inner_of` says, case by case.
-use borrow.Author.Rules.{rules}
 use Rattle.states_names.specs.Name.{inner_of}
 use Rattle.states_names.proofs.name.inner.Goals as goal
 

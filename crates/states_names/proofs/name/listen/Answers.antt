@@ -1,5 +1,4 @@
 -- What `listen` gives is what `listen_of` says, case by case.
-use borrow.Author.Rules.{rules}
 use borrow.Author.Tests.{eq-eqb, ne_eqb}
 use Rattle.states_names.specs.Name.{listen_of}
 use Rattle.states_names.proofs.name.listen.Goals as goal

@@ -1,8 +1,6 @@
 -- At each turn of `reply` the reply that is looked for is one of the arguments that are left.
-use borrow.Author.Rules.{rules}
 use native.Mathlib.Omega.{arith}
-use mathlib.Core.Path.{◌≡◌, refl, sym, ◌∙◌}
-use Rattle.states_names.specs.Name.{reply_of}
+use mathlib.Core.Path.{refl, sym, ◌∙◌}
 use Rattle.states_names.proofs.Steps.{reply-now, reply-later, reply-none}
 use Rattle.states_names.proofs.name.reply.Goals as goal
 

@@ -1,8 +1,5 @@
-use borrow.Author.Rules.{rules}
-use native.Mathlib.Omega.{arith}
-use mathlib.Core.Path.{◌≡◌, refl, sym, ◌∙◌}
+use mathlib.Core.Path.{◌≡◌}
 use Rattle.states_names.specs.Name.{reply_of}
-use Rattle.states_names.proofs.Steps.{reply-now, reply-later, reply-none}
 use Rattle.states_names.proofs.name.reply.Given as goal
 
 abbrev pub invariant-loop-left : goal.invariant-loop-left

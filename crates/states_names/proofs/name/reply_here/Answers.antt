@@ -1,5 +1,4 @@
 -- What `reply_here` gives is what `reply_here` says, case by case.
-use borrow.Author.Rules.{rules}
 use borrow.Author.Tests.{le-leb, lt-leb, eq-eqb, ne_eqb}
 use Rattle.states_names.specs.Name.{reply_here}
 use Rattle.states_names.proofs.name.reply_here.Goals as goal

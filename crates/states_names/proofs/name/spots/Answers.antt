@@ -1,9 +1,6 @@
 -- `spots` adds the positions of the arguments from the last one back.
-use borrow.Author.Rules.{rules}
 use native.Mathlib.Omega.{arith}
-use Prim.Native.Nat.{◌-◌, ◌≤◌}
-use mathlib.Core.Path.{◌≡◌, sym}
-use Rattle.states_names.specs.Name.{arg_spots}
+use mathlib.Core.Path.{sym}
 use Rattle.states_names.proofs.Steps.{spots-none, spots-before, spots-all}
 use Rattle.states_names.proofs.name.spots.Goals as goal
 

@@ -1,9 +1,6 @@
-use borrow.Author.Rules.{rules}
-use native.Mathlib.Omega.{arith}
 use Prim.Native.Nat.{◌-◌, ◌≤◌}
-use mathlib.Core.Path.{◌≡◌, sym}
+use mathlib.Core.Path.{◌≡◌}
 use Rattle.states_names.specs.Name.{arg_spots}
-use Rattle.states_names.proofs.Steps.{spots-none, spots-before, spots-all}
 use Rattle.states_names.proofs.name.spots.Given as goal
 
 abbrev pub invariant-loop-left : goal.invariant-loop-left

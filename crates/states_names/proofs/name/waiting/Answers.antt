@@ -1,5 +1,4 @@
 -- What `waiting` gives is what `at_wait` says, case by case.
-use borrow.Author.Rules.{rules}
 use borrow.Author.Tests.{eq-eqb, ne_eqb}
 use Rattle.states_names.specs.Name.{at_wait}
 use Rattle.states_names.proofs.name.waiting.Goals as goal

@@ -1,12 +1,6 @@
 -- `climb` leads a step through all levels, as `rise_all` does.
-use borrow.Author.Rules.{rules}
 use native.Mathlib.Omega.{arith}
-use mathlib.Core.Path.{◌≡◌, refl}
-use Prim.Native.Nat.{◌≤◌}
-use Rattle.language.specs.declared.Numbers.{Numbers}
-use Rattle.states_positions.specs.declared.Out.TheVariants.{Go}
-use Rattle.states_path.specs.Path.{rise_all}
-use Rattle.states_path.specs.Levels.{frames_of}
+use mathlib.Core.Path.{refl}
 use Rattle.states_path.proofs.PathCode.{climb-again, climb-last}
 use Rattle.states_path.proofs.exits.climb.Goals as goal
 

@@ -1,12 +1,9 @@
-use borrow.Author.Rules.{rules}
-use native.Mathlib.Omega.{arith}
-use mathlib.Core.Path.{◌≡◌, refl}
+use mathlib.Core.Path.{◌≡◌}
 use Prim.Native.Nat.{◌≤◌}
 use Rattle.language.specs.declared.Numbers.{Numbers}
 use Rattle.states_positions.specs.declared.Out.TheVariants.{Go}
 use Rattle.states_path.specs.Path.{rise_all}
 use Rattle.states_path.specs.Levels.{frames_of}
-use Rattle.states_path.proofs.PathCode.{climb-again, climb-last}
 use Rattle.states_path.proofs.exits.climb.Given as goal
 
 abbrev pub invariant-loop-left : goal.invariant-loop-left

@@ -1,5 +1,4 @@
 -- What `copies` gives is what `copies_of` says, case by case.
-use borrow.Author.Rules.{rules}
 use borrow.Author.Tests.{lt-ltb, le-ltb}
 use Rattle.states_path.specs.Ways.{copies_of}
 use Rattle.states_path.proofs.exits.copies.Goals as goal

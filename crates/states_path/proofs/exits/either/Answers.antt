@@ -1,5 +1,4 @@
 -- What `either` gives is what `either_of` says, case by case.
-use borrow.Author.Rules.{rules}
 use borrow.Author.Tests.{le-leb, lt-leb}
 use Rattle.states_path.specs.Ways.{value_to, either_of}
 use Rattle.states_path.proofs.exits.either.Goals as goal

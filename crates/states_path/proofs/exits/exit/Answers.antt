@@ -1,9 +1,7 @@
 -- What `exit` gives is what `target_of` says, case by case.
-use borrow.Author.Rules.{rules}
 use native.Mathlib.Omega.{arith}
 use mathlib.Core.Path.{refl, ◌∙◌}
-use Rattle.states_positions.specs.declared.Out.TheVariants.{Exit}
-use Rattle.states_path.proofs.PathSteps.{Exiting, exit-first, exit-last, exit-within, exit-leads, exit-stops, exit-says, exit-hears}
+use Rattle.states_path.proofs.PathSteps.{exit-first, exit-last, exit-within, exit-leads, exit-stops, exit-says, exit-hears}
 use Rattle.states_path.proofs.PathSteps.{exit-again, exit-less, own-there}
 use Rattle.states_path.proofs.PathCode.{fewer}
 use Rattle.states_path.proofs.exits.exit.Goals as goal

@@ -1,5 +1,4 @@
 -- `far` leads a step where `rise_all` leads it.
-use borrow.Author.Rules.{rules}
 use Rattle.states_path.proofs.PathCode.{from_first, far-leads}
 use Rattle.states_path.proofs.exits.far.Goals as goal
 

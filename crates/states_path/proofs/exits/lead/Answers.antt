@@ -1,5 +1,4 @@
 -- `lead` leads a step where `rise_all` leads it.
-use borrow.Author.Rules.{rules}
 use Rattle.states_path.proofs.exits.lead.Goals as goal
 
 pub lead_at-requires : goal.lead_at-requires

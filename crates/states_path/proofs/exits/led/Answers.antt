@@ -1,5 +1,4 @@
 -- `led` leads a step where `rise_all` leads it.
-use borrow.Author.Rules.{rules}
 use native.Mathlib.Omega.{arith}
 use Rattle.states_path.proofs.PathCode.{from_first}
 use Rattle.states_path.proofs.PathSteps.{lead_plain, lead_low, led-none, led-own}

@@ -1,5 +1,4 @@
 -- `moved` leads a step where `rise_all` leads it.
-use borrow.Author.Rules.{rules}
 use native.Mathlib.Omega.{arith}
 use Rattle.states_path.proofs.PathSteps.{lead-copy, lead-within, lead_low, block_within}
 use Rattle.states_path.proofs.PathCode.{from_first, fewer}

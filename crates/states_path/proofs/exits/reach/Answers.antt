@@ -1,5 +1,4 @@
 -- What `reach` gives is what `target_of` says, case by case.
-use borrow.Author.Rules.{rules}
 use mathlib.Core.Path.{refl}
 use Rattle.states_path.proofs.Reaching.{reach-as, reach-say, reach-hear, reach-stuck}
 use Rattle.states_path.proofs.exits.reach.Goals as goal

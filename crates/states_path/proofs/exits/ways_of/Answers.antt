@@ -1,5 +1,4 @@
 -- What `ways_of` gives says where each value leads, case by case.
-use borrow.Author.Rules.{rules}
 use native.Mathlib.Omega.{arith}
 use mathlib.Core.Path.{sym, ◌∙◌}
 use Rattle.states_path.proofs.PathSteps.{lead_low}

@@ -1,7 +1,6 @@
 -- What `block_at` gives is what `block_in` says, case by case.
-use borrow.Author.Rules.{rules}
 use native.Mathlib.Omega.{arith}
-use Rattle.states_path.proofs.PathSteps.{block-zero, Looking, look-first, look-within, look-found, look-again}
+use Rattle.states_path.proofs.PathSteps.{block-zero, look-first, look-within, look-found, look-again}
 use Rattle.states_path.proofs.PathSteps.{look-less, look-last}
 use Rattle.states_path.proofs.levels.block_at.Goals as goal
 

@@ -1,7 +1,4 @@
-use borrow.Author.Rules.{rules}
-use native.Mathlib.Omega.{arith}
-use Rattle.states_path.proofs.PathSteps.{block-zero, Looking, look-first, look-within, look-found, look-again}
-use Rattle.states_path.proofs.PathSteps.{look-less, look-last}
+use Rattle.states_path.proofs.PathSteps.{Looking}
 use Rattle.states_path.proofs.levels.block_at.Given as goal
 
 abbrev pub invariant-loop-m : goal.invariant-loop-m

@@ -1,5 +1,4 @@
 -- What `field` gives is what `field_of` says, case by case.
-use borrow.Author.Rules.{rules}
 use Rattle.states_path.specs.Levels.{field_of}
 use Rattle.states_path.proofs.levels.field.Goals as goal
 

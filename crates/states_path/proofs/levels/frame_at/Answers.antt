@@ -1,5 +1,4 @@
 -- What `frame_at` gives is what `frame_of` says, case by case.
-use borrow.Author.Rules.{rules}
 use Rattle.states_path.specs.Levels.{frame_of}
 use Rattle.states_path.proofs.levels.frame_at.Goals as goal
 

@@ -1,5 +1,4 @@
 -- What `innermost` gives is what `innermost_of` says, case by case.
-use borrow.Author.Rules.{rules}
 use native.Mathlib.Omega.{arith}
 use Rattle.states_path.proofs.PathSteps.{innermost-none, innermost-here, innermost-outside}
 use Rattle.states_path.proofs.levels.innermost.Goals as goal

@@ -1,5 +1,4 @@
 -- `put_four` writes four words, one after the other.
-use borrow.Author.Rules.{rules}
 use Rattle.states_path.proofs.PathWords.{four}
 use mathlib.Core.Path.{refl}
 use Rattle.states_path.proofs.levels.put_four.Goals as goal

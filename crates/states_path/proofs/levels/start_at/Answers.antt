@@ -1,5 +1,4 @@
 -- What `start_at` gives is what `start_of` says, case by case.
-use borrow.Author.Rules.{rules}
 use native.Mathlib.Omega.{arith}
 use Rattle.states_path.specs.Levels.{level_at}
 use Rattle.states_path.specs.Kept.{start_of}

@@ -1,5 +1,4 @@
 -- What `up_at` gives is what `up_of` says, case by case.
-use borrow.Author.Rules.{rules}
 use native.Mathlib.Omega.{arith}
 use Rattle.states_path.proofs.PathSteps.{up_none, up-some}
 use Rattle.states_path.proofs.levels.up_at.Goals as goal

@@ -1,5 +1,4 @@
 -- What `up_with` gives is what `pick` says, case by case.
-use borrow.Author.Rules.{rules}
 use native.Mathlib.Omega.{arith}
 use native.Mathlib.Numerals.{add-one}
 use Rattle.states_path.specs.Path.{passes_of}

@@ -1,5 +1,4 @@
 -- What `child` gives is what `child_of` says, case by case.
-use borrow.Author.Rules.{rules}
 use Rattle.states_path.proofs.PathCode.{child-is}
 use Rattle.states_path.proofs.Steady.{small_word}
 use native.Mathlib.Omega.{arith}

@@ -1,9 +1,5 @@
 -- `enter` keeps what `Arrived` says.
-use borrow.Author.Rules.{rules}
-use native.Mathlib.Omega.{arith}
 use mathlib.Core.Path.{sym, ◌∙◌}
-use Prim.Native.Nat.{◌-◌}
-use Rattle.states_path.specs.Kept.{KeptPath, Covers}
 use Rattle.states_path.proofs.PathInner.{entered}
 use Rattle.states_path.proofs.PathNarrow.{entered-narrow}
 use Rattle.states_path.proofs.PathDeeper.{goes-deeper}
@@ -20,7 +16,9 @@ pub returns-in-Here : goal.returns-in-Here
 returns-in-Here c = arrives _ _ _ _ _ _ c.loop-at-test.true c.loop-at.invariant.0 c.loop-at.invariant.1 (sym c.in-Here.is ∙ c.spot_at-d.ensures)
 
 pub child-l-requires : goal.child-l-requires
-child-l-requires c = record { term_rows = c.requires.term_rows; sound = (
+child-l-requires c = record {
+  term_rows = c.requires.term_rows;
+  sound = (
     c.loop-at.invariant.0.sound,
     (
       c.requires.kept_path.1.1,
@@ -28,7 +26,8 @@ child-l-requires c = record { term_rows = c.requires.term_rows; sound = (
           c.loop-at-test.true c.loop-at.invariant.0 c.loop-at.invariant.1
           (sym c.in-Inside.is ∙ c.spot_at-d.ensures)).begins,
     ),
-  ) }
+  );
+}
 
 pub put_level-requires : goal.put_level-requires
 put_level-requires c = (

@@ -1,12 +1,5 @@
-use borrow.Author.Rules.{rules}
-use native.Mathlib.Omega.{arith}
-use mathlib.Core.Path.{sym, ◌∙◌}
 use Prim.Native.Nat.{◌-◌}
 use Rattle.states_path.specs.Kept.{KeptPath, Covers}
-use Rattle.states_path.proofs.PathInner.{entered}
-use Rattle.states_path.proofs.PathNarrow.{entered-narrow}
-use Rattle.states_path.proofs.PathDeeper.{goes-deeper}
-use Rattle.states_path.proofs.PathArrives.{arrives, arrives-deep}
 use Rattle.states_path.proofs.path.enter.Given as goal
 
 abbrev pub invariant-loop-at : goal.invariant-loop-at

@@ -7,11 +7,14 @@ pub leave-left-requires : goal.leave-left-requires
 leave-left-requires c = c.requires.kept_path.0.sound
 
 pub enter-requires : goal.enter-requires
-enter-requires c = record { term_rows = c.requires.term_rows; kept_path = (
+enter-requires c = record {
+  term_rows = c.requires.term_rows;
+  kept_path = (
     kept-fewer _ _ c.requires.kept_path.0
         c.leave-left.ensures.0 (omega arith),
     (c.leave-left.ensures.1, c.requires.kept_path.1),
-  ) }
+  );
+}
 
 pub returns : goal.returns
 returns c = c.enter.ensures

@@ -1,7 +1,5 @@
 -- `leave` gives up the levels in which the state does not lie.
-use borrow.Author.Rules.{rules}
 use native.Mathlib.Omega.{arith}
-use Prim.Native.Nat.{◌≤◌}
 use Rattle.states_path.proofs.PathCode.{leaves}
 use Rattle.states_path.proofs.path.leave.Goals as goal
 

@@ -1,7 +1,4 @@
-use borrow.Author.Rules.{rules}
-use native.Mathlib.Omega.{arith}
 use Prim.Native.Nat.{◌≤◌}
-use Rattle.states_path.proofs.PathCode.{leaves}
 use Rattle.states_path.proofs.path.leave.Given as goal
 
 abbrev pub invariant-loop-at : goal.invariant-loop-at

@@ -1,5 +1,4 @@
 -- What `private_at` gives is what `in_private` says, case by case.
-use borrow.Author.Rules.{rules}
 use native.Mathlib.Omega.{arith}
 use Rattle.states_path.proofs.Steady.{small_word}
 use Rattle.states_step.specs.walk.Down.{in_private}

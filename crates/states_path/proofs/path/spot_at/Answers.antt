@@ -1,5 +1,4 @@
 -- What `spot_at` gives is what `spot_in` says, case by case.
-use borrow.Author.Rules.{rules}
 use native.Mathlib.Omega.{arith}
 use mathlib.Core.Path.{sym, ◌∙◌}
 use Prim.Native.Nat.{◌-◌}

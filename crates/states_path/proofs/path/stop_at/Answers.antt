@@ -1,5 +1,4 @@
 -- What `stop_at` gives is what `stop_of` says, case by case.
-use borrow.Author.Rules.{rules}
 use native.Mathlib.Omega.{arith}
 use Rattle.states_path.specs.Levels.{level_at}
 use Rattle.states_path.specs.Kept.{stop_of}

@@ -1,5 +1,4 @@
 -- What `until` gives is what `until_of` says, case by case.
-use borrow.Author.Rules.{rules}
 use Rattle.states_path.specs.Kept.{until_of}
 use borrow.Author.Tests.{le-leb, lt-leb}
 use Rattle.states_path.proofs.path.until.Goals as goal

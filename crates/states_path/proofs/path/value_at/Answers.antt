@@ -1,5 +1,4 @@
 -- What `value_at` gives is what `store_of` says, case by case.
-use borrow.Author.Rules.{rules}
 use native.Mathlib.Omega.{arith}
 use Rattle.states_path.proofs.PathSteps.{value-unset, value_there, block_within}
 use Rattle.states_path.proofs.path.value_at.Goals as goal

@@ -1,5 +1,4 @@
 -- What `after_of` gives is what `after_of` says, case by case.
-use borrow.Author.Rules.{rules}
 use Rattle.states_path.specs.States.{after_of}
 use Rattle.states_path.proofs.whole.after_of.Goals as goal
 

@@ -1,5 +1,4 @@
 -- What `at_start` gives is what `at_start` says, case by case.
-use borrow.Author.Rules.{rules}
 use borrow.Author.Tests.{eq-eqb, ne_eqb}
 use Rattle.states_path.specs.States.{at_start}
 use Rattle.states_path.proofs.whole.at_start.Goals as goal

@@ -1,5 +1,4 @@
 -- What `opened` gives is what `opened_of` says, case by case.
-use borrow.Author.Rules.{rules}
 use borrow.Author.Tests.{eq-eqb, ne_eqb}
 use Rattle.states_path.specs.States.{opened_of}
 use Rattle.states_path.proofs.whole.opened.Goals as goal

@@ -1,5 +1,4 @@
 -- What `sheet_spot` gives is what `sheet_spot` says, case by case.
-use borrow.Author.Rules.{rules}
 use Rattle.states_path.specs.Kept.{sheet_spot}
 use borrow.Author.Tests.{lt-ltb, le-ltb, eq-eqb, ne_eqb}
 use Rattle.states_path.proofs.whole.sheet_spot.Goals as goal

@@ -1,5 +1,4 @@
 -- What `spots_of` gives is what `spots_of` says, case by case.
-use borrow.Author.Rules.{rules}
 use Rattle.states_path.specs.States.{spots_of}
 use Rattle.states_path.proofs.whole.spots_of.Goals as goal
 

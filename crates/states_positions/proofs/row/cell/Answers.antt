@@ -1,5 +1,4 @@
 -- What `cell` gives is what `word` says, case by case.
-use borrow.Author.Rules.{rules}
 use native.Mathlib.Omega.{arith}
 use Rattle.states_positions.proofs.Facts.{past}
 use Rattle.sheet_rows.specs.Row.{cell}

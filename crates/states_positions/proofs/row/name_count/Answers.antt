@@ -1,5 +1,4 @@
 -- What `name_count` gives is what `name_count` says, case by case.
-use borrow.Author.Rules.{rules}
 use Rattle.states_positions.specs.Row.{name_count}
 use Rattle.states_positions.proofs.row.name_count.Goals as goal
 

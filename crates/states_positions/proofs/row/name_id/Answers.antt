@@ -1,5 +1,4 @@
 -- What `name_id` gives is what `name_id` says, case by case.
-use borrow.Author.Rules.{rules}
 use Rattle.states_positions.specs.Row.{name_id}
 use Rattle.states_positions.proofs.row.name_id.Goals as goal
 

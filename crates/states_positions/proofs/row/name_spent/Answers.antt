@@ -1,5 +1,4 @@
 -- What `name_spent` gives is what `name_spent` says, case by case.
-use borrow.Author.Rules.{rules}
 use Rattle.states_positions.specs.Row.{name_spent}
 use Rattle.states_positions.proofs.row.name_spent.Goals as goal
 

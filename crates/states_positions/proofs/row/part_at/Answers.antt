@@ -1,9 +1,7 @@
 -- What `part_at` gives is what `word` says, case by case.
 use Prim.Native.Nat.{◌+◌}
-use borrow.Author.Rules.{rules}
 use native.Mathlib.Omega.{arith}
 use Rattle.states_positions.proofs.Facts.{past}
-use Rattle.sheet_rows.specs.Row.{cell}
 use Rattle.states_positions.proofs.row.part_at.Goals as goal
 
 pub returns-then-j : goal.returns-then-j

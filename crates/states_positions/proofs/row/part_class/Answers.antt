@@ -1,5 +1,4 @@
 -- What `part_class` gives is what `part_class` says, case by case.
-use borrow.Author.Rules.{rules}
 use Rattle.states_positions.specs.Row.{part_class}
 use Rattle.states_positions.proofs.row.part_class.Goals as goal
 

@@ -1,5 +1,4 @@
 -- What `part_values` gives is what `part_values` says, case by case.
-use borrow.Author.Rules.{rules}
 use Rattle.states_positions.specs.Row.{part_values}
 use Rattle.states_positions.proofs.row.part_values.Goals as goal
 

@@ -1,5 +1,4 @@
 -- What `part_weight` gives is what `part_weight` says, case by case.
-use borrow.Author.Rules.{rules}
 use Rattle.states_positions.specs.Row.{part_weight}
 use Rattle.states_positions.proofs.row.part_weight.Goals as goal
 

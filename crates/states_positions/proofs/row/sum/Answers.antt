@@ -1,5 +1,4 @@
 -- What `sum` gives is what `sum_of` says, case by case.
-use borrow.Author.Rules.{rules}
 use borrow.Author.Tests.{lt-ltb, le-ltb}
 use Rattle.states_positions.specs.Row.{sum_of}
 use Rattle.states_positions.proofs.row.sum.Goals as goal

@@ -1,5 +1,4 @@
 -- What `answer_number` gives is what `answer_number` says, case by case.
-use borrow.Author.Rules.{rules}
 use borrow.Author.Tests.{lt-ltb, le-ltb, eq-eqb, ne_eqb}
 use Rattle.states_positions.specs.Types.{answer_number}
 use Rattle.states_positions.proofs.types.answer_number.Goals as goal

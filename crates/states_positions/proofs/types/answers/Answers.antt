@@ -1,5 +1,4 @@
 -- What `answers` gives is what `answers_of` says, case by case.
-use borrow.Author.Rules.{rules}
 use borrow.Author.Tests.{eq-eqb, ne_eqb}
 use Rattle.states_positions.specs.Types.{answers_of}
 use Rattle.states_positions.proofs.types.answers.Goals as goal

@@ -1,5 +1,4 @@
 -- What `question_number` gives is what `question_number` says, case by case.
-use borrow.Author.Rules.{rules}
 use borrow.Author.Tests.{lt-ltb, le-ltb, eq-eqb, ne_eqb}
 use Rattle.states_positions.specs.Types.{question_number}
 use Rattle.states_positions.proofs.types.question_number.Goals as goal

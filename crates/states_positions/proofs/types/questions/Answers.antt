@@ -1,5 +1,4 @@
 -- What `questions` gives is what `questions_of` says, case by case.
-use borrow.Author.Rules.{rules}
 use borrow.Author.Tests.{eq-eqb, ne_eqb}
 use Rattle.states_positions.specs.Types.{questions_of}
 use Rattle.states_positions.proofs.types.questions.Goals as goal

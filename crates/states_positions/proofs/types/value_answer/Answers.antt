@@ -1,5 +1,4 @@
 -- What `value_answer` gives is what `value_answer` says, case by case.
-use borrow.Author.Rules.{rules}
 use borrow.Author.Tests.{lt-ltb, le-ltb, eq-eqb, ne_eqb}
 use Rattle.states_positions.specs.Types.{value_answer}
 use Rattle.states_positions.proofs.types.value_answer.Goals as goal

@@ -1,5 +1,4 @@
 -- What `exit_argument` gives is what `exit_argument` says, case by case.
-use borrow.Author.Rules.{rules}
 use borrow.Author.Tests.{lt-ltb, le-ltb}
 use Rattle.states_rise.specs.Up.{exit_argument}
 use Rattle.states_rise.proofs.up.exit_argument.Goals as goal

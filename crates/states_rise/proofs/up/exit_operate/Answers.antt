@@ -1,5 +1,4 @@
 -- What `exit_operate` gives is what `exit_operate` says, case by case.
-use borrow.Author.Rules.{rules}
 use mathlib.Core.Path.{sym, ◌∙◌}
 use Rattle.states_rise.proofs.Facts.{result-is, result-nothing}
 use borrow.Author.Tests.{lt-ltb, le-ltb, eq-eqb, ne_eqb}

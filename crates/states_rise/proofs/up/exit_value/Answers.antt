@@ -1,5 +1,4 @@
 -- What `exit_value` gives is what `exit_value` says, case by case.
-use borrow.Author.Rules.{rules}
 use borrow.Author.Tests.{lt-ltb, le-ltb, eq-eqb, ne_eqb}
 use Rattle.states_rise.specs.Up.{exit_value}
 use Rattle.states_rise.proofs.up.exit_value.Goals as goal

@@ -1,5 +1,4 @@
 -- `goes` leads a step through a frame, as `goes_of` does.
-use borrow.Author.Rules.{rules}
 use borrow.Author.Tests.{eq-eqb, ne_eqb}
 use Rattle.states_rise.specs.Up.{goes_of}
 use Rattle.states_rise.proofs.up.goes.Goals as goal

@@ -1,5 +1,4 @@
 -- What `assign_in` gives is what `assign_in` says, case by case.
-use borrow.Author.Rules.{rules}
 use borrow.Author.Tests.{lt-ltb, le-ltb, eq-eqb, ne_eqb}
 use Rattle.states_step.specs.walk.Down.{assign_in}
 use Rattle.states_step.proofs.down.assign_in.Goals as goal

@@ -1,5 +1,4 @@
 -- What `cond_in` gives is what `cond_in` says, case by case.
-use borrow.Author.Rules.{rules}
 use borrow.Author.Tests.{lt-ltb, le-ltb}
 use Rattle.states_step.specs.walk.Down.{cond_in}
 use Rattle.states_step.proofs.down.cond_in.Goals as goal

@@ -1,5 +1,4 @@
 -- What `down` gives is what `down_bare` says, case by case.
-use borrow.Author.Rules.{rules}
 use Rattle.states_step.specs.walk.Down.{down_as}
 use Rattle.states_step.proofs.Steps.{down-other}
 use Rattle.states_step.proofs.down.down.Goals as goal
@@ -46,5 +45,5 @@ returns-in-27 c = simp (← c.cell-kind.ensures, ← c.in_new.ensures, c.in-27.i
 
 pub returns-in_default : goal.returns-in_default
 returns-in_default c =
-    rw (← c.cell-kind.ensures) (down-other _ _ _ _ _ _ _ c.in_default.rest.0.0.0.0.0.0.0.0.0.1
-    c.in_default.rest.0.0.0.0.0.0.0.0.1 c.in_default.rest.0.0.0.0.0.0.0.1 c.in_default.rest.0.0.0.0.0.0.1 c.in_default.rest.0.0.0.0.0.1 c.in_default.rest.0.0.0.0.1 c.in_default.rest.0.0.0.1 c.in_default.rest.0.0.1 c.in_default.rest.0.1 c.in_default.rest.1)
+    rw (← c.cell-kind.ensures) (down-other _ _ _ _ _ _ _ c.in_default.in_default-own.rest.0.0.0.0.0.0.0.0.0.1
+    c.in_default.in_default-own.rest.0.0.0.0.0.0.0.0.1 c.in_default.in_default-own.rest.0.0.0.0.0.0.0.1 c.in_default.in_default-own.rest.0.0.0.0.0.0.1 c.in_default.in_default-own.rest.0.0.0.0.0.1 c.in_default.in_default-own.rest.0.0.0.0.1 c.in_default.in_default-own.rest.0.0.0.1 c.in_default.in_default-own.rest.0.0.1 c.in_default.in_default-own.rest.0.1 c.in_default.in_default-own.rest.1)

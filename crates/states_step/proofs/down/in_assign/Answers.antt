@@ -1,5 +1,4 @@
 -- What `in_assign` gives is what `in_assign` says, case by case.
-use borrow.Author.Rules.{rules}
 use Rattle.states_step.specs.walk.Down.{in_assign}
 use Rattle.states_step.proofs.down.in_assign.Goals as goal
 

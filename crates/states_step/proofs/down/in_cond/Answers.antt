@@ -1,5 +1,4 @@
 -- What `in_cond` gives is what `in_cond` says, case by case.
-use borrow.Author.Rules.{rules}
 use Rattle.states_step.specs.walk.Down.{in_cond}
 use Rattle.states_step.proofs.down.in_cond.Goals as goal
 

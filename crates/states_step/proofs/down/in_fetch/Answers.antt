@@ -1,5 +1,4 @@
 -- What `in_fetch` gives is what `in_fetch` says, case by case.
-use borrow.Author.Rules.{rules}
 use Rattle.states_step.specs.walk.Down.{in_fetch}
 use Rattle.states_step.proofs.down.in_fetch.Goals as goal
 

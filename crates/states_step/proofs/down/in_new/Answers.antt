@@ -1,5 +1,4 @@
 -- What `in_new` gives is what `in_new` says, case by case.
-use borrow.Author.Rules.{rules}
 use borrow.Author.Tests.{eq-eqb, ne_eqb}
 use Rattle.states_step.specs.walk.Down.{in_new}
 use Rattle.states_step.proofs.down.in_new.Goals as goal

@@ -1,5 +1,4 @@
 -- What `in_operate` gives is what `in_operate` says, case by case.
-use borrow.Author.Rules.{rules}
 use Rattle.states_step.specs.walk.Down.{in_operate}
 use Rattle.states_step.proofs.down.in_operate.Goals as goal
 

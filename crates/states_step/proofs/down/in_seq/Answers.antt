@@ -1,5 +1,4 @@
 -- What `in_seq` gives is what `in_seq` says, case by case.
-use borrow.Author.Rules.{rules}
 use borrow.Author.Tests.{lt-ltb, le-ltb}
 use Rattle.states_step.specs.walk.Down.{in_seq}
 use Rattle.states_step.proofs.down.in_seq.Goals as goal

@@ -1,5 +1,4 @@
 -- What `in_while` gives is what `in_while` says, case by case.
-use borrow.Author.Rules.{rules}
 use borrow.Author.Tests.{lt-ltb, le-ltb}
 use Rattle.states_step.specs.walk.Down.{in_while}
 use Rattle.states_step.proofs.down.in_while.Goals as goal

@@ -1,5 +1,4 @@
 -- What `operate_in` gives is what `operate_in` says, case by case.
-use borrow.Author.Rules.{rules}
 use borrow.Author.Tests.{lt-ltb, le-ltb, eq-eqb, ne_eqb}
 use Rattle.states_step.specs.walk.Down.{operate_in}
 use Rattle.states_step.proofs.down.operate_in.Goals as goal

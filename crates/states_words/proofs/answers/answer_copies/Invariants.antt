@@ -1,12 +1,8 @@
-use borrow.Author.Rules.{rules}
-use native.Mathlib.Omega.{arith}
 use Prim.Native.Nat.{◌+◌, ◌-◌, ◌*◌, ◌≤◌}
-use mathlib.Core.Path.{◌≡◌, refl}
+use mathlib.Core.Path.{◌≡◌}
 use lib.ListN.{length}
 use Rattle.states_words.specs.inner.Moves.{values_to}
-use Rattle.states_words.proofs.Ranks.{rank-small}
-use Rattle.states_words.proofs.Loops.{Wrote, told, numbers-all}
-use Rattle.states_words.proofs.ValuesTo.{copy-small, to-first, to_none, to_some, to_last}
+use Rattle.states_words.proofs.Loops.{Wrote}
 use Rattle.states_words.proofs.answers.answer_copies.Given as goal
 
 abbrev pub invariant-loop-r : goal.invariant-loop-r

@@ -1,14 +1,9 @@
 -- `answer_either` writes the edges `values_to`, and gives the number of the edge after them.
 use borrow.Author.Rules.{rules}
 use native.Mathlib.Omega.{arith}
-use Prim.Native.Nat.{◌-◌, ◌≤◌}
-use mathlib.Core.Path.{◌≡◌, refl}
-use lib.ListN.{length}
-use lib.Dec.{eqb}
-use Rattle.language.specs.Choice.{pick}
-use Rattle.states_words.specs.inner.Moves.{values_to}
+use mathlib.Core.Path.{refl}
 use Rattle.states_words.proofs.Ranks.{rank-small}
-use Rattle.states_words.proofs.Loops.{Wrote, told, numbers-all}
+use Rattle.states_words.proofs.Loops.{told, numbers-all}
 use Rattle.states_words.proofs.ValuesTo.{to-first, to_none, to_some, to_last}
 use Rattle.states_words.proofs.answers.answer_either.Goals as goal
 

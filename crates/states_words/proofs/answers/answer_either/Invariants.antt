@@ -1,14 +1,10 @@
-use borrow.Author.Rules.{rules}
-use native.Mathlib.Omega.{arith}
 use Prim.Native.Nat.{◌-◌, ◌≤◌}
-use mathlib.Core.Path.{◌≡◌, refl}
+use mathlib.Core.Path.{◌≡◌}
 use lib.ListN.{length}
 use lib.Dec.{eqb}
 use Rattle.language.specs.Choice.{pick}
 use Rattle.states_words.specs.inner.Moves.{values_to}
-use Rattle.states_words.proofs.Ranks.{rank-small}
-use Rattle.states_words.proofs.Loops.{Wrote, told, numbers-all}
-use Rattle.states_words.proofs.ValuesTo.{to-first, to_none, to_some, to_last}
+use Rattle.states_words.proofs.Loops.{Wrote}
 use Rattle.states_words.proofs.answers.answer_either.Given as goal
 
 abbrev pub invariant-loop-r : goal.invariant-loop-r

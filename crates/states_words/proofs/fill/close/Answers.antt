@@ -1,5 +1,4 @@
 -- What `close` leaves is what `closed_of` says.
-use borrow.Author.Rules.{rules}
 use Rattle.states_words.specs.inner.Rows.{closed_of}
 use Rattle.states_words.proofs.fill.close.Goals as goal
 

@@ -1,24 +1,23 @@
 -- What `fill` gives is what `edges_after` says, and what it leaves what `filled_of` says.
 use borrow.Author.Rules.{rules}
-use Rattle.states_path.specs.Kept.{KeptPath}
 use Rattle.states_path.proofs.PathDeeper.{kept-none, kept-fewer}
 use native.Mathlib.Omega.{arith}
-use Prim.Native.Nat.{◌-◌, ◌≤◌}
-use mathlib.Core.Path.{◌≡◌, refl}
-use lib.ListN.{length}
-use Rattle.states_words.specs.inner.Moves.{row_of}
-use Rattle.states_words.proofs.Loops.{Filled, filled-first, filled-again, filled-last}
+use mathlib.Core.Path.{refl}
+use Rattle.states_words.proofs.Loops.{filled-first, filled-again, filled-last}
 use Rattle.states_words.proofs.fill.fill.Goals as goal
 
 pub loop-k-init : goal.loop-k-init
-loop-k-init c = (omega arith, (refl, (kept-none _ _ _ c.requires.root_bound.1, filled-first _ _ _ _ _)))
+loop-k-init c = (omega arith, (refl, (kept-none _ _ _ c.requires.room.1, filled-first _ _ _ _ _)))
 
 pub go_to-at-requires : goal.go_to-at-requires
-go_to-at-requires c = record { term_rows = c.requires.term_rows; kept_path = (
+go_to-at-requires c = record {
+  term_rows = c.requires.term_rows;
+  kept_path = (
     c.loop-k.invariant.1.1.0,
     omega
-        (arith, c.loop-k-test.true, c.spots_of-all.ensures, c.requires.root_bound.0),
-  ) }
+        (arith, c.loop-k-test.true, c.spots_of-all.ensures, c.requires.room.0),
+  );
+}
 
 pub write_row-next-requires : goal.write_row-next-requires
 write_row-next-requires c = record { term_rows = c.requires.term_rows; arrived = c.go_to-at.ensures }

@@ -1,12 +1,9 @@
-use borrow.Author.Rules.{rules}
 use Rattle.states_path.specs.Kept.{KeptPath}
-use Rattle.states_path.proofs.PathDeeper.{kept-none, kept-fewer}
-use native.Mathlib.Omega.{arith}
 use Prim.Native.Nat.{◌-◌, ◌≤◌}
-use mathlib.Core.Path.{◌≡◌, refl}
+use mathlib.Core.Path.{◌≡◌}
 use lib.ListN.{length}
 use Rattle.states_words.specs.inner.Moves.{row_of}
-use Rattle.states_words.proofs.Loops.{Filled, filled-first, filled-again, filled-last}
+use Rattle.states_words.proofs.Loops.{Filled}
 use Rattle.states_words.proofs.fill.fill.Given as goal
 
 abbrev pub invariant-loop-k : goal.invariant-loop-k

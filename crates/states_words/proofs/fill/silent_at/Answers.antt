@@ -1,5 +1,4 @@
 -- What `silent_at` gives is what `silent_of` says, case by case.
-use borrow.Author.Rules.{rules}
 use Rattle.states_words.proofs.PathRows.{is-go, is-exit, silent-quiet, silent-stuck, silent-say, silent-hear}
 use Rattle.states_path.proofs.PathSays.{frames-owned}
 use Rattle.states_words.proofs.fill.silent_at.Goals as goal

@@ -1,5 +1,4 @@
 -- `write_row` writes the row `row_of`, and gives the number of the edge after it.
-use borrow.Author.Rules.{rules}
 use mathlib.Core.Path.{refl}
 use Rattle.states_words.proofs.PathRows.{is-go, is-exit, is_stuck, row-quiet, row-says, row-hears}
 use Rattle.states_words.proofs.PathListens.{row-listens}

@@ -1,5 +1,4 @@
 -- `hear` writes the edges `heard_edges`, and gives the number of the edge after them.
-use borrow.Author.Rules.{rules}
 use Rattle.states_words.proofs.Loops.{wrote}
 use Rattle.states_words.proofs.HeardQuestions.{plain-told}
 use Rattle.states_words.proofs.hear.hear.Goals as goal
@@ -10,7 +9,7 @@ hear_all-requires c = record { long = c.requires.term_rows.0; listening = c.requ
 pub returns-then-wait-eq-OPENING : goal.returns-then-wait-eq-OPENING
 returns-then-wait-eq-OPENING c =
     let p = c.hear_all.ensures in
-    record { returned = p.0; written = p.1 }
+    record { returned = p.returned; written = p.written }
 
 pub hear_answers-requires : goal.hear_answers-requires
 hear_answers-requires c = record { term_rows = c.requires.term_rows; listening = (c.requires.listening, c.if-wait-eq-OPENING.false) }
@@ -28,4 +27,4 @@ hear_called-requires c = record { long = c.requires.term_rows.0; listening = (c.
 pub returns : goal.returns
 returns c =
     let p = c.hear_called.ensures in
-    record { returned = p.0; written = p.1 }
+    record { returned = p.returned; written = p.written }

@@ -1,11 +1,8 @@
 -- `hear_all` writes the edges `heard_edges`, and gives the number of the edge after them.
 use borrow.Author.Rules.{rules}
 use native.Mathlib.Omega.{arith}
-use Prim.Native.Nat.{◌-◌, ◌≤◌}
-use mathlib.Core.Path.{◌≡◌, refl}
-use lib.ListN.{length}
-use Rattle.states_words.specs.inner.Moves.{heard_edges}
-use Rattle.states_words.proofs.Loops.{Wrote, told, wrote, heard-first, heard-again, heard-last}
+use mathlib.Core.Path.{refl}
+use Rattle.states_words.proofs.Loops.{told, wrote, heard-first, heard-again, heard-last}
 use Rattle.states_words.proofs.hear.hear_all.Goals as goal
 
 pub loop-b-init : goal.loop-b-init

@@ -1,10 +1,8 @@
-use borrow.Author.Rules.{rules}
-use native.Mathlib.Omega.{arith}
 use Prim.Native.Nat.{◌-◌, ◌≤◌}
-use mathlib.Core.Path.{◌≡◌, refl}
+use mathlib.Core.Path.{◌≡◌}
 use lib.ListN.{length}
 use Rattle.states_words.specs.inner.Moves.{heard_edges}
-use Rattle.states_words.proofs.Loops.{Wrote, told, wrote, heard-first, heard-again, heard-last}
+use Rattle.states_words.proofs.Loops.{Wrote}
 use Rattle.states_words.proofs.hear.hear_all.Given as goal
 
 abbrev pub invariant-loop-b : goal.invariant-loop-b

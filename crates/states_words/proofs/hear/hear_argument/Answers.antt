@@ -1,5 +1,4 @@
 -- `hear_argument` writes the edges `block_edges`, and gives the number of the edge after them.
-use borrow.Author.Rules.{rules}
 use native.Mathlib.Omega.{arith}
 use mathlib.Core.Path.{refl}
 use Rattle.states_words.proofs.Loops.{told, wrote, block_none, block-some}

@@ -1,5 +1,4 @@
 -- `hear_called` writes the edges `heard_edges`, and gives the number of the edge after them.
-use borrow.Author.Rules.{rules}
 use native.Mathlib.Omega.{arith}
 use Rattle.states_words.proofs.Loops.{wrote}
 use Rattle.states_words.proofs.HeardAnswers.{own-small}

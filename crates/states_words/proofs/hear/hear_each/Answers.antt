@@ -1,22 +1,19 @@
 -- `hear_each` writes the edges `value_edges`, and gives the number of the edge after them.
 use borrow.Author.Rules.{rules}
 use native.Mathlib.Omega.{arith}
-use Prim.Native.Nat.{◌-◌, ◌≤◌}
-use mathlib.Core.Path.{◌≡◌, refl}
-use lib.ListN.{length}
-use Rattle.states_words.specs.inner.Moves.{value_edges}
-use Rattle.states_words.proofs.Loops.{Wrote, told, wrote, values-first, values-again, values-last, numbers-all}
+use mathlib.Core.Path.{refl}
+use Rattle.states_words.proofs.Loops.{told, wrote, values-first, values-again, values-last, numbers-all}
 use Rattle.states_words.proofs.hear.hear_each.Goals as goal
 
 pub loop-r-init : goal.loop-r-init
 loop-r-init c = (
-      omega arith,
-      (
-        refl,
-        values-first _
-            _ _ _ _ _ _ _ _,
-      ),
-    )
+  omega arith,
+  (
+    refl,
+    values-first _
+        _ _ _ _ _ _ _ _,
+  ),
+)
 
 pub hear_answer-next-requires : goal.hear_answer-next-requires
 hear_answer-next-requires c = record { long = c.requires.long; answering = c.requires.answering }

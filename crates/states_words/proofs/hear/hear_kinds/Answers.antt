@@ -1,11 +1,8 @@
 -- `hear_kinds` writes the edges `asked_edges`, and gives the number of the edge after them.
 use borrow.Author.Rules.{rules}
 use native.Mathlib.Omega.{arith}
-use Prim.Native.Nat.{◌-◌, ◌≤◌}
-use mathlib.Core.Path.{◌≡◌, refl}
-use lib.ListN.{length}
-use Rattle.states_words.specs.inner.Moves.{asked_edges}
-use Rattle.states_words.proofs.Loops.{Wrote, told, wrote}
+use mathlib.Core.Path.{refl}
+use Rattle.states_words.proofs.Loops.{told, wrote}
 use Rattle.states_words.proofs.HeardQuestions.{asked-first, asked-again, asked-last}
 use Rattle.states_words.proofs.hear.hear_kinds.Goals as goal
 

@@ -1,11 +1,8 @@
-use borrow.Author.Rules.{rules}
-use native.Mathlib.Omega.{arith}
 use Prim.Native.Nat.{◌-◌, ◌≤◌}
-use mathlib.Core.Path.{◌≡◌, refl}
+use mathlib.Core.Path.{◌≡◌}
 use lib.ListN.{length}
 use Rattle.states_words.specs.inner.Moves.{asked_edges}
-use Rattle.states_words.proofs.Loops.{Wrote, told, wrote}
-use Rattle.states_words.proofs.HeardQuestions.{asked-first, asked-again, asked-last}
+use Rattle.states_words.proofs.Loops.{Wrote}
 use Rattle.states_words.proofs.hear.hear_kinds.Given as goal
 
 abbrev pub invariant-loop-kind : goal.invariant-loop-kind

@@ -1,30 +1,26 @@
 -- `hear_questions` writes the edges `question_edges`, and gives the number of the edge after them.
 use borrow.Author.Rules.{rules}
 use native.Mathlib.Omega.{arith}
-use Prim.Native.Nat.{◌-◌, ◌≤◌}
-use mathlib.Core.Path.{◌≡◌, refl, sym, ◌∙◌}
-use lib.ListN.{length}
-use borrow.Author.Tests.{not-true}
-use Rattle.states_words.specs.inner.Moves.{question_edges}
-use Rattle.states_words.proofs.Loops.{Wrote, told, wrote}
+use mathlib.Core.Path.{refl, sym, ◌∙◌}
+use Rattle.states_words.proofs.Loops.{told, wrote}
 use Rattle.states_words.proofs.HeardQuestions.{argument, questions-none, questions-first, questions-again}
 use Rattle.states_words.proofs.HeardQuestions.{questions-last}
 use Rattle.states_words.proofs.hear.hear_questions.Goals as goal
 
 pub returns-then-not-is_question : goal.returns-then-not-is_question
 returns-then-not-is_question c =
-    let p = told (questions-none _ _ _ _ _ _ _ _ c.requires.listening.1.calls (sym c.is_question.ensures ∙ not-true _ c.if-not-is_question.true)) in
+    let p = told (questions-none _ _ _ _ _ _ _ _ c.requires.listening.1.calls (sym c.is_question.ensures ∙ c.if-not-is_question.true)) in
     record { returned = p.0; written = p.1 }
 
 pub loop-arg-init : goal.loop-arg-init
 loop-arg-init c = (
-      omega arith,
-      (
-        refl,
-        questions-first _ _ _
-            _ _ _ _,
-      ),
-    )
+  omega arith,
+  (
+    refl,
+    questions-first _ _ _
+        _ _ _ _,
+  ),
+)
 
 pub hear_argument-next-requires : goal.hear_argument-next-requires
 hear_argument-next-requires c = record { long = c.requires.long; listening = (c.requires.listening.0, argument _ _ _ c.requires.listening.1 c.loop-arg-test.true) }

@@ -1,13 +1,8 @@
-use borrow.Author.Rules.{rules}
-use native.Mathlib.Omega.{arith}
 use Prim.Native.Nat.{◌-◌, ◌≤◌}
-use mathlib.Core.Path.{◌≡◌, refl, sym, ◌∙◌}
+use mathlib.Core.Path.{◌≡◌}
 use lib.ListN.{length}
-use borrow.Author.Tests.{not-true}
 use Rattle.states_words.specs.inner.Moves.{question_edges}
-use Rattle.states_words.proofs.Loops.{Wrote, told, wrote}
-use Rattle.states_words.proofs.HeardQuestions.{argument, questions-none, questions-first, questions-again}
-use Rattle.states_words.proofs.HeardQuestions.{questions-last}
+use Rattle.states_words.proofs.Loops.{Wrote}
 use Rattle.states_words.proofs.hear.hear_questions.Given as goal
 
 abbrev pub invariant-loop-arg : goal.invariant-loop-arg

@@ -1,5 +1,4 @@
 -- `hear_results` writes the edges `value_edges`, and gives the number of the edge after them.
-use borrow.Author.Rules.{rules}
 use native.Mathlib.Omega.{arith}
 use Rattle.states_words.proofs.Ranks.{place-small}
 use Rattle.states_words.proofs.Loops.{told, wrote}
@@ -27,4 +26,4 @@ returns-in-Either c =
 pub returns-in-Each : goal.returns-in-Each
 returns-in-Each c =
     let p = c.hear_each.ensures in
-    record { returned = p.0; written = p.1 }
+    record { returned = p.returned; written = p.written }

@@ -1,5 +1,4 @@
 -- `hear_single` writes the one edge of the values below 1, and gives the number of the edge after it.
-use borrow.Author.Rules.{rules}
 use native.Mathlib.Omega.{arith}
 use mathlib.Core.Path.{sym, ◌∙◌}
 use Rattle.states_words.proofs.Loops.{told}

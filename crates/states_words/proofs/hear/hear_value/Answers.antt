@@ -1,5 +1,4 @@
 -- `hear_value` writes the edges `value_edge`, and gives the number of the edge after them.
-use borrow.Author.Rules.{rules}
 use Rattle.states_words.proofs.Loops.{told, value_none, value-some}
 use Rattle.states_words.proofs.hear.hear_value.Goals as goal
 

@@ -1,11 +1,7 @@
 -- `hear_values` writes the edges `value_edges`, and gives the number of the edge after them.
 use borrow.Author.Rules.{rules}
-use native.Mathlib.Omega.{arith}
-use Prim.Native.Nat.{◌-◌, ◌≤◌}
-use mathlib.Core.Path.{◌≡◌, refl}
-use lib.ListN.{length}
-use Rattle.states_words.specs.inner.Moves.{value_edges}
-use Rattle.states_words.proofs.Loops.{Wrote, told, wrote, values-again}
+use mathlib.Core.Path.{refl}
+use Rattle.states_words.proofs.Loops.{told, wrote, values-again}
 use Rattle.states_words.proofs.HeardSingle.{places-within, values-from, values-to}
 use Rattle.states_words.proofs.hear.hear_values.Goals as goal
 

@@ -1,11 +1,8 @@
-use borrow.Author.Rules.{rules}
-use native.Mathlib.Omega.{arith}
 use Prim.Native.Nat.{◌-◌, ◌≤◌}
-use mathlib.Core.Path.{◌≡◌, refl}
+use mathlib.Core.Path.{◌≡◌}
 use lib.ListN.{length}
 use Rattle.states_words.specs.inner.Moves.{value_edges}
-use Rattle.states_words.proofs.Loops.{Wrote, told, wrote, values-again}
-use Rattle.states_words.proofs.HeardSingle.{places-within, values-from, values-to}
+use Rattle.states_words.proofs.Loops.{Wrote}
 use Rattle.states_words.proofs.hear.hear_values.Given as goal
 
 abbrev pub invariant-loop-r : goal.invariant-loop-r

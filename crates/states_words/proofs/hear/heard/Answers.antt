@@ -1,5 +1,4 @@
 -- What `heard` gives is what `target_of` says, case by case.
-use borrow.Author.Rules.{rules}
 use Rattle.states_words.proofs.PathListens.{heard-start, heard-later}
 use Rattle.states_words.proofs.hear.heard.Goals as goal
 

@@ -1,5 +1,4 @@
 -- What `code_at` gives is what `code_at` says, case by case.
-use borrow.Author.Rules.{rules}
 use borrow.Author.Tests.{lt-ltb, le-ltb}
 use Rattle.language.specs.Order.{code_at}
 use Rattle.states_words.proofs.letters.code_at.Goals as goal

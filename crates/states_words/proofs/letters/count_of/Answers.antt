@@ -1,5 +1,4 @@
 -- At most 511.
-use borrow.Author.Rules.{rules}
 use native.Mathlib.Omega.{arith}
 use Rattle.language.proofs.NumberLaws.{finites-are}
 use Rattle.states_words.proofs.letters.count_of.Goals as goal

@@ -1,5 +1,4 @@
 -- What `end_place` gives is what `end_place` says, case by case.
-use borrow.Author.Rules.{rules}
 use native.Mathlib.Omega.{arith}
 use borrow.Author.Tests.{eq-eqb, ne_eqb}
 use Rattle.states_words.specs.inner.Moves.{end_place}

@@ -1,5 +1,4 @@
 -- What `first_place` gives is what `first_place` says, case by case.
-use borrow.Author.Rules.{rules}
 use borrow.Author.Tests.{eq-eqb, ne_eqb}
 use Rattle.states_words.specs.inner.Moves.{first_place}
 use Rattle.states_words.proofs.letters.first_place.Goals as goal

@@ -1,5 +1,4 @@
 -- What `letter_of` gives is what `letter_of` says, case by case.
-use borrow.Author.Rules.{rules}
 use native.Mathlib.Omega.{arith}
 use borrow.Author.Tests.{lt-ltb, le-ltb}
 use Rattle.states_words.specs.inner.Moves.{letter_of}

@@ -1,5 +1,4 @@
 -- What `limit` gives is what `limit_of` says, case by case.
-use borrow.Author.Rules.{rules}
 use borrow.Author.Tests.{lt-ltb, le-ltb, eq-eqb, ne_eqb}
 use Rattle.states_words.specs.inner.Moves.{limit_of}
 use Rattle.states_words.proofs.letters.limit.Goals as goal

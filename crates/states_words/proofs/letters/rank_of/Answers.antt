@@ -1,5 +1,4 @@
 -- What `rank_of` gives is what `rank` says, case by case.
-use borrow.Author.Rules.{rules}
 use native.Mathlib.Omega.{arith}
 use borrow.Author.Tests.{le-leb, lt-leb, lt-ltb, le-ltb, eq-eqb, ne_eqb}
 use Rattle.language.specs.Order.{rank}

@@ -1,5 +1,4 @@
 -- What `wait_of` gives is what `wait_of` says, case by case.
-use borrow.Author.Rules.{rules}
 use borrow.Author.Tests.{eq-eqb, ne_eqb}
 use Rattle.states_words.specs.inner.Moves.{wait_of}
 use Rattle.states_words.proofs.letters.wait_of.Goals as goal

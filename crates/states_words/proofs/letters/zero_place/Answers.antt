@@ -1,5 +1,4 @@
 -- What `zero_place` gives is what `zero_place` says.
-use borrow.Author.Rules.{rules}
 use native.Mathlib.Omega.{arith}
 use Rattle.states_words.specs.inner.Moves.{zero_place}
 use Rattle.states_words.proofs.letters.zero_place.Goals as goal

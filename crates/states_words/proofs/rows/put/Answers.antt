@@ -1,5 +1,4 @@
 -- Past the end nothing is written.
-use borrow.Author.Rules.{rules}
 use lib.Seq.{set_out}
 use mathlib.Core.Path.{sym}
 use Rattle.states_words.proofs.rows.put.Goals as goal

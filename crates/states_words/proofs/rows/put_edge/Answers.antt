@@ -1,5 +1,4 @@
 -- What `put_edge` leaves is what `with_edge` says.
-use borrow.Author.Rules.{rules}
 use Rattle.states_words.specs.inner.Rows.{with_edge, edge_at}
 use Rattle.states_words.proofs.rows.put_edge.Goals as goal
 

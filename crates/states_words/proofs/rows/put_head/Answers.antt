@@ -1,5 +1,4 @@
 -- What `put_head` leaves is what `with_head` says.
-use borrow.Author.Rules.{rules}
 use Rattle.states_words.specs.inner.Rows.{with_head}
 use Rattle.states_words.proofs.rows.put_head.Goals as goal
 
