@@ -75,7 +75,7 @@ returns c =
     c.args.space.now A B c.alike-matching.ensures c.numbers_of-n.ensures c.pair_number-number.ensures
     c.if-number-ne-NOT_REFUSED.false in
     examined (both A B c.alike-matching.ensures P.matched c.numbers_of-n.ensures) c.args.most c.args.words.now _
-    c.decide-found.new.0 _ _ _ _ P.words-enough
+    c.decide-found.new.words _ _ _ _ P.words-enough
     c.two_from_rows.auto.words P.space-enough
     c.two_from_rows.ensures c.decide-found.ensures
     c.decide-found.auto.words c.clear.ensures

@@ -54,7 +54,7 @@ pub longest-reach-requires : goal.longest-reach-requires
 longest-reach-requires c =
     let F = fit-as (taken _ _ c.load-x.ensures c.in-Sheet.is) (sym c.numbers_of-n.ensures)
     refl in (
-      opened-graph F c.args.words.now _ (rw c.words_asked.ensures at c.if-words-words_asked.false) c.one_from_rows.ensures c.mark_live.new.0
+      opened-graph F c.args.words.now _ (rw c.words_asked.ensures at c.if-words-words_asked.false) c.one_from_rows.ensures c.mark_live.new.words
           c.mark_live.ensures,
       counted-enough c.args.play.now c.count_moves-parsed.ensures c.in-Moves.is,
     )
