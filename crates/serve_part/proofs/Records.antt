@@ -84,16 +84,16 @@ unfolding FineNames id_in
 fine-rest e (declare often k ty tys) ns f = (f.1, f.5)
 fine-rest e (retire k) ns f = (f.1, f.2)
 
-fine-free : (e : List Name) {n : Name} {ns : List Name} → FineNames e ns → Lists n ns → declared e (id_in n) ≡ free
-fine-free e {n} f (first {ns = ns}) = (fine-rest e n ns f).0
-fine-free e {n} f (later {k = k} {ns = ns} l) =
+fine-free : {n : Name} (e : List Name) {ns : List Name} → FineNames e ns → Lists n ns → declared e (id_in n) ≡ free
+fine-free {n} e f (first {ns = ns}) = (fine-rest e n ns f).0
+fine-free {n} e f (later {k = k} {ns = ns} l) =
     (free-past k e (id_in n) (fine-free (k ∷ e) (fine-rest e k ns f).1 l)).1
 
 -- each record in order declares its id
-fine-one : (e : List Name) {n : Name} {ns : List Name} → FineNames e ns → Lists n ns →
+fine-one : {n : Name} (e : List Name) {ns : List Name} → FineNames e ns → Lists n ns →
     declared ns (id_in n) ≡ declared_in n
-fine-one e {n} f (first {ns = ns}) = declared-here n ns (id_in n) refl
-fine-one e {n} f (later {k = k} {ns = ns} l) =
+fine-one {n} e f (first {ns = ns}) = declared-here n ns (id_in n) refl
+fine-one {n} e f (later {k = k} {ns = ns} l) =
     declared-past k ns (id_in n) (free-past k e (id_in n) (fine-free (k ∷ e) (fine-rest e k ns f).1 l)).0
     ∙ fine-one (k ∷ e) (fine-rest e k ns f).1 l
 
@@ -140,6 +140,7 @@ means-more ns i d bs id h (another f g) =
     go : (n : Name) → Lists n (declaring bs) ⊎ Lists n (declare freely i (2 + d) [] ∷ []) → id_in n ≡ id → ⊥
     go n (inl x) e = g n x e
     go n (inr first) e = h e
+    go n (inr (later x)) e = elim x [ ]
 
 pub no_record : {n : Name} {ns : List Name} → Lists n ns → ns ≡ [] → ⊥
 no_record first e = let z : ◌≡◌ {A = ℕ} 0 1 = cc in absurd (omega arith)

@@ -149,6 +149,7 @@ declaring-held (a_block id d ∷ bs) n l = go n (declaring-held bs n) (lists-eit
         (eqb id (id_in n) || is_held bs (id_in n)) ≡ true
     go n h (inl x) = held_more (eqb id (id_in n)) (h x)
     go n h (inr first) = rw (eq-eqb id id refl) refl
+    go n h (inr (later x)) = elim x [ ]
 declaring-held (a_parameter id ty ∷ bs) n l = held_more (eqb id (id_in n)) (declaring-held bs n l)
 declaring-held (a_procedure id ty tys ∷ bs) n l = held_more (eqb id (id_in n)) (declaring-held bs n l)
 

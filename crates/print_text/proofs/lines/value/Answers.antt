@@ -6,3 +6,6 @@ use Rattle.print_text.proofs.lines.value.Goals as goal
 pub returns : goal.returns
 returns c =
     some_value _ _ _ c.if-kind-lt-VALUE.false c.text-next.ensures c.signed.ensures
+
+pub returns-then-kind-lt-VALUE : goal.returns-then-kind-lt-VALUE
+returns-then-kind-lt-VALUE c = no_value _ _ _ c.if-kind-lt-VALUE.true
