@@ -17,14 +17,13 @@ pub loop-i-smaller : goal.loop-i-smaller
 loop-i-smaller c = omega (arith, c.loop-i-test.true)
 
 pub loop-i-preserved : goal.loop-i-preserved
-loop-i-preserved c =
-    (
-      omega (arith, c.loop-i-test.true),
-      headed-again _ _ _ _ c.loop-i.invariant.1 _ _
-          c.put_byte.ensures
-          (omega (arith, c.loop-i-test.true, c.requires.0))
-          c.byte_at.ensures,
-    )
+loop-i-preserved c = (
+  omega (arith, c.loop-i-test.true),
+  headed-again _ _ _ _ c.loop-i.invariant.1 _ _
+      c.put_byte.ensures
+      (omega (arith, c.loop-i-test.true, c.requires.0))
+      c.byte_at.ensures,
+)
 
 pub overflow_add-result : goal.overflow_add-result
 overflow_add-result c = omega (arith, c.requires.1)
@@ -35,5 +34,8 @@ shape_of-space c =
     c.put_byte-2.ensures
 
 pub returns : goal.returns
-returns c = record { returned = refl; written = headed-last _ _ _ _ _ c.loop-i.invariant.0 c.loop-i-test.false c.loop-i.invariant.1 _ _
-          c.put_byte-2.ensures }
+returns c = record {
+  returned = refl;
+  written = headed-last _ _ _ _ _ c.loop-i.invariant.0 c.loop-i-test.false c.loop-i.invariant.1 _ _
+      c.put_byte-2.ensures;
+}

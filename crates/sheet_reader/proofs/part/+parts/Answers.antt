@@ -141,12 +141,11 @@ read_parts-returns t c =
 
 -- read_record
 pub read_record-close_record-requires : goal.read_record-close_record-requires
-read_record-close_record-requires t c =
-    (
-      c.requires.2,
-      ends-further _ _ _ c.requires.0 (scope_ends _ _ _ _ _ _ _ c.type_inv.s c.requires.3
-          c.read_scope-parts.ensures.answer),
-    )
+read_record-close_record-requires t c = (
+  c.requires.2,
+  ends-further _ _ _ c.requires.0 (scope_ends _ _ _ _ _ _ _ c.type_inv.s c.requires.3
+      c.read_scope-parts.ensures.answer),
+)
 
 pub read_record-returns : goal.read_record-returns
 read_record-returns t c =

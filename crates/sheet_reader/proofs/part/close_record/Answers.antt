@@ -37,6 +37,9 @@ weigh_record-requires c =
 
 pub returns : goal.returns
 unfolding closed_answer
-returns c = record { answer = simp (c.in-Read.is, ← c.type_of-ty.ensures); table = closed-table _ _ _ _ _ c.in-Read.is c.type_of-ty.ensures (c.close_sum-closed.ensures.other (omega (arith, c.if-closed-gt0.false)))
+returns c = record {
+  answer = simp (c.in-Read.is, ← c.type_of-ty.ensures);
+  table = closed-table _ _ _ _ _ c.in-Read.is c.type_of-ty.ensures (c.close_sum-closed.ensures.other (omega (arith, c.if-closed-gt0.false)))
       c.write_row.ensures
-      c.note_use.ensures c.used_number-k.ensures.number c.weigh_record.ensures }
+      c.note_use.ensures c.used_number-k.ensures.number c.weigh_record.ensures;
+}

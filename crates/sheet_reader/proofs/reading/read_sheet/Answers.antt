@@ -11,10 +11,8 @@ use Rattle.sheet_reader.proofs.reading.read_sheet.Goals as goal
 none : {n : ℕ} → n ≡ 0 → n ≤ 0
 none e = omega arith
 
-
 some : {n : ℕ} → (n ≡ 0 → ⊥) → 0 < n
 some h = omega arith
-
 
 pub returns-then-s-gt-MOST_BYTES : goal.returns-then-s-gt-MOST_BYTES
 returns-then-s-gt-MOST_BYTES c = rw c.refuse.ensures (sheet-refused _ _ _ (too_long _ _ c.if-s-gt-MOST_BYTES.true))
