@@ -10,7 +10,7 @@ from negyvosal import Apart, Refused, Same
 from desk import files, parts
 from trial import ROOT, called, expect
 
-PROGRAM = ROOT / "target" / "bin" / "negyvosal"
+PROGRAM = ROOT / "crates" / "negyvosal" / "out" / "negyvosal"
 LENT = {"words": 16384, "space": 2040}
 EACH = 8
 """One pair of so many is given to the program, too."""
