@@ -25,7 +25,7 @@ offset_bounds-out-i c = omega arith
 
 pub bounds-out-i : goal.bounds-out-i
 bounds-out-i c =
-    written-inside c.args.t2 c.args.out.now
+    written-inside c.args.words c.args.out.now
     c.loop-i.out c.loop-i.i c.well_formed.1.0.1.0.1
     c.if-out-lt-ANSWER_WORDS.false c.loop-i-test.true c.loop-i.invariant
 
@@ -37,19 +37,19 @@ loop-i-smaller c = omega arith
 
 pub loop-i-preserved : goal.loop-i-preserved
 loop-i-preserved c =
-    written-again c.args.t2 c.args.out.now
+    written-again c.args.words c.args.out.now
     c.loop-i.out c.loop-i.i c.well_formed.1.0.1.0.1
     c.if-out-lt-ANSWER_WORDS.false c.loop-i-test.true c.loop-i.invariant
 
 pub shape_of-out : goal.shape_of-out
 shape_of-out c =
-    written-length c.args.t2 c.args.out.now
+    written-length c.args.words c.args.out.now
     c.loop-i.out c.loop-i.i c.well_formed.1.0.1.0.1
     c.if-out-lt-ANSWER_WORDS.false c.loop-i.invariant
 
 pub returns : goal.returns
 returns c =
-    let p = long c.args.t2 c.args.out.now c.loop-i.out
+    let p = long c.args.words c.args.out.now c.loop-i.out
     c.loop-i.i c.well_formed.1.0.1.0.1 c.if-out-lt-ANSWER_WORDS.false
     c.loop-i-test.false c.loop-i.invariant in
     record { returned = p.0; written = p.1 }
