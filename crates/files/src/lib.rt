@@ -37,6 +37,11 @@ fn tell(rt: &(impl Eprint + Alloc), what: &str, why: io::Error) {
     }
 }
 
+// Says on standard error that a path is no text, so that it names no file.
+fn tell_no_text(rt: &impl Eprint) {
+    let _ = eprintln!(rt; "a path is no text");
+}
+
 // How many bytes are read where no file could be opened: a missing file counts as empty, another is a failure.
 fn read_none(why: io::Error, buf: &[u8]) -> io::Result<usize>
     ensures { ReadsAtMost result buf.now }
@@ -73,14 +78,19 @@ fn read_path(rt: &impl Files, path: &str, buf: &mut [u8]) -> io::Result<usize>
     }
 }
 
-// Reads the sheet that the file at path is into buf; where that fails, standard error says so.
-pub fn read_sheet(rt: &(impl Files + Eprint + Alloc), path: &str, buf: &mut [u8]) -> Read
+// Reads the sheet that the file at path is into buf; where that fails, standard error says so. The system's paths are
+// text here: of a path that is none no file can be read.
+pub fn read_sheet(rt: &(impl Files + Eprint + Alloc), path: &[u8], buf: &mut [u8]) -> Read
     ensures { Within result buf.new }
 {
-    match read_path(rt, path, buf) {
+    let Ok(name) = str::from_utf8(path) else {
+        tell_no_text(rt);
+        return Read::Failed;
+    };
+    match read_path(rt, name, buf) {
         Ok(count) => Read::Sheet(count),
         Err(why) => {
-            tell(rt, path, why);
+            tell(rt, name, why);
             Read::Failed
         }
     }
@@ -108,9 +118,9 @@ fn write_part(rt: &impl Files, part: &str, bytes: &[u8]) -> io::Result<()> {
     file.sync_all()
 }
 
-// Writes the bytes as the whole of the file at path; where that fails, standard error says so. They are written to a
+// Writes the bytes as the whole of the file named path; where that fails, standard error says so. They are written to a
 // file part beside it, which takes the name path when it is whole, so that no half a sheet ever has that name.
-pub fn write_sheet(rt: &(impl Files + Eprint + Alloc), path: &str, part: &str, bytes: &[u8]) {
+fn write_named(rt: &(impl Files + Eprint + Alloc), path: &str, part: &str, bytes: &[u8]) {
     if let Err(why) = write_part(rt, part, bytes) {
         tell(rt, part, why);
         let _ = fs::remove_file(rt, part);
@@ -120,4 +130,17 @@ pub fn write_sheet(rt: &(impl Files + Eprint + Alloc), path: &str, part: &str, b
         tell(rt, path, why);
         let _ = fs::remove_file(rt, part);
     }
+}
+
+// Writes the bytes as the whole of the file at path, by way of the file part; where that fails, standard error says so.
+pub fn write_sheet(rt: &(impl Files + Eprint + Alloc), path: &[u8], part: &[u8], bytes: &[u8]) {
+    let Ok(name) = str::from_utf8(path) else {
+        tell_no_text(rt);
+        return;
+    };
+    let Ok(beside) = str::from_utf8(part) else {
+        tell_no_text(rt);
+        return;
+    };
+    write_named(rt, name, beside, bytes);
 }

@@ -17,11 +17,11 @@ const TEXT: usize = 8192;
 
 fn main(rt: HostRuntime) {
     let mut old = [0u8; LONGEST];
-    let Read::Sheet(n) = read_sheet(&rt, "old.sheet", &mut old) else {
+    let Read::Sheet(n) = read_sheet(&rt, b"old.sheet", &mut old) else {
         return;
     };
     let mut new = [0u8; LONGEST];
-    let Read::Sheet(m) = read_sheet(&rt, "new.sheet", &mut new) else {
+    let Read::Sheet(m) = read_sheet(&rt, b"new.sheet", &mut new) else {
         return;
     };
     let mut words = [0u32; WORDS];

@@ -18,7 +18,7 @@ const TEXT: usize = 4096;
 
 fn main(rt: HostRuntime) {
     let mut old = [0u8; LONGEST];
-    let Read::Sheet(n) = read_sheet(&rt, "old.sheet", &mut old) else {
+    let Read::Sheet(n) = read_sheet(&rt, b"old.sheet", &mut old) else {
         return;
     };
     let mut new = [0u8; LONGEST];
@@ -28,6 +28,6 @@ fn main(rt: HostRuntime) {
     let count = told.count;
     if print(&rt, &text[..count]) && told.renumbered {
         // The sheet written is as long as the one read.
-        write_sheet(&rt, "new.sheet", "new.sheet.part", &new[..n]);
+        write_sheet(&rt, b"new.sheet", b"new.sheet.part", &new[..n]);
     }
 }
