@@ -1,6 +1,7 @@
 -- What is known where a sheet was read.
 use Rattle.std.specs.Prelude.{List, ℕ, ◌≡◌}
-use Rattle.files.specs.Reading.{IsPrefixLen, Within}
+use Rattle.io.specs.Counts.{IsPrefixLen}
+use Rattle.files.specs.Reading.{Within}
 use Rattle.files.specs.declared.Read.{Read}
 use Rattle.files.specs.declared.Read.TheVariants.{Sheet}
 

@@ -1,11 +1,8 @@
 -- What the programs are told of a file. No contract can say what a file holds.
-use Rattle.std.specs.Prelude.{List, ℕ, ◌≡◌, ◌≤◌, length, take}
+use Rattle.std.specs.Prelude.{List, ℕ}
+use Rattle.io.specs.Counts.{IsPrefixLen}
 use Rattle.files.specs.declared.Read.{Read}
 use Rattle.files.specs.declared.Read.TheVariants.{Sheet, Failed}
-
--- the first n bytes of xs are there, and are n
-abbrev pub IsPrefixLen : ℕ → List ℕ → Type 0
-IsPrefixLen n xs = (n ≤ length xs) × (n ≡ length (take n xs))
 
 -- a sheet lies at the start of the buffer; of what could not be read to its end there is no count
 abbrev pub Within : Read → List ℕ → Type 0
