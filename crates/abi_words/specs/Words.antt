@@ -6,21 +6,17 @@
 -- renumber "the number of changes is given"; [6]: "Compare passes on both sheets' marks"; [9]: look "reports how many
 -- moves were looked through"; [12]: "Make a card for each sheet and give its length".
 use Rattle.std.specs.Prelude.{ℕ, ◌+◌, ◌*◌, ◌/◌, ◌%◌, ◌≡◌, List, [], ◌∷◌, ◌++◌, length, drop, ltb}
+use Rattle.std.specs.Prelude.{Option, Some, None, Result, Ok, Err}
 use Rattle.language.specs.Choice.{pick}
 use Rattle.sheet_records.specs.declared.refusal.Cause.{Cause}
 use Rattle.sheet_judge.specs.declared.mark.Uses.{Uses}
 use Rattle.sheet_judge.specs.declared.check.Checked.{Checked}
-use Rattle.sheet_judge.specs.declared.check.Checked.TheVariants.{Accepted, Refused}
+use Rattle.play_words.specs.declared.Difference.{Difference}
 use Rattle.serve_compare.specs.declared.Following.{Following}
-use Rattle.serve_compare.specs.declared.Following.TheVariants.{Follows, Refused as NotFollowed}
 use Rattle.serve_compare.specs.declared.Comparison.{Comparison}
-use Rattle.serve_compare.specs.declared.Comparison.TheVariants.{Same, Apart, Refused as NotCompared}
 use Rattle.serve_compare.specs.declared.Looking.{Looking}
-use Rattle.serve_compare.specs.declared.Looking.TheVariants as looking
-use Rattle.serve_card.specs.declared.Carding.{Carding}
-use Rattle.serve_card.specs.declared.Carding.TheVariants.{Card, Refused as NoCard}
-use Rattle.serve_renumber.specs.declared.renumber.Renumbered.{Renumbered}
-use Rattle.serve_renumber.specs.declared.renumber.Renumbered.TheVariants.{Changed, Refused as NotRenumbered}
+use Rattle.serve_compare.specs.declared.Outcome.{Outcome}
+use Rattle.serve_compare.specs.declared.Outcome.TheVariants.{Same, Apart, SoFar}
 
 -- the kinds of answers
 abbrev pub kind_refused : ℕ
@@ -80,43 +76,46 @@ refusal_words x =
     (kind_refused ∷ x.number ∷ x.sheet ∷ low_half x.place ∷ high_half x.place ∷ []) ++ no_uses ++ no_uses
 
 -- accepted: type and size, and the names used
-unfoldable pub check_words : Checked → List ℕ
-check_words (Accepted ty size uses) = (kind_accepted ∷ ty ∷ size ∷ 0 ∷ 0 ∷ []) ++ uses_words uses ++ no_uses
-check_words (Refused x) = refusal_words x
+unfoldable pub check_words : Result Checked Cause → List ℕ
+check_words (Ok c) = (kind_accepted ∷ c.ty ∷ c.size ∷ 0 ∷ 0 ∷ []) ++ uses_words c.uses ++ no_uses
+check_words (Err x) = refusal_words x
 
 -- followed: 1 where the play is complete, else 0, and how many moves
-unfoldable pub follow_words : Following → List ℕ
-follow_words (Follows count complete) =
-    (kind_follows ∷ pick complete 1 0 ∷ low_half count ∷ high_half count ∷ 0 ∷ []) ++ no_uses ++ no_uses
-follow_words (NotFollowed x) = refusal_words x
+unfoldable pub follow_words : Result Following Cause → List ℕ
+follow_words (Ok f) =
+    (kind_follows ∷ pick f.complete 1 0 ∷ low_half f.count ∷ high_half f.count ∷ 0 ∷ []) ++ no_uses ++ no_uses
+follow_words (Err x) = refusal_words x
 
--- same; or apart: the sheet, 0 old or 1 new, and how many moves; either with the names that both sheets use
-unfoldable pub compare_words : Comparison → List ℕ
-compare_words (Same old new) = (kind_same ∷ 0 ∷ 0 ∷ 0 ∷ 0 ∷ []) ++ uses_words old ++ uses_words new
-compare_words (Apart sheet moves old new) =
-    (kind_apart ∷ sheet ∷ low_half moves ∷ high_half moves ∷ 0 ∷ []) ++ uses_words old ++ uses_words new
-compare_words (NotCompared x) = refusal_words x
+-- same; or apart: the sheet, 0 old or 1 new, and how many moves
+unfoldable pub found_words : Option Difference → List ℕ
+found_words None = kind_same ∷ 0 ∷ 0 ∷ 0 ∷ 0 ∷ []
+found_words (Some d) = kind_apart ∷ d.sheet ∷ low_half d.moves ∷ high_half d.moves ∷ 0 ∷ []
 
--- looked through: same, apart with the sheet, or same so far; how many moves were looked through, and the names that
--- both sheets use
-unfoldable pub look_words : Looking → List ℕ
-look_words (looking.Same looked old new) =
-    (kind_same ∷ 0 ∷ low_half looked ∷ high_half looked ∷ 0 ∷ []) ++ uses_words old ++ uses_words new
-look_words (looking.Apart sheet looked old new) =
-    (kind_apart ∷ sheet ∷ low_half looked ∷ high_half looked ∷ 0 ∷ []) ++ uses_words old ++ uses_words new
-look_words (looking.SoFar looked old new) =
-    (kind_so_far ∷ 0 ∷ low_half looked ∷ high_half looked ∷ 0 ∷ []) ++ uses_words old ++ uses_words new
-look_words (looking.Refused x) = refusal_words x
+-- either with the names that both sheets use
+unfoldable pub compare_words : Result Comparison Cause → List ℕ
+compare_words (Ok c) = found_words c.found ++ uses_words c.old ++ uses_words c.new
+compare_words (Err x) = refusal_words x
+
+-- looked through: same, apart with the sheet, or same so far; and how many moves were looked through
+unfoldable pub outcome_words : Outcome → ℕ → List ℕ
+outcome_words Same looked = kind_same ∷ 0 ∷ low_half looked ∷ high_half looked ∷ 0 ∷ []
+outcome_words (Apart sheet) looked = kind_apart ∷ sheet ∷ low_half looked ∷ high_half looked ∷ 0 ∷ []
+outcome_words SoFar looked = kind_so_far ∷ 0 ∷ low_half looked ∷ high_half looked ∷ 0 ∷ []
+
+-- with the names that both sheets use
+unfoldable pub look_words : Result Looking Cause → List ℕ
+look_words (Ok x) = outcome_words x.outcome x.looked ++ uses_words x.old ++ uses_words x.new
+look_words (Err x) = refusal_words x
 
 -- renumbered: how many changes
-unfoldable pub renumber_words : Renumbered → List ℕ
-renumber_words (Changed changes) = (kind_renumbered ∷ changes ∷ 0 ∷ 0 ∷ 0 ∷ []) ++ no_uses ++ no_uses
-renumber_words (NotRenumbered x) = refusal_words x
+unfoldable pub renumber_words : Result ℕ Cause → List ℕ
+renumber_words (Ok changes) = (kind_renumbered ∷ changes ∷ 0 ∷ 0 ∷ 0 ∷ []) ++ no_uses ++ no_uses
+renumber_words (Err x) = refusal_words x
 
 -- the card: its length, how many bytes it has
-unfoldable pub card_words : Carding → List ℕ
-card_words (Card bytes) = (kind_card ∷ 0 ∷ low_half bytes ∷ high_half bytes ∷ 0 ∷ []) ++ no_uses ++ no_uses
-card_words (NoCard x) = refusal_words x
+unfoldable pub card_words : Result ℕ Cause → List ℕ
+card_words (Ok bytes) = (kind_card ∷ 0 ∷ low_half bytes ∷ high_half bytes ∷ 0 ∷ []) ++ no_uses ++ no_uses
+card_words (Err x) = refusal_words x
 
 -- the words lent, with an answer in the first of them; all as they were where there are too few
 unfoldable pub answered : List ℕ → List ℕ → List ℕ

@@ -7,6 +7,7 @@ use crate::kind::{APART, SAME};
 use crate::write::{answer, refuse};
 use serve_compare::Comparison;
 use sheet_judge::mark::Uses;
+use sheet_records::refusal::Cause;
 
 // Writes an answer that tells of the names of two sheets.
 pub(crate) fn answer_names(
@@ -31,23 +32,20 @@ pub(crate) fn answer_names(
 }
 
 // Writes the answer of compare.
-pub fn answer_compare(out: &mut [u32], r: Comparison) -> u32
+pub fn answer_compare(out: &mut [u32], r: Result<Comparison, Cause>) -> u32
     ensures returned { result ≡ status out.old }
     ensures written { out.new ≡ answered (compare_words r) out.old }
 {
     match r {
-        Comparison::Same { old, new } => answer_names(out, SAME, 0, 0, 0, old, new),
-        Comparison::Apart {
-            sheet,
-            moves,
-            old,
-            new,
-        } => {
-            let which = sheet as u32;
-            let low = low_half(moves);
-            let high = high_half(moves);
-            answer_names(out, APART, which, low, high, old, new)
-        }
-        Comparison::Refused(x) => refuse(out, x),
+        Ok(Comparison { found, old, new }) => match found {
+            None => answer_names(out, SAME, 0, 0, 0, old, new),
+            Some(first) => {
+                let which = first.sheet as u32;
+                let low = low_half(first.moves);
+                let high = high_half(first.moves);
+                answer_names(out, APART, which, low, high, old, new)
+            }
+        },
+        Err(x) => refuse(out, x),
     }
 }

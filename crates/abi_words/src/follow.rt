@@ -6,14 +6,15 @@ use crate::half::{high_half, low_half};
 use crate::kind::FOLLOWS;
 use crate::write::{answer, refuse};
 use serve_compare::Following;
+use sheet_records::refusal::Cause;
 
 // Writes the answer of follow.
-pub fn answer_follow(out: &mut [u32], r: Following) -> u32
+pub fn answer_follow(out: &mut [u32], r: Result<Following, Cause>) -> u32
     ensures returned { result ≡ status out.old }
     ensures written { out.new ≡ answered (follow_words r) out.old }
 {
     match r {
-        Following::Follows { count, complete } => {
+        Ok(Following { count, complete }) => {
             let low = low_half(count);
             let high = high_half(count);
             if complete {
@@ -21,6 +22,6 @@ pub fn answer_follow(out: &mut [u32], r: Following) -> u32
             }
             answer(out, [FOLLOWS, 0, low, high, 0, 0, 0, 0, 0, 0, 0])
         }
-        Following::Refused(x) => refuse(out, x),
+        Err(x) => refuse(out, x),
     }
 }

@@ -1,4 +1,4 @@
-// The kinds of answers.
+// The kinds of answers: numbers, as the C interface has them.
 pub(crate) const REFUSED: u32 = 0;
 
 pub(crate) const ACCEPTED: u32 = 1;

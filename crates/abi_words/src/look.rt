@@ -6,8 +6,9 @@ use crate::compare::answer_names;
 use crate::half::{high_half, low_half};
 use crate::kind::{APART, SAME, SO_FAR};
 use crate::write::refuse;
-use serve_compare::Looking;
+use serve_compare::{Looking, Outcome};
 use sheet_judge::mark::Uses;
+use sheet_records::refusal::Cause;
 
 // Writes an answer that tells how many moves were looked through.
 fn answer_depth(out: &mut [u32], kind: u32, a: u32, looked: usize, old: Uses, new: Uses) -> u32
@@ -22,22 +23,26 @@ fn answer_depth(out: &mut [u32], kind: u32, a: u32, looked: usize, old: Uses, ne
 }
 
 // Writes the answer of look.
-pub fn answer_look(out: &mut [u32], r: Looking) -> u32
+pub fn answer_look(out: &mut [u32], r: Result<Looking, Cause>) -> u32
     ensures returned { result ≡ status out.old }
     ensures written { out.new ≡ answered (look_words r) out.old }
 {
     match r {
-        Looking::Same { looked, old, new } => answer_depth(out, SAME, 0, looked, old, new),
-        Looking::Apart {
-            sheet,
-            looked,
-            old,
-            new,
-        } => {
-            let which = sheet as u32;
-            answer_depth(out, APART, which, looked, old, new)
-        }
-        Looking::SoFar { looked, old, new } => answer_depth(out, SO_FAR, 0, looked, old, new),
-        Looking::Refused(x) => refuse(out, x),
+        Ok(
+            Looking {
+                outcome,
+                looked,
+                old,
+                new,
+            },
+        ) => match outcome {
+            Outcome::Same => answer_depth(out, SAME, 0, looked, old, new),
+            Outcome::Apart { sheet } => {
+                let which = sheet as u32;
+                answer_depth(out, APART, which, looked, old, new)
+            }
+            Outcome::SoFar => answer_depth(out, SO_FAR, 0, looked, old, new),
+        },
+        Err(x) => refuse(out, x),
     }
 }

@@ -9,7 +9,7 @@ use sheet_records::refusal::Cause;
 // How many words an answer has.
 pub const ANSWER_WORDS: usize = 11;
 
-// What a service returns: whether there is room for an answer, which is then written.
+// What a service returns, a number as the C interface has it: whether there is room for an answer, which is then written.
 pub const NO_ROOM: u32 = 0;
 
 const WRITTEN: u32 = 1;
@@ -22,11 +22,7 @@ pub(crate) fn answer(out: &mut [u32], words: [u32; ANSWER_WORDS]) -> u32
     if out.len() < ANSWER_WORDS {
         return NO_ROOM;
     }
-    let mut i = 0;
-    while i < ANSWER_WORDS {
-        out[i] = words[i];
-        i += 1;
-    }
+    out[..ANSWER_WORDS].copy_from_slice(&words);
     WRITTEN
 }
 

@@ -45,11 +45,7 @@ fn position_of(words: &[u32], n: usize, c: usize) -> usize
     requires { (n ≤ 8192) × (n + c < length words.now) }
     ensures { result ≡ number_at n words.now c - 1 }
 {
-    let k = at(words, n + c);
-    if k == 0 {
-        return 0;
-    }
-    k - 1
+    at(words, n + c).saturating_sub(1)
 }
 
 // Writes the move by edge e, from a place on, where the edge does not lead to the dead class: the place after it.

@@ -32,12 +32,10 @@ fn write_edges(words: &[u32], n: usize, p: usize, s: &mut [u8], place: usize) ->
     ensures returned { result ≡ place + length (state_bytes words.now n p) }
     ensures written { s.new ≡ sets s.old place (state_bytes words.now n p) }
 {
-    let mut e = first_edge(words, n, p);
     let end = first_edge(words, n, p + 1);
     let mut i = place;
-    while e < end {
+    for e in first_edge(words, n, p)..end {
         i = write_edge(words, n, e, s, i);
-        e += 1;
     }
     i
 }
@@ -69,12 +67,10 @@ pub fn write_positions(
     ensures written { s.new
         ≡ sets s.old place (positions_bytes words.now n f count 0) }
 {
-    let mut k = 0;
     let mut i = place;
-    while k < count {
+    for k in 0..count {
         let p = at(words, 2 * n + k);
         i = write_position(words, n, f, p, s, i);
-        k += 1;
     }
     i
 }

@@ -3,7 +3,6 @@ pub mod Rest
 pub mod Look
 pub mod Step
 pub mod Scan
-pub mod Clear
 pub mod Reading
 pub mod Live
 pub mod Edges

@@ -9,13 +9,12 @@ fn scan(graph: &[u32], n: usize, p: usize, m: usize) -> usize
     requires { Graph graph.now n × (p < n) }
     ensures { result ≡ δ graph.now n p m }
 {
-    let mut i = at(graph, p);
+    let first = at(graph, p);
     let end = at(graph, p + 1);
-    while i < end {
+    for i in first..end {
         if at(graph, n + 1 + 2 * i) == m {
             return at(graph, n + 2 + 2 * i);
         }
-        i += 1;
     }
     n - 1
 }

@@ -5,7 +5,7 @@ ghost use Rattle.dfa.specs.Step.{Past, Ended, Moved};
 
 use crate::words::at;
 
-// More than any letter: where there is no edge left.
+// More than any letter: where there is no edge left. A number: the smaller of two next letters is then one.
 const NO_LETTER: usize = 4294967295;
 
 // The letter of the next edge; NO_LETTER where there is none.

@@ -21,9 +21,5 @@ pub fn put(s: &mut [u32], i: usize, v: usize)
 pub fn clear(words: &mut [u32])
     ensures { words.new ≡ replicate (length words.old) 0 }
 {
-    let mut i = 0;
-    while i < words.len() {
-        put(words, i, 0);
-        i += 1;
-    }
+    words.fill(0);
 }

@@ -10,11 +10,7 @@ pub fn zero(words: &mut [u32], from: usize, size: usize)
     requires { (from + size ≤ length words.old) × (from + size < 4294967296) }
     ensures { Zeroed from size words.old words.new }
 {
-    let mut i = 0;
-    while i < size {
-        put(words, from + i, 0);
-        i += 1;
-    }
+    words[from..from + size].fill(0);
 }
 
 // Edge e is put first in the list of its target t, before the edge `next`.
@@ -35,11 +31,9 @@ pub fn link_edges(words: &mut [u32], n: usize, g: usize)
         → Linking G n g words.old (get_or G n 0) words.new }
 {
     let end = first_edge(words, n, n);
-    let mut e = first_edge(words, n, 0);
-    while e < end {
+    for e in first_edge(words, n, 0)..end {
         let t = edge_target(words, n, e);
         let next = head(words, n, g, t);
         link(words, n, g, e, t, next);
-        e += 1;
     }
 }

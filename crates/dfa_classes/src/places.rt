@@ -12,8 +12,7 @@ pub fn exchange(words: &mut [u32], n: usize, i: usize, j: usize)
 {
     let p = at(words, n + i);
     let q = at(words, n + j);
-    put(words, n + i, q);
-    put(words, n + j, p);
+    words.swap(n + i, n + j);
     put(words, 2 * n + q, i);
     put(words, 2 * n + p, j);
 }

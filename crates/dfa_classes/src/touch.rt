@@ -7,8 +7,7 @@ ghost use Rattle.dfa_classes.specs.inner.Sources.{ToSources, Sourced, Copying, C
 
 use crate::places::exchange;
 use crate::words::{
-    copied, edge_next, from, head, member, place, set_copied, set_listed, set_touched, source, to,
-    touched,
+    copied, edge_next, from, head, place, set_listed, set_touched, source, to, touched,
 };
 use dfa::words::at;
 
@@ -58,12 +57,7 @@ fn copy_members(words: &mut [u32], n: usize, g: usize, a: usize, b: usize)
     requires { Copying n g a b words.old }
     ensures { Copied n g a b words.old words.new }
 {
-    let mut i = a;
-    while i < b {
-        let p = member(words, n, i);
-        set_copied(words, n, g, i - a, p);
-        i += 1;
-    }
+    words.copy_within(n + a..n + b, g + 3 * n);
 }
 
 // The states that go into the class s are touched: how many classes have touched members.
@@ -76,13 +70,10 @@ pub fn touch_all(words: &mut [u32], n: usize, g: usize, s: usize) -> usize
     let a = from(words, n, s);
     let b = to(words, n, s);
     copy_members(words, n, g, a, b);
-    let size = b - a;
     let mut k = 0;
-    let mut j = 0;
-    while j < size {
+    for j in 0..b - a {
         let t = copied(words, n, g, j);
         k = touch_sources(words, n, g, t, k);
-        j += 1;
     }
     k
 }

@@ -136,14 +136,6 @@ pub(crate) fn set_listed(words: &mut [u32], n: usize, g: usize, i: usize, v: usi
     put(words, g + 2 * n + i, v);
 }
 
-// The state number i of the copy is v.
-pub(crate) fn set_copied(words: &mut [u32], n: usize, g: usize, i: usize, v: usize)
-    requires { (i < n) × ((v ≤ n) × ((n ≤ 8192) × ((g ≤ 600000) × (g + 4 * n ≤ length words.old)))) }
-    ensures { words.new ≡ set words.old (g + 3 * n + i) v }
-{
-    put(words, g + 3 * n + i, v);
-}
-
 // The state that edge e leaves: halving, between a state whose edges begin at e or before and one whose edges begin behind.
 pub(crate) fn source(words: &[u32], n: usize, e: usize) -> usize
     requires { (0 < n) × ((n ≤ 8192) × ((6 * n < length words.now) × ((first_at n words.now 0 ≤ e)

@@ -1,11 +1,9 @@
 -- What the comparison of two states answers. Assumes nothing.
-use Rattle.std.specs.Prelude.{List, ◌≡◌, ◌+◌, ◌*◌, ◌<◌, ◌≤◌, ℕ, get_or, length}
+use Rattle.std.specs.Prelude.{List, ◌≡◌, ◌+◌, ◌*◌, ◌<◌, ◌≤◌, ℕ, get_or, length, Option, None, Some}
 use Rattle.dfa.specs.Graph.{Graph, δ}
 use Rattle.dfa_search.specs.Spelled.{Spelled, Trail}
 use Rattle.dfa.specs.Word.{First, accepting, after}
 use Rattle.dfa_difference.specs.declared.Task.{Task}
-use Rattle.dfa_difference.specs.declared.Verdict.{Verdict}
-use Rattle.dfa_difference.specs.declared.Verdict.TheVariants.{Apart, Same}
 
 -- the two states are states of the automaton G
 pub record Setting (G : List ℕ) (t : Task) : Type 0 where
@@ -24,7 +22,7 @@ pub record ToldApart (G : List ℕ) (t : Task) (ws : List ℕ) (k : ℕ) : Type 
   pub left : get_or ws (t.n + 4 * k) 0 ≡ after (δ G t.n) t.p word
 
 -- no word of at most `most` letters tells the two states apart; or the word of entry k is the first that does
-abbrev pub Outcome : List ℕ → Task → List ℕ → Verdict → Type 0
-Outcome G t ws Same = (x : List ℕ) → length x ≤ t.most
+abbrev pub Outcome : List ℕ → Task → List ℕ → Option ℕ → Type 0
+Outcome G t ws None = (x : List ℕ) → length x ≤ t.most
     → accepting t.f t.g (after (δ G t.n) t.p x) ≡ accepting t.f t.g (after (δ G t.n) t.q x)
-Outcome G t ws (Apart k) = ToldApart G t ws k
+Outcome G t ws (Some k) = ToldApart G t ws k

@@ -3,13 +3,6 @@
 
 pub mod search; // search.rt: the first difference
 
-// No word of at most so many letters tells the two states apart; or the word of that entry does, and is the first.
-#[derive(Drop)]
-pub enum Verdict {
-    Same,
-    Apart(usize),
-}
-
 // n states; the two to compare; the accepting ones, which may be one; the most letters of a word that is looked for.
 #[derive(Clone, Copy)]
 pub struct Task {

@@ -9,7 +9,7 @@ ghost use Rattle.dfa_difference.specs.inner.Queue.{pushed, Visited, Grown};
 ghost use Rattle.dfa_difference.specs.inner.State.{State, Half};
 ghost use Rattle.dfa_difference.specs.inner.Level.{alike_at, Deep, Shallow, Leveled};
 
-use crate::{Task, Verdict};
+use crate::Task;
 use dfa::step::{ends_of, step};
 use dfa::words::{at, put};
 use dfa_search::classes::{find, link, singles};
@@ -119,15 +119,9 @@ fn alike_at(words: &[u32], n: usize, k: usize, f: usize, g: usize) -> bool
     alike(x, y, f, g)
 }
 
-// What a level gives: the entry whose states differ; or where there is none, the number of entries that there are then.
-#[derive(Drop)]
-enum Level {
-    Apart(usize),
-    Alike(usize),
-}
-
-// The entries of a level in order, from `from` on and before `end`, each expanded, until the states of one differ.
-fn expand_level(words: &mut [u32], t: Task, from: usize, end: usize) -> Level
+// The entries of a level in order, from `from` on and before `end`, each expanded, until the states of one differ: that
+// entry as the error. Where there is none, the number of entries that there are then.
+fn expand_level(words: &mut [u32], t: Task, from: usize, end: usize) -> Result<usize, usize>
     requires { Setting (rest (5 * t.n) words.old) t
         × (State (rest (5 * t.n) words.old) t (take (5 * t.n) words.old) from end
         × Shallow t.n (take (5 * t.n) words.old) from end t.most) }
@@ -135,37 +129,33 @@ fn expand_level(words: &mut [u32], t: Task, from: usize, end: usize) -> Level
         (take (5 * t.n) words.new) result
         × (rest (5 * t.n) words.new ≡ rest (5 * t.n) words.old) }
 {
-    let mut head = from;
     let mut tail = end;
-    while head < end {
+    for head in from..end {
         if !alike_at(words, t.n, head, t.f, t.g) {
-            return Level::Apart(head);
+            return Err(head);
         }
         tail = expand(words, t, head, tail);
-        head += 1;
     }
-    Level::Alike(tail)
+    Ok(tail)
 }
 
 // The entries of the last level in order, none of them expanded, until the states of one differ.
-fn test_level(words: &[u32], t: Task, from: usize, end: usize) -> Verdict
+fn test_level(words: &[u32], t: Task, from: usize, end: usize) -> Option<usize>
     requires { Setting (rest (5 * t.n) words.now) t
         × (State (rest (5 * t.n) words.now) t (take (5 * t.n) words.now) from end
         × Deep t.n (take (5 * t.n) words.now) from end t.most) }
     ensures { Outcome (rest (5 * t.n) words.now) t (take (5 * t.n) words.now) result }
 {
-    let mut head = from;
-    while head < end {
+    for head in from..end {
         if !alike_at(words, t.n, head, t.f, t.g) {
-            return Verdict::Apart(head);
+            return Some(head);
         }
-        head += 1;
     }
-    Verdict::Same
+    None
 }
 
 // The levels in order, until the states of an entry differ, up to the level whose words have `most` letters, the last.
-fn run(words: &mut [u32], t: Task) -> Verdict
+fn run(words: &mut [u32], t: Task) -> Option<usize>
     requires { Setting (rest (5 * t.n) words.old) t
         × State (rest (5 * t.n) words.old) t (take (5 * t.n) words.old) 0 1 }
     ensures { Outcome (rest (5 * t.n) words.old) t (take (5 * t.n) words.new) result
@@ -173,24 +163,21 @@ fn run(words: &mut [u32], t: Task) -> Verdict
 {
     let mut head = 0;
     let mut tail = 1;
-    let mut left = t.most;
-    while head < tail {
-        if left == 0 {
-            return test_level(words, t, head, tail);
+    for _depth in 0..t.most {
+        if head == tail {
+            return None;
         }
-        left -= 1;
-        let l = expand_level(words, t, head, tail);
-        match l {
-            Level::Apart(k) => {
-                return Verdict::Apart(k);
+        match expand_level(words, t, head, tail) {
+            Err(k) => {
+                return Some(k);
             }
-            Level::Alike(next) => {
+            Ok(next) => {
                 head = tail;
                 tail = next;
             }
         }
     }
-    Verdict::Same
+    test_level(words, t, head, tail)
 }
 
 // The classes are single but for p and q, and the queue has their entry.
@@ -208,8 +195,8 @@ fn prepare(work: &mut [u32], t: Task)
 }
 
 // The first word, by length and then letters, that exactly one of p and q accepts, as an entry, if it has at most `most`
-// letters.
-pub fn first_difference(words: &mut [u32], t: Task) -> Verdict
+// letters; None where no word of at most so many tells the two apart.
+pub fn first_difference(words: &mut [u32], t: Task) -> Option<usize>
     requires { Setting (rest (5 * t.n) words.old) t × (5 * t.n ≤ length words.old) }
     ensures { Outcome (rest (5 * t.n) words.old) t (take (5 * t.n) words.new) result
         × (rest (5 * t.n) words.new ≡ rest (5 * t.n) words.old) }
@@ -218,7 +205,7 @@ pub fn first_difference(words: &mut [u32], t: Task) -> Verdict
     let p = t.p;
     let q = t.q;
     if p == q {
-        return Verdict::Same;
+        return None;
     }
     let g = 5 * n;
     prepare(&mut words[..g], t);

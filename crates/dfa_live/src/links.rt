@@ -7,7 +7,7 @@ ghost use Rattle.dfa_live.specs.inner.Links.{Held, NoLists, link_place, linked_t
 
 use dfa::words::{at, put};
 
-// The end of a list.
+// The end of a list. No Option: it stands in lent words.
 pub(crate) const NO_EDGE: usize = 0;
 
 // More than any state, so that a word holds a state and an edge.
@@ -42,15 +42,12 @@ pub(crate) fn link_edges(words: &mut [u32], n: usize)
         (get_or (rest (5 * n) words.old) n 0) }
 {
     let end = at(words, 6 * n);
-    let mut p = 0;
-    let mut e = at(words, 5 * n);
-    while e < end {
-        if at(words, 5 * n + p + 1) <= e {
-            p += 1;
-        } else {
+    for p in 0..n {
+        let first = at(words, 5 * n + p);
+        let behind = at(words, 5 * n + p + 1);
+        for e in first..behind {
             let t = at(words, 6 * n + 2 + 2 * e);
             link(words, link_place(n, end, e), t, p, e);
-            e += 1;
         }
     }
 }

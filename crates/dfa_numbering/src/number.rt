@@ -36,13 +36,11 @@ fn meet(words: &mut [u32], n: usize, dead: usize, p: usize, tail: usize) -> usiz
         → Counting G n g own words.new (head + 1) 0 result
         × (length words.new ≡ length words.old) }
 {
-    let mut e = first_edge(words, n, p);
     let end = first_edge(words, n, p + 1);
     let mut k = tail;
-    while e < end {
+    for e in first_edge(words, n, p)..end {
         let t = edge_target(words, n, e);
         k = note(words, n, dead, t, k);
-        e += 1;
     }
     k
 }

@@ -2,12 +2,12 @@
 use mathlib.Core.Bool.{cond}
 use mathlib.Core.List.{List}
 use mathlib.Core.Logic.{◌≢◌}
-use mathlib.Core.Path.{◌∙◌, ◌≡◌, ap, refl, subst, sym}
-use Prim.Native.Nat.{◌+◌, ◌<◌, ◌≤◌, ℕ}
+use mathlib.Core.Path.{◌∙◌, ◌≡◌, ap, subst, sym}
+use Prim.Native.Nat.{◌<◌, ◌≤◌, ℕ}
 use native.Mathlib.Omega.{arith}
 use lib.Dec.{eqb}
 use lib.ListN.{get_or, length, length-set, set}
-use Rattle.dfa_search.specs.Classes.{Finding, Found, Low, Rep, Sinks}
+use Rattle.dfa_search.specs.Classes.{Finding, Found, Low, Rep}
 use Rattle.dfa_search.specs.Classes.{merge}
 use Rattle.dfa.specs.Frame.{SameBelow}
 use Rattle.dfa.proofs.laws.Frame.{set_all, set-from}
@@ -77,18 +77,6 @@ module _ (n : ℕ) (ws : List ℕ) (a b : ℕ) (lt : b < a) (a_lt : a < n) (w : 
       out : (x : ℕ) → rep x ≢ rep p → merge rep p q x ≡ rep x
       out x = merge-out rep p q x
 
-pub sinks-of : (n x : ℕ) (ws : List ℕ) → Low n ws → x < n → Sinks x ws
-sinks-of n x ws w h = record
-    { inside = omega (arith, w.room); small = omega (arith, w.few); sinks = λ y l. w.low y (omega arith) }
-
-pub find_first : (x : ℕ) (ws : List ℕ) → Sinks x ws → Finding x ws ws x
-find_first x ws s = record {
-  below = omega arith;
-  sinks = s;
-  len = refl;
-  class = λ n w h. record { low = w; keep = λ i l. refl; rep = λ r k. (refl, k) };
-}
-
 pub find-again : (x : ℕ) (ws₀ ws ws' : List ℕ) (y p g : ℕ) → Finding x ws₀ ws y → p ≡ get_or ws y 0 → p ≢ y
     → g ≡ get_or ws p 0 → ws' ≡ set ws y g → Finding x ws₀ ws' g
 find-again x ws₀ ws ws' y p g s ep ne eg ew = subst (λ v. Finding x ws₀ v g) (sym (ew ∙ ap (λ z. set ws y z) gg))
@@ -145,8 +133,3 @@ find-last n x ws₀ ws y s e w h =
       keep = c.keep;
       rep = λ r k. let z = c.rep r k in (sym (z.1.root y y-lt e) ∙ z.0, z.1);
     }
-
-pub single_more : (ws ws' : List ℕ) (i : ℕ) → i < length ws → ws' ≡ set ws i i → ((x : ℕ) → x < i → get_or ws x 0 ≡ x)
-    → (x : ℕ) → x < i + 1 → get_or ws' x 0 ≡ x
-single_more ws ws' i h e s x l = ap (λ v. get_or v x 0) e ∙ set_all (λ y v. y < i + 1 → v ≡ y) ws i i h (λ u. refl)
-    (λ y q u. s y (omega arith)) x l

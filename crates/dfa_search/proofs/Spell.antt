@@ -7,23 +7,15 @@ use lib.ListN.{get_or, length, length-set, set, take}
 use lib.Seq.{drop-set-add, get_or-take, take-set-le, take-suc}
 use Rattle.dfa.specs.Graph.{rest}
 use Rattle.dfa.specs.Reading.{reversed}
-use Rattle.dfa_search.specs.Spelled.{Spelled, Spelling, Trail, Written, more, none}
+use Rattle.dfa_search.specs.Spelled.{Spelled, Trail, Written, more, none}
 use Rattle.dfa_search.specs.Trace.{Spells}
 use Rattle.dfa.proofs.laws.Rest.{rest-is, rest-length}
-use Rattle.dfa_search.proofs.Trace.{trace-first, trace-last, trace-more, trace-pos, trail-spelled}
+use Rattle.dfa_search.proofs.Trace.{trace-first, trace-more, trace-on, trail-spelled}
 
 -- the front's places are the whole's
 front-is : (n : ℕ) (ws : List ℕ) (j k : ℕ) → j < n → k < 4 → get_or (take (5 * n) ws) (n + 4 * j + k) 0 ≡ get_or
     ws (n + 4 * j + k) 0
 front-is n ws j k h l = get_or-take (5 * n) ws (n + 4 * j + k) 0 (omega arith)
-
-pub trail-wide : (n : ℕ) (ws : List ℕ) (k : ℕ) → 5 * n ≤ length ws → Trail n (take (5 * n) ws) k → Trail n ws k
-trail-wide n ws k room t = record {
-  few = t.few;
-  room = room;
-  below = t.below;
-  from = λ j h l. rw (← front-is n ws j 2 (omega (arith, t.below)) (omega arith)) (t.from j h l);
-}
 
 spelled-wide : (n : ℕ) (ws : List ℕ) (j : ℕ) (w : List ℕ) → j < n → Spelled n (take (5 * n) ws) j w → Spelled n ws j w
 spelled-wide n ws j w h none = none
@@ -57,17 +49,14 @@ module _ (n k : ℕ) (ws₀ : List ℕ) (t : Trail n (take (5 * n) ws₀) k) (ro
             (e, trace-first n (take (5 * n) ws₀) u (rest (5 * n) ws₀) d k e s);
       }
 
-  module _ (d : ℕ) (ws : List ℕ) (i e : ℕ) (h : 0 < e) (s : Spells n k d ws₀ ws i e) where
-    pub spells-pos : 0 < i
-    spells-pos = let w = trail-spelled n (take (5 * n) ws₀) k t in trace-pos _ _ _ _ _ _ h (s.word w.0 w.1).1
+  module _ (d : ℕ) (ws : List ℕ) (i e : ℕ) (l : 0 < i) (s : Spells n k d ws₀ ws i e) where
+    h : 0 < e
+    h = let w = trail-spelled n (take (5 * n) ws₀) k t in trace-on _ _ _ _ _ _ l (s.word w.0 w.1).1
 
     -- a word of an entry is as at the start
     kept : (j : ℕ) → j < 4 → get_or ws (n + 4 * e + j) 0 ≡ get_or (take (5 * n) ws₀) (n + 4 * e + j) 0
     kept j l = sym (front-is n ws e j (omega (arith, s.low, t.below)) l) ∙ ap (λ w. get_or w (n + 4 * e + j) 0)
         s.front
-
-    pub spells-old : (j : ℕ) → j < 4 → get_or ws (n + 4 * e + j) 0 ≡ get_or ws₀ (n + 4 * e + j) 0
-    spells-old j l = kept j l ∙ front-is n ws₀ e j (omega (arith, s.low, t.below)) l
 
     module _ (m e' : ℕ) (ws' : List ℕ) (em : m ≡ get_or ws (n + 4 * e + 3) 0) (ew : ws' ≡ set ws (5 * n + (i - 1)) m)
         (ee : e' ≡ get_or ws' (n + 4 * e + 2) 0) where
@@ -97,12 +86,6 @@ module _ (n k : ℕ) (ws₀ : List ℕ) (t : Trail n (take (5 * n) ws₀) k) (ro
               (omega (arith, rest-length (5 * n) ws, s.len, s.fits)) (em ∙ kept 3 (omega arith)) rest' from' x.1,
         );
       }
-
-  pub spells-last : (d : ℕ) (ws : List ℕ) (i e : ℕ) → e ≤ 0 → Spells n k d ws₀ ws i e → Spelling n k ws₀ ws d
-  spells-last d ws i e h s = record {
-    front = s.front;
-    word = λ u v. let x = s.word u v in (x.0, trace-last n (take (5 * n) ws₀) u (rest (5 * n) ws) i e h x.1);
-  }
 
 -- the word as it stands
 pub written-take : (u out : List ℕ) → length u ≤ length out → Written u out → take (length u) out ≡ reversed u

@@ -5,7 +5,7 @@ use Prim.Native.Nat.{◌*◌, ◌+◌, ◌-◌, ◌<◌, ◌≤◌, suc, zero, �
 use native.Mathlib.Omega.{arith}
 use lib.ListN.{get_or, length, set}
 use lib.Seq.{get_or-set_other, get_or-set_same}
-use Rattle.dfa_search.specs.Spelled.{Spelled, Trail, Written, more, none}
+use Rattle.dfa_search.specs.Spelled.{Spelled, Trail, more, none}
 use Rattle.dfa_search.specs.Trace.{Counting, Tracing}
 
 -- the word of an entry past the first: its letter, and the word of the entry that it came from
@@ -52,9 +52,13 @@ count-last n ws u d e h c = sym (c.total ∙ ap (λ v. d + length v) (empty n ws
 pub trace-first : (n : ℕ) (ws u out : List ℕ) (d k : ℕ) → d ≡ length u → Spelled n ws k u → Tracing n ws u out d k
 trace-first n ws u out d k e s = record { left = u; spelled = s; place = e; done = λ o a w. w }
 
-pub trace-pos : (n : ℕ) (ws u out : List ℕ) (i e : ℕ) → 0 < e → Tracing n ws u out i e → 0 < i
-trace-pos n ws u out i e h c = let l = longer n ws e c.left h c.spelled in
-    omega (arith, c.place, ap length l.whole)
+spelled-on : (n : ℕ) (ws : List ℕ) (e : ℕ) (v : List ℕ) → 0 < length v → Spelled n ws e v → 0 < e
+spelled-on n ws e v h none = absurd (omega arith)
+spelled-on n ws e v h (more k l f s) = l
+
+-- where letters are left, the entry is past the first
+pub trace-on : (n : ℕ) (ws u out : List ℕ) (i e : ℕ) → 0 < i → Tracing n ws u out i e → 0 < e
+trace-on n ws u out i e h c = spelled-on n ws e c.left (omega (arith, c.place)) c.spelled
 
 pub trace-more : (n : ℕ) (ws u out out' : List ℕ) (i e e' m : ℕ) → 0 < e → i ≤ length out
     → m ≡ get_or ws (n + 4 * e + 3) 0 → out' ≡ set out (i - 1) m → e' ≡ get_or ws (n + 4 * e + 2) 0
@@ -73,6 +77,3 @@ trace-more n ws u out out' i e e' m h r em eo ee c =
             w,
           ));
     })
-
-pub trace-last : (n : ℕ) (ws u out : List ℕ) (i e : ℕ) → e ≤ 0 → Tracing n ws u out i e → Written u out
-trace-last n ws u out i e h c = c.done out (λ x g. refl) (rw (empty n ws e c.left h c.spelled) tt)

@@ -42,9 +42,7 @@ pub fn singles(work: &mut [u32], n: usize)
     requires { (n ≤ 8193) × (n ≤ length work.old) }
     ensures { (x : ℕ) → x < n → get_or work.new x 0 ≡ x }
 {
-    let mut i = 0;
-    while i < n {
+    for i in 0..n {
         put(work, i, i);
-        i += 1;
     }
 }

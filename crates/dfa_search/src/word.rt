@@ -26,10 +26,8 @@ pub fn spell(words: &mut [u32], n: usize, k: usize) -> usize
 {
     let base = 5 * n;
     let d = depth(words, n, k);
-    let mut i = d;
     let mut e = k;
-    while 0 < e {
-        i -= 1;
+    for i in (0..d).rev() {
         let m = at(words, n + ENTRY * e + LETTER);
         put(words, base + i, m);
         e = at(words, n + ENTRY * e + FROM);

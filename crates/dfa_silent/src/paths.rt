@@ -6,10 +6,10 @@ ghost use Rattle.dfa_silent.specs.inner.Settle.{Steps, own, Begun, Replacing, Pa
 
 use dfa::words::{at, put};
 
-// The word of a state that is not silent.
+// The word of a state that is not silent. No Option: the words are lent.
 const NOT_SILENT: usize = 0;
 
-// The end is not found.
+// The end is not found. No Option: it stands in a lent word.
 const NONE: usize = 0;
 
 // One silent step from p; a state that is not silent stays.
@@ -40,11 +40,9 @@ pub(crate) fn begin(words: &mut [u32], n: usize)
     requires { Steps n words.old }
     ensures { Begun n words.old words.new n }
 {
-    let mut p = 0;
-    while p < n {
+    for p in 0..n {
         let end = own_path(words, p);
         put(words, n + p, end);
-        p += 1;
     }
 }
 
@@ -93,9 +91,7 @@ pub(crate) fn find_paths(words: &mut [u32], n: usize)
     requires { Paths n words.old }
     ensures { Through n words.old words.new n }
 {
-    let mut p = 0;
-    while p < n {
+    for p in 0..n {
         find_once(words, n, p);
-        p += 1;
     }
 }

@@ -19,12 +19,11 @@ pub(crate) fn redirect(words: &mut [u32], n: usize)
     ensures { Redirected n words.old words.new (get_or words.old (5 * n + n) 0) }
 {
     let base = 5 * n + n;
-    let mut i = at(words, 5 * n);
+    let first = at(words, 5 * n);
     let end = at(words, base);
-    while i < end {
+    for i in first..end {
         let x = at(words, base + 2 + 2 * i);
         let y = settled_at(words, n, x);
         put(words, base + 2 + 2 * i, y);
-        i += 1;
     }
 }

@@ -11,12 +11,10 @@ pub(crate) fn place_states(words: &mut [u32], n: usize)
     requires { (n ≤ 8192) × (5 * n ≤ length words.old) }
     ensures { Placed n n words.old words.new }
 {
-    let mut p = 0;
-    while p < n {
+    for p in 0..n {
         put(words, p, 0);
         put(words, n + p, p);
         put(words, 2 * n + p, p);
-        p += 1;
     }
 }
 

@@ -3,7 +3,7 @@ ghost use Rattle.std.specs.Prelude.{◌≡◌, true, ◌↔◌, List, ℕ};
 ghost use Rattle.dfa.specs.Graph.{target, δ};
 ghost use Rattle.dfa_smallest.specs.Classes.{SameInto};
 ghost use Rattle.dfa_classes.specs.Places.{class_at};
-ghost use Rattle.dfa_splitting.specs.inner.Into.{Entering, Skipping, Skipped, Comparing};
+ghost use Rattle.dfa_splitting.specs.inner.Into.{Entering, Skipping, FirstInto, Comparing};
 
 use dfa::words::at;
 use dfa_classes::words::{edge_letter, edge_target, first_edge};
@@ -17,20 +17,18 @@ pub(crate) fn enters(words: &[u32], n: usize, s: usize, e: usize) -> bool
     at(words, edge_target(words, n, e)) == s
 }
 
-// The first of the edges from e to end that leads into the class s, or end.
-fn next_into(words: &[u32], n: usize, s: usize, e: usize, end: usize) -> usize
+// The first of the edges from e to end that leads into the class s.
+fn next_into(words: &[u32], n: usize, s: usize, e: usize, end: usize) -> Option<usize>
     requires { (G : List ℕ) × ((g : ℕ) × Skipping G g n s e end words.now) }
     ensures { (G : List ℕ) (g : ℕ) → Skipping G g n s e end words.now
-        → Skipped G n (class_at words.now) s e end result }
+        → FirstInto G n (class_at words.now) s e end result }
 {
-    let mut i = e;
-    while i < end {
+    for i in e..end {
         if enters(words, n, s, i) {
-            return i;
+            return Some(i);
         }
-        i += 1;
     }
-    end
+    None
 }
 
 // Whether the states p and q go into the class s by the same letters.
@@ -43,15 +41,15 @@ pub(crate) fn same_into(words: &[u32], n: usize, s: usize, p: usize, q: usize) -
     let je = first_edge(words, n, q + 1);
     let mut i = next_into(words, n, s, first_edge(words, n, p), ie);
     let mut j = next_into(words, n, s, first_edge(words, n, q), je);
-    while i < ie {
-        if je <= j {
+    while let Some(a) = i {
+        let Some(b) = j else {
+            return false;
+        };
+        if edge_letter(words, n, a) != edge_letter(words, n, b) {
             return false;
         }
-        if edge_letter(words, n, i) != edge_letter(words, n, j) {
-            return false;
-        }
-        i = next_into(words, n, s, i + 1, ie);
-        j = next_into(words, n, s, j + 1, je);
+        i = next_into(words, n, s, a + 1, ie);
+        j = next_into(words, n, s, b + 1, je);
     }
-    je <= j
+    j.is_none()
 }

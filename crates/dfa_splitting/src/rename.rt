@@ -14,11 +14,9 @@ fn rename_one(words: &mut [u32], n: usize, c: usize)
 {
     let start = from(words, n, c);
     let end = to(words, n, c);
-    let mut i = start;
-    while i < end {
+    for i in start..end {
         let p = member(words, n, i);
         put(words, p, c);
-        i += 1;
     }
 }
 
@@ -28,9 +26,7 @@ pub fn rename(words: &mut [u32], n: usize, count: usize, k: usize)
     ensures { (own : ℕ → ℕ) → Parted n words.old own k
         → RenamedAll n own count words.old words.new }
 {
-    let mut c = count;
-    while c < k {
+    for c in count..k {
         rename_one(words, n, c);
-        c += 1;
     }
 }

@@ -38,14 +38,10 @@ pub(crate) fn sign(words: &[u32], n: usize, s: usize, p: usize) -> usize
         → result ≡ sign_of G n cls s p) }
 {
     let end = first_edge(words, n, p + 1);
-    let mut i = first_edge(words, n, p);
     let mut v = 0;
-    while i < end {
+    for i in first_edge(words, n, p)..end {
         if enters(words, n, s, i) {
             v = mix(v, edge_letter(words, n, i));
-            i += 1;
-        } else {
-            i += 1;
         }
     }
     v

@@ -19,12 +19,10 @@ fn sign_places(words: &mut [u32], n: usize, g: usize, s: usize, low: usize, till
     ensures { (G : List ℕ) (cls : ℕ → ℕ) → Signable G n g cls words.old
         → SignedTo G n g s cls low till words.old words.new }
 {
-    let mut i = low;
-    while i < till {
+    for i in low..till {
         let p = member(words, n, i);
         let v = sign(words, n, s, p);
         put(words, g + 3 * n + p, v);
-        i += 1;
     }
 }
 
@@ -34,13 +32,11 @@ fn sign_all(words: &mut [u32], n: usize, g: usize, s: usize, m: usize)
     ensures { (G : List ℕ) (cls : ℕ → ℕ) (count : ℕ) → Touched G n g s cls count m words.old
         → SignedAll G n g s cls count m words.old words.new }
 {
-    let mut x = 0;
-    while x < m {
+    for x in 0..m {
         let d = listed(words, n, g, x);
         let start = from(words, n, d);
         let till = start + touched(words, n, g, d);
         sign_places(words, n, g, s, start, till);
-        x += 1;
     }
 }
 
@@ -54,19 +50,11 @@ fn group(words: &mut [u32], n: usize, g: usize, s: usize, low: usize, till: usiz
     let first = member(words, n, low);
     let v = copied(words, n, g, first);
     let mut end = low + 1;
-    let mut i = low + 1;
-    while i < till {
+    for i in low + 1..till {
         let p = member(words, n, i);
-        if copied(words, n, g, p) == v {
-            if alike(words, n, s, v, first, p) {
-                exchange(words, n, end, i);
-                end += 1;
-                i += 1;
-            } else {
-                i += 1;
-            }
-        } else {
-            i += 1;
+        if copied(words, n, g, p) == v && alike(words, n, s, v, first, p) {
+            exchange(words, n, end, i);
+            end += 1;
         }
     }
     end
@@ -125,10 +113,8 @@ fn split(words: &mut [u32], n: usize, g: usize, s: usize, d: usize, k: usize) ->
         if mid < end {
             c = carve(words, n, c, m, low, mid, end);
             m += 1;
-            low = mid;
-        } else {
-            low = mid;
         }
+        low = mid;
     }
     m
 }
@@ -141,11 +127,9 @@ pub fn split_all(words: &mut [u32], n: usize, g: usize, s: usize, m: usize, coun
 {
     sign_all(words, n, g, s, m);
     let mut k = count;
-    let mut x = 0;
-    while x < m {
+    for x in 0..m {
         let d = listed(words, n, g, x);
         k = split(words, n, g, s, d, k);
-        x += 1;
     }
     k
 }

@@ -10,13 +10,6 @@ use std::io::{ErrorKind, Write};
 use std::rt::Files;
 use std::{fs, io};
 
-// What was read of a file: a sheet, which so many bytes of the buffer are, or nothing that can be judged.
-#[derive(Drop)]
-pub enum Read {
-    Sheet(usize),
-    Failed,
-}
-
 // The system's words for an error, without the number that std puts behind them.
 fn words(text: &str) -> &str {
     match text.split_once(" (os error ") {
@@ -78,20 +71,20 @@ fn read_path(rt: &impl Files, path: &str, buf: &mut [u8]) -> io::Result<usize>
     }
 }
 
-// Reads the sheet that the file at path is into buf; where that fails, standard error says so. The system's paths are
-// text here: of a path that is none no file can be read.
-pub fn read_sheet(rt: &(impl Files + Eprint + Alloc), path: &[u8], buf: &mut [u8]) -> Read
+// Reads the sheet that the file at path is into buf: how many bytes, or None where nothing can be judged, which standard
+// error says. The system's paths are text here: of a path that is none no file can be read.
+pub fn read_sheet(rt: &(impl Files + Eprint + Alloc), path: &[u8], buf: &mut [u8]) -> Option<usize>
     ensures { Within result buf.new }
 {
     let Ok(name) = str::from_utf8(path) else {
         tell_no_text(rt);
-        return Read::Failed;
+        return None;
     };
     match read_path(rt, name, buf) {
-        Ok(count) => Read::Sheet(count),
+        Ok(count) => Some(count),
         Err(why) => {
             tell(rt, name, why);
-            Read::Failed
+            None
         }
     }
 }

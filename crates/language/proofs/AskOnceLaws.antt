@@ -1,10 +1,10 @@
 -- Names that ask freely and once: weights and plays by computation, and that the plays of a term are those with every
 -- name asking freely in which each call keeps to its kind.
+use Rattle.std.specs.Prelude.{Some}
 use Prim.Native.Nat.{ℕ, zero, suc, ◌<◌}
 use native.Mathlib.Omega.{arith}
 use mathlib.Core.Path.{◌≡◌, refl, sym, ◌∙◌, subst}
 use mathlib.Core.Logic.{◌⊎◌, inl, inr}
-use mathlib.Core.Option.{some}
 use mathlib.Core.List.{List, [], ◌∷◌, ◌++◌, append_assoc, append-nil}
 use Rattle.language.specs.Ty.{Question, run, ask, read, write, Answer, done, ok, value, Answers}
 use Rattle.language.specs.Move.{question, answer, at, private, move, Word}
@@ -375,7 +375,7 @@ module _ (κ : ℕ → Often) where
         Spares (Plays (asking κ M) q a) (Plays (asking all_freely M) q a)
     spares (const x) q a = empty-spares (a ≡ value x)
     spares (operate m o L R) q a =
-        operate-spares m (λ x y z. apply o x y ≡ some z) (λ z. a ≡ value z)
+        operate-spares m (λ x y z. apply o x y ≡ Some z) (λ z. a ≡ value z)
         (λ x. spares L ask (value x)) (λ y. spares R ask (value y))
     spares skip q a = empty-spares (a ≡ done)
     spares diverge q a = none-spares

@@ -1,10 +1,10 @@
 -- The sentences of document 02, [8], about infinities and not-a-number, and those of document 01 about rules 0 and 1.
+use Rattle.std.specs.Prelude.{Option, None, Some}
 use Prim.Native.Nat.{ℕ, zero, suc, ◌+◌, ◌-◌, ◌*◌, ◌≤◌, ◌<◌}
 use native.Mathlib.Omega.{arith}
 use mathlib.Core.Path.{◌≡◌, refl, ap, ◌∙◌}
 use mathlib.Core.Bool.{Bool, true, false}
 use mathlib.Core.List.{List, [], ◌∷◌}
-use mathlib.Core.Option.{Option, none, some}
 use lib.Dec.{eqb, ltb}
 use lib.ListN.{get_or}
 use lib.IntN.{ℤ, pos, negsuc, neg_ℤ, nat_abs, ◌+ℤ◌, ◌-ℤ◌, ◌*ℤ◌}
@@ -124,22 +124,22 @@ module _ (N : Numbers) where
 
   -- a result by the rule
   module _ (v : ℤ) where
-    fit-within : nat_abs v ≤ N.z → fit N v ≡ some (code N v)
+    fit-within : nat_abs v ≤ N.z → fit N v ≡ Some (code N v)
     unfolding fit
     fit-within h = rw (le-ltb N.z (nat_abs v) h)
 
-    fit-no-play : N.rule ≡ 0 → N.z < nat_abs v → fit N v ≡ none
+    fit-no-play : N.rule ≡ 0 → N.z < nat_abs v → fit N v ≡ None
     unfolding fit beyond
     fit-no-play e h = rw (lt-ltb N.z (nat_abs v) h, eq-eqb N.rule 0 e)
 
-    fit-turned : N.rule ≡ 1 → fit N v ≡ some (code N v)
+    fit-turned : N.rule ≡ 1 → fit N v ≡ Some (code N v)
     unfolding fit beyond
     fit-turned e =
         by-test (ltb N.z (nat_abs v))
         (λ t. rw (t, ne_eqb N.rule 0 (λ z. omega arith), ne_eqb N.rule 2 (λ z. omega arith)))
         (λ t. rw t)
 
-    fit-beyond : N.rule ≡ 2 → N.z < nat_abs v → fit N v ≡ some (infinity_by N v)
+    fit-beyond : N.rule ≡ 2 → N.z < nat_abs v → fit N v ≡ Some (infinity_by N v)
     unfolding fit beyond
     fit-beyond e h =
         rw (lt-ltb N.z (nat_abs v) h, ne_eqb N.rule 0 (λ z. omega arith), eq-eqb N.rule 2 e)
@@ -162,10 +162,10 @@ module _ (N : Numbers) where
   }
     where
       signs : N.rule ≡ 2 → (o x y : ℕ) (v : ℤ) → ExactResult N o x y v → N.z < nat_abs v → (b : Bool) →
-          lt_z v (pos 0) ≡ b → operate N o x y ≡ some (special N (pick b minus_infinity infinity))
+          lt_z v (pos 0) ≡ b → operate N o x y ≡ Some (special N (pick b minus_infinity infinity))
       signs e o x y v r h b t =
-          finite-pairs.exact o x y v r ∙ fit-beyond v e h ∙ ap some (signed-infinity v h) ∙
-          ap (λ (c : Bool). some (special N (pick c minus_infinity infinity))) t
+          finite-pairs.exact o x y v r ∙ fit-beyond v e h ∙ ap Some (signed-infinity v h) ∙
+          ap (λ (c : Bool). Some (special N (pick c minus_infinity infinity))) t
 
   not-finite-least : ltb (least N) (finites N) ≡ false
   unfolding special
@@ -187,7 +187,7 @@ module _ (N : Numbers) where
 
   -- THEOREM: what gives not-a-number
   -- no remainder by zero
-  no-quotient : N.rule ≡ 2 → (x : ℕ) → fit_some N (remainder (signed N x) (signed N 0)) ≡ some (none_of N)
+  no-quotient : N.rule ≡ 2 → (x : ℕ) → fit_some N (remainder (signed N x) (signed N 0)) ≡ Some (none_of N)
   unfolding fit_some remainder
   no-quotient e x = rw (signed-from-0 N 0 (omega arith), eq-eqb N.rule 2 e) refl
 
@@ -205,29 +205,29 @@ module _ (N : Numbers) where
     remainder_by = remainder_by;
   }
     where
-      left : (o y : ℕ) → o < 4 → operate N o (none_of N) y ≡ some (none_of N)
+      left : (o y : ℕ) → o < 4 → operate N o (none_of N) y ≡ Some (none_of N)
       left zero y h = rw (class-none, threes (class_of N y) (class-below N y))
       left (suc zero) y h = rw (class-none, threes (class_of N y) (class-below N y))
       left (suc (suc zero)) y h = rw (class-none, threes (class_of N y) (class-below N y))
       left (suc (suc (suc zero))) y h = rw (class-none, threes (class_of N y) (class-below N y))
       left (suc (suc (suc (suc o)))) y h = absurd (omega arith)
 
-      right : (o x : ℕ) → o < 4 → operate N o x (none_of N) ≡ some (none_of N)
+      right : (o x : ℕ) → o < 4 → operate N o x (none_of N) ≡ Some (none_of N)
       right zero x h = rw (class-none, column sums 3 3 refl (class_of N x) (class-below N x))
       right (suc zero) x h = rw (class-none, column differences 3 3 refl (class_of N x) (class-below N x))
       right (suc (suc zero)) x h = rw (class-none, column products 3 3 refl (class_of N x) (class-below N x))
       right (suc (suc (suc zero))) x h = rw (class-none, column remainders 3 3 refl (class_of N x) (class-below N x))
       right (suc (suc (suc (suc o)))) x h = absurd (omega arith)
 
-      opposite : (x y : ℕ) → Infinite N x y → operate N 0 x y ≡ some (none_of N)
+      opposite : (x y : ℕ) → Infinite N x y → operate N 0 x y ≡ Some (none_of N)
       opposite x y below = rw (class-least, class-greatest)
       opposite x y above = rw (class-least, class-greatest)
 
-      itself : (x y : ℕ) → Infinite N x y → operate N 1 x x ≡ some (none_of N)
+      itself : (x y : ℕ) → Infinite N x y → operate N 1 x x ≡ Some (none_of N)
       itself x y below = rw class-least
       itself x y above = rw class-greatest
 
-      zero_times : (x y : ℕ) → Infinite N x y → operate N 2 0 x ≡ some (none_of N)
+      zero_times : (x y : ℕ) → Infinite N x y → operate N 2 0 x ≡ Some (none_of N)
       zero_times x y below =
           rw (class-zero, class-least) (unfold scaled infinity_by in
           rw (
@@ -245,7 +245,7 @@ module _ (N : Numbers) where
             signed-greatest N,
           ))
 
-      times_zero : (x y : ℕ) → Infinite N x y → operate N 2 x 0 ≡ some (none_of N)
+      times_zero : (x y : ℕ) → Infinite N x y → operate N 2 x 0 ≡ Some (none_of N)
       times_zero x y below =
           rw (class-zero, class-least) (unfold scaled infinity_by in
           rw (not-finite-least, signed-from-0 N 0 (omega arith), signed-least N))
@@ -253,37 +253,37 @@ module _ (N : Numbers) where
           rw (class-zero, class-greatest) (unfold scaled infinity_by in
           rw (not-finite-greatest, signed-from-0 N 0 (omega arith), signed-greatest N))
 
-      by_zero : N.rule ≡ 2 → (x : ℕ) → FiniteValue N x → operate N 3 x 0 ≡ some (none_of N)
+      by_zero : N.rule ≡ 2 → (x : ℕ) → FiniteValue N x → operate N 3 x 0 ≡ Some (none_of N)
       by_zero e x h = rw (finite-class N x h, class-zero) (no-quotient e x)
 
-      remainder_of : (x y z : ℕ) → Infinite N x y → operate N 3 x z ≡ some (none_of N)
+      remainder_of : (x y z : ℕ) → Infinite N x y → operate N 3 x z ≡ Some (none_of N)
       remainder_of x y z below = rw (class-least, threes (class_of N z) (class-below N z))
       remainder_of x y z above = rw (class-greatest, threes (class_of N z) (class-below N z))
 
-      remainder_by : (x y z : ℕ) → Infinite N x y → operate N 3 z x ≡ some (none_of N)
+      remainder_by : (x y z : ℕ) → Infinite N x y → operate N 3 z x ≡ Some (none_of N)
       remainder_by x y z below = rw (class-least, column remainders 1 3 refl (class_of N z) (class-below N z))
       remainder_by x y z above = rw (class-greatest, column remainders 2 3 refl (class_of N z) (class-below N z))
 
   -- a product with an infinity
   module _ (z : ℕ) where
-    least_by : scaled N (least N) z (signed N (least N) *ℤ signed N z) ≡ some (infinity_by N (negsuc 126 *ℤ signed N z))
+    least_by : scaled N (least N) z (signed N (least N) *ℤ signed N z) ≡ Some (infinity_by N (negsuc 126 *ℤ signed N z))
     unfolding scaled
     least_by = rw (not-finite-least, signed-least N)
 
     greatest-by :
-        scaled N (greatest N) z (signed N (greatest N) *ℤ signed N z) ≡ some (infinity_by N (pos 126 *ℤ signed N z))
+        scaled N (greatest N) z (signed N (greatest N) *ℤ signed N z) ≡ Some (infinity_by N (pos 126 *ℤ signed N z))
     unfolding scaled
     greatest-by = rw (not-finite-greatest, signed-greatest N)
 
     by-least :
         FiniteValue N z → scaled N z (least N) (signed N z *ℤ signed N (least N))
-        ≡ some (infinity_by N (signed N z *ℤ negsuc 126))
+        ≡ Some (infinity_by N (signed N z *ℤ negsuc 126))
     unfolding scaled
     by-least h = rw (lt-ltb z (finites N) h, not-finite-least, signed-least N)
 
     by-greatest :
         FiniteValue N z → scaled N z (greatest N) (signed N z *ℤ signed N (greatest N))
-        ≡ some (infinity_by N (signed N z *ℤ pos 126))
+        ≡ Some (infinity_by N (signed N z *ℤ pos 126))
     unfolding scaled
     by-greatest h = rw (lt-ltb z (finites N) h, not-finite-greatest, signed-greatest N)
 
@@ -305,76 +305,76 @@ module _ (N : Numbers) where
     negative_times = negative_times;
   }
     where
-      sum_left : (x y z : ℕ) → Infinite N x y → FiniteValue N z → operate N 0 x z ≡ some x
+      sum_left : (x y z : ℕ) → Infinite N x y → FiniteValue N z → operate N 0 x z ≡ Some x
       sum_left x y z below h = rw (class-least, finite-class N z h)
       sum_left x y z above h = rw (class-greatest, finite-class N z h)
 
-      sum_right : (x y z : ℕ) → Infinite N x y → FiniteValue N z → operate N 0 z x ≡ some x
+      sum_right : (x y z : ℕ) → Infinite N x y → FiniteValue N z → operate N 0 z x ≡ Some x
       sum_right x y z below h = rw (class-least, finite-class N z h)
       sum_right x y z above h = rw (class-greatest, finite-class N z h)
 
-      sum_both : (x y : ℕ) → Infinite N x y → operate N 0 x x ≡ some x
+      sum_both : (x y : ℕ) → Infinite N x y → operate N 0 x x ≡ Some x
       sum_both x y below = rw class-least
       sum_both x y above = rw class-greatest
 
-      difference_left : (x y z : ℕ) → Infinite N x y → FiniteValue N z → operate N 1 x z ≡ some x
+      difference_left : (x y z : ℕ) → Infinite N x y → FiniteValue N z → operate N 1 x z ≡ Some x
       difference_left x y z below h = rw (class-least, finite-class N z h)
       difference_left x y z above h = rw (class-greatest, finite-class N z h)
 
-      difference_right : (x y z : ℕ) → Infinite N x y → FiniteValue N z → operate N 1 z x ≡ some y
+      difference_right : (x y z : ℕ) → Infinite N x y → FiniteValue N z → operate N 1 z x ≡ Some y
       difference_right x y z below h = rw (class-least, finite-class N z h)
       difference_right x y z above h = rw (class-greatest, finite-class N z h)
 
-      difference_both : (x y : ℕ) → Infinite N x y → operate N 1 x y ≡ some x
+      difference_both : (x y : ℕ) → Infinite N x y → operate N 1 x y ≡ Some x
       difference_both x y below = rw (class-least, class-greatest)
       difference_both x y above = rw (class-least, class-greatest)
 
-      product_same : (x y : ℕ) → Infinite N x y → operate N 2 x x ≡ some (greatest N)
+      product_same : (x y : ℕ) → Infinite N x y → operate N 2 x x ≡ Some (greatest N)
       product_same x y below = rw class-least
       product_same x y above = rw class-greatest
 
-      product_opposite : (x y : ℕ) → Infinite N x y → operate N 2 x y ≡ some (least N)
+      product_opposite : (x y : ℕ) → Infinite N x y → operate N 2 x y ≡ Some (least N)
       product_opposite x y below = rw (class-least, class-greatest)
       product_opposite x y above = rw (class-least, class-greatest)
 
       finite-of : (z : ℕ) → z ≤ N.z → FiniteValue N z
       finite-of z h = omega (arith, finites-are N)
 
-      times_positive : (x y z : ℕ) → Infinite N x y → 0 < z → z ≤ N.z → operate N 2 x z ≡ some x
+      times_positive : (x y z : ℕ) → Infinite N x y → 0 < z → z ≤ N.z → operate N 2 x z ≡ Some x
       times_positive x y z below p h =
           rw (class-least, finite-class N z (finite-of z h)) (least_by z ∙
-          rw (signed-from-0 N z h) (ap some (of_negative (127 * z) (omega arith))))
+          rw (signed-from-0 N z h) (ap Some (of_negative (127 * z) (omega arith))))
       times_positive x y z above p h =
           rw (class-greatest, finite-class N z (finite-of z h)) (greatest-by z ∙
-          rw (signed-from-0 N z h) (ap some (of_positive (126 * z) (omega arith))))
+          rw (signed-from-0 N z h) (ap Some (of_positive (126 * z) (omega arith))))
 
-      positive_times : (x y z : ℕ) → Infinite N x y → 0 < z → z ≤ N.z → operate N 2 z x ≡ some x
+      positive_times : (x y z : ℕ) → Infinite N x y → 0 < z → z ≤ N.z → operate N 2 z x ≡ Some x
       positive_times x y z below p h =
           rw (class-least, finite-class N z (finite-of z h)) (by-least z (finite-of z h) ∙
-          rw (signed-from-0 N z h) (ap some (of_negative (z * 127) (omega arith))))
+          rw (signed-from-0 N z h) (ap Some (of_negative (z * 127) (omega arith))))
       positive_times x y z above p h =
           rw (class-greatest, finite-class N z (finite-of z h)) (by-greatest z (finite-of z h) ∙
-          rw (signed-from-0 N z h) (ap some (of_positive (z * 126) (omega arith))))
+          rw (signed-from-0 N z h) (ap Some (of_positive (z * 126) (omega arith))))
 
-      times_negative : (x y z : ℕ) → Infinite N x y → N.z < z → FiniteValue N z → operate N 2 x z ≡ some y
+      times_negative : (x y z : ℕ) → Infinite N x y → N.z < z → FiniteValue N z → operate N 2 x z ≡ Some y
       times_negative x y z below p h =
           rw (class-least, finite-class N z h) (least_by z ∙
           rw (signed-below-0 N z p h, minus-below z (finites N) h)
-          (ap some (of_positive (127 * suc (finites N - suc z)) (omega arith))))
+          (ap Some (of_positive (127 * suc (finites N - suc z)) (omega arith))))
       times_negative x y z above p h =
           rw (class-greatest, finite-class N z h) (greatest-by z ∙
           rw (signed-below-0 N z p h, minus-below z (finites N) h)
-          (ap some (of_negative (126 * suc (finites N - suc z)) (omega arith))))
+          (ap Some (of_negative (126 * suc (finites N - suc z)) (omega arith))))
 
-      negative_times : (x y z : ℕ) → Infinite N x y → N.z < z → FiniteValue N z → operate N 2 z x ≡ some y
+      negative_times : (x y z : ℕ) → Infinite N x y → N.z < z → FiniteValue N z → operate N 2 z x ≡ Some y
       negative_times x y z below p h =
           rw (class-least, finite-class N z h) (by-least z h ∙
           rw (signed-below-0 N z p h, minus-below z (finites N) h)
-          (ap some (of_positive (suc (finites N - suc z) * 127) (omega arith))))
+          (ap Some (of_positive (suc (finites N - suc z) * 127) (omega arith))))
       negative_times x y z above p h =
           rw (class-greatest, finite-class N z h) (by-greatest z h ∙
           rw (signed-below-0 N z p h, minus-below z (finites N) h)
-          (ap some (of_negative (suc (finites N - suc z) * 126) (omega arith))))
+          (ap Some (of_negative (suc (finites N - suc z) * 126) (omega arith))))
 
   -- THEOREM: equal and less
   pub equal-and-less : EqualAndLess N
@@ -393,32 +393,32 @@ module _ (N : Numbers) where
     not-less = not-less;
   }
     where
-      equal_itself : (x y : ℕ) → Infinite N x y → operate N 4 x x ≡ some 1
+      equal_itself : (x y : ℕ) → Infinite N x y → operate N 4 x x ≡ Some 1
       equal_itself x y below = rw class-least
       equal_itself x y above = rw class-greatest
 
-      not_opposite : (x y : ℕ) → Infinite N x y → operate N 4 x y ≡ some 0
+      not_opposite : (x y : ℕ) → Infinite N x y → operate N 4 x y ≡ Some 0
       not_opposite x y below = rw (class-least, class-greatest)
       not_opposite x y above = rw (class-least, class-greatest)
 
       not_finite : (x y z : ℕ) → Infinite N x y → FiniteValue N z →
-          (operate N 4 x z ≡ some 0) × (operate N 4 z x ≡ some 0)
+          (operate N 4 x z ≡ Some 0) × (operate N 4 z x ≡ Some 0)
       not_finite x y z below h = (rw (class-least, finite-class N z h), rw (class-least, finite-class N z h))
       not_finite x y z above h = (rw (class-greatest, finite-class N z h), rw (class-greatest, finite-class N z h))
 
-      not-less : (x y : ℕ) → Infinite N x y → operate N 5 x x ≡ some 0
+      not-less : (x y : ℕ) → Infinite N x y → operate N 5 x x ≡ Some 0
       not-less x y below = rw class-least
       not-less x y above = rw class-greatest
 
   -- a result
   abbrev Result : Option ℕ → Type 0
-  Result r = (z : ℕ) × (r ≡ some z)
+  Result r = (z : ℕ) × (r ≡ Some z)
 
   settled-result : (k : ℕ) (r : Option ℕ) → Result r → Result (settled N k r)
   unfolding settled
   settled-result k r h = go (eqb k 0)
     where
-      go : (b : Bool) → Result (pick b r (some (special N k)))
+      go : (b : Bool) → Result (pick b r (Some (special N k)))
       go true = h
       go false = (special N k, refl)
 
@@ -432,15 +432,15 @@ module _ (N : Numbers) where
   unfolding scaled
   scaled-result e x y v = go (ltb x (finites N)) (ltb y (finites N))
     where
-      go : (a b : Bool) → Result (pick a (pick b (fit N v) (some (infinity_by N v))) (some (infinity_by N v)))
+      go : (a b : Bool) → Result (pick a (pick b (fit N v) (Some (infinity_by N v))) (Some (infinity_by N v)))
       go true true = fit-result e v
       go true false = (infinity_by N v, refl)
       go false b = (infinity_by N v, refl)
 
   some_result : N.rule ≡ 2 → (v : Option ℤ) → Result (fit_some N v)
   unfolding fit_some
-  some_result e none = rw (eq-eqb N.rule 2 e) (special N 3, refl)
-  some_result e (some v) = fit-result e v
+  some_result e None = rw (eq-eqb N.rule 2 e) (special N 3, refl)
+  some_result e (Some v) = fit-result e v
 
   operate-result : N.rule ≡ 2 → (o x y : ℕ) → o < 4 → Result (operate N o x y)
   unfolding operate plus_of minus_of times_of remainder_of

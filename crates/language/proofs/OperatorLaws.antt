@@ -1,10 +1,10 @@
 -- Results of operators are codes: of a number for plus, minus, times and remainder, of a truth for the others.
+use Rattle.std.specs.Prelude.{Option, None, Some}
 use Prim.Native.Nat.{ℕ, zero, suc, ◌+◌, ◌≤◌, ◌<◌}
 use native.Mathlib.Omega.{arith}
 use mathlib.Core.Path.{◌≡◌, refl}
 use mathlib.Core.Bool.{Bool, true, false}
 use mathlib.Core.List.{List, [], ◌∷◌}
-use mathlib.Core.Option.{Option, none, some}
 use lib.Dec.{eqb, ltb, leb}
 use lib.ListN.{get_or}
 use lib.IntN.{ℤ, pos, nat_abs, ◌+ℤ◌, ◌-ℤ◌, ◌*ℤ◌}
@@ -21,18 +21,18 @@ use Rattle.language.proofs.NumberLaws.{code_below, by-test}
 
 -- a result, if there is one, is below n
 pick-below :
-    {n r : ℕ} {a b : Option ℕ} (t : Bool) → (t ≡ true → a ≡ some r → r < n) → (t ≡ false → b ≡ some r → r < n) →
-    pick t a b ≡ some r → r < n
+    {n r : ℕ} {a b : Option ℕ} (t : Bool) → (t ≡ true → a ≡ Some r → r < n) → (t ≡ false → b ≡ Some r → r < n) →
+    pick t a b ≡ Some r → r < n
 pick-below true h k = h refl
 pick-below false h k = k refl
 
-none_below : {n r : ℕ} → ◌≡◌ {A = Option ℕ} none (some r) → r < n
+none_below : {n r : ℕ} → ◌≡◌ {A = Option ℕ} None (Some r) → r < n
 none_below e = let z : ◌≡◌ {A = ℕ} 0 1 = cc in absurd (omega arith)
 
-some_below : {n r c : ℕ} → c < n → some c ≡ some r → r < n
+some_below : {n r c : ℕ} → c < n → Some c ≡ Some r → r < n
 some_below {n} {r} {c} h e = let d : c ≡ r = cc in omega arith
 
-truth-below : (b : Bool) {r : ℕ} → some (truth b) ≡ some r → r < 2
+truth-below : (b : Bool) {r : ℕ} → Some (truth b) ≡ Some r → r < 2
 unfolding truth
 truth-below true = some_below {c = 1} (omega arith)
 truth-below false = some_below {c = 0} (omega arith)
@@ -83,7 +83,7 @@ module _ (N : Numbers) where
       by-test (lt_z v (pos 0)) (λ u. rw (t, u) (special-below 1 (omega arith) e)) (λ u.
       rw (t, u) (special-below 2 (omega arith) e)))
 
-  fit-below : (v : ℤ) {r : ℕ} → fit N v ≡ some r → r < numbers N
+  fit-below : (v : ℤ) {r : ℕ} → fit N v ≡ Some r → r < numbers N
   unfolding fit beyond
   fit-below v =
       pick-below (ltb N.z (nat_abs v))
@@ -93,13 +93,13 @@ module _ (N : Numbers) where
       (λ w. rw w (code_below N v)))))
       (λ t. some_below (code_below N v))
 
-  fit-some-below : (o : Option ℤ) {r : ℕ} → fit_some N o ≡ some r → r < numbers N
+  fit-some-below : (o : Option ℤ) {r : ℕ} → fit_some N o ≡ Some r → r < numbers N
   unfolding fit_some
-  fit-some-below none =
+  fit-some-below None =
       pick-below (eqb N.rule 2)
       (λ t. some_below (special-below 3 (omega arith) (eqb-true N.rule 2 t)))
       (λ t. none_below)
-  fit-some-below (some v) = fit-below v
+  fit-some-below (Some v) = fit-below v
 
   -- two values: both finite, or there are infinities
   pub data Pair (x y : ℕ) : Type 0 where
@@ -122,24 +122,24 @@ module _ (N : Numbers) where
   module _ (x y : ℕ) (p : Pair x y) where
     settled-below :
         (t : List (List ℕ)) → few_in t ≡ true → entry t finite finite ≡ arithmetic → (o : Option ℕ) {r : ℕ} →
-        (o ≡ some r → r < numbers N) → settled N (by_classes t N x y) o ≡ some r → r < numbers N
+        (o ≡ Some r → r < numbers N) → settled N (by_classes t N x y) o ≡ Some r → r < numbers N
     unfolding settled
     settled-below t f z o {r} h = go p
       where
         go : Pair x y →
-            pick (eqb (by_classes t N x y) 0) o (some (special N (by_classes t N x y))) ≡ some r → r < numbers N
+            pick (eqb (by_classes t N x y) 0) o (Some (special N (by_classes t N x y))) ≡ Some r → r < numbers N
         go (finite-pair a b) = λ e. h (rw (finite-class x a, finite-class y b, z) at e)
         go (any-pair e) =
             pick-below (eqb (by_classes t N x y) 0) (λ u. h) (λ u.
             some_below (special-below (by_classes t N x y) (few-in t (class_of N x) (class_of N y) f) e))
 
-    scaled-below : (v : ℤ) {r : ℕ} → scaled N x y v ≡ some r → r < numbers N
+    scaled-below : (v : ℤ) {r : ℕ} → scaled N x y v ≡ Some r → r < numbers N
     unfolding scaled
     scaled-below v {r} = go p
       where
         go : Pair x y →
             pick (ltb x (finites N))
-            (pick (ltb y (finites N)) (fit N v) (some (infinity_by N v))) (some (infinity_by N v)) ≡ some r →
+            (pick (ltb y (finites N)) (fit N v) (Some (infinity_by N v))) (Some (infinity_by N v)) ≡ Some r →
             r < numbers N
         go (finite-pair a b) = λ e. fit-below v (rw (lt-ltb x (finites N) a, lt-ltb y (finites N) b) at e)
         go (any-pair e) =
@@ -147,7 +147,7 @@ module _ (N : Numbers) where
             (λ t. pick-below (ltb y (finites N)) (λ u. fit-below v) (λ u. some_below (infinity-below v e)))
             (λ t. some_below (infinity-below v e))
 
-    pub operate-number : (op : ℕ) {r : ℕ} → op < equal → operate N op x y ≡ some r → r < numbers N
+    pub operate-number : (op : ℕ) {r : ℕ} → op < equal → operate N op x y ≡ Some r → r < numbers N
     unfolding operate plus_of minus_of times_of remainder_of few_in few_of
     operate-number op h =
         pick-below (eqb op 0) (λ t. settled-below sums refl refl _ (fit-below (signed N x +ℤ signed N y))) (λ t₀.
@@ -161,7 +161,7 @@ module _ (N : Numbers) where
         between : (op ≡ 0 → ⊥) → (op ≡ 1 → ⊥) → (op ≡ 2 → ⊥) → (op ≡ 3 → ⊥) → ⊥
         between a b c d = omega arith
 
-  operate-truth : (op x y : ℕ) {r : ℕ} → equal ≤ op → operate N op x y ≡ some r → r < 2
+  operate-truth : (op x y : ℕ) {r : ℕ} → equal ≤ op → operate N op x y ≡ Some r → r < 2
   unfolding operate
   operate-truth op x y h =
       rw (not-this 0 (omega arith), not-this 1 (omega arith), not-this 2 (omega arith), not-this 3 (omega arith))
@@ -176,7 +176,7 @@ module _ (N : Numbers) where
 
   -- THEOREM: the result of an operator on two values is a value of its result
   pub operate-below :
-      (op x y : ℕ) {r : ℕ} → x < numbers N → y < numbers N → operate N op x y ≡ some r →
+      (op x y : ℕ) {r : ℕ} → x < numbers N → y < numbers N → operate N op x y ≡ Some r →
       r < pick (gives_number op) (numbers N) 2
   operate-below op x y h k e =
       by-test (gives_number op)

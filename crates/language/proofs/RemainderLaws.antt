@@ -1,11 +1,11 @@
 -- The remainder: which number it is, and how it comes from the exact one with the sign of the left operand.
+use Rattle.std.specs.Prelude.{None, Some}
 use Prim.Native.Nat.{ℕ, zero, suc, ◌+◌, ◌-◌, ◌*◌, ◌/◌, ◌%◌, ◌≤◌, ◌<◌}
 use native.Mathlib.Omega.{arith}
 use native.Mathlib.Nat.{mod-eq_of_lt, mod-lt, mod-add-div', mul-add-mod_self_right}
 use mathlib.Core.Path.{◌≡◌, refl, ap, ◌∙◌, sym}
 use mathlib.Core.Bool.{true, false}
 use mathlib.Core.Logic.{◌⊎◌, inl, inr}
-use mathlib.Core.Option.{none, some}
 use lib.Dec.{ltb}
 use lib.IntN.{ℤ, pos, negsuc, neg_ℤ, nat_abs, ◌+ℤ◌, ◌-ℤ◌, ◌*ℤ◌}
 use lib.Signed.{lt_z, rem_z}
@@ -74,16 +74,16 @@ module _ (x y : ℤ) where
         multiple = (k, e ∙ ap (λ (v : ℤ). pos (modulo x (nat_abs y)) +ℤ v) d);
       }
 
-  result : (nat_abs y ≡ 0 → ⊥) → remainder x y ≡ some (pos (modulo x (nat_abs y)))
+  result : (nat_abs y ≡ 0 → ⊥) → remainder x y ≡ Some (pos (modulo x (nat_abs y)))
   unfolding remainder
   result h = rw (ne_eqb (nat_abs y) 0 h)
 
-  no_result : nat_abs y ≡ 0 → remainder x y ≡ none
+  no_result : nat_abs y ≡ 0 → remainder x y ≡ None
   unfolding remainder
   no_result h = rw (eq-eqb (nat_abs y) 0 h)
 
 -- every overflow rule leaves a number from 0 to Z as it is
-fit_small : (N : Numbers) (r : ℕ) → r ≤ N.z → fit N (pos r) ≡ some r
+fit_small : (N : Numbers) (r : ℕ) → r ≤ N.z → fit N (pos r) ≡ Some r
 unfolding fit code
 fit_small N r h = rw (le-ltb N.z r h, modulo-pos r (finites N) (omega (arith, finites-are N)))
 

@@ -1,6 +1,5 @@
 -- That rule 2 is document 02's, [8], sentence by sentence, and that rules 0 and 1 are as they were.
-use Rattle.std.specs.Prelude.{ℕ, suc, ◌+◌, ◌*◌, ◌≤◌, ◌<◌, ◌≡◌, true, false, List, [], ◌∷◌, ◌++◌, eqb, ℤ, pos, negsuc, nat_abs, ◌+ℤ◌, ◌-ℤ◌, ◌*ℤ◌}
-use Rattle.std.proofs.Math.Option.{none, some}
+use Rattle.std.specs.Prelude.{ℕ, suc, ◌+◌, ◌*◌, ◌≤◌, ◌<◌, ◌≡◌, true, false, List, [], ◌∷◌, ◌++◌, eqb, ℤ, pos, negsuc, nat_abs, ◌+ℤ◌, ◌-ℤ◌, ◌*ℤ◌, None, Some}
 use Rattle.std.specs.Int.Signed.{lt_z}
 use Rattle.language.specs.declared.Numbers.{Numbers}
 use Rattle.language.specs.Choice.{pick}
@@ -58,76 +57,76 @@ pub record FinitePairs (N : Numbers) : Type 0 where
   pub exact : (o x y : ℕ) (v : ℤ) → ExactResult N o x y v → operate N o x y ≡ fit N v
   pub remainders : (x y : ℕ) → FiniteValue N x → FiniteValue N y →
       operate N op.remainder x y ≡ fit_some N (remainder (signed N x) (signed N y))
-  pub equals : (x y : ℕ) → FiniteValue N x → FiniteValue N y → operate N op.equal x y ≡ some (truth (eqb x y))
+  pub equals : (x y : ℕ) → FiniteValue N x → FiniteValue N y → operate N op.equal x y ≡ Some (truth (eqb x y))
   pub lesses : (x y : ℕ) → FiniteValue N x → FiniteValue N y →
-      operate N op.less x y ≡ some (truth (lt_z (signed N x) (signed N y)))
+      operate N op.less x y ≡ Some (truth (lt_z (signed N x) (signed N y)))
 
 -- What becomes of an exact result. One within the range is kept, under every rule. One outside "has no play under rule
 -- 0; under rule 1 a multiple of 2Z + 1 is added or taken away until it fits", as document 01 has it; under rule 2 "A
 -- finite result beyond the range becomes the infinity of its sign". A remainder is never outside (`RemainderLaw`).
 pub record OverflowRules (N : Numbers) : Type 0 where
-  pub within : (o x y : ℕ) (v : ℤ) → ExactResult N o x y v → nat_abs v ≤ N.z → operate N o x y ≡ some (code N v)
+  pub within : (o x y : ℕ) (v : ℤ) → ExactResult N o x y v → nat_abs v ≤ N.z → operate N o x y ≡ Some (code N v)
   pub no-play : N.rule ≡ no_play → (o x y : ℕ) (v : ℤ) → ExactResult N o x y v → N.z < nat_abs v →
-      operate N o x y ≡ none
-  pub turned : N.rule ≡ turning → (o x y : ℕ) (v : ℤ) → ExactResult N o x y v → operate N o x y ≡ some (code N v)
+      operate N o x y ≡ None
+  pub turned : N.rule ≡ turning → (o x y : ℕ) (v : ℤ) → ExactResult N o x y v → operate N o x y ≡ Some (code N v)
   pub beyond_below : N.rule ≡ infinities → (o x y : ℕ) (v : ℤ) → ExactResult N o x y v → N.z < nat_abs v →
-      lt_z v (pos 0) ≡ true → operate N o x y ≡ some (least N)
+      lt_z v (pos 0) ≡ true → operate N o x y ≡ Some (least N)
   pub beyond_above : N.rule ≡ infinities → (o x y : ℕ) (v : ℤ) → ExactResult N o x y v → N.z < nat_abs v →
-      lt_z v (pos 0) ≡ false → operate N o x y ≡ some (greatest N)
-  pub not_divided : (N.rule ≡ infinities → ⊥) → (x : ℕ) → FiniteValue N x → operate N op.remainder x 0 ≡ none
+      lt_z v (pos 0) ≡ false → operate N o x y ≡ Some (greatest N)
+  pub not_divided : (N.rule ≡ infinities → ⊥) → (x : ℕ) → FiniteValue N x → operate N op.remainder x 0 ≡ None
 
 -- Under rule 2 no play is lost: "losing the play there hides other differences". Every arithmetic operation on values
 -- has a result, a value.
 abbrev pub NothingLost : Numbers → Type 0
 NothingLost N = N.rule ≡ infinities → (o x y : ℕ) → o < op.equal → x < numbers N → y < numbers N →
-    (z : ℕ) × (operate N o x y ≡ some z) × (z < numbers N)
+    (z : ℕ) × (operate N o x y ≡ Some z) × (z < numbers N)
 
 -- "Not-a-number in an arithmetic operand gives not-a-number; so do infinity plus its opposite, infinity minus itself,
 -- zero times an infinity, and remainder by zero or with any infinity"
 pub record NoNumber (N : Numbers) : Type 0 where
-  pub left : (o y : ℕ) → o < op.equal → operate N o (none_of N) y ≡ some (none_of N)
-  pub right : (o x : ℕ) → o < op.equal → operate N o x (none_of N) ≡ some (none_of N)
-  pub opposite : (x y : ℕ) → Infinite N x y → operate N op.plus x y ≡ some (none_of N)
-  pub itself : (x y : ℕ) → Infinite N x y → operate N op.minus x x ≡ some (none_of N)
-  pub zero_times : (x y : ℕ) → Infinite N x y → operate N op.times 0 x ≡ some (none_of N)
-  pub times_zero : (x y : ℕ) → Infinite N x y → operate N op.times x 0 ≡ some (none_of N)
-  pub by_zero : N.rule ≡ infinities → (x : ℕ) → FiniteValue N x → operate N op.remainder x 0 ≡ some (none_of N)
-  pub remainder_of : (x y z : ℕ) → Infinite N x y → operate N op.remainder x z ≡ some (none_of N)
-  pub remainder_by : (x y z : ℕ) → Infinite N x y → operate N op.remainder z x ≡ some (none_of N)
+  pub left : (o y : ℕ) → o < op.equal → operate N o (none_of N) y ≡ Some (none_of N)
+  pub right : (o x : ℕ) → o < op.equal → operate N o x (none_of N) ≡ Some (none_of N)
+  pub opposite : (x y : ℕ) → Infinite N x y → operate N op.plus x y ≡ Some (none_of N)
+  pub itself : (x y : ℕ) → Infinite N x y → operate N op.minus x x ≡ Some (none_of N)
+  pub zero_times : (x y : ℕ) → Infinite N x y → operate N op.times 0 x ≡ Some (none_of N)
+  pub times_zero : (x y : ℕ) → Infinite N x y → operate N op.times x 0 ≡ Some (none_of N)
+  pub by_zero : N.rule ≡ infinities → (x : ℕ) → FiniteValue N x → operate N op.remainder x 0 ≡ Some (none_of N)
+  pub remainder_of : (x y z : ℕ) → Infinite N x y → operate N op.remainder x z ≡ Some (none_of N)
+  pub remainder_by : (x y z : ℕ) → Infinite N x y → operate N op.remainder z x ≡ Some (none_of N)
 
 -- "Other sums, differences and products with an infinity give the infinity of the usual sign"
 pub record UsualSign (N : Numbers) : Type 0 where
-  pub sum_left : (x y z : ℕ) → Infinite N x y → FiniteValue N z → operate N op.plus x z ≡ some x
-  pub sum_right : (x y z : ℕ) → Infinite N x y → FiniteValue N z → operate N op.plus z x ≡ some x
-  pub sum_both : (x y : ℕ) → Infinite N x y → operate N op.plus x x ≡ some x
-  pub difference_left : (x y z : ℕ) → Infinite N x y → FiniteValue N z → operate N op.minus x z ≡ some x
-  pub difference_right : (x y z : ℕ) → Infinite N x y → FiniteValue N z → operate N op.minus z x ≡ some y
-  pub difference_both : (x y : ℕ) → Infinite N x y → operate N op.minus x y ≡ some x
-  pub product_same : (x y : ℕ) → Infinite N x y → operate N op.times x x ≡ some (greatest N)
-  pub product_opposite : (x y : ℕ) → Infinite N x y → operate N op.times x y ≡ some (least N)
-  pub times_positive : (x y z : ℕ) → Infinite N x y → 0 < z → z ≤ N.z → operate N op.times x z ≡ some x
-  pub positive_times : (x y z : ℕ) → Infinite N x y → 0 < z → z ≤ N.z → operate N op.times z x ≡ some x
-  pub times_negative : (x y z : ℕ) → Infinite N x y → N.z < z → FiniteValue N z → operate N op.times x z ≡ some y
-  pub negative_times : (x y z : ℕ) → Infinite N x y → N.z < z → FiniteValue N z → operate N op.times z x ≡ some y
+  pub sum_left : (x y z : ℕ) → Infinite N x y → FiniteValue N z → operate N op.plus x z ≡ Some x
+  pub sum_right : (x y z : ℕ) → Infinite N x y → FiniteValue N z → operate N op.plus z x ≡ Some x
+  pub sum_both : (x y : ℕ) → Infinite N x y → operate N op.plus x x ≡ Some x
+  pub difference_left : (x y z : ℕ) → Infinite N x y → FiniteValue N z → operate N op.minus x z ≡ Some x
+  pub difference_right : (x y z : ℕ) → Infinite N x y → FiniteValue N z → operate N op.minus z x ≡ Some y
+  pub difference_both : (x y : ℕ) → Infinite N x y → operate N op.minus x y ≡ Some x
+  pub product_same : (x y : ℕ) → Infinite N x y → operate N op.times x x ≡ Some (greatest N)
+  pub product_opposite : (x y : ℕ) → Infinite N x y → operate N op.times x y ≡ Some (least N)
+  pub times_positive : (x y z : ℕ) → Infinite N x y → 0 < z → z ≤ N.z → operate N op.times x z ≡ Some x
+  pub positive_times : (x y z : ℕ) → Infinite N x y → 0 < z → z ≤ N.z → operate N op.times z x ≡ Some x
+  pub times_negative : (x y z : ℕ) → Infinite N x y → N.z < z → FiniteValue N z → operate N op.times x z ≡ Some y
+  pub negative_times : (x y z : ℕ) → Infinite N x y → N.z < z → FiniteValue N z → operate N op.times z x ≡ Some y
 
 -- "Equal and less are false where either side is not-a-number; an infinity equals itself and lies beyond all finite
 -- numbers"
 pub record EqualAndLess (N : Numbers) : Type 0 where
-  pub equal_left : (y : ℕ) → operate N op.equal (none_of N) y ≡ some 0
-  pub equal_right : (x : ℕ) → operate N op.equal x (none_of N) ≡ some 0
-  pub less_left : (y : ℕ) → operate N op.less (none_of N) y ≡ some 0
-  pub less_right : (x : ℕ) → operate N op.less x (none_of N) ≡ some 0
-  pub equal_itself : (x y : ℕ) → Infinite N x y → operate N op.equal x x ≡ some 1
-  pub not_opposite : (x y : ℕ) → Infinite N x y → operate N op.equal x y ≡ some 0
+  pub equal_left : (y : ℕ) → operate N op.equal (none_of N) y ≡ Some 0
+  pub equal_right : (x : ℕ) → operate N op.equal x (none_of N) ≡ Some 0
+  pub less_left : (y : ℕ) → operate N op.less (none_of N) y ≡ Some 0
+  pub less_right : (x : ℕ) → operate N op.less x (none_of N) ≡ Some 0
+  pub equal_itself : (x y : ℕ) → Infinite N x y → operate N op.equal x x ≡ Some 1
+  pub not_opposite : (x y : ℕ) → Infinite N x y → operate N op.equal x y ≡ Some 0
   pub not_finite : (x y z : ℕ) → Infinite N x y → FiniteValue N z →
-      (operate N op.equal x z ≡ some 0) × (operate N op.equal z x ≡ some 0)
+      (operate N op.equal x z ≡ Some 0) × (operate N op.equal z x ≡ Some 0)
   pub below_all : (z : ℕ) → FiniteValue N z →
-      (operate N op.less (least N) z ≡ some 1) × (operate N op.less z (least N) ≡ some 0)
+      (operate N op.less (least N) z ≡ Some 1) × (operate N op.less z (least N) ≡ Some 0)
   pub above_all : (z : ℕ) → FiniteValue N z →
-      (operate N op.less z (greatest N) ≡ some 1) × (operate N op.less (greatest N) z ≡ some 0)
+      (operate N op.less z (greatest N) ≡ Some 1) × (operate N op.less (greatest N) z ≡ Some 0)
   pub in_order :
-      (operate N op.less (least N) (greatest N) ≡ some 1) × (operate N op.less (greatest N) (least N) ≡ some 0)
-  pub not-less : (x y : ℕ) → Infinite N x y → operate N op.less x x ≡ some 0
+      (operate N op.less (least N) (greatest N) ≡ Some 1) × (operate N op.less (greatest N) (least N) ≡ Some 0)
+  pub not-less : (x y : ℕ) → Infinite N x y → operate N op.less x x ≡ Some 0
 
 -- the pairs of classes for which a table leaves the result to arithmetic: in row a from column b on, and from row a on
 unfoldable pub zeros_of : ℕ → ℕ → List ℕ → List (List ℕ)

@@ -1,11 +1,8 @@
 -- The nine operators on codes. Document 01, "Plays" (overflow); document 02, [2] (remainder) and [8] (infinities).
 -- SHEETS 5.
-use Rattle.std.specs.Prelude.{ℕ, Bool, true, false, List, eqb, ltb, ℤ, pos, nat_abs, ◌+ℤ◌, ◌-ℤ◌, ◌*ℤ◌}
-use Rattle.std.proofs.Math.Option.{Option, none, some}
+use Rattle.std.specs.Prelude.{ℕ, Bool, true, false, List, eqb, ltb, ℤ, pos, nat_abs, ◌+ℤ◌, ◌-ℤ◌, ◌*ℤ◌, Option, None, Some}
 use Rattle.std.specs.Int.Signed.{lt_z}
 use Rattle.language.specs.declared.Numbers.{Numbers}
-use Rattle.language.specs.declared.operator.Outcome.{Outcome}
-use Rattle.language.specs.declared.operator.Outcome.TheVariants.{Is, Nothing}
 use Rattle.language.specs.Choice.{pick}
 use Rattle.language.specs.Number.{no_play, infinities, finites, minus_infinity, infinity, not_a_number, class_of}
 use Rattle.language.specs.Number.{special, modulo, code, signed}
@@ -21,22 +18,22 @@ infinity_by N v =
 -- it fits"; under rule 2 it "becomes the infinity of its sign"
 unfoldable pub beyond : Numbers → ℤ → Option ℕ
 beyond N v =
-    pick (eqb N.rule no_play) none (some (pick (eqb N.rule infinities) (infinity_by N v) (code N v)))
+    pick (eqb N.rule no_play) None (Some (pick (eqb N.rule infinities) (infinity_by N v) (code N v)))
 
 -- a result as the overflow rule takes it
 unfoldable pub fit : Numbers → ℤ → Option ℕ
-fit N v = pick (ltb N.z (nat_abs v)) (beyond N v) (some (code N v))
+fit N v = pick (ltb N.z (nat_abs v)) (beyond N v) (Some (code N v))
 
 -- "the number from 0 up to, but not including, the absolute value of the right operand that differs from the left
 -- operand by a multiple of the right one" (document 02, [2]; `RemainderLaw`); by 0 there is none
 unfoldable pub remainder : ℤ → ℤ → Option ℤ
-remainder x y = pick (eqb (nat_abs y) 0) none (some (pos (modulo x (nat_abs y))))
+remainder x y = pick (eqb (nat_abs y) 0) None (Some (pos (modulo x (nat_abs y))))
 
 -- a remainder as the overflow rule takes it. Where there is none: "a right operand of 0 still has no play" ([2]), and
 -- under rule 2 it is not-a-number ("remainder by zero", [8])
 unfoldable pub fit_some : Numbers → Option ℤ → Option ℕ
-fit_some N none = pick (eqb N.rule infinities) (some (special N not_a_number)) none
-fit_some N (some v) = fit N v
+fit_some N None = pick (eqb N.rule infinities) (Some (special N not_a_number)) None
+fit_some N (Some v) = fit N v
 
 -- the code of a truth
 unfoldable pub truth : Bool → ℕ
@@ -48,7 +45,7 @@ by_classes t N x y = entry t (class_of N x) (class_of N y)
 
 -- the class that a table gives, where arithmetic does not decide
 unfoldable pub settled : Numbers → ℕ → Option ℕ → Option ℕ
-settled N k result = pick (eqb k arithmetic) result (some (special N k))
+settled N k result = pick (eqb k arithmetic) result (Some (special N k))
 
 -- the truth that a table gives, where arithmetic does not decide
 unfoldable pub compared : ℕ → Bool → Bool
@@ -57,7 +54,7 @@ compared k result = pick (eqb k arithmetic) result (eqb k yes)
 -- a product v of two values: of two numbers as the rule takes it, and with an infinity by its sign
 unfoldable pub scaled : Numbers → ℕ → ℕ → ℤ → Option ℕ
 scaled N x y v =
-    pick (ltb x (finites N)) (pick (ltb y (finites N)) (fit N v) (some (infinity_by N v))) (some (infinity_by N v))
+    pick (ltb x (finites N)) (pick (ltb y (finites N)) (fit N v) (Some (infinity_by N v))) (Some (infinity_by N v))
 
 -- the operators on numbers: "settled by the class of each operand, four by four; only finite pairs, and finite times
 -- infinity, need arithmetic"
@@ -89,13 +86,8 @@ operate N o x y =
     (pick (eqb o op.minus) (minus_of N x y)
     (pick (eqb o op.times) (times_of N x y)
     (pick (eqb o op.remainder) (remainder_of N x y)
-    (pick (eqb o op.equal) (some (truth (equal_of N x y)))
-    (pick (eqb o op.less) (some (truth (less_of N x y)))
-    (pick (eqb o op.and) (some (truth (pick (eqb x 1) (eqb y 1) false)))
-    (pick (eqb o op.or) (some (truth (pick (eqb x 1) true (eqb y 1))))
-    (some (truth (eqb x y))))))))))
-
--- the answer of the function that operates
-unfoldable pub outcome : Option ℕ → Outcome
-outcome none = Nothing
-outcome (some c) = Is c
+    (pick (eqb o op.equal) (Some (truth (equal_of N x y)))
+    (pick (eqb o op.less) (Some (truth (less_of N x y)))
+    (pick (eqb o op.and) (Some (truth (pick (eqb x 1) (eqb y 1) false)))
+    (pick (eqb o op.or) (Some (truth (pick (eqb x 1) true (eqb y 1))))
+    (Some (truth (eqb x y))))))))))

@@ -1,7 +1,6 @@
 -- The plays of a term. Document 001, definitions 12 to 18 and 22. On assign, fetch and new, document 01 ("Plays")
 -- decides and not definitions 24 to 26. SHEETS 4.4 and 4.5.
-use Rattle.std.specs.Prelude.{◌≡◌, ◌⊎◌, List, [], ◌∷◌, ◌++◌, ℕ, zero, suc, ◌<◌}
-use Rattle.std.proofs.Math.Option.{some}
+use Rattle.std.specs.Prelude.{◌≡◌, ◌⊎◌, List, [], ◌∷◌, ◌++◌, ℕ, zero, suc, ◌<◌, Some}
 use Rattle.language.specs.Ty.{Ty, Question, run, ask, read, write, Answer, done, ok, value, Answers}
 use Rattle.language.specs.Move.{Event, question, answer, Place, at, private, move, Word}
 use Rattle.language.specs.Term as t
@@ -68,7 +67,7 @@ unfoldable mutual
   Plays (const v) q a u = (a ≡ value v) × (u ≡ [])
   -- operators (definition 14)
   Plays (operate m o L R) q a u =
-      (x : Val m) × (y : Val m) × (z : ℕ) × (apply o x.0 y.0 ≡ some z) × (a ≡ value z)
+      (x : Val m) × (y : Val m) × (z : ℕ) × (apply o x.0 y.0 ≡ Some z) × (a ≡ value z)
       × Cat (Plays L ask (value x.0)) (Plays R ask (value y.0)) u
   -- commands (definition 15)
   Plays skip q a u = (a ≡ done) × (u ≡ [])

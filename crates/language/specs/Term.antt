@@ -1,8 +1,7 @@
 -- Terms, with every use resolved: a private variable by its block, a name by its id and type. Document 001, figure 1;
 -- document 01, "The sheet, byte by byte". The forms stand in the order in which document 001 defines their plays
 -- (document 02, [10]). SHEETS 2.4.
-use Rattle.std.proofs.Math.Option.{Option}
-use Rattle.std.specs.Prelude.{ℕ, ◌<◌}
+use Rattle.std.specs.Prelude.{ℕ, ◌<◌, Option}
 use Rattle.language.specs.declared.Numbers.{Numbers}
 use Rattle.language.specs.Operator as op
 use Rattle.language.specs.Ty.{Ty}

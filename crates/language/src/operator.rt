@@ -18,10 +18,3 @@ pub const AND: u8 = 6;
 pub const OR: u8 = 7;
 
 const EQUAL_TRUTHS: u8 = 8;
-
-// The code of a result, or no play.
-#[derive(Drop)]
-pub enum Outcome {
-    Is { code: u16 },
-    Nothing,
-}

@@ -1,17 +1,16 @@
 // The nine operators on codes, under every overflow rule. Those on numbers are settled by the class of each operand,
 // four by four; only finite pairs, and finite times infinity, need arithmetic.
-ghost use Rattle.std.specs.Prelude.{◌≡◌, true, false, ◌<◌, eqb, ◌+ℤ◌, ◌-ℤ◌, ◌*ℤ◌};
-ghost use Rattle.std.proofs.Math.Option.{none, some};
+ghost use Rattle.std.specs.Prelude.{◌≡◌, None, Some, true, false, ◌<◌, eqb, ◌+ℤ◌, ◌-ℤ◌, ◌*ℤ◌};
 ghost use Rattle.std.specs.Int.Signed.{lt_z};
 ghost use Rattle.language.specs.Choice.{pick};
 ghost use Rattle.language.specs.Number.{special, code, signed};
 ghost use Rattle.language.specs.Tables.{entry};
 ghost use Rattle.language.specs.Operator.{infinity_by, beyond, fit, fit_some, remainder, truth, scaled, by_classes};
 ghost use Rattle.language.specs.Operator.{compared, plus_of, minus_of, times_of, remainder_of};
-ghost use Rattle.language.specs.Operator.{less_of, equal_of, operate, outcome};
+ghost use Rattle.language.specs.Operator.{less_of, equal_of, operate};
 
 use language::Numbers;
-use language::operator::{AND, EQUAL, LESS, MINUS, OR, Outcome, PLUS, REMAINDER, TIMES};
+use language::operator::{AND, EQUAL, LESS, MINUS, OR, PLUS, REMAINDER, TIMES};
 use language_codes::exact::{add, mul, rem_euclid, sub};
 use language_codes::number;
 
@@ -34,32 +33,27 @@ const BELOW: [[u8; 4]; 4] = [[0, 1, 2, 1], [2, 1, 2, 1], [1, 1, 1, 1], [1, 1, 1,
 
 const ALIKE: [[u8; 4]; 4] = [[0, 1, 1, 1], [1, 2, 1, 1], [1, 1, 2, 1], [1, 1, 1, 1]];
 
-// The codes of truths.
-const FALSE: u16 = 0;
-
+// The code of a truth that holds.
 const TRUE: u16 = 1;
 
 // The code of a result.
-fn kept(n: Numbers, v: i64) -> Outcome
-    ensures { result ≡ outcome (some (code n v)) }
+fn kept(n: Numbers, v: i64) -> Option<u16>
+    ensures { result ≡ Some (code n v) }
 {
-    Outcome::Is {
-        code: number::code(n, v),
-    }
+    Some(number::code(n, v))
 }
 
 // The value of a class that is not finite.
-fn outside(n: Numbers, k: u8) -> Outcome
-    ensures { result ≡ outcome (some (special n k)) }
+fn outside(n: Numbers, k: u8) -> Option<u16>
+    ensures { result ≡ Some (special n k) }
 {
-    Outcome::Is {
-        code: number::special(n, k),
-    }
+    Some(number::special(n, k))
 }
 
 // The infinity of the sign of a result, and for 0 not-a-number.
-fn infinity_by(n: Numbers, v: i64) -> Outcome
-    ensures { result ≡ outcome (some (infinity_by n v)) }
+#[tactic(auto, unfolding(language::specs::Operator::infinity_by))]
+fn infinity_by(n: Numbers, v: i64) -> Option<u16>
+    ensures { result ≡ Some (infinity_by n v) }
 {
     if number::absolute(v) == 0 {
         return outside(n, number::NOT_A_NUMBER as u8);
@@ -71,11 +65,12 @@ fn infinity_by(n: Numbers, v: i64) -> Outcome
 }
 
 // A result outside -Z to Z.
-fn beyond(n: Numbers, v: i64) -> Outcome
-    ensures { result ≡ outcome (beyond n v) }
+#[tactic(auto, unfolding(language::specs::Operator::beyond))]
+fn beyond(n: Numbers, v: i64) -> Option<u16>
+    ensures { result ≡ beyond n v }
 {
     if n.rule == number::NO_PLAY {
-        return Outcome::Nothing;
+        return None;
     }
     if n.rule == number::INFINITIES {
         return infinity_by(n, v);
@@ -84,8 +79,9 @@ fn beyond(n: Numbers, v: i64) -> Outcome
 }
 
 // A result as the overflow rule takes it.
-fn fit(n: Numbers, v: i64) -> Outcome
-    ensures { result ≡ outcome (fit n v) }
+#[tactic(auto, unfolding(language::specs::Operator::fit))]
+fn fit(n: Numbers, v: i64) -> Option<u16>
+    ensures { result ≡ fit n v }
 {
     if (n.z as u64) < number::absolute(v) {
         return beyond(n, v);
@@ -94,22 +90,25 @@ fn fit(n: Numbers, v: i64) -> Outcome
 }
 
 // The sum of two numbers.
-fn sum(n: Numbers, x: u16, y: u16) -> Outcome
-    ensures { result ≡ outcome (fit n (signed n x +ℤ signed n y)) }
+#[tactic(auto, using(crate::proofs::OperatorSteps::signed_small))]
+fn sum(n: Numbers, x: u16, y: u16) -> Option<u16>
+    ensures { result ≡ fit n (signed n x +ℤ signed n y) }
 {
     fit(n, add(number::signed(n, x), number::signed(n, y)))
 }
 
 // Their difference.
-fn difference(n: Numbers, x: u16, y: u16) -> Outcome
-    ensures { result ≡ outcome (fit n (signed n x -ℤ signed n y)) }
+#[tactic(auto, using(crate::proofs::OperatorSteps::signed_small))]
+fn difference(n: Numbers, x: u16, y: u16) -> Option<u16>
+    ensures { result ≡ fit n (signed n x -ℤ signed n y) }
 {
     fit(n, sub(number::signed(n, x), number::signed(n, y)))
 }
 
 // A product v of two values: of two numbers as the rule takes it, and with an infinity by its sign.
-fn scale(n: Numbers, x: u16, y: u16, v: i64) -> Outcome
-    ensures { result ≡ outcome (scaled n x y v) }
+#[tactic(auto, unfolding(language::specs::Operator::scaled))]
+fn scale(n: Numbers, x: u16, y: u16, v: i64) -> Option<u16>
+    ensures { result ≡ scaled n x y v }
 {
     let f = number::finites(n);
     if x < f {
@@ -122,25 +121,28 @@ fn scale(n: Numbers, x: u16, y: u16, v: i64) -> Outcome
 }
 
 // Their product.
-fn product(n: Numbers, x: u16, y: u16) -> Outcome
-    ensures { result ≡ outcome (scaled n x y (signed n x *ℤ signed n y)) }
+#[tactic(auto, using(crate::proofs::OperatorSteps::signed_small))]
+fn product(n: Numbers, x: u16, y: u16) -> Option<u16>
+    ensures { result ≡ scaled n x y (signed n x *ℤ signed n y) }
 {
     scale(n, x, y, mul(number::signed(n, x), number::signed(n, y)))
 }
 
 // Where a right operand of 0 leaves no remainder: no play, and under rule 2 not-a-number.
-fn undivided(n: Numbers) -> Outcome
-    ensures { result ≡ outcome (fit_some n none) }
+#[tactic(auto, unfolding(language::specs::Operator::fit_some))]
+fn undivided(n: Numbers) -> Option<u16>
+    ensures { result ≡ fit_some n None }
 {
     if n.rule != number::INFINITIES {
-        return Outcome::Nothing;
+        return None;
     }
     outside(n, number::NOT_A_NUMBER as u8)
 }
 
 // Their remainder: from 0 up to, but not including, the absolute value of the right operand.
-fn remainder(n: Numbers, x: u16, y: u16) -> Outcome
-    ensures { result ≡ outcome (fit_some n (remainder (signed n x) (signed n y))) }
+#[tactic(auto, using(crate::proofs::OperatorSteps::signed_small), unfolding(language::specs::Operator::fit_some, language::specs::Operator::remainder),)]
+fn remainder(n: Numbers, x: u16, y: u16) -> Option<u16>
+    ensures { result ≡ fit_some n (remainder (signed n x) (signed n y)) }
 {
     let d = number::signed(n, y);
     if number::absolute(d) == 0 {
@@ -150,13 +152,11 @@ fn remainder(n: Numbers, x: u16, y: u16) -> Outcome
 }
 
 // The code of a truth.
-fn truth(b: bool) -> Outcome
-    ensures { result ≡ outcome (some (truth b)) }
+#[tactic(auto, unfolding(language::specs::Operator::truth))]
+fn truth(b: bool) -> Option<u16>
+    ensures { result ≡ Some (truth b) }
 {
-    if b {
-        return Outcome::Is { code: TRUE };
-    }
-    Outcome::Is { code: FALSE }
+    Some(u16::from(b))
 }
 
 // Whether x is less than y.
@@ -182,8 +182,9 @@ fn by_classes(t: [[u8; 4]; 4], n: Numbers, x: u16, y: u16) -> u8
 }
 
 // Plus.
-fn plus(n: Numbers, x: u16, y: u16) -> Outcome
-    ensures { result ≡ outcome (plus_of n x y) }
+#[tactic(auto, unfolding(language::specs::Operator::plus_of, language::specs::Operator::settled))]
+fn plus(n: Numbers, x: u16, y: u16) -> Option<u16>
+    ensures { result ≡ plus_of n x y }
 {
     let k = by_classes(SUMS, n, x, y);
     if k == ARITHMETIC {
@@ -193,8 +194,9 @@ fn plus(n: Numbers, x: u16, y: u16) -> Outcome
 }
 
 // Minus.
-fn minus(n: Numbers, x: u16, y: u16) -> Outcome
-    ensures { result ≡ outcome (minus_of n x y) }
+#[tactic(auto, unfolding(language::specs::Operator::minus_of, language::specs::Operator::settled))]
+fn minus(n: Numbers, x: u16, y: u16) -> Option<u16>
+    ensures { result ≡ minus_of n x y }
 {
     let k = by_classes(DIFFERENCES, n, x, y);
     if k == ARITHMETIC {
@@ -204,8 +206,9 @@ fn minus(n: Numbers, x: u16, y: u16) -> Outcome
 }
 
 // Times.
-fn times(n: Numbers, x: u16, y: u16) -> Outcome
-    ensures { result ≡ outcome (times_of n x y) }
+#[tactic(auto, unfolding(language::specs::Operator::times_of, language::specs::Operator::settled))]
+fn times(n: Numbers, x: u16, y: u16) -> Option<u16>
+    ensures { result ≡ times_of n x y }
 {
     let k = by_classes(PRODUCTS, n, x, y);
     if k == ARITHMETIC {
@@ -215,8 +218,9 @@ fn times(n: Numbers, x: u16, y: u16) -> Outcome
 }
 
 // Remainder.
-fn modulus(n: Numbers, x: u16, y: u16) -> Outcome
-    ensures { result ≡ outcome (remainder_of n x y) }
+#[tactic(auto, unfolding(language::specs::Operator::remainder_of, language::specs::Operator::settled),)]
+fn modulus(n: Numbers, x: u16, y: u16) -> Option<u16>
+    ensures { result ≡ remainder_of n x y }
 {
     let k = by_classes(REMAINDERS, n, x, y);
     if k == ARITHMETIC {
@@ -226,8 +230,9 @@ fn modulus(n: Numbers, x: u16, y: u16) -> Outcome
 }
 
 // The truth that a table gives, where arithmetic does not decide.
-fn compared(k: u8, res: bool) -> Outcome
-    ensures { result ≡ outcome (some (truth (compared k res))) }
+#[tactic(auto, unfolding(language::specs::Operator::compared))]
+fn compared(k: u8, res: bool) -> Option<u16>
+    ensures { result ≡ Some (truth (compared k res)) }
 {
     if k == ARITHMETIC {
         return truth(res);
@@ -236,24 +241,26 @@ fn compared(k: u8, res: bool) -> Outcome
 }
 
 // Less, on numbers.
-fn less(n: Numbers, x: u16, y: u16) -> Outcome
-    ensures { result ≡ outcome (some (truth (less_of n x y))) }
+#[tactic(auto, unfolding(language::specs::Operator::less_of))]
+fn less(n: Numbers, x: u16, y: u16) -> Option<u16>
+    ensures { result ≡ Some (truth (less_of n x y)) }
 {
     let k = by_classes(BELOW, n, x, y);
     compared(k, below(number::signed(n, x), number::signed(n, y)))
 }
 
 // Equal, on numbers: they are equal exactly if their codes are.
-fn equal(n: Numbers, x: u16, y: u16) -> Outcome
-    ensures { result ≡ outcome (some (truth (equal_of n x y))) }
+#[tactic(auto, unfolding(language::specs::Operator::equal_of))]
+fn equal(n: Numbers, x: u16, y: u16) -> Option<u16>
+    ensures { result ≡ Some (truth (equal_of n x y)) }
 {
     let k = by_classes(ALIKE, n, x, y);
     compared(k, x == y)
 }
 
 // And.
-fn both(x: u16, y: u16) -> Outcome
-    ensures { result ≡ outcome (some (truth (pick (eqb x 1) (eqb y 1) false))) }
+fn both(x: u16, y: u16) -> Option<u16>
+    ensures { result ≡ Some (truth (pick (eqb x 1) (eqb y 1) false)) }
 {
     if x == TRUE {
         return truth(y == TRUE);
@@ -262,8 +269,8 @@ fn both(x: u16, y: u16) -> Outcome
 }
 
 // Or.
-fn either(x: u16, y: u16) -> Outcome
-    ensures { result ≡ outcome (some (truth (pick (eqb x 1) true (eqb y 1)))) }
+fn either(x: u16, y: u16) -> Option<u16>
+    ensures { result ≡ Some (truth (pick (eqb x 1) true (eqb y 1))) }
 {
     if x == TRUE {
         return truth(true);
@@ -272,15 +279,16 @@ fn either(x: u16, y: u16) -> Outcome
 }
 
 // Equal, on truths: they are equal exactly if their codes are.
-fn same_truth(x: u16, y: u16) -> Outcome
-    ensures { result ≡ outcome (some (truth (eqb x y))) }
+fn same_truth(x: u16, y: u16) -> Option<u16>
+    ensures { result ≡ Some (truth (eqb x y)) }
 {
     truth(x == y)
 }
 
 // The code of an operator's result, or no play. EQUAL_TRUTHS is what the other arms leave.
-pub fn operate(n: Numbers, op: u8, x: u16, y: u16) -> Outcome
-    ensures { result ≡ outcome (operate n op x y) }
+#[tactic(auto, unfolding(language::specs::Operator::operate))]
+pub fn operate(n: Numbers, op: u8, x: u16, y: u16) -> Option<u16>
+    ensures { result ≡ operate n op x y }
 {
     match op {
         PLUS => plus(n, x, y),

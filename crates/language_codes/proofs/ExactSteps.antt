@@ -1,43 +1,26 @@
--- What the exact remainder from 0 on returns, over plain variables.
-use Prim.Native.Nat.{◌≤◌, ◌<◌}
-use native.Mathlib.Omega.{arith}
-use mathlib.Core.Path.{◌≡◌, ap₂, ◌∙◌}
-use mathlib.Core.Bool.{true, false}
-use lib.IntN.{ℤ, pos, nat_abs, ◌+ℤ◌, ◌-ℤ◌}
-use lib.Signed.{mag, lt_z, rem_z}
-use mir.Syntax.{w64}
-use mir.Val.{SFits, of_z, to_z}
+-- The remainder from 0 on, by the exact one, and how far the exact one lies from 0.
+use Rattle.std.proofs.Common.{◌≡◌, ◌≤◌, zero, suc, Bool, true, false, ℤ, pos, negsuc, nat_abs, neg_ℤ, ◌+ℤ◌, ◌-ℤ◌, ◌%◌, refl, sym, arith}
+use native.Mathlib.Nat.{mod-le}
+use Rattle.std.specs.Int.Signed.{lt_z, rem_z}
+use Rattle.language.specs.Choice.{pick}
 use Rattle.language.specs.Number.{modulo}
 use Rattle.language.proofs.RemainderLaws.{from-0, up-by-positive, up-by-negative}
-use Rattle.language_codes.proofs.Bits.{back, read, test_back, abs-remainder}
 
--- The remainder from 0 on: r is what `rem` returned for x and y, all held in 64 bits.
-module _
-    (x y : ℤ) {r : ℤ} (p : SFits w64 x) (q : SFits w64 y) (f : mag r < 9223372036854775808)
-    (e : r ≡ rem_z (to_z w64 (of_z w64 x)) (to_z w64 (of_z w64 y))) where
-  exact : to_z w64 (of_z w64 r) ≡ rem_z x y
-  exact = read f e ∙ ap₂ rem_z (back p) (back q)
+abs_neg : (z : ℤ) → nat_abs (neg_ℤ z) ≡ nat_abs z
+abs_neg (pos zero) = refl
+abs_neg (pos (suc n)) = refl
+abs_neg (negsuc n) = refl
 
-  -- small enough to be moved
-  pub movable :
-      nat_abs x ≤ 65535 → nat_abs y ≤ 65535 →
-      (nat_abs (to_z w64 (of_z w64 r)) ≤ 65535) × (nat_abs (to_z w64 (of_z w64 y)) ≤ 65535)
-  movable h k = (rw exact (omega (arith, abs-remainder x y)), rw (back q) k)
+pub abs_remainder : (x y : ℤ) → nat_abs (rem_z x y) ≤ nat_abs x
+abs_remainder (pos a) d = mod-le a (nat_abs d)
+abs_remainder (negsuc a) d = omega (arith, abs_neg (pos (suc a % nat_abs d)), mod-le (suc a) (nat_abs d))
 
-  module _ (h : nat_abs y ≡ 0 → ⊥) where
-    pub not-moved :
-        lt_z (to_z w64 (of_z w64 r)) (pos 0) ≡ false → to_z w64 (of_z w64 r) ≡ pos (modulo x (nat_abs y))
-    not-moved t = exact ∙ from-0 x y h (rw exact at t)
-
-    module _ {w : ℤ} (t : lt_z (to_z w64 (of_z w64 r)) (pos 0) ≡ true) (g : mag w < 9223372036854775808) where
-      pub moved-by-negative :
-          lt_z (to_z w64 (of_z w64 y)) (pos 0) ≡ true → w ≡ to_z w64 (of_z w64 r) -ℤ to_z w64 (of_z w64 y) →
-          to_z w64 (of_z w64 w) ≡ pos (modulo x (nat_abs y))
-      moved-by-negative u d =
-          read g d ∙ ap₂ ◌-ℤ◌ exact (back q) ∙ up-by-negative x y h (rw exact at t) (test_back q u)
-
-      pub moved-by-positive :
-          lt_z (to_z w64 (of_z w64 y)) (pos 0) ≡ false → w ≡ to_z w64 (of_z w64 r) +ℤ to_z w64 (of_z w64 y) →
-          to_z w64 (of_z w64 w) ≡ pos (modulo x (nat_abs y))
-      moved-by-positive u d =
-          read g d ∙ ap₂ ◌+ℤ◌ exact (back q) ∙ up-by-positive x y h (rw exact at t) (test_back q u)
+pub moved : (x y : ℤ) → (nat_abs y ≡ 0 → ⊥) → pos (modulo x (nat_abs y)) ≡
+    pick (lt_z (rem_z x y) (pos 0)) (pick (lt_z y (pos 0)) (rem_z x y -ℤ y) (rem_z x y +ℤ y)) (rem_z x y)
+moved x y h = go (lt_z (rem_z x y) (pos 0)) refl (lt_z y (pos 0)) refl
+  where
+    go : (s : Bool) → lt_z (rem_z x y) (pos 0) ≡ s → (t : Bool) → lt_z y (pos 0) ≡ t → pos (modulo x (nat_abs y)) ≡
+        pick s (pick t (rem_z x y -ℤ y) (rem_z x y +ℤ y)) (rem_z x y)
+    go false e t f = sym (from-0 x y h e)
+    go true e true f = sym (up-by-negative x y h e f)
+    go true e false f = sym (up-by-positive x y h e f)

@@ -1,3 +1,2 @@
-pub mod Bits
-pub mod NumberSteps
 pub mod ExactSteps
+pub mod NumberSteps

@@ -38,6 +38,7 @@ fn rem(x: i64, y: i64) -> i64
 
 // The remainder from 0 up to, but not including, the absolute value of y: an exact remainder that is negative is moved up by
 // that value.
+#[tactic(auto, using(crate::proofs::ExactSteps::abs_remainder, crate::proofs::ExactSteps::moved))]
 pub fn rem_euclid(x: i64, y: i64) -> i64
     requires small { (nat_abs x ≤ 65535) × (nat_abs y ≤ 65535) }
     requires divisor { nat_abs y ≡ 0 → ⊥ }

@@ -1,14 +1,10 @@
 // Numbers from -Z to Z, the values that are none, their codes and their bytes. No function here can overflow.
 ghost use Rattle.std.specs.Prelude.{◌≡◌, ◌<◌, ◌≤◌, pos, nat_abs, ◌-ℤ◌};
-ghost use Rattle.std.specs.Int.Signed.{mag};
 ghost use Rattle.language.specs.Number.{finites, numbers, class_of, special, modulo, code, signed};
 ghost use Rattle.language.specs.Number.{from_byte, in_range};
 ghost use Rattle.language.specs.Order.{first_number};
 
 use language::Numbers;
-
-// The first byte that stands for a negative number, in two's complement.
-const NEGATIVE: u8 = 128;
 
 // How many bytes there are.
 const BYTES: u16 = 256;
@@ -41,6 +37,7 @@ const HIGHEST: i64 = 126;
 const NONE: i64 = 127;
 
 // How many numbers there are from -Z to Z.
+#[tactic(auto, unfolding(language::specs::Number::finites))]
 pub fn finites(n: Numbers) -> u16
     ensures { result ≡ finites n }
 {
@@ -48,6 +45,7 @@ pub fn finites(n: Numbers) -> u16
 }
 
 // How many values there are.
+#[tactic(auto, unfolding(language::specs::Number::numbers, language::specs::Number::extras, language::specs::Number::finites))]
 pub fn numbers(n: Numbers) -> u16
     ensures { result ≡ numbers n }
 {
@@ -59,6 +57,7 @@ pub fn numbers(n: Numbers) -> u16
 
 // The place of -Z among the values in the order of their signed bytes: minus infinity comes before it, where there is
 // one.
+#[tactic(auto, unfolding(language::specs::Order::first_number))]
 pub fn first_number(n: Numbers) -> usize
     ensures { (result ≡ first_number n) × (result ≤ 1) }
 {
@@ -69,6 +68,7 @@ pub fn first_number(n: Numbers) -> usize
 }
 
 // The class of the value with a code.
+#[tactic(auto, unfolding(language::specs::Number::class_of, language::specs::Number::finites))]
 pub fn class_of(n: Numbers, c: u16) -> usize
     ensures { result ≡ class_of n c }
 {
@@ -86,6 +86,7 @@ pub fn class_of(n: Numbers, c: u16) -> usize
 }
 
 // The code of the value of a class that is not finite.
+#[tactic(auto, unfolding(language::specs::Number::special))]
 pub fn special(n: Numbers, k: u8) -> u16
     ensures { result ≡ special n k }
 {
@@ -99,39 +100,24 @@ fn minus(a: u16, b: u16) -> i64
     (a as i64) - (b as i64)
 }
 
-// v itself, or, below 0, how far it lies below -1.
-fn magnitude(v: i64) -> u64
-    ensures { result ≡ mag v }
-{
-    if v < 0 {
-        return (-1 - v) as u64;
-    }
-    v as u64
-}
-
 // The distance from 0.
 pub fn absolute(v: i64) -> u64
     ensures { result ≡ nat_abs v }
 {
-    if v < 0 {
-        return magnitude(v) + 1;
-    }
-    magnitude(v)
+    v.unsigned_abs()
 }
 
 // The remainder of a division rounded down.
+#[tactic(auto, using(crate::proofs::NumberSteps::rem_euclid_is))]
 fn modulo(v: i64, n: u16) -> u16
     requires { 0 < n }
     ensures { result ≡ modulo v n }
 {
-    let m = (magnitude(v) % (n as u64)) as u16;
-    if v < 0 {
-        return n - 1 - m;
-    }
-    m
+    v.rem_euclid(i64::from(n)) as u16
 }
 
 // The code of a number.
+#[tactic(auto, unfolding(language::specs::Number::code, language::specs::Number::finites))]
 pub fn code(n: Numbers, v: i64) -> u16
     ensures { result ≡ code n v }
 {
@@ -139,6 +125,7 @@ pub fn code(n: Numbers, v: i64) -> u16
 }
 
 // The number that has a code.
+#[tactic(auto, unfolding(language::specs::Number::signed, language::specs::Number::finites))]
 pub fn signed(n: Numbers, c: u16) -> i64
     ensures { result ≡ signed n c }
 {
@@ -159,16 +146,15 @@ pub fn signed(n: Numbers, c: u16) -> i64
 }
 
 // The number that a byte stands for, in two's complement.
+#[tactic(auto, unfolding(language::specs::Number::from_byte))]
 fn from_byte(b: u8) -> i64
     ensures { result ≡ from_byte b }
 {
-    if b < NEGATIVE {
-        return b as i64;
-    }
-    minus(b as u16, BYTES)
+    i64::from(b.cast_signed())
 }
 
 // Whether a byte stands for a number from -Z to Z.
+#[tactic(auto, unfolding(language::specs::Number::in_range))]
 pub fn in_range(n: Numbers, b: u8) -> bool
     ensures { result ≡ in_range n b }
 {

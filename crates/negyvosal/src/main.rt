@@ -3,7 +3,7 @@
 // so it does where its text cannot be printed whole.
 #![tactic(auto)]
 
-use files::{Read, print, read_sheet};
+use files::{print, read_sheet};
 
 // The bytes read of a file: one more than a sheet may have, so that a longer one is refused.
 const LONGEST: usize = 4097;
@@ -17,11 +17,11 @@ const TEXT: usize = 8192;
 
 fn main(rt: HostRuntime) {
     let mut old = [0u8; LONGEST];
-    let Read::Sheet(n) = read_sheet(&rt, b"old.sheet", &mut old) else {
+    let Some(n) = read_sheet(&rt, b"old.sheet", &mut old) else {
         return;
     };
     let mut new = [0u8; LONGEST];
-    let Read::Sheet(m) = read_sheet(&rt, b"new.sheet", &mut new) else {
+    let Some(m) = read_sheet(&rt, b"new.sheet", &mut new) else {
         return;
     };
     let mut words = [0u32; WORDS];

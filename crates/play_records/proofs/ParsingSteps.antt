@@ -17,14 +17,14 @@ pub record FirstRecord (play : List ℕ) (at w : ℕ) (r : List ℕ) (rs : List 
 
 -- a play with a bad record is not one of records
 good-or-bad : (g : Given) (p : ℕ) (rs : List (List ℕ)) → g ≡ moves rs → g ≡ bad p → ⊥
-good-or-bad g p rs e f = let z : ◌≡◌ {A = ℕ} 0 1 = cc in omega arith
+good-or-bad g p rs e f = cc
 
 -- what follows the first of several records
 preceded-moves : (q : List ℕ) (g : Given) (r : List ℕ) (rs : List (List ℕ)) → preceded q g ≡ moves (r ∷ rs) →
     (q ≡ r) × (g ≡ moves rs)
 unfolding preceded
 preceded-moves q (moves qs) r rs e = (cc, cc)
-preceded-moves q (bad p) r rs e = let z : ◌≡◌ {A = ℕ} 0 1 = cc in absurd (omega arith)
+preceded-moves q (bad p) r rs e = absurd (cc)
 
 -- THEOREM: where records are left, the bytes of the first one are the next
 pub first-record : (play : List ℕ) (at w : ℕ) (r : List ℕ) (rs : List (List ℕ)) → w ≡ width_of (get_or play at 0) →
@@ -33,9 +33,7 @@ first-record play at w r rs q e = by (dec_lt at (length play)) (dec_lt 0 w) (dec
   where
     by : Dec (at < length play) → Dec (0 < w) → Dec (length play - at < w) → FirstRecord play at w r rs
     by (no h) p l =
-        let f = parse-end play at (omega arith) in
-        let z : ◌≡◌ {A = ℕ} 0 1 = cc (e, f) in
-        absurd (omega arith)
+        absurd (cc (e, parse-end play at (omega arith)))
     by (yes h) (no p) l = absurd (good-or-bad _ _ _ e (parse-unknown play at q h (omega arith)))
     by (yes h) (yes p) (yes l) = absurd (good-or-bad _ _ _ e (parse-short play at q h l))
     by (yes h) (yes p) (no l) =

@@ -20,7 +20,7 @@ module _ (N : Numbers) (few : N.z ≤ 125) where
   unfolding letters AllSmall Good
   letters-records zero u rs x s g l e = (omega arith, refl)
   letters-records (suc k) u [] x s g l e = absurd (omega arith)
-  letters-records (suc k) [] (r ∷ rs) x s g l e = let z : ◌≡◌ {A = ℕ} 0 1 = cc in absurd (omega arith)
+  letters-records (suc k) [] (r ∷ rs) x s g l e = absurd (cc)
   letters-records (suc k) (m ∷ u) (r ∷ rs) x s g l e =
       let first : first_letter r ≡ letter N m = cc in
       let others : letters N u ≡ take k (map first_letter rs) ++ x = cc in
@@ -33,7 +33,7 @@ module _ (N : Numbers) (few : N.z ≤ 125) where
   unfolding letters AllSmall
   records-letters zero u rs s l e = refl
   records-letters (suc k) [] rs s l e = absurd (omega arith)
-  records-letters (suc k) (m ∷ u) [] s l e = let z : ◌≡◌ {A = ℕ} 0 1 = cc in absurd (omega arith)
+  records-letters (suc k) (m ∷ u) [] s l e = absurd (cc)
   records-letters (suc k) (m ∷ u) (r ∷ rs) s l e =
       let first : record_of N m ≡ r = cc in
       let others : take k (map (record_of N) u) ≡ take k rs = cc in
@@ -45,8 +45,8 @@ module _ (N : Numbers) (few : N.z ≤ 125) where
       map (record_of N) u ≡ rs
   unfolding letters AllSmall Good
   same-records [] [] s g e = refl
-  same-records [] (r ∷ rs) s g e = let z : ◌≡◌ {A = ℕ} 0 1 = cc in absurd (omega arith)
-  same-records (m ∷ u) [] s g e = let z : ◌≡◌ {A = ℕ} 0 1 = cc in absurd (omega arith)
+  same-records [] (r ∷ rs) s g e = absurd (cc)
+  same-records (m ∷ u) [] s g e = absurd (cc)
   same-records (m ∷ u) (r ∷ rs) s g e =
       let first : first_letter r ≡ letter N m = cc in
       let others : letters N u ≡ map first_letter rs = cc in

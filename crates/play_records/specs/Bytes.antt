@@ -1,21 +1,19 @@
 -- What the code computes on the records of plays, case by case.
-use Rattle.std.specs.Prelude.{ℕ, ◌+◌, ◌*◌, ◌/◌, ◌%◌, List, [], ◌∷◌, ◌++◌, length, get_or, ltb}
+use Rattle.std.specs.Prelude.{ℕ, ◌+◌, ◌*◌, ◌/◌, ◌%◌, List, [], ◌∷◌, ◌++◌, length, get_or, ltb, Result, Ok, Err}
 use Rattle.language.specs.Choice.{pick}
 use Rattle.sheet_records.specs.Limits.{bytes}
 use Rattle.language.specs.Order.{RANK-ZERO}
 use Rattle.states_words.specs.Letter.{KIND-UNIT, ID-UNIT, ARGUMENT-UNIT}
 use Rattle.play_records.specs.Records.{Given, moves, bad, valued, kinds, width}
-use Rattle.play_records.specs.declared.play.Parsed.{Parsed}
-use Rattle.play_records.specs.declared.play.Parsed.TheVariants.{Moves, Bad}
 
 -- how many bytes a record of a kind has, 0 where there is no such kind
 unfoldable pub width_of : ℕ → ℕ
 width_of kind = pick (ltb kind kinds) (width kind) 0
 
 -- how many records there are, where c come before; or the place of the first bad one
-unfoldable pub counted : ℕ → Given → Parsed
-counted c (moves rs) = Moves (c + length rs)
-counted c (bad place) = Bad place
+unfoldable pub counted : ℕ → Given → Result ℕ ℕ
+counted c (moves rs) = Ok (c + length rs)
+counted c (bad place) = Err place
 
 -- the letter of a record: kind, id, argument, and the rank of its value where it has one
 unfoldable pub letter_from : ℕ → ℕ → ℕ → ℕ → ℕ

@@ -15,13 +15,6 @@ pub const BARE_BYTES: usize = 3;
 
 pub const VALUED_BYTES: usize = 4;
 
-// What a play's bytes are: so many records, or the place of the first bad one.
-#[derive(Drop)]
-pub enum Parsed {
-    Moves(usize),
-    Bad(usize),
-}
-
 // How many bytes a record of a kind has, 0 where there is no such kind.
 pub fn width_of(kind: usize) -> usize
     ensures { result ≡ width_of kind }
@@ -35,8 +28,8 @@ pub fn width_of(kind: usize) -> usize
     0
 }
 
-// How many records a play has.
-pub fn count_moves(play: &[u8]) -> Parsed
+// How many records a play has, or the place of the first bad one.
+pub fn count_moves(play: &[u8]) -> Result<usize, usize>
     ensures { result ≡ counted 0 (parse 0 play.now) }
 {
     let mut at = 0;
@@ -44,15 +37,15 @@ pub fn count_moves(play: &[u8]) -> Parsed
     while at < play.len() {
         let w = width_of(byte_at(play, at) as usize);
         if w == 0 {
-            return Parsed::Bad(at);
+            return Err(at);
         }
         if play.len() - at < w {
-            return Parsed::Bad(at);
+            return Err(at);
         }
         at += w;
         count += 1;
     }
-    Parsed::Moves(count)
+    Ok(count)
 }
 
 // The letter of a record's bytes.
@@ -104,9 +97,7 @@ pub fn write_play(words: &[u32], base: usize, len: usize, s: &mut [u8])
         ≡ sets s.old 0 (records_by (take len (drop base words.now))) }
 {
     let mut at = 0;
-    let mut i = 0;
-    while i < len {
-        at = write_record(s, at, words[base + i] as usize);
-        i += 1;
+    for letter in &words[base..base + len] {
+        at = write_record(s, at, *letter as usize);
     }
 }

@@ -42,10 +42,7 @@ search-first n ws play total g h = record {
 
 -- what is not said to be marked is not
 pub not-marked : (r : Bool) (m : ℕ) → r ≡ false → (r ≡ true) ↔ (m ≡ 1) → m ≢ 1
-not-marked r m e h k =
-    let t = h.1 k in
-    let z : ◌≡◌ {A = ℕ} 0 1 = cc in
-    omega arith
+not-marked r m e h k = let t = h.1 k in cc
 
 module _ (n : ℕ) (ws play : List ℕ) (total p at i count p' at' : ℕ) (S : Searched n ws play total p at i count)
     (W : Walked (rest (5 * n) ws) n play total p' at' (i + 1)) (h : i < total) where

@@ -15,7 +15,7 @@ use Rattle.dfa_search.proofs.Spell.{written-take, spelled-length}
 use Rattle.dfa.proofs.laws.Rest.{rest-is, rest-length}
 use Rattle.dfa_search.proofs.Trace.{trail-spelled}
 use Rattle.play_words.specs.Shown.{Shown}
-use Rattle.play_words.specs.declared.Decision.TheVariants.{Apart}
+use Rattle.std.specs.Prelude.{Some}
 use lib.Seq.{sets}
 use Rattle.play_records.specs.Bytes.{records_by}
 
@@ -43,7 +43,7 @@ module _ (n k r : ℕ) (ws ws' : List ℕ) (t : Trail n (take (5 * n) ws) k) (s 
         (put : space' ≡ sets space 0 (records_by (take r (drop (5 * n) ws')))) where
       -- the play is shown
       shown : (which : ℕ) → pick (eqb (get_or ws (n + 4 * k) 0) f) 0 1 ≡ which →
-          Shown n k f ws space (Apart which r) space'
+          Shown n k f ws space (Some (record { sheet = which; moves = r })) space'
       shown which e =
           let w = trail-spelled n (take (5 * n) ws) k t in
           record {
@@ -54,9 +54,9 @@ module _ (n k r : ℕ) (ws ws' : List ℕ) (t : Trail n (take (5 * n) ws) k) (s 
           }
 
       -- as a play of the old sheet, where it ends at f
-      pub shown-old : last ≡ f → Shown n k f ws space (Apart 0 r) space'
+      pub shown-old : last ≡ f → Shown n k f ws space (Some (record { sheet = 0; moves = r })) space'
       shown-old e = shown 0 (rw (eq-eqb _ _ (sym read ∙ e)))
 
       -- else of the new one
-      pub shown_new : (last ≡ f → ⊥) → Shown n k f ws space (Apart 1 r) space'
+      pub shown_new : (last ≡ f → ⊥) → Shown n k f ws space (Some (record { sheet = 1; moves = r })) space'
       shown_new e = shown 1 (rw (ne_eqb _ _ (λ h. e (read ∙ h))))

@@ -6,10 +6,10 @@ pub mod walk;
 // The play of an entry of the search, written as records.
 pub mod show;
 
-// What is decided of two sheets by their plays of at most so many moves: none tells them apart; or the sheet that has the
-// first play that only one of them has, and its number of moves.
+// How two sheets differ by their plays: the sheet that has the first play that only one of them has, and its number of
+// moves.
 #[derive(Drop)]
-pub enum Decision {
-    Same,
-    Apart { sheet: u8, moves: usize },
+pub struct Difference {
+    pub sheet: u8,
+    pub moves: usize,
 }

@@ -25,14 +25,12 @@ pub fn longest(words: &[u32], n: usize, play: &[u8], total: usize) -> Reach
 {
     let mut p = 0;
     let mut at = 0;
-    let mut i = 0;
     let mut count = 0;
-    while i < total {
+    for i in 0..total {
         p = next_state(words, n, p, first_letter(&play[at..]));
         at += width_of(byte_at(play, at) as usize);
-        i += 1;
         if is_marked(words, n, p) {
-            count = i;
+            count = i + 1;
         }
     }
     Reach { count, last: p }

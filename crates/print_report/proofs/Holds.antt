@@ -33,6 +33,7 @@ use Rattle.sheet_written.specs.Uses.{is_declared, is_used, bit, count, used_of, 
 use Rattle.sheet_reader.specs.Fine.{Accepted}
 use Rattle.sheet_written.specs.Meaning.{ty_of, term_of}
 use Rattle.sheet_records.specs.declared.edition.Edition.TheVariants.{Present}
+use Rattle.std.specs.Prelude.{Result}
 use Rattle.sheet_records.specs.declared.refusal.Cause.{Cause}
 use Rattle.sheet_reader.specs.Reader.{read_sheet}
 use Rattle.sheet_judge.specs.Mark.{uses_of}
@@ -44,7 +45,7 @@ use Rattle.serve_compare.specs.Refusals.{compare_refusal}
 use Rattle.serve_compare.specs.Promise.{Holds, Decided, same, apart, ComparedBy}
 use Rattle.serve_compare.specs.declared.Comparison.{Comparison}
 use Rattle.serve_compare.proofs.Unique.{held-accepted}
-use Rattle.print_text.specs.Text.{ascii, first_move, first_width, moves_text, size_in, declared_of, sheets_text}
+use Rattle.print_text.specs.Text.{found_text, ascii, first_move, first_width, moves_text, size_in, declared_of, sheets_text}
 use Rattle.print_text.specs.Text.{text_of}
 use Rattle.print_report.specs.Program.{BufferHolds, PrintsWhole}
 use Rattle.print_report.proofs.Fits.{reported-fits}
@@ -126,10 +127,10 @@ sheets-short {old} {new} S T h k l m =
     (few-used S h) (few-declared S h) (few-used T k) (few-declared T k))
 
 -- the text of an accepted call
-accepted-text : {old new space : List ℕ} {S T : Sheet} {r : Comparison} {space' : List ℕ} → Holds old S → Holds new T →
+accepted-text : {old new space : List ℕ} {S T : Sheet} {r : Result Comparison Cause} {space' : List ℕ} → Holds old S → Holds new T →
     size_in (read_sheet old) + size_in (read_sheet new) ≤ 511 → Decided S T space r space' →
     AtMost 8192 (text_of old new r space')
-unfolding text_of
+unfolding text_of found_text
 accepted-text {old} {new} {space} {S} {T} h k b (same d) =
     let p = both (sheets-short S T h k (omega arith) (omega arith)) (all (ascii "same\n")) in
     rw d.answer (looser 8192 (omega arith) p)

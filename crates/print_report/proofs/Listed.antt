@@ -4,10 +4,9 @@ use native.Mathlib.Omega.{arith}
 use mathlib.Core.Path.{◌≡◌, refl, ap}
 use mathlib.Core.Bool.{true, false}
 use mathlib.Core.List.{List}
+use Rattle.std.specs.Prelude.{Result, Ok, Err}
 use lib.ListN.{get_or}
 use Rattle.sheet_records.specs.declared.refusal.Cause.{Cause}
-use Rattle.serve_renumber.specs.declared.renumber.Renumbered.{Renumbered}
-use Rattle.serve_renumber.specs.declared.renumber.Renumbered.TheVariants.{Changed, Refused}
 use Rattle.print_text.specs.Page.{Page, pushes}
 use Rattle.print_text.specs.Text.{refused_text}
 use Rattle.print_report.specs.Changes.{change_text, change_at, changes_text, changed_text, renumber_text, is_renumbered}
@@ -40,13 +39,13 @@ module _ (list : List ℕ) (count i : ℕ) (p₀ p : Page)
   changes-end h l = let n : count - i ≡ 0 = omega arith in rw n at inv
 
 -- the whole text, and what else is told
-module _ (p : Page) (list : List ℕ) {r : Renumbered} where
-  pub told-changed : {q : Page} {n : ℕ} → r ≡ Changed n → q ≡ pushes (changed_text n list) p →
+module _ (p : Page) (list : List ℕ) {r : Result ℕ Cause} where
+  pub told-changed : {q : Page} {n : ℕ} → r ≡ Ok n → q ≡ pushes (changed_text n list) p →
       (q ≡ pushes (renumber_text r list) p) × (true ≡ is_renumbered r)
   unfolding renumber_text is_renumbered
   told-changed e h = rw e (h, refl)
 
-  pub told-refused : {q : Page} {x : Cause} → r ≡ Refused x → q ≡ pushes (refused_text x) p →
+  pub told-refused : {q : Page} {x : Cause} → r ≡ Err x → q ≡ pushes (refused_text x) p →
       (q ≡ pushes (renumber_text r list) p) × (false ≡ is_renumbered r)
   unfolding renumber_text is_renumbered
   told-refused e h = rw e (h, refl)

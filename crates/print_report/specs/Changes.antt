@@ -2,9 +2,9 @@
 -- "place of the id byte in two bytes, low byte first, old id, new id", "and the number of changes is given". A refusal
 -- is one line, as document 01 has it.
 use Rattle.std.specs.Prelude.{ℕ, zero, suc, ◌+◌, ◌*◌, ◌≡◌, Bool, true, false, List, [], ◌++◌, get_or}
+use Rattle.std.specs.Prelude.{Result, Ok, Err}
+use Rattle.sheet_records.specs.declared.refusal.Cause.{Cause}
 use Rattle.serve_renumber.specs.Outcome.{RenumberPromise}
-use Rattle.serve_renumber.specs.declared.renumber.Renumbered.{Renumbered}
-use Rattle.serve_renumber.specs.declared.renumber.Renumbered.TheVariants.{Changed, Refused}
 use Rattle.print_report.specs.declared.changes.Told.{Told}
 use Rattle.print_text.specs.Page.{page, pushes}
 use Rattle.print_text.specs.Text.{ascii, digits, refused_text}
@@ -28,19 +28,19 @@ unfoldable pub changed_text : ℕ → List ℕ → List ℕ
 changed_text n list = ascii "changes " ++ digits n ++ ascii "\n" ++ changes_text n 0 list
 
 -- the whole text for the answer of renumber and the list after it
-unfoldable pub renumber_text : Renumbered → List ℕ → List ℕ
-renumber_text (Changed n) list = changed_text n list
-renumber_text (Refused x) list = refused_text x
+unfoldable pub renumber_text : Result ℕ Cause → List ℕ → List ℕ
+renumber_text (Ok n) list = changed_text n list
+renumber_text (Err x) list = refused_text x
 
 -- whether there is a sheet to be written
-unfoldable pub is_renumbered : Renumbered → Bool
-is_renumbered (Changed n) = true
-is_renumbered (Refused x) = false
+unfoldable pub is_renumbered : Result ℕ Cause → Bool
+is_renumbered (Ok n) = true
+is_renumbered (Err x) = false
 
 -- an answer of renumber, its text at the start of out, as much as there is room for, and whether a sheet is to be
 -- written
 pub record RenumberReported (s output list out : List ℕ) (t : Told) (output' list' out' : List ℕ) : Type 0 where
-  pub answer : Renumbered
+  pub answer : Result ℕ Cause
   pub promised : RenumberPromise s answer output output' list list'
   pub written : page out' t.count ≡ pushes (renumber_text answer list') (page out 0)
   pub said : t.renumbered ≡ is_renumbered answer

@@ -1,6 +1,6 @@
 -- What holds of the programs: the one that compares, document 01, "A program reads `old.sheet` and `new.sheet`", and
 -- the one that renumbers, document 02, [4].
-use Rattle.std.specs.Prelude.{◌≡◌, List, ℕ, ◌≤◌, length, take}
+use Rattle.std.specs.Prelude.{◌≡◌, List, ℕ, ◌≤◌, length, take, Result}
 use Rattle.std.proofs.Math.Option.{some}
 use Rattle.sheet_records.specs.declared.refusal.Cause.{Cause}
 use Rattle.serve_compare.specs.Promise.{ComparePromise}
@@ -10,7 +10,6 @@ use Rattle.serve_compare.specs.declared.Comparison.{Comparison}
 use Rattle.print_text.specs.Text.{text_of}
 use Rattle.print_report.specs.Reported.{Reported}
 use Rattle.serve_renumber.specs.Outcome.{RenumberPromise}
-use Rattle.serve_renumber.specs.declared.renumber.Renumbered.{Renumbered}
 use Rattle.print_report.specs.declared.changes.Told.{Told}
 use Rattle.print_report.specs.Changes.{renumber_text, RenumberReported}
 
@@ -35,7 +34,7 @@ Never14 = (old new : List ℕ) (x : Cause) → compare_refusal old new lent_word
 
 -- every text that it can print, of whatever two sheets, has room
 abbrev pub BufferHolds : Type 0
-BufferHolds = (old new ws space : List ℕ) (r : Comparison) (ws' space' : List ℕ) → length ws ≡ lent_words →
+BufferHolds = (old new ws space : List ℕ) (r : Result Comparison Cause) (ws' space' : List ℕ) → length ws ≡ lent_words →
     length space ≡ lent_space → ComparePromise old new ws space r ws' space' →
     length (text_of old new r space') ≤ lent_text
 
@@ -47,7 +46,7 @@ PrintsWhole = (old new ws space out : List ℕ) (count : ℕ) (ws' space' out' :
 
 -- every text that the program renumber can print, of whatever sheet, has room
 abbrev pub RenumberBufferHolds : Type 0
-RenumberBufferHolds = (s output list : List ℕ) (r : Renumbered) (output' list' : List ℕ) →
+RenumberBufferHolds = (s output list : List ℕ) (r : Result ℕ Cause) (output' list' : List ℕ) →
     RenumberPromise s r output output' list list' → length (renumber_text r list') ≤ lent_changes
 
 -- so the bytes that it prints are the whole text of the answer

@@ -6,9 +6,10 @@ ghost use Rattle.print_report.specs.Changes.{is_renumbered, RenumberReported};
 
 use print_text::lines::refused;
 use print_text::write::{decimal, text};
-use serve_renumber::renumber::{CHANGE, Renumbered, renumber};
+use serve_renumber::renumber::{CHANGE, renumber};
 use sheet_records::limits::BYTES;
 use sheet_records::read::byte_at;
+use sheet_records::refusal::Cause;
 
 // How many bytes the text has, and whether the sheet is renumbered; else it is refused.
 #[derive(Drop)]
@@ -49,10 +50,8 @@ fn changes(out: &mut [u8], at: usize, count: u32, list: &[u8]) -> usize
         ≡ pushes (changes_text count 0 list.now) (page out.old at) }
 {
     let mut next = at;
-    let mut i = 0;
-    while i < count {
+    for i in 0..count {
         next = change_at(out, next, list, i);
-        i += 1;
     }
     next
 }
@@ -69,20 +68,20 @@ fn changed(out: &mut [u8], at: usize, count: u32, list: &[u8]) -> usize
 }
 
 // Writes the text of an answer from the start of out.
-fn answer(r: Renumbered, list: &[u8], out: &mut [u8]) -> Told
+fn answer(r: Result<u32, Cause>, list: &[u8], out: &mut [u8]) -> Told
     ensures written { page out.new result.count
         ≡ pushes (renumber_text r list.now) (page out.old 0) }
     ensures said { result.renumbered ≡ is_renumbered r }
 {
     match r {
-        Renumbered::Changed { changes: n } => {
+        Ok(n) => {
             let count = changed(out, 0, n, list);
             Told {
                 count,
                 renumbered: true,
             }
         }
-        Renumbered::Refused(x) => {
+        Err(x) => {
             let count = refused(out, 0, x);
             Told {
                 count,

@@ -8,33 +8,33 @@ ghost use Rattle.print_report.specs.Reported.{Reported};
 
 use serve_compare::Comparison;
 use serve_compare::compare::compare;
+use sheet_records::refusal::Cause;
 
 // The text of the program renumber.
 pub mod changes;
 
 // Writes the text of an answer from the start of out: how many bytes it has.
-fn answer(old: &[u8], new: &[u8], r: Comparison, space: &[u8], out: &mut [u8]) -> usize
+fn answer(
+    old: &[u8],
+    new: &[u8],
+    r: Result<Comparison, Cause>,
+    space: &[u8],
+    out: &mut [u8],
+) -> usize
     ensures { page out.new result
         ≡ pushes (text_of old.now new.now r space.now) (page out.old 0) }
 {
     match r {
-        Comparison::Refused(x) => print_text::lines::refused(out, 0, x),
-        Comparison::Same {
-            old: of_old,
-            new: of_new,
-        } => {
-            let at = print_text::lines::sheets(out, 0, old, new, of_old, of_new);
-            print_text::write::text(out, at, b"same\n")
-        }
-        Comparison::Apart {
-            sheet,
-            moves,
-            old: of_old,
-            new: of_new,
-        } => {
-            let at = print_text::lines::sheets(out, 0, old, new, of_old, of_new);
-            let next = print_text::lines::apart(out, at, sheet, moves);
-            print_text::lines::moves(out, next, moves, space)
+        Err(x) => print_text::lines::refused(out, 0, x),
+        Ok(c) => {
+            let at = print_text::lines::sheets(out, 0, old, new, c.old, c.new);
+            match c.found {
+                None => print_text::write::text(out, at, b"same\n"),
+                Some(first) => {
+                    let next = print_text::lines::apart(out, at, first.sheet, first.moves);
+                    print_text::lines::moves(out, next, first.moves, space)
+                }
+            }
         }
     }
 }

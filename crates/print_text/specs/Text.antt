@@ -3,6 +3,7 @@
 -- has one, the signed value. A refusal is one line, `refused 7 old 3`: number, sheet, place." Document 02 [6]: "the
 -- program prints a second line, `uses 3 of 5 and 2 of 5` (bits set, then records of kinds 1 and 3, old before new)".
 use Rattle.std.specs.Prelude.{ℕ, zero, suc, ◌+◌, ◌/◌, ◌%◌, List, [], ◌∷◌, ◌++◌, get_or, drop, ltb, ℤ, pos, negsuc}
+use Rattle.std.specs.Prelude.{Option, Some, None, Result, Ok, Err}
 use Prim.Native.Char.{code}
 use Prim.Native.String.{String, [] as end, ◌∷◌ as ◌then◌}
 use Rattle.language.specs.Choice.{pick}
@@ -13,7 +14,7 @@ use Rattle.sheet_reader.specs.Reader.{Checks, accepted, rejected, read_sheet}
 use Rattle.sheet_judge.specs.declared.mark.Uses.{Uses}
 use Rattle.play_records.specs.Records.{valued, width}
 use Rattle.serve_compare.specs.declared.Comparison.{Comparison}
-use Rattle.serve_compare.specs.declared.Comparison.TheVariants.{Same, Apart, Refused}
+use Rattle.play_words.specs.declared.Difference.{Difference}
 
 -- the bytes of a text
 abbrev pub ascii : String → List ℕ
@@ -101,9 +102,12 @@ sheets_text old new u v =
     sizes_text (size_in (read_sheet old)) (size_in (read_sheet new))
     ++ uses_text u.used (declared_of (read_sheet old)) v.used (declared_of (read_sheet new))
 
+-- the lines of two sheets and what is found of their plays, the play in the play space
+unfoldable pub found_text : List ℕ → Option Difference → List ℕ → List ℕ
+found_text lines None space = lines ++ ascii "same\n"
+found_text lines (Some d) space = lines ++ apart_text d.sheet d.moves ++ moves_text d.moves space
+
 -- the whole text for two sheets, the answer of compare and the play space after it
-unfoldable pub text_of : List ℕ → List ℕ → Comparison → List ℕ → List ℕ
-text_of old new (Same u v) space = sheets_text old new u v ++ ascii "same\n"
-text_of old new (Apart sheet moves u v) space =
-    sheets_text old new u v ++ apart_text sheet moves ++ moves_text moves space
-text_of old new (Refused x) space = refused_text x
+unfoldable pub text_of : List ℕ → List ℕ → Result Comparison Cause → List ℕ → List ℕ
+text_of old new (Ok c) space = found_text (sheets_text old new c.old c.new) c.found space
+text_of old new (Err x) space = refused_text x

@@ -9,7 +9,7 @@ ghost use Rattle.print_text.specs.Text.{first_width, moves_text};
 
 use crate::write::{decimal, text};
 use play_records::play::{BARE_BYTES, VALUED_BYTES};
-use sheet_judge::check::{Checked, check};
+use sheet_judge::check::check;
 use sheet_judge::mark::{Uses, declared_count};
 use sheet_records::limits::BYTES;
 use sheet_records::read::byte_at;
@@ -59,19 +59,14 @@ fn figures_of(s: &[u8]) -> Figures
     ensures size { result.size ≡ size_in (read_sheet s.now) }
     ensures declared { result.declared ≡ declared_of (read_sheet s.now) }
 {
-    let Checked::Accepted {
-        ty: _,
-        size,
-        uses: _,
-    } = check(s)
-    else {
+    let Ok(checked) = check(s) else {
         return Figures {
             size: 0,
             declared: 0,
         };
     };
     Figures {
-        size: size as usize,
+        size: checked.size as usize,
         declared: declared_count(s),
     }
 }
@@ -221,11 +216,9 @@ pub fn moves(out: &mut [u8], at: usize, count: usize, s: &[u8]) -> usize
 {
     let mut next = at;
     let mut place = 0;
-    let mut i = 0;
-    while i < count {
+    for _ in 0..count {
         next = first_move(out, next, &s[place..]);
         place = after(s, place);
-        i += 1;
     }
     next
 }

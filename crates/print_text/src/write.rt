@@ -20,10 +20,8 @@ pub fn text(out: &mut [u8], at: usize, bytes: &[u8]) -> usize
     ensures { page out.new result ≡ pushes bytes.now (page out.old at) }
 {
     let mut next = at;
-    let mut i = 0;
-    while i < bytes.len() {
-        next = push(out, next, bytes[i]);
-        i += 1;
+    for v in bytes {
+        next = push(out, next, *v);
     }
     next
 }

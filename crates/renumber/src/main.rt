@@ -4,7 +4,7 @@
 // be printed whole, and then nothing is written, and where new.sheet cannot be written, which then stays as it was.
 #![tactic(auto)]
 
-use files::{Read, print, read_sheet, write_sheet};
+use files::{print, read_sheet, write_sheet};
 use print_report::changes::report_changes;
 
 // One byte more than a sheet may have, so that a longer file is refused.
@@ -18,7 +18,7 @@ const TEXT: usize = 4096;
 
 fn main(rt: HostRuntime) {
     let mut old = [0u8; LONGEST];
-    let Read::Sheet(n) = read_sheet(&rt, b"old.sheet", &mut old) else {
+    let Some(n) = read_sheet(&rt, b"old.sheet", &mut old) else {
         return;
     };
     let mut new = [0u8; LONGEST];

@@ -2,6 +2,7 @@
 use mathlib.Core.Bool.{Bool, false, true}
 use mathlib.Core.List.{List, [], ◌++◌, ◌∷◌, append_assoc}
 use mathlib.Core.Option.{Option, none, some}
+use Rattle.std.specs.Prelude.{Result, Ok, Err}
 use mathlib.Core.Path.{◌∙◌, ◌≡◌, ap, ap₂, refl, subst, sym}
 use Prim.Native.Nat.{◌+◌, ◌≤◌, ℕ}
 use native.Mathlib.Omega.{arith}
@@ -23,7 +24,6 @@ use Rattle.sheet_judge.specs.declared.mark.Uses.{Uses}
 use Rattle.sheet_reader.proofs.Right.{gives}
 use Rattle.term_load.specs.Loaded as load
 use Rattle.term_load.specs.declared.load.Loaded.{Loaded}
-use Rattle.term_load.specs.declared.load.Loaded.TheVariants as loaded
 use Rattle.states_build.specs.inner.Built.{OneBuilt, OneReady}
 use Rattle.serve_conditions.specs.Lent.{words_asked}
 use Rattle.serve_compare.specs.Refusals.{on_read}
@@ -32,7 +32,6 @@ use Rattle.serve_compare.specs.inner.Causes.{cause_of}
 use Rattle.serve_compare.proofs.ReadSheets.{Fit, fit-ready, fit-type}
 use Rattle.play_records.proofs.WritingPlays.{sets-append}
 use Rattle.serve_card.specs.Promise.{CardOf, CardPromise, CardedBy, card_refusal, lent_refusal, space_for}
-use Rattle.serve_card.specs.declared.Carding.TheVariants.{Card, Refused}
 use Rattle.serve_card.specs.inner.Drawing.{Drawable, Drawn}
 use Rattle.serve_card.proofs.Length.{heading-short}
 use Rattle.serve_card.proofs.SameCards.{heading-within}
@@ -40,14 +39,14 @@ use Rattle.serve_card.proofs.Fits.{card-fits}
 
 -- a refusal that is promised
 refuses : (s ws space : List ℕ) {x q : Cause} → card_refusal s (length ws) (length space) ≡ some x → q ≡ x
-    → CardPromise s ws space (Refused q) ws space
+    → CardPromise s ws space (Err q) ws space
 unfolding CardedBy
-refuses s ws space e f = rw e (ap Refused f, (refl, refl))
+refuses s ws space e f = rw e (ap Err f, (refl, refl))
 
 -- a sheet that is refused
-pub refuses-sheet : (s ws space : List ℕ) {x : Loaded} {z : Wrong} {q : Cause}
-    → read_sheet s ≡ rejected z.number z.place → x ≡ loaded.Refused z → q ≡ cause_of x 0
-    → CardPromise s ws space (Refused q) ws space
+pub refuses-sheet : (s ws space : List ℕ) {x : Result Loaded Wrong} {z : Wrong} {q : Cause}
+    → read_sheet s ≡ rejected z.number z.place → x ≡ Err z → q ≡ cause_of x 0
+    → CardPromise s ws space (Err q) ws space
 unfolding card_refusal on_read cause_of
 refuses-sheet s ws space {z = z} h e c = refuses s ws space {x = cause z.number 0 z.place} (rw h) (c ∙ rw e)
 
@@ -101,7 +100,7 @@ module _ {N : Numbers} {ty : ℕ} {s : List ℕ} {row all : ℕ} {t : List ℕ} 
 
     -- too few words, or the space is too short
     pub refuses-lent : (number ≡ 0 → ⊥) → {q : Cause} → q ≡ cause number 2 0
-        → CardPromise s ws space (Refused q) ws space
+        → CardPromise s ws space (Err q) ws space
     refuses-lent h c =
         refuses s ws space (goes_on (length ws) (length space) ∙ stopped_by few short e h) c
 
@@ -162,7 +161,7 @@ module _ {N : Numbers} {ty : ℕ} {s : List ℕ} {row all : ℕ} {t : List ℕ} 
           → ((R : OneReady N t row all ws) → OneBuilt N R.type R.term (all + 1) ws₁)
           → space₁ ≡ sets space 0 (take root s ++ (ty ∷ []))
           → ((u : List ℕ) (k : ℕ) (D : Drawable u k all place ws₁) → Drawn u k D.sheet place space₁ r space₂)
-          → ws' ≡ replicate (length ws) 0 → CardPromise s ws space (Card r) ws' space₂
+          → ws' ≡ replicate (length ws) 0 → CardPromise s ws space (Ok r) ws' space₂
       unfolding CardedBy card-drawable
       carded root place r ws₁ space₁ space₂ ws' e within p len B w W c =
           let D : Drawn s ty F.sheet place space₁ r space₂ = W s ty (card-drawable root place ws₁ e p len B) in
@@ -182,7 +181,7 @@ module _ {N : Numbers} {ty : ℕ} {s : List ℕ} {row all : ℕ} {t : List ℕ} 
           rw goes_through (record {
             card = card;
             is = is;
-            answer = ap Card (D.returned ∙ sym size);
+            answer = ap Ok (D.returned ∙ sym size);
             written = run ∙ sets-eq card space 0 fits
                 ∙ ap (λ k. card ++ drop k space) {x = 0 + length card} {y = length card} (omega arith);
             cleared = c;

@@ -4,6 +4,7 @@ use mathlib.Core.Bool.{Bool, false, true}
 use mathlib.Core.List.{List, [], ◌++◌, ◌∷◌}
 use mathlib.Core.Logic.{◌↔◌, ◌⊎◌, inl, inr}
 use mathlib.Core.Option.{Option, none, some}
+use Rattle.std.specs.Prelude.{Result, Ok}
 use mathlib.Core.Path.{◌∙◌, ◌≡◌, ap, ap₂, refl, subst, sym}
 use Prim.Native.Nat.{◌+◌, ◌<◌, ◌≤◌, ℕ}
 use native.Mathlib.Omega.{arith}
@@ -23,13 +24,12 @@ use Rattle.sheet_reader.proofs.Widths.{wide-heading}
 use Rattle.serve_compare.specs.Plays.{Alike}
 use Rattle.serve_compare.specs.Refusals.{compare_refusal, on_read}
 use Rattle.serve_conditions.specs.Pair.{matching, pair_refusal, same_first}
-use Rattle.serve_compare.specs.Promise.{Holds}
+use Rattle.serve_compare.specs.Promise.{Holds, Same}
 use Rattle.serve_compare.specs.Demands.{Exact, Shown}
 use Rattle.serve_compare.specs.declared.Comparison.{Comparison}
-use Rattle.serve_compare.specs.declared.Comparison.TheVariants.{Apart, Refused, Same}
 use Rattle.sheet_judge.specs.Mark.{uses_of}
 use Rattle.serve_compare.proofs.ComparePlays.{AsOne, as_one, same_byte}
-use Rattle.serve_compare.proofs.Exactly.{exact-answer}
+use Rattle.serve_compare.proofs.Exactly.{exact-answer, not-same}
 use Rattle.serve_compare.proofs.ReadSheets.{two-first}
 use Rattle.serve_compare.proofs.Unique.{held-accepted, held-numbers, one-sheet}
 use Rattle.serve_card.specs.Card.{card_bytes}
@@ -37,7 +37,6 @@ use Rattle.serve_card.specs.Positions.{Position, Table}
 use Rattle.serve_card.specs.Promise.{CardOf, CardedBy}
 use Rattle.serve_card.specs.Rules.{CardUnique, OneCard, SameByCompare, SameCards, SaysSame}
 use Rattle.serve_card.specs.Promise.{card_refusal}
-use Rattle.serve_card.specs.declared.Carding.TheVariants.{Card}
 use Rattle.serve_card.proofs.Bytes.{SmallTable, bytes-card, card-bytes}
 use Rattle.serve_card.proofs.Lists.{take_same}
 use Rattle.serve_card.proofs.Plays.{plays-one}
@@ -151,16 +150,9 @@ same-cards : SameCards
 same-cards old new c d words space C D h =
     same_exactly old new (c, C) (d, D) (matches old new (c, C) (d, D) words space h)
 
--- which kind an answer is
-kind : Comparison → ℕ
-kind (Same old new) = 0
-kind (Apart which moves old new) = 1
-kind (Refused x) = 2
-
 -- "same" where the plays are the same, and nothing else
-says_same : (old new : List ℕ) (r : Comparison) (space : List ℕ) (E : Exact old new r space)
+says_same : (old new : List ℕ) (r : Result Comparison Cause) (space : List ℕ) (E : Exact old new r space)
     → ((u : Word) → Alike E.first_sheet E.second_sheet u) ↔ SaysSame r
-unfolding kind
 says_same old new r space E = (
   (λ a. (uses_of E.first_sheet, uses_of E.second_sheet, E.same_exactly.1 a)),
   (λ s. by s E.decided),
@@ -170,9 +162,7 @@ says_same old new r space E = (
         × ((u : Word) → Alike E.first_sheet E.second_sheet u)) ⊎ Shown E.first_sheet E.second_sheet r space
         → (u : Word) → Alike E.first_sheet E.second_sheet u
     by s (inl x) = x.1
-    by s (inr x) =
-        let z : ◌≡◌ {A = ℕ} 1 0 = ap kind (sym x.answer ∙ s.2) in
-        absurd (omega arith)
+    by s (inr x) = absurd (not-same _ _ _ _ _ _ (sym x.answer ∙ s.2))
 
 -- THEOREM: for two sheets that compare accepts, the cards are equal bytes exactly if it says "same"
 pub same-by-compare : SameByCompare
@@ -214,7 +204,7 @@ card_unique s ws space r r₂ ws₁ ws₂ space₁ space₂ p q = go (card_refus
     go (some x) h k = (h.0 ∙ sym k.0, (h.1.0 ∙ sym k.1.0, h.1.1 ∙ sym k.1.1))
     go none h k =
         let e : h.card ≡ k.card = one-card s h.card k.card h.is k.is in (
-          h.answer ∙ ap (λ (c : List ℕ). Card (length c)) e ∙ sym k.answer,
+          h.answer ∙ ap Ok (ap length e) ∙ sym k.answer,
           (
             h.cleared ∙ sym k.cleared,
             h.written ∙ ap (λ (c : List ℕ). c ++ drop (length c) space) e ∙ sym k.written,

@@ -1,5 +1,5 @@
 -- What card promises, for all slices lent. Document 02 [12].
-use Rattle.std.specs.Prelude.{◌≡◌, List, ◌++◌, ◌*◌, ℕ, ltb, drop, length}
+use Rattle.std.specs.Prelude.{◌≡◌, List, ◌++◌, ◌*◌, ℕ, ltb, drop, length, Result, Ok, Err}
 use Rattle.std.proofs.Math.Option.{Option, none, some}
 use Rattle.language.specs.Choice.{pick}
 use Rattle.language.specs.declared.Numbers.{Numbers}
@@ -15,8 +15,6 @@ use Rattle.serve_compare.specs.Refusals.{on_read}
 use Rattle.serve_conditions.specs.Pair.{refusing}
 use Rattle.serve_card.specs.Positions.{Position, Table}
 use Rattle.serve_card.specs.Card.{card_bytes}
-use Rattle.serve_card.specs.declared.Carding.{Carding}
-use Rattle.serve_card.specs.declared.Carding.TheVariants.{Card, Refused as NoCard}
 
 -- "Space must be 128 × S bytes, or 512 × S where Z is above 7"
 unfoldable pub space_for : Numbers → ℕ → ℕ
@@ -45,16 +43,16 @@ pub record CardOf (s : List ℕ) (c : List ℕ) : Type 0 where
   pub bytes : c ≡ card_bytes s (heading_width sheet) type sheet.numbers table
 
 -- the answer to an accepted call: the card at the start of the space, the rest of it untouched, all words 0
-pub record Carded (s ws space : List ℕ) (r : Carding) (ws' space' : List ℕ) : Type 0 where
+pub record Carded (s ws space : List ℕ) (r : Result ℕ Cause) (ws' space' : List ℕ) : Type 0 where
   pub card : List ℕ
   pub is : CardOf s card
-  pub answer : r ≡ Card (length card)
+  pub answer : r ≡ Ok (length card)
   pub written : space' ≡ card ++ drop (length card) space
   pub cleared : Cleared ws ws'
 
-unfoldable pub CardedBy : Option Cause → List ℕ → List ℕ → List ℕ → Carding → List ℕ → List ℕ → Type 0
+unfoldable pub CardedBy : Option Cause → List ℕ → List ℕ → List ℕ → Result ℕ Cause → List ℕ → List ℕ → Type 0
 CardedBy none s ws space r ws' space' = Carded s ws space r ws' space'
-CardedBy (some x) s ws space r ws' space' = (r ≡ NoCard x) × ((ws' ≡ ws) × (space' ≡ space))
+CardedBy (some x) s ws space r ws' space' = (r ≡ Err x) × ((ws' ≡ ws) × (space' ≡ space))
 
-abbrev pub CardPromise : List ℕ → List ℕ → List ℕ → Carding → List ℕ → List ℕ → Type 0
+abbrev pub CardPromise : List ℕ → List ℕ → List ℕ → Result ℕ Cause → List ℕ → List ℕ → Type 0
 CardPromise s ws space r ws' space' = CardedBy (card_refusal s (length ws) (length space)) s ws space r ws' space'

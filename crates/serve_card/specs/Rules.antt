@@ -1,5 +1,6 @@
 -- What document 02 [12] says of cards, as statements.
 use Rattle.std.specs.Prelude.{List, [], ◌++◌, ◌∷◌, ◌↔◌, ◌⊎◌, ◌≡◌, ◌+◌, ◌<◌, ◌≤◌, ℕ, drop, get_or, length, take}
+use Rattle.std.specs.Prelude.{Result}
 use Rattle.std.proofs.Math.Option.{none, some}
 use Rattle.language.specs.Move.{Move, Word}
 use Rattle.sheet_records.specs.Refusal.{both_sheets, cause, old_sheet, headings_differ, space_too_short, too_few_words}
@@ -11,16 +12,14 @@ use Rattle.sheet_reader.specs.Reader.{accepted, read_sheet, rejected}
 use Rattle.states_words.specs.Letter.{Small}
 use Rattle.serve_compare.specs.Demands.{CheckNumber}
 use Rattle.serve_compare.specs.Plays.{Alike, CompletePlay}
-use Rattle.serve_compare.specs.Promise.{ComparePromise}
+use Rattle.serve_compare.specs.Promise.{Same, ComparePromise}
 use Rattle.serve_compare.specs.Refusals.{compare_refusal}
 use Rattle.serve_compare.specs.declared.Comparison.{Comparison}
-use Rattle.serve_compare.specs.declared.Comparison.TheVariants.{Same}
 use Rattle.serve_card.specs.Card.{card_bytes}
 use Rattle.serve_card.specs.Reading.{read_table}
 use Rattle.serve_card.specs.Positions.{Among, Position, no_position}
 use Rattle.serve_card.specs.Smallest.{HasPlays}
 use Rattle.serve_card.specs.Promise.{CardOf, CardPromise, card_refusal, space_for}
-use Rattle.serve_card.specs.declared.Carding.{Carding}
 
 -- "For two sheets that compare accepts, the cards are equal bytes exactly if it says "same""
 abbrev pub SameCards : Type 0
@@ -29,11 +28,11 @@ SameCards = (old new c d : List ℕ) (words space : ℕ) (C : CardOf old c) (D :
     → (c ≡ d) ↔ ((u : Word) → Alike C.sheet D.sheet u)
 
 -- the same by compare's answer
-abbrev pub SaysSame : Comparison → Type 0
+abbrev pub SaysSame : Result Comparison Cause → Type 0
 SaysSame r = (old new : Uses) × (r ≡ Same old new)
 
 abbrev pub SameByCompare : Type 0
-SameByCompare = (old new c d ws space : List ℕ) (r : Comparison) (ws' space' : List ℕ) → CardOf old c → CardOf new d
+SameByCompare = (old new c d ws space : List ℕ) (r : Result Comparison Cause) (ws' space' : List ℕ) → CardOf old c → CardOf new d
     → ComparePromise old new ws space r ws' space' → compare_refusal old new (length ws) (length space) ≡ none
     → (c ≡ d) ↔ SaysSame r
 
@@ -47,7 +46,7 @@ CardFits = (s c : List ℕ) (C : CardOf s c) → length c ≤ space_for C.sheet.
 
 -- what card promises allows one answer and one state of everything lent
 abbrev pub CardUnique : Type 0
-CardUnique = (s ws space : List ℕ) (r r₂ : Carding) (ws₁ ws₂ space₁ space₂ : List ℕ)
+CardUnique = (s ws space : List ℕ) (r r₂ : Result ℕ Cause) (ws₁ ws₂ space₁ space₂ : List ℕ)
     → CardPromise s ws space r ws₁ space₁ → CardPromise s ws space r₂ ws₂ space₂
     → (r ≡ r₂) × ((ws₁ ≡ ws₂) × (space₁ ≡ space₂))
 

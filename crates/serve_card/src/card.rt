@@ -4,7 +4,6 @@ ghost use Rattle.std.proofs.lemmas.List.Edits.{sets};
 ghost use Rattle.serve_card.specs.Promise.{CardPromise};
 ghost use Rattle.serve_card.specs.inner.Drawing.{Drawable, Drawn};
 
-use crate::Carding;
 use crate::lent::lent_number;
 use card_bytes::positions::write_positions;
 use dfa::words::clear;
@@ -13,11 +12,11 @@ use dfa_sorting::sort_states;
 use serve_compare::causes::{both_cause, cause_of};
 use sheet_reader::reading::numbers_of;
 use sheet_records::read::byte_at;
-use sheet_records::refusal::{NOT_REFUSED, OLD_SHEET};
+use sheet_records::refusal::{Cause, NOT_REFUSED, OLD_SHEET};
 use sheet_records::store::put_byte;
 use states_build::build::one_from_rows;
 use term_expand::expand::TERM_WORDS;
-use term_load::load::{Loaded, load};
+use term_load::load::load;
 
 // Writes the heading, all bytes of the sheet up to its term at the root, and the type: the place after them.
 fn write_heading(sheet: &[u8], root: usize, ty: u8, space: &mut [u8]) -> usize
@@ -26,10 +25,8 @@ fn write_heading(sheet: &[u8], root: usize, ty: u8, space: &mut [u8]) -> usize
     ensures written { space.new
         ≡ sets space.old 0 (take root sheet.now ++ (ty ∷ [])) }
 {
-    let mut i = 0;
-    while i < root {
+    for i in 0..root {
         put_byte(space, i, byte_at(sheet, i));
-        i += 1;
     }
     put_byte(space, root, ty);
     root + 1
@@ -47,31 +44,25 @@ fn write_table(words: &mut [u32], all: usize, space: &mut [u8], place: usize) ->
 }
 
 // The card of a sheet, at the start of the space: its length.
-pub fn card(sheet: &[u8], words: &mut [u32], space: &mut [u8]) -> Carding
+pub fn card(sheet: &[u8], words: &mut [u32], space: &mut [u8]) -> Result<usize, Cause>
     ensures { CardPromise sheet.now words.old space.old result words.new
         space.new }
 {
     let mut t = [0u16; TERM_WORDS];
     let x = load(sheet, &mut t);
-    let Loaded::Sheet {
-        root,
-        row,
-        ty,
-        size,
-        uses: _,
-    } = x
-    else {
-        return Carding::Refused(cause_of(x, OLD_SHEET));
+    // `let .. else`, not `?`: the form of document 01 in which the answer is taken apart and the refusal handed on.
+    let Ok(loaded) = x else {
+        return Err(cause_of(x, OLD_SHEET));
     };
-    let all = size as usize;
+    let all = loaded.size as usize;
     let n = numbers_of(sheet);
     let number = lent_number(n, words.len(), space.len(), all);
     if number != NOT_REFUSED {
-        return Carding::Refused(both_cause(number));
+        return Err(both_cause(number));
     }
-    one_from_rows(&t, n, row, all, words);
-    let place = write_heading(sheet, root, ty, space);
+    one_from_rows(&t, n, loaded.row, all, words);
+    let place = write_heading(sheet, loaded.root, loaded.ty, space);
     let length = write_table(words, all, space, place);
     clear(words);
-    Carding::Card { length }
+    Ok(length)
 }

@@ -3,7 +3,9 @@ use mathlib.Core.Path.{◌≡◌, refl, sym, ap, ap₂, ◌∙◌}
 use mathlib.Core.Logic.{◌↔◌}
 use mathlib.Core.Bool.{Bool, true, false}
 use mathlib.Core.List.{List}
-use mathlib.Core.Option.{Option, none, some}
+use mathlib.Core.Option as math
+use mathlib.Core.Option.{none, some}
+use Rattle.std.specs.Prelude.{Option, Result, Ok, Err}
 use Prim.Native.Nat.{ℕ, zero, suc, ◌+◌, ◌*◌, ◌-◌, ◌≤◌, ◌<◌}
 use native.Mathlib.Omega.{arith}
 use lib.ListN.{length, get_or, replicate}
@@ -24,7 +26,6 @@ use Rattle.sheet_written.specs.Meaning.{ty_of, term_of, type_of}
 use Rattle.sheet_reader.specs.Reader.{numbers_at, read_sheet, rejected}
 use Rattle.term_load.specs.Loaded as load
 use Rattle.term_load.specs.declared.load.Loaded.{Loaded}
-use Rattle.term_load.specs.declared.load.Loaded.TheVariants as loaded
 use Rattle.serve_compare.specs.Plays.{Alike, Only, reckoned}
 use Rattle.serve_conditions.specs.Pair.{refusing, same_first, matching, pair_refusal, number_of}
 use Rattle.serve_compare.specs.Refusals.{on_read, compare_refusal}
@@ -35,34 +36,34 @@ use Rattle.serve_compare.specs.inner.Deciding.{Deciding, OnlyTerm, Verdicts, ali
 use Rattle.serve_compare.specs.inner.Causes.{cause_of}
 use Rattle.sheet_judge.specs.Mark.{uses_of}
 use Rattle.sheet_judge.specs.declared.mark.Uses.{Uses}
-use Rattle.play_words.specs.declared.Decision.{Decision}
-use Rattle.serve_compare.specs.declared.Examined.TheVariants.{Known, Refused}
+use Rattle.play_words.specs.declared.Difference.{Difference}
+use Rattle.serve_compare.specs.declared.Examined.{Examined}
 use Rattle.serve_compare.proofs.ReadSheets.{heading-after, Fit, fit-as, fit-held, fit-type, fit-ready, fit-used}
 
 -- a refusal leaves everything as it was
 refuses : (old new ws space : List ℕ) (most : ℕ) {x q : Cause} →
     compare_refusal old new (length ws) (length space) ≡ some x → q ≡ x →
-    ExaminePromise old new most ws space (Refused q) ws space
+    ExaminePromise old new most ws space (Err q) ws space
 unfolding ExaminedBy
-refuses old new ws space most e f = rw e (ap Refused f, (refl, refl))
+refuses old new ws space most e f = rw e (ap Err f, (refl, refl))
 
 -- the refusal of a sheet, handed on
-handed-on : {x : Loaded} {z : Wrong} {sheet : ℕ} {q : Cause} → x ≡ loaded.Refused z → q ≡ cause_of x sheet →
+handed-on : {x : Result Loaded Wrong} {z : Wrong} {sheet : ℕ} {q : Cause} → x ≡ Err z → q ≡ cause_of x sheet →
     q ≡ cause z.number sheet z.place
 unfolding cause_of
 handed-on e f = f ∙ rw e
 
 -- the old sheet is refused
-pub refused-old : (old new ws space : List ℕ) (most : ℕ) {x : Loaded} {z : Wrong} {q : Cause} →
-    read_sheet old ≡ rejected z.number z.place → x ≡ loaded.Refused z → q ≡ cause_of x 0 →
-    ExaminePromise old new most ws space (Refused q) ws space
+pub refused-old : (old new ws space : List ℕ) (most : ℕ) {x : Result Loaded Wrong} {z : Wrong} {q : Cause} →
+    read_sheet old ≡ rejected z.number z.place → x ≡ Err z → q ≡ cause_of x 0 →
+    ExaminePromise old new most ws space (Err q) ws space
 unfolding compare_refusal on_read
 refused-old old new ws space most h e f = refuses old new ws space most (rw h) (handed-on e f)
 
 -- the old sheet is read, and the new one refused
-pub refused-new : (old new ws space : List ℕ) (most : ℕ) {root row ty size : ℕ} {v : Uses} {t : List ℕ} {y : Loaded}
+pub refused-new : (old new ws space : List ℕ) (most : ℕ) {root row ty size : ℕ} {v : Uses} {t : List ℕ} {y : Result Loaded Wrong}
     {z : Wrong} {q : Cause} → load.Ready old root row ty size v t → read_sheet new ≡ rejected z.number z.place →
-    y ≡ loaded.Refused z → q ≡ cause_of y 1 → ExaminePromise old new most ws space (Refused q) ws space
+    y ≡ Err z → q ≡ cause_of y 1 → ExaminePromise old new most ws space (Err q) ws space
 unfolding compare_refusal on_read
 refused-new old new ws space most A h e f = refuses old new ws space most (rw (A.accepts, h)) (handed-on e f)
 
@@ -107,7 +108,7 @@ as_one {old} {new} {root} {ty} {b} other after e f =
     by false q r d g h = let z : ◌≡◌ {A = ℕ} 0 1 = cc in absurd (omega arith)
 
 -- what is found of two sheets, decided and written
-pub record Seen (S T : Sheet) (most : ℕ) (space : List ℕ) (d : Decision) (space' : List ℕ) : Type 0 where
+pub record Seen (S T : Sheet) (most : ℕ) (space : List ℕ) (d : Option Difference) (space' : List ℕ) : Type 0 where
   pub found : Found
   pub decided : d ≡ decision_of found
   pub found_in : FoundIn most S T found
@@ -128,7 +129,7 @@ module _ (S T : Sheet) {N : Numbers} {X : Ty} (e : S.numbers ≡ N) (f : ty_of S
   only-as (suc (suc k)) u h = absurd h
 
   -- the whole verdict
-  decided-as : {most : ℕ} {space : List ℕ} {d : Decision} {space' : List ℕ} →
+  decided-as : {most : ℕ} {space : List ℕ} {d : Option Difference} {space' : List ℕ} →
       Verdicts N X (term_of S) (term_of T) most space d space' → Seen S T most space d space'
   unfolding FoundIn space_after decision_of
   decided-as (alike a p k) =
@@ -140,9 +141,12 @@ module _ (S T : Sheet) {N : Numbers} {X : Ty} (e : S.numbers ≡ N) (f : ty_of S
     after = rw e w;
   }
 
--- what is told of equal things is equal
-known_as : {d d₂ : Decision} {n n₂ : ℕ} {v v₂ w w₂ : Uses} → d ≡ d₂ → n ≡ n₂ → v ≡ v₂ → w ≡ w₂ →
-    Known d n v w ≡ Known d₂ n₂ v₂ w₂
+-- what is told, and what is told of equal things is equal
+abbrev pub known : Option Difference → ℕ → Uses → Uses → Result Examined Cause
+known d n v w = Ok (record { found = d; whole = n; old = v; new = w })
+
+known_as : {d d₂ : Option Difference} {n n₂ : ℕ} {v v₂ w w₂ : Uses} → d ≡ d₂ → n ≡ n₂ → v ≡ v₂ → w ≡ w₂ →
+    known d n v w ≡ known d₂ n₂ v₂ w₂
 known_as e f g h = rw (e, f, g, h) refl
 
 -- two sheets that fit, of one type, and the names that they use
@@ -225,7 +229,7 @@ module _ {N : Numbers} {old new : List ℕ} {row other all more : ℕ} {v w : Us
       ap₂ (λ a b. a + b - 1) (sym e) (sym f)
 
   -- the answer to an accepted call
-  pub examined : (most : ℕ) (ws ws₁ ws₂ ws₃ space space' : List ℕ) (d : Decision)
+  pub examined : (most : ℕ) (ws ws₁ ws₂ ws₃ space space' : List ℕ) (d : Option Difference)
       (h : words_asked N (all + more) ≤ length ws)
       (e : length ws₁ ≡ length ws) (l : 4 * (all + more - 1) ≤ length space)
       (b : (R : TwoReady N t u row other all more ws) →
@@ -234,7 +238,7 @@ module _ {N : Numbers} {old new : List ℕ} {row other all more : ℕ} {v w : Us
       Verdicts D.numbers D.type D.term D.other_term most space d space') →
       length ws₂ ≡ length ws₁ → ws₃ ≡ replicate (length ws₂) 0 →
       compare_refusal old new (length ws) (length space) ≡ none →
-      ExaminePromise old new most ws space (Known d (all + more - 1) v w) ws₃ space'
+      ExaminePromise old new most ws space (known d (all + more - 1) v w) ws₃ space'
   unfolding ExaminedBy deciding
   examined most ws ws₁ ws₂ ws₃ space space' d h e l b f j k n =
       let s : Seen F.sheet F'.sheet most space d space' =
@@ -255,7 +259,7 @@ module _ {N : Numbers} {old new : List ℕ} {row other all more : ℕ} {v w : Us
       })
 
 -- by the three tests
-abbrev judgement : Bool → Bool → Bool → Option Cause
+abbrev judgement : Bool → Bool → Bool → math.Option Cause
 judgement p q s = pick p (pick q (refusing 13 2 0) (pick s (refusing 14 2 0) none)) (refusing 12 2 0)
 
 stopped_by : (p q s : Bool) {number : ℕ} → number ≡ number_of (judgement p q s) → (number ≡ 0 → ⊥) →
@@ -298,7 +302,7 @@ module _ (old new ws space : List ℕ) {root row ty all other other_row b more :
 
     -- they are refused together
     pub refused-pair : (most : ℕ) {q : Cause} → (number ≡ 0 → ⊥) → q ≡ cause number both_sheets 0 →
-        ExaminePromise old new most ws space (Refused q) ws space
+        ExaminePromise old new most ws space (Err q) ws space
     refused-pair most h k =
         refuses old new ws space most
         (judged-as ∙

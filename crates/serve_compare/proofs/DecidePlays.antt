@@ -2,6 +2,7 @@
 use mathlib.Core.Path.{◌≡◌, refl, sym, ap, ◌∙◌, subst}
 use mathlib.Core.Logic.{◌≢◌, ◌⊎◌, inl, inr}
 use mathlib.Core.List.{List, ◌∷◌}
+use Rattle.std.specs.Prelude.{Option, Some, None}
 use Prim.Native.Nat.{ℕ, ◌+◌, ◌*◌, ◌-◌, ◌≤◌}
 use native.Mathlib.Omega.{arith}
 use lib.ListN.{length, get_or, take}
@@ -21,8 +22,6 @@ use Rattle.dfa.specs.Reading.{walk, FirstWord, reversed}
 use Rattle.dfa_search.specs.Spelled.{Spelled, none, more as longer}
 use Rattle.dfa.specs.Word.{accepting, after}
 use Rattle.dfa_difference.specs.declared.Task.{Task}
-use Rattle.dfa_difference.specs.declared.Verdict.{Verdict}
-use Rattle.dfa_difference.specs.declared.Verdict.TheVariants as verdict
 use Rattle.dfa.proofs.laws.Reading.{reversed-length, reversed-reversed, walk-reversed, first_word}
 use Rattle.dfa_silent.proofs.laws.Settled.{settled-graph}
 use Rattle.states_words.specs.Explicit.{Explicit}
@@ -31,8 +30,7 @@ use Rattle.states_build.specs.inner.Built.{TwoBuilt}
 use Rattle.serve_conditions.proofs.Figures.{asked_low}
 use Rattle.serve_compare.specs.inner.Deciding.{Deciding, OnlyTerm, Verdicts, alike, differ}
 use Rattle.play_words.specs.Shown.{Shown}
-use Rattle.play_words.specs.declared.Decision.{Decision}
-use Rattle.play_words.specs.declared.Decision.TheVariants.{Same}
+use Rattle.play_words.specs.declared.Difference.{Difference}
 use Rattle.serve_compare.proofs.OnePlay.{plays-small}
 use Rattle.serve_compare.proofs.TwoPlays.{FoundPlay, ends, same_plays, first-play}
 use Rattle.play_records.proofs.WritingPlays.{records-written}
@@ -111,12 +109,12 @@ module _ (ws space : List ℕ) (all more : ℕ) (D : Deciding ws space all more)
 
   -- where no word of at most so many letters tells the first states apart, the terms have the same plays of at most so
   -- many moves
-  pub decided-same : (most : ℕ) (ws₁ : List ℕ) (v : Verdict) → v ≡ verdict.Same →
-      Outcome G (task all more most) ws₁ v → Verdicts N T M M' most space Same space
+  pub decided-same : (most : ℕ) (ws₁ : List ℕ) (v : Option ℕ) → v ≡ None →
+      Outcome G (task all more most) ws₁ v → Verdicts N T M M' most space None space
   decided-same most ws₁ v e o = alike refl (same_plays (omega (arith, D.z_below)) D.typed D.other_typed
       B.shows shows_second B.graph B.settled D.type_in D.term_in D.other_in most agree) refl
     where
-      told : Outcome G (task all more most) ws₁ verdict.Same
+      told : Outcome G (task all more most) ws₁ None
       told = subst (λ v. Outcome G (task all more most) ws₁ v) e o
 
       read : (p : ℕ) (w : List ℕ) → ends T M M' (walk (δ G n) p w) ≡
@@ -178,7 +176,7 @@ module _ (ws space : List ℕ) (all more : ℕ) (D : Deciding ws space all more)
         by (inr h) = rw (ne_eqb p (all - 1) (λ d. h.0 (omega (arith, all-is)))) h.1
 
     -- the play shown is the first play of exactly one of the terms
-    pub decided-apart : {r : Decision} {space' : List ℕ} → Shown n k (all - 1) ws₁ space r space' →
+    pub decided-apart : {r : Option Difference} {space' : List ℕ} → Shown n k (all - 1) ws₁ space r space' →
         Verdicts N T M M' most space r space'
     decided-apart {r} {space'} s =
         differ (pick (eqb (get_or ws₁ (n + 4 * k) 0) (all - 1)) 0 1) found.word

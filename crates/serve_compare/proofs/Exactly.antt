@@ -5,15 +5,18 @@ use native.Mathlib.Omega.{arith}
 use mathlib.Core.Path.{◌≡◌, refl, sym, ap, ◌∙◌}
 use mathlib.Core.Logic.{◌⊎◌, inl, inr}
 use mathlib.Core.List.{List, [], ◌∷◌, ◌++◌}
+use Rattle.std.specs.Prelude.{Option, Some, None, Result, Ok, Err}
+use Rattle.sheet_records.specs.declared.refusal.Cause.{Cause}
 use lib.ListN.{length, take}
 use Rattle.language.specs.Move.{Word, records}
 use Rattle.sheet_written.specs.Written.{Sheet}
 use Rattle.serve_compare.specs.Plays.{Alike, Only}
-use Rattle.serve_compare.specs.Promise.{Decided, same, apart, Compared, ComparedBy}
+use Rattle.serve_compare.specs.Promise.{Same, Apart, Decided, same, apart, Compared, ComparedBy}
 use Rattle.serve_compare.specs.Demands.{Shown, Exact, ExactAnswer}
 use Rattle.sheet_judge.specs.Mark.{uses_of}
+use Rattle.sheet_judge.specs.declared.mark.Uses.{Uses}
 use Rattle.serve_compare.specs.declared.Comparison.{Comparison}
-use Rattle.serve_compare.specs.declared.Comparison.TheVariants.{Same, Apart, Refused}
+use Rattle.play_words.specs.declared.Difference.{Difference}
 
 -- a play of exactly one is not alike
 pub not_alike : (which : ℕ) (S T : Sheet) (u : Word) → Only which S T u → Alike S T u → ⊥
@@ -23,23 +26,28 @@ not_alike (suc zero) S T u o a = o.1 (a.1 o.0)
 not_alike (suc (suc k)) S T u o a = o
 
 -- which kind an answer is
-kind : Comparison → ℕ
-kind (Same old new) = 0
-kind (Apart which moves old new) = 1
-kind (Refused x) = 2
+side : Option Difference → ℕ
+side None = 0
+side (Some d) = 1
+
+kind : Result Comparison Cause → ℕ
+kind (Ok c) = side c.found
+kind (Err x) = 2
+
+-- "apart" is not "same"
+pub not-same : (which moves : ℕ) (u v w x : Uses) → Apart which moves u v ≡ Same w x → ⊥
+unfolding kind side
+not-same which moves u v w x e = let z : ◌≡◌ {A = ℕ} 1 0 = ap kind e in omega arith
 
 -- what is written before the rest of play space stands first in it
 stands-first : (xs ys : List ℕ) → take (length xs) (xs ++ ys) ≡ xs
 stands-first [] ys = refl
 stands-first (x ∷ xs) ys = ap (λ (y : List ℕ). x ∷ y) (stands-first xs ys)
 
-module _ (S T : Sheet) (space : List ℕ) (r : Comparison) (space' : List ℕ) where
+module _ (S T : Sheet) (space : List ℕ) (r : Result Comparison Cause) (space' : List ℕ) where
   same_if : Decided S T space r space' → r ≡ Same (uses_of S) (uses_of T) → (u : Word) → Alike S T u
-  unfolding kind
   same_if (same d) e = d.plays
-  same_if (apart d) e =
-      let z : ◌≡◌ {A = ℕ} 1 0 = ap kind (sym d.answer ∙ e) in
-      absurd (omega arith)
+  same_if (apart d) e = absurd (not-same _ _ _ _ _ _ (sym d.answer ∙ e))
 
   only_if : Decided S T space r space' → ((u : Word) → Alike S T u) → r ≡ Same (uses_of S) (uses_of T)
   only_if (same d) h = d.answer

@@ -2,6 +2,7 @@
 use mathlib.Core.Path.{◌≡◌, refl, sym, ap, subst, ◌∙◌}
 use mathlib.Core.Option.{none, some}
 use mathlib.Core.List.{List}
+use Rattle.std.specs.Prelude.{Result, Ok, Err}
 use Prim.Native.Nat.{ℕ, ◌+◌, ◌*◌, ◌-◌, ◌≤◌, ◌<◌}
 use native.Mathlib.Omega.{arith}
 use native.Mathlib.Nat.{mul-le-mul_left}
@@ -24,15 +25,11 @@ use Rattle.sheet_records.specs.declared.refusal.Cause.{Cause}
 use Rattle.sheet_written.specs.Meaning.{ty_of, term_of, type_of}
 use Rattle.sheet_reader.specs.Reader.{read_sheet, rejected}
 use Rattle.term_load.specs.declared.load.Loaded.{Loaded}
-use Rattle.term_load.specs.declared.load.Loaded.TheVariants as loaded
 use Rattle.play_records.specs.Records.{Given, moves, bad, parse}
 use Rattle.serve_conditions.specs.Pair.{refusing}
 use Rattle.serve_compare.specs.Refusals.{on_read, on_given, follow_refusal}
 use Rattle.serve_compare.specs.Promise.{FollowedBy, FollowPromise}
-use Rattle.serve_compare.specs.declared.Following.TheVariants.{Follows, Refused}
 use Rattle.play_words.specs.declared.walk.Reach.{Reach}
-use Rattle.play_records.specs.declared.play.Parsed.{Parsed}
-use Rattle.play_records.specs.declared.play.Parsed.TheVariants.{Moves, Bad}
 use Rattle.serve_conditions.specs.Lent.{words_asked}
 use Rattle.states_build.specs.inner.Built.{OneReady, OneBuilt}
 use Rattle.states_build.proofs.Room.{asked-suffices}
@@ -46,33 +43,33 @@ use Rattle.play_records.proofs.WritingPlays.{good-moves}
 
 -- a refusal that is promised
 refuses : (s play ws ws' : List ℕ) {x q : Cause} → follow_refusal s play (length ws) ≡ some x → q ≡ x → ws' ≡ ws →
-    FollowPromise s play ws (Refused q) ws'
+    FollowPromise s play ws (Err q) ws'
 unfolding FollowedBy
-refuses s play ws ws' e f k = rw e (ap Refused f, k)
+refuses s play ws ws' e f k = rw e (ap Err f, k)
 
 -- a sheet that is refused
-pub refuses-sheet : (s play ws ws' : List ℕ) {x : Loaded} {z : Wrong} {q : Cause} →
-    read_sheet s ≡ rejected z.number z.place → x ≡ loaded.Refused z → q ≡ cause_of x 0 → ws' ≡ ws →
-    FollowPromise s play ws (Refused q) ws'
+pub refuses-sheet : (s play ws ws' : List ℕ) {x : Result Loaded Wrong} {z : Wrong} {q : Cause} →
+    read_sheet s ≡ rejected z.number z.place → x ≡ Err z → q ≡ cause_of x 0 → ws' ≡ ws →
+    FollowPromise s play ws (Err q) ws'
 unfolding follow_refusal on_read cause_of
 refuses-sheet s play ws ws' {z = z} h e c k =
     refuses s play ws ws' {x = cause z.number 0 z.place} (rw h) (c ∙ rw e) k
 
 -- a play in whose count a bad record is met
-on-bad : (g : Given) {p : ℕ} → Bad p ≡ counted 0 g → on_given g ≡ refusing 15 0 p
+on-bad : (g : Given) {p : ℕ} → Err p ≡ counted 0 g → on_given g ≡ refusing 15 0 p
 unfolding counted on_given
 on-bad (moves rs) e = let z : ◌≡◌ {A = ℕ} 0 1 = cc in absurd (omega arith)
 on-bad (bad q) {p} e = let a : q ≡ p = cc in rw a
 
 -- so many records
-given-moves : (g : Given) {total : ℕ} → Moves total ≡ counted 0 g →
+given-moves : (g : Given) {total : ℕ} → Ok total ≡ counted 0 g →
     (rs : List (List ℕ)) × ((g ≡ moves rs) × (length rs ≡ total))
 unfolding counted
 given-moves (moves rs) {total} e = let a : total ≡ 0 + length rs = cc in (rs, (refl, omega arith))
 given-moves (bad q) e = let z : ◌≡◌ {A = ℕ} 0 1 = cc in absurd (omega arith)
 
 -- a play has as many records as are counted
-pub counted-enough : (play : List ℕ) {x : Parsed} {total : ℕ} → x ≡ counted 0 (parse 0 play) → x ≡ Moves total →
+pub counted-enough : (play : List ℕ) {x : Result ℕ ℕ} {total : ℕ} → x ≡ counted 0 (parse 0 play) → x ≡ Ok total →
     AtLeast play total
 counted-enough play e m =
     let g = given-moves (parse 0 play) (sym m ∙ e) in
@@ -87,14 +84,14 @@ module _ {N : Numbers} {ty : ℕ} {s : List ℕ} {row all : ℕ} {t : List ℕ} 
 
   -- too few words
   pub refuses-words : (play ws ws' : List ℕ) {q : Cause} → length ws < words_asked N all → q ≡ cause 13 both_sheets 0 →
-      ws' ≡ ws → FollowPromise s play ws (Refused q) ws'
+      ws' ≡ ws → FollowPromise s play ws (Err q) ws'
   refuses-words play ws ws' h c k =
       refuses s play ws ws' (goes_on play (length ws) ∙ rw (lt-ltb (length ws) (words_asked N all) h) refl) c k
 
   -- a bad play
-  pub refuses-play : (play ws ws' : List ℕ) {x : Parsed} {p : ℕ} {q : Cause} →
-      words_asked N all ≤ length ws → x ≡ counted 0 (parse 0 play) → x ≡ Bad p → q ≡ play_cause x → ws' ≡ ws →
-      FollowPromise s play ws (Refused q) ws'
+  pub refuses-play : (play ws ws' : List ℕ) {x : Result ℕ ℕ} {p : ℕ} {q : Cause} →
+      words_asked N all ≤ length ws → x ≡ counted 0 (parse 0 play) → x ≡ Err p → q ≡ play_cause x → ws' ≡ ws →
+      FollowPromise s play ws (Err q) ws'
   unfolding play_cause
   refuses-play play ws ws' h e b c k =
       refuses s play ws ws'
@@ -168,11 +165,12 @@ module _ {N : Numbers} {ty : ℕ} {s : List ℕ} {row all : ℕ} {t : List ℕ} 
       own-end = rw (fit-type F) end-at
 
       -- THEOREM: the accepted answer is what follow promises
-      pub followed : (play ws₃ : List ℕ) {x : Parsed} {total : ℕ} {r : Reach} →
-          ((i : ℕ) → get_or play i 0 < 256) → x ≡ counted 0 (parse 0 play) → x ≡ Moves total →
+      pub followed : (play ws₃ : List ℕ) {x : Result ℕ ℕ} {total : ℕ} {r : Reach} →
+          ((i : ℕ) → get_or play i 0 < 256) → x ≡ counted 0 (parse 0 play) → x ≡ Ok total →
           ((f : ℕ) (T : Marked (all + 1) f ws'') (rs : List (List ℕ)) → parse 0 play ≡ moves rs → length rs ≡ total →
           Reached T.automaton (all + 1) f rs r) →
-          ws₃ ≡ replicate (length ws) 0 → FollowPromise s play ws (Follows r.count (eqb r.last (all - 1))) ws₃
+          ws₃ ≡ replicate (length ws) 0 →
+          FollowPromise s play ws (Ok (record { count = r.count; complete = eqb r.last (all - 1) })) ws₃
       unfolding FollowedBy marked
       followed play ws₃ {r = r} bytes e m L z =
           let g = given-moves (parse 0 play) (sym m ∙ e) in

@@ -3,6 +3,7 @@ use mathlib.Core.Path.{◌≡◌, refl, sym, ap, ◌∙◌}
 use mathlib.Core.Logic.{◌⊎◌, inl, inr}
 use mathlib.Core.List.{List}
 use mathlib.Core.Option.{Option, none, some}
+use Rattle.std.specs.Prelude.{Result, Ok}
 use Prim.Native.Nat.{ℕ, ◌≤◌, ◌<◌}
 use native.Mathlib.Decide.{dec_lt}
 use native.Mathlib.Omega.{arith}
@@ -17,7 +18,7 @@ use Rattle.serve_compare.specs.Plays.{Only, FirstPlay}
 use Rattle.serve_compare.specs.Refusals.{compare_refusal}
 use Rattle.serve_compare.specs.Promise.{Holds, Decided, same, apart, ComparedBy}
 use Rattle.serve_compare.specs.Look.{Found, nothing, first, FoundIn, space_after, whole_depth, decision_of, ruling_of}
-use Rattle.serve_compare.specs.Look.{depth_of, saying, look_answer}
+use Rattle.serve_compare.specs.Look.{depth_of, saying, telling, look_answer}
 use Rattle.serve_compare.specs.Look.{LookAnswered, LookedBy}
 use Rattle.serve_compare.specs.LookRules.{Agrees, same as says_same, apart as says-apart, refused as says-refused}
 use Rattle.serve_compare.specs.LookRules.{Open}
@@ -25,24 +26,24 @@ use Rattle.serve_compare.specs.LookRules.{LookCompare, LookLarger, LookWhole, Lo
 use Rattle.serve_compare.specs.Demands.{Comparable}
 use Rattle.serve_compare.specs.declared.Comparison.{Comparison}
 use Rattle.serve_compare.specs.declared.Looking.{Looking}
-use Rattle.serve_compare.specs.declared.Looking.TheVariants.{Same, SoFar}
+use Rattle.serve_compare.specs.declared.Outcome.TheVariants.{Same, SoFar}
 use Rattle.serve_compare.proofs.Exactly.{not_alike}
 use Rattle.serve_compare.proofs.LookSteps.{so-far-said, same-said}
 use Rattle.serve_compare.proofs.LookPlays.{all_alike}
 use Rattle.serve_compare.proofs.Unique.{one-sheet, held-accepted, held-comparable, one-first, only_one}
 
 -- the answer to what is found
-abbrev answer_to : Found → ℕ → ℕ → Uses → Uses → Looking
-answer_to f = look_answer (decision_of f)
+abbrev answer_to : Found → ℕ → ℕ → Uses → Uses → Result Looking Cause
+answer_to f limit whole v w = Ok (look_answer (decision_of f) limit whole v w)
 
 -- the answers where nothing is found
-so_far : (limit whole : ℕ) (v w : Uses) → limit < whole → answer_to nothing limit whole v w ≡ SoFar limit v w
+so_far : (limit whole : ℕ) (v w : Uses) → limit < whole → answer_to nothing limit whole v w ≡ Ok (telling SoFar limit v w)
 unfolding decision_of
-so_far limit whole v w l = sym (so-far-said (decision_of nothing) limit whole v w refl l)
+so_far limit whole v w l = ap Ok (sym (so-far-said (decision_of nothing) limit whole v w refl l))
 
-looked-all : (limit whole : ℕ) (v w : Uses) → whole ≤ limit → answer_to nothing limit whole v w ≡ Same whole v w
+looked-all : (limit whole : ℕ) (v w : Uses) → whole ≤ limit → answer_to nothing limit whole v w ≡ Ok (telling Same whole v w)
 unfolding decision_of
-looked-all limit whole v w l = sym (same-said (decision_of nothing) limit whole v w refl l)
+looked-all limit whole v w l = ap Ok (sym (same-said (decision_of nothing) limit whole v w refl l))
 
 -- two sheets in order that can be compared
 module _ (S T : Sheet) (A : Accepted S) (B : Accepted T) (c : Comparable S T) where
@@ -98,7 +99,7 @@ all-longer {S = S} {T} {limit} h k f S₂ T₂ h₂ k₂ which u o = go (dec_lt 
 -- where nothing is refused
 module _ (old new : List ℕ) (ws space : List ℕ) (e : compare_refusal old new (length ws) (length space) ≡ none) where
   -- "same so far"
-  stays_open : (limit : ℕ) (r : Looking) {ws' space' : List ℕ} (h : LookAnswered old new limit ws space r ws' space')
+  stays_open : (limit : ℕ) (r : Result Looking Cause) {ws' space' : List ℕ} (h : LookAnswered old new limit ws space r ws' space')
       →
       h.looked.found ≡ nothing →
       limit < whole_depth h.looked.first_sheet h.looked.second_sheet → Open old new limit r
@@ -113,7 +114,7 @@ module _ (old new : List ℕ) (ws space : List ℕ) (e : compare_refusal old new
         longer = all-longer L.first_held L.second_held (rw f at L.found_in);
       }
 
-  module _ (limit : ℕ) (r : Looking) (ws₁ space₁ : List ℕ) (h : LookAnswered old new limit ws space r ws₁ space₁)
+  module _ (limit : ℕ) (r : Result Looking Cause) (ws₁ space₁ : List ℕ) (h : LookAnswered old new limit ws space r ws₁ space₁)
     where
       -- the sheets, and what is found
       abbrev S : Sheet
@@ -143,7 +144,7 @@ module _ (old new : List ℕ) (ws space : List ℕ) (e : compare_refusal old new
       found_as f q = rw q at h.looked.found_in
 
       -- against compare, whose verdict is of the same sheets
-      against : (k : Comparison) (space₂ : List ℕ) → Decided S T space k space₂ →
+      against : (k : Result Comparison Cause) (space₂ : List ℕ) → Decided S T space k space₂ →
           (Agrees r k × (space₁ ≡ space₂)) ⊎ ((limit < whole_depth S T) × Open old new limit r)
       unfolding FoundIn space_after decision_of ruling_of depth_of saying
       against k space₂ d = go h.looked.found refl d (dec_lt limit (whole_depth S T))

@@ -6,6 +6,7 @@ use mathlib.Core.Bool.{Bool, true, false}
 use mathlib.Core.Logic.{inl, inr}
 use mathlib.Core.List.{List}
 use mathlib.Core.Option.{Option, none, some}
+use Rattle.std.specs.Prelude.{Result, Ok, Err}
 use native.Mathlib.Omega.{arith}
 use lib.Dec.{ltb}
 use lib.ListN.{length}
@@ -17,13 +18,12 @@ use Rattle.sheet_records.specs.declared.refusal.Cause.{Cause}
 use Rattle.sheet_written.specs.Width.{heading_width}
 use Rattle.sheet_reader.specs.Reader.{Checks, accepted, rejected, read_sheet}
 use Rattle.sheet_judge.proofs.Places.{check-refused}
-use Rattle.sheet_judge.specs.declared.mark.Uses.{Uses}
 use Rattle.play_records.specs.Records.{Given, moves, bad, parse}
 use Rattle.serve_conditions.specs.Pair.{refusing, matching}
 use Rattle.serve_compare.specs.Refusals.{on_read, on_given, follow_refusal}
 use Rattle.serve_compare.specs.Refusals.{compare_refusal}
-use Rattle.serve_compare.specs.Look.{Ruling, apart, same, so_far, saying, LookedBy, LookPromise}
-use Rattle.serve_compare.specs.declared.Looking.TheVariants.{Refused}
+use Rattle.serve_compare.specs.Look.{LookedBy, LookPromise}
+use Rattle.serve_compare.specs.declared.Looking.{Looking}
 use Rattle.serve_compare.specs.Demands.{CheckNumber, FollowNumber, CompareNumber, NumbersOnly}
 
 -- no refusal, or one whose number is among P
@@ -87,21 +87,18 @@ compare-among old new words space =
     lent (matching old new root other ty type-of-other) (ltb words (words_asked N n)) (ltb space (4 * (n - 1)))))
 
 -- look: compare's; an answer is no refusal
-never-refused : (R : Ruling) (looked : ℕ) (v w : Uses) (x : Cause) → Refused x ≡ saying R looked v w → ⊥
-unfolding saying
-never-refused (apart which k) looked v w x e = let z : ◌≡◌ {A = ℕ} 0 1 = cc in omega arith
-never-refused same looked v w x e = let z : ◌≡◌ {A = ℕ} 0 1 = cc in omega arith
-never-refused so_far looked v w x e = let z : ◌≡◌ {A = ℕ} 0 1 = cc in omega arith
+never-refused : {a : Looking} (x : Cause) → Err x ≡ Ok a → ⊥
+never-refused x e = let z : ◌≡◌ {A = ℕ} 0 1 = cc in omega arith
 
 look-number : (old new : List ℕ) (limit : ℕ) (ws space : List ℕ) (x : Cause) (ws' space' : List ℕ) →
-    LookPromise old new limit ws space (Refused x) ws' space' → CompareNumber x.number
+    LookPromise old new limit ws space (Err x) ws' space' → CompareNumber x.number
 unfolding LookedBy Among
 look-number old new limit ws space x ws' space' p =
     go (compare_refusal old new (length ws) (length space)) (compare-among old new (length ws) (length space)) p
   where
-    go : (y : Option Cause) → Among CompareNumber y → LookedBy y old new limit ws space (Refused x) ws' space' →
+    go : (y : Option Cause) → Among CompareNumber y → LookedBy y old new limit ws space (Err x) ws' space' →
         CompareNumber x.number
-    go none a h = absurd (never-refused _ _ _ _ x h.answer)
+    go none a h = absurd (never-refused x h.answer)
     go (some y) a h = let e : x ≡ y = (let f = h.0 in cc) in rw e a
 
 -- THEOREM: demand 1, of the numbers

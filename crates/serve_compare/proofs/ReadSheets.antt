@@ -2,6 +2,7 @@
 -- represent it.
 use mathlib.Core.Path.{◌≡◌, sym, ap, ap₂, ◌∙◌, subst}
 use mathlib.Core.List.{List, []}
+use Rattle.std.specs.Prelude.{Result, Ok, Err}
 use Prim.Native.Nat.{ℕ, ◌≤◌, ◌<◌}
 use native.Mathlib.Omega.{arith}
 use Rattle.language.specs.declared.Numbers.{Numbers}
@@ -28,18 +29,17 @@ use Rattle.states_words.specs.inner.Ready as explicit
 use Rattle.states_words.proofs.Ranges.{type_in, sheet-range}
 use Rattle.term_load.specs.Loaded.{Ready, LoadedBy}
 use Rattle.term_load.specs.declared.load.Loaded.{Loaded}
-use Rattle.term_load.specs.declared.load.Loaded.TheVariants as loaded
 use Rattle.serve_compare.specs.Promise.{Holds}
 
 -- a sheet whose loading is refused
-pub refused-sheet : (s u : List ℕ) {x : Loaded} {z : Refusal} → LoadedBy s x u → x ≡ loaded.Refused z →
+pub refused-sheet : (s u : List ℕ) {x : Result Loaded Refusal} {z : Refusal} → LoadedBy s x u → x ≡ Err z →
     read_sheet s ≡ rejected z.number z.place
 unfolding LoadedBy
 refused-sheet s u L e = rw e at L
 
 -- a sheet that is loaded
-pub taken : (s u : List ℕ) {x : Loaded} {root row ty size : ℕ} {v : Uses} → LoadedBy s x u →
-    x ≡ loaded.Sheet root row ty size v → Ready s root row ty size v u
+pub taken : (s u : List ℕ) {x : Result Loaded Refusal} {y : Loaded} → LoadedBy s x u → x ≡ Ok y →
+    Ready s y.root y.row y.ty y.size y.uses u
 unfolding LoadedBy
 taken s u L e = rw e at L
 

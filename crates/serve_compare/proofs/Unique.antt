@@ -29,6 +29,7 @@ use Rattle.serve_compare.specs.Refusals.{on_read, follow_refusal, compare_refusa
 use Rattle.serve_compare.specs.Promise.{Holds, Greatest, NoPlay, Counted, FollowedBy}
 use Rattle.serve_compare.specs.Promise.{Decided, same, apart, ComparedBy}
 use Rattle.serve_compare.specs.Demands.{Comparable, FollowUnique, CompareUnique}
+use Rattle.std.specs.Prelude.{Result}
 use Rattle.serve_compare.specs.declared.Comparison.{Comparison}
 use Rattle.serve_compare.proofs.ReadSheets.{two-first}
 use Rattle.serve_compare.proofs.ComparePlays.{AsOne, as_one}
@@ -121,7 +122,7 @@ module _ (S T : Sheet) (A : Accepted S) (B : Accepted T) (e : S.numbers ≡ T.nu
       by (inr (inr b)) = absurd (only-differ other v g.only (f.earlier v b))
 
   -- THEOREM: there is one decision
-  one-decision : {space : List ℕ} {r r₂ : Comparison} {space₁ space₂ : List ℕ} → Decided S T space r space₁ →
+  one-decision : {space : List ℕ} {r r₂ : Result Comparison Cause} {space₁ space₂ : List ℕ} → Decided S T space r space₁ →
       Decided S T space r₂ space₂ → (r ≡ r₂) × (space₁ ≡ space₂)
   one-decision (same h) (same k) = (h.answer ∙ sym k.answer, h.space_kept ∙ sym k.space_kept)
   one-decision (same h) (apart k) =

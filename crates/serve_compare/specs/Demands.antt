@@ -1,6 +1,6 @@
 -- The demands (docs/DEMANDS.md), each a type: of the numbers of refusals and of what a promise leaves open (1), of the answer
 -- (2), and the length rules (3), for all bytes and for all sheets in order. SHEETS 8.
-use Rattle.std.specs.Prelude.{◌≡◌, ◌↔◌, ◌⊎◌, List, map, ℕ, ◌+◌, ◌-◌, ◌≤◌, length, take}
+use Rattle.std.specs.Prelude.{◌≡◌, ◌↔◌, ◌⊎◌, List, map, ℕ, ◌+◌, ◌-◌, ◌≤◌, length, take, Result, Err}
 use Rattle.std.proofs.Math.Option.{none, some}
 use Rattle.language.specs.Move.{Word, record_of, records}
 use Rattle.sheet_records.specs.declared.edition.Edition.TheVariants.{Present}
@@ -16,12 +16,10 @@ use Rattle.sheet_judge.specs.Mark.{uses_of}
 use Rattle.serve_compare.specs.Plays.{CompletePlay, reckoned, Alike, Only, FirstPlay}
 use Rattle.sheet_records.specs.Refusal.{headings_differ, too_few_words, space_too_short, bad_play}
 use Rattle.serve_compare.specs.Refusals.{follow_refusal, compare_refusal}
-use Rattle.serve_compare.specs.Promise.{Holds, FollowPromise, ComparePromise}
+use Rattle.serve_compare.specs.Promise.{Holds, FollowPromise, Same, Apart, ComparePromise}
 use Rattle.serve_compare.specs.Look.{LookPromise}
 use Rattle.serve_compare.specs.declared.Following.{Following}
 use Rattle.serve_compare.specs.declared.Comparison.{Comparison}
-use Rattle.serve_compare.specs.declared.Comparison.TheVariants.{Same, Apart}
-use Rattle.serve_compare.specs.declared.Looking.TheVariants.{Refused as NotLooked}
 
 -- Demand 1, of the numbers: check refuses by 1 to 11 and 16, follow also by 13 and 15, compare and look also by 12, 13
 -- and 14
@@ -41,21 +39,21 @@ pub record NumbersOnly : Type 0 where
   pub of_compare : (old new : List ℕ) (words space : ℕ) (x : Cause) → compare_refusal old new words space ≡ some x →
       CompareNumber x.number
   pub of_look : (old new : List ℕ) (limit : ℕ) (ws space : List ℕ) (x : Cause) (ws' space' : List ℕ) →
-      LookPromise old new limit ws space (NotLooked x) ws' space' → CompareNumber x.number
+      LookPromise old new limit ws space (Err x) ws' space' → CompareNumber x.number
 
 -- Demand 1, of what is lent: a promise allows one answer and one state of everything lent
 abbrev pub FollowUnique : Type 0
-FollowUnique = (s play ws : List ℕ) (r r₂ : Following) (ws₁ ws₂ : List ℕ) → FollowPromise s play ws r ws₁ →
+FollowUnique = (s play ws : List ℕ) (r r₂ : Result Following Cause) (ws₁ ws₂ : List ℕ) → FollowPromise s play ws r ws₁ →
     FollowPromise s play ws r₂ ws₂ → (r ≡ r₂) × (ws₁ ≡ ws₂)
 
 abbrev pub CompareUnique : Type 0
-CompareUnique = (old new ws space : List ℕ) (r r₂ : Comparison) (ws₁ ws₂ space₁ space₂ : List ℕ) →
+CompareUnique = (old new ws space : List ℕ) (r r₂ : Result Comparison Cause) (ws₁ ws₂ space₁ space₂ : List ℕ) →
     ComparePromise old new ws space r ws₁ space₁ → ComparePromise old new ws space r₂ ws₂ space₂ →
     (r ≡ r₂) × ((ws₁ ≡ ws₂) × (space₁ ≡ space₂))
 
 -- Demand 2. "Apart", with the sheet that has the first play of exactly one and its own number of moves; its records stand at
 -- the start of play space, and it has at most S + T - 1 moves
-pub record Shown (S T : Sheet) (r : Comparison) (space : List ℕ) : Type 0 where
+pub record Shown (S T : Sheet) (r : Result Comparison Cause) (space : List ℕ) : Type 0 where
   pub which : ℕ
   pub play : Word
   pub answer : r ≡ Apart which (length play) (uses_of S) (uses_of T)
@@ -64,7 +62,7 @@ pub record Shown (S T : Sheet) (r : Comparison) (space : List ℕ) : Type 0 wher
   pub short : length play ≤ reckoned S + reckoned T - 1
 
 -- either "same", and every play is of both sheets or of neither, or "apart" as above, and nothing else
-pub record Exact (old new : List ℕ) (r : Comparison) (space : List ℕ) : Type 0 where
+pub record Exact (old new : List ℕ) (r : Result Comparison Cause) (space : List ℕ) : Type 0 where
   pub first_sheet : Sheet
   pub second_sheet : Sheet
   pub first_held : Holds old first_sheet
@@ -77,7 +75,7 @@ pub record Exact (old new : List ℕ) (r : Comparison) (space : List ℕ) : Type
 
 -- of whatever keeps compare's promise, where nothing is refused
 abbrev pub ExactAnswer : Type 0
-ExactAnswer = (old new ws space : List ℕ) (r : Comparison) (ws' space' : List ℕ) →
+ExactAnswer = (old new ws space : List ℕ) (r : Result Comparison Cause) (ws' space' : List ℕ) →
     ComparePromise old new ws space r ws' space' → compare_refusal old new (length ws) (length space) ≡ none →
     Exact old new r space'
 

@@ -5,20 +5,26 @@ ghost use Rattle.serve_compare.specs.inner.Deciding.{Deciding, Verdicts, Examine
 use crate::Examined;
 use crate::causes::{both_cause, cause_of};
 use dfa::words::clear;
+use dfa_difference::Task;
 use dfa_difference::search::first_difference;
-use dfa_difference::{Task, Verdict};
-use play_words::Decision;
+use play_words::Difference;
 use play_words::show::show;
 use serve_conditions::heading::alike;
 use serve_conditions::pair::pair_number;
 use sheet_reader::reading::numbers_of;
-use sheet_records::refusal::{NEW_SHEET, NOT_REFUSED, OLD_SHEET};
+use sheet_records::refusal::{Cause, NEW_SHEET, NOT_REFUSED, OLD_SHEET};
 use states_build::build::two_from_rows;
 use term_expand::expand::TERM_WORDS;
-use term_load::load::{Loaded, load};
+use term_load::load::load;
 
 // Compares the sheets of sizes `all` and `more` whose automata stand in the words, by their plays of at most `most` moves.
-fn decide(words: &mut [u32], space: &mut [u8], all: usize, more: usize, most: usize) -> Decision
+fn decide(
+    words: &mut [u32],
+    space: &mut [u8],
+    all: usize,
+    more: usize,
+    most: usize,
+) -> Option<Difference>
     requires { Deciding words.old space.old all more }
     ensures { (D : Deciding words.old space.old all more)
         → Verdicts D.numbers D.type D.term D.other_term most space.old result
@@ -33,11 +39,8 @@ fn decide(words: &mut [u32], space: &mut [u8], all: usize, more: usize, most: us
         g: all + more - 1,
         most,
     };
-    let v = first_difference(words, t);
-    match v {
-        Verdict::Same => Decision::Same,
-        Verdict::Apart(k) => show(words, space, n, k, all - 1),
-    }
+    let k = first_difference(words, t)?;
+    show(words, space, n, k, all - 1)
 }
 
 // Examines two sheets by their plays of at most `most` moves: the first play that only one of them has, and which; or that
@@ -48,49 +51,36 @@ pub(crate) fn examine(
     most: usize,
     words: &mut [u32],
     space: &mut [u8],
-) -> Examined
+) -> Result<Examined, Cause>
     ensures { ExaminePromise old.now new.now most words.old space.old
         result words.new space.new }
 {
     let mut t = [0u16; TERM_WORDS];
     let x = load(old, &mut t);
-    let Loaded::Sheet {
-        root,
-        row,
-        ty,
-        size,
-        uses,
-    } = x
-    else {
-        return Examined::Refused(cause_of(x, OLD_SHEET));
+    // `let .. else`, not `?`: the form of document 01 in which the answer is taken apart and the refusal handed on.
+    let Ok(first) = x else {
+        return Err(cause_of(x, OLD_SHEET));
     };
     let mut u = [0u16; TERM_WORDS];
     let y = load(new, &mut u);
-    let Loaded::Sheet {
-        root: other,
-        row: other_row,
-        ty: b,
-        size: other_size,
-        uses: other_uses,
-    } = y
-    else {
-        return Examined::Refused(cause_of(y, NEW_SHEET));
+    let Ok(second) = y else {
+        return Err(cause_of(y, NEW_SHEET));
     };
-    let all = size as usize;
-    let more = other_size as usize;
-    let matching = alike(old, new, root, other, ty, b);
+    let all = first.size as usize;
+    let more = second.size as usize;
+    let matching = alike(old, new, first.root, second.root, first.ty, second.ty);
     let n = numbers_of(old);
     let number = pair_number(matching, n, words.len(), space.len(), all + more);
     if number != NOT_REFUSED {
-        return Examined::Refused(both_cause(number));
+        return Err(both_cause(number));
     }
-    two_from_rows(&t, &u, n, row, other_row, all, more, words);
+    two_from_rows(&t, &u, n, first.row, second.row, all, more, words);
     let found = decide(words, space, all, more, most);
     clear(words);
-    Examined::Known {
+    Ok(Examined {
         found,
         whole: all + more - 1,
-        old: uses,
-        new: other_uses,
-    }
+        old: first.uses,
+        new: second.uses,
+    })
 }

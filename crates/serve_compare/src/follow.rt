@@ -5,50 +5,44 @@ use crate::Following;
 use crate::causes::{both_cause, cause_of, play_cause};
 use dfa::words::clear;
 use dfa_live::mark_live;
-use play_records::play::{Parsed, count_moves};
+use play_records::play::count_moves;
 use play_words::walk::longest;
 use serve_conditions::lent::words_asked;
 use sheet_reader::reading::numbers_of;
-use sheet_records::refusal::{OLD_SHEET, TOO_FEW_WORDS};
+use sheet_records::refusal::{Cause, OLD_SHEET, TOO_FEW_WORDS};
 use states_build::build::one_from_rows;
 use term_expand::expand::TERM_WORDS;
-use term_load::load::{Loaded, load};
+use term_load::load::load;
 
 // How many moves at the start of the play begin some complete play of the sheet, and whether the whole play is
 // complete.
-pub fn follow(sheet: &[u8], play: &[u8], words: &mut [u32]) -> Following
+pub fn follow(sheet: &[u8], play: &[u8], words: &mut [u32]) -> Result<Following, Cause>
     ensures { FollowPromise sheet.now play.now words.old result
         words.new }
 {
     let mut t = [0u16; TERM_WORDS];
     let x = load(sheet, &mut t);
-    let Loaded::Sheet {
-        root: _,
-        row,
-        ty: _,
-        size,
-        uses: _,
-    } = x
-    else {
-        return Following::Refused(cause_of(x, OLD_SHEET));
+    // `let .. else`, not `?`: the form of document 01 in which the answer is taken apart and the refusal handed on.
+    let Ok(loaded) = x else {
+        return Err(cause_of(x, OLD_SHEET));
     };
-    let all = size as usize;
+    let all = loaded.size as usize;
     let n = numbers_of(sheet);
     if words.len() < words_asked(n, all) {
-        return Following::Refused(both_cause(TOO_FEW_WORDS));
+        return Err(both_cause(TOO_FEW_WORDS));
     }
     let parsed = count_moves(play);
-    let Parsed::Moves(total) = parsed else {
-        return Following::Refused(play_cause(parsed));
+    let Ok(total) = parsed else {
+        return Err(play_cause(parsed));
     };
-    one_from_rows(&t, n, row, all, words);
+    one_from_rows(&t, n, loaded.row, all, words);
     mark_live(words, all + 1, all - 1);
     let reach = longest(words, all + 1, play, total);
     clear(words);
     let count = reach.count;
     let last = reach.last;
-    Following::Follows {
+    Ok(Following {
         count,
         complete: last == all - 1,
-    }
+    })
 }

@@ -1,9 +1,8 @@
 // The services: check (crate sheet_judge), follow, compare and look.
 #![tactic(auto)]
 
-use play_words::Decision;
+use play_words::Difference;
 use sheet_judge::mark::Uses;
-use sheet_records::refusal::Cause;
 
 // Refusals, handed on.
 pub mod causes;
@@ -20,61 +19,46 @@ pub mod look;
 pub(crate) const MOST_MOVES: usize = 8191;
 
 // The answer of follow: how many moves at the start of the play begin some complete play, and whether the whole play is
-// complete; or the refusal.
+// complete.
 #[derive(Drop)]
-pub enum Following {
-    Follows { count: usize, complete: bool },
-    Refused(Cause),
+pub struct Following {
+    pub count: usize,
+    pub complete: bool,
 }
 
-// What examining two sheets gives: what is decided, S + T - 1, and the names that the old and the new sheet use; or the
-// refusal.
+// What examining two sheets gives: how they differ by the plays that are compared, S + T - 1, and the names that the old
+// and the new sheet use.
 #[derive(Drop)]
-pub(crate) enum Examined {
-    Known {
-        found: Decision,
-        whole: usize,
-        old: Uses,
-        new: Uses,
-    },
-    Refused(Cause),
+pub(crate) struct Examined {
+    pub(crate) found: Option<Difference>,
+    pub(crate) whole: usize,
+    pub(crate) old: Uses,
+    pub(crate) new: Uses,
 }
 
-// The answer of compare: what is decided, with the names that the old and the new sheet use; or the refusal.
+// The answer of compare: how the sheets differ, None where they have the same complete plays, and the names that the old
+// and the new sheet use.
 #[derive(Drop)]
-pub enum Comparison {
-    Same {
-        old: Uses,
-        new: Uses,
-    },
-    Apart {
-        sheet: u8,
-        moves: usize,
-        old: Uses,
-        new: Uses,
-    },
-    Refused(Cause),
+pub struct Comparison {
+    pub found: Option<Difference>,
+    pub old: Uses,
+    pub new: Uses,
 }
 
-// The answer of look: the same complete plays; the first play that only one sheet has, and which has it; or no such play
-// so far; each with the number of moves looked through and the names that the old and the new sheet use; or the refusal.
+// What look finds: the same complete plays; a play that only one sheet has, and which has it; or no such play so far.
 #[derive(Drop)]
-pub enum Looking {
-    Same {
-        looked: usize,
-        old: Uses,
-        new: Uses,
-    },
-    Apart {
-        sheet: u8,
-        looked: usize,
-        old: Uses,
-        new: Uses,
-    },
-    SoFar {
-        looked: usize,
-        old: Uses,
-        new: Uses,
-    },
-    Refused(Cause),
+pub enum Outcome {
+    Same,
+    Apart { sheet: u8 },
+    SoFar,
+}
+
+// The answer of look: what is found, the number of moves looked through, and the names that the old and the new sheet
+// use.
+#[derive(Drop)]
+pub struct Looking {
+    pub outcome: Outcome,
+    pub looked: usize,
+    pub old: Uses,
+    pub new: Uses,
 }

@@ -1,33 +1,32 @@
--- The loop over the bytes of two headings, the last byte first.
-use Prim.Native.Nat.{ℕ, zero, suc, ◌-◌, ◌≤◌, ◌<◌}
+-- Two headings, byte by byte.
+use Prim.Native.Nat.{ℕ, zero, suc, ◌<◌}
 use native.Mathlib.Omega.{arith}
-use mathlib.Core.Path.{◌≡◌, sym, ◌∙◌}
+use native.Mathlib.Decide.{ℕ_discrete}
+use mathlib.Core.Path.{◌≡◌, refl}
+use mathlib.Core.Logic.{◌≢◌}
 use mathlib.Core.Bool.{true, false}
 use mathlib.Core.List.{List}
 use lib.ListN.{get_or}
 use borrow.Author.Tests.{eq-eqb, ne_eqb}
 use Rattle.serve_conditions.specs.Pair.{same_first}
 
--- a byte differs
-pub same-differ : (a b : List ℕ) (n i x y : ℕ) → 0 < i → x ≡ get_or a (i - 1) 0 → y ≡ get_or b (i - 1) 0 → (x ≡ y → ⊥) →
-    same_first n a b ≡ same_first i a b → false ≡ same_first n a b
-unfolding same_first
-same-differ a b n zero x y h p q d s = absurd (omega arith)
-same-differ a b n (suc i) x y h p q d s =
-    let z : suc i - 1 ≡ i = omega arith in
-    sym (s ∙ rw (ne_eqb (get_or a i 0) (get_or b i 0) (λ e. d ((rw z at p) ∙ e ∙ sym (rw z at q)))))
+module _ (a b : List ℕ) where
+  -- a byte differs
+  pub same-differ : (n i : ℕ) → i < n → get_or a i 0 ≢ get_or b i 0 → false ≡ same_first n a b
+  unfolding same_first
+  same-differ zero i h d = absurd (omega arith)
+  same-differ (suc n) i h d =
+      by (ℕ_discrete i n) (ℕ_discrete (get_or a n 0) (get_or b n 0)) (λ l. same-differ n i l d)
+    where
+      by : Dec (i ≡ n) → Dec (get_or a n 0 ≡ get_or b n 0) → (i < n → false ≡ same_first n a b) →
+          false ≡ same_first (suc n) a b
+      by (yes e) q r = rw (ne_eqb (get_or a n 0) (get_or b n 0) (rw e at d)) refl
+      by (no e) (yes q) r = rw (eq-eqb (get_or a n 0) (get_or b n 0) q) (r (omega arith))
+      by (no e) (no q) r = rw (ne_eqb (get_or a n 0) (get_or b n 0) q) refl
 
--- a byte is the same
-pub same-again : (a b : List ℕ) (n i x y : ℕ) → 0 < i → x ≡ get_or a (i - 1) 0 → y ≡ get_or b (i - 1) 0 → x ≡ y →
-    same_first n a b ≡ same_first i a b → same_first n a b ≡ same_first (i - 1) a b
-unfolding same_first
-same-again a b n zero x y h p q d s = absurd (omega arith)
-same-again a b n (suc i) x y h p q d s =
-    let z : suc i - 1 ≡ i = omega arith in
-    rw z (s ∙ rw (eq-eqb (get_or a i 0) (get_or b i 0) (sym (rw z at p) ∙ d ∙ (rw z at q))))
-
--- all bytes are the same
-pub same-last : (a b : List ℕ) (n i : ℕ) → i ≤ 0 → same_first n a b ≡ same_first i a b → true ≡ same_first n a b
-unfolding same_first
-same-last a b n zero h s = sym s
-same-last a b n (suc i) h s = absurd (omega arith)
+  -- all bytes are the same
+  pub same-all : (n : ℕ) → ((k : ℕ) → k < n → get_or a k 0 ≡ get_or b k 0) → true ≡ same_first n a b
+  unfolding same_first
+  same-all zero h = refl
+  same-all (suc n) h =
+      rw (eq-eqb (get_or a n 0) (get_or b n 0) (h n (omega arith))) (same-all n (λ k l. h k (omega arith)))

@@ -8,9 +8,7 @@ use sheet_records::read::byte_at;
 fn same_first(a: &[u8], b: &[u8], n: usize) -> bool
     ensures { result ≡ same_first n a.now b.now }
 {
-    let mut i = n;
-    while 0 < i {
-        i -= 1;
+    for i in 0..n {
         if byte_at(a, i) != byte_at(b, i) {
             return false;
         }

@@ -9,6 +9,7 @@ use mathlib.Core.List.{List, [], ◌++◌}
 use lib.ListN.{length, get_or}
 use lib.Dec.{eqb, leb, ltb}
 use borrow.Author.Tests.{eqb-false, le-ltb}
+use Rattle.std.specs.Prelude.{Result, Ok, Err}
 use Rattle.language.specs.Choice.{pick}
 use Rattle.language.specs.declared.Numbers.{Numbers}
 use Rattle.sheet_records.specs.Kind.{shape_of}
@@ -17,10 +18,9 @@ use Rattle.sheet_records.specs.Refusal.{too_long, cut_short, out_of_range, too_m
 use Rattle.sheet_records.specs.Standing.{retired, declared_standing}
 use Rattle.sheet_records.specs.declared.edition.Edition.{Edition}
 use Rattle.sheet_records.specs.declared.edition.Edition.TheVariants.{Present}
+use Rattle.sheet_records.specs.declared.refusal.Refusal.{Refusal}
 use Rattle.sheet_records.specs.declared.kind.Shape.{Shape}
 use Rattle.sheet_records.specs.declared.kind.Shape.TheVariants.{Part, Declare, Retire, Unknown}
-use Rattle.sheet_judgements.specs.declared.judgement.Judged.{Judged}
-use Rattle.sheet_judgements.specs.declared.judgement.Judged.TheVariants.{Good, Refused}
 use Rattle.sheet_written.specs.Written.{Name, Sheet}
 use Rattle.sheet_written.specs.Meaning.{typed}
 use Rattle.sheet_written.proofs.Tests.{by-test}
@@ -52,15 +52,15 @@ nine-bind (got x ty end) f h = absurd h
 nine-bind (refused k p) f h = h
 
 -- a record of a name, where what is read after it is read with fewer
-name-nine : (n at : ℕ) (a : Name) (b : Bool) (j : Judged) (A B : Answer Whole) →
+name-nine : (n at : ℕ) (a : Name) (b : Bool) (j : Result (Unit {0}) Refusal) (A B : Answer Whole) →
     ((m : ℕ) → n ≡ suc m → More m A → Nine B) →
     More n (pick b (refused too_many_names at) (on_judged j (bind A (λ x ty end. got (with_name a x) ty end)))) →
     Nine (pick (eqb n 0) (refused too_many_names at) (on_judged j (bind B (λ x ty end. got (with_name a x) ty end))))
 unfolding More Nine on_judged bind with_name
 name-nine n at a true j A B f h = absurd h
-name-nine n at a false (Refused x) A B f h = absurd h
-name-nine n at a false Good (refused k p) B f h = absurd h
-name-nine n at a false Good (got (whole ns root t) ty end) B f h =
+name-nine n at a false (Err x) A B f h = absurd h
+name-nine n at a false (Ok u) (refused k p) B f h = absurd h
+name-nine n at a false (Ok u) (got (whole ns root t) ty end) B f h =
     by-test (eqb n 0) (λ e. rw e refl)
     (λ e. let z = eqb-false n 0 e in
     let k : n ≡ suc (n - 1) = omega arith in

@@ -26,11 +26,10 @@ use Rattle.serve_compare.specs.Plays.{Alike}
 use Rattle.serve_conditions.specs.Pair.{matching, pair_refusal}
 use Rattle.serve_compare.specs.Refusals.{on_read, compare_refusal}
 use Rattle.serve_compare.specs.Demands.{Shown}
-use Rattle.serve_compare.specs.Promise.{Holds, ComparedBy, ComparePromise}
-use Rattle.serve_compare.specs.declared.Comparison.TheVariants.{Same}
+use Rattle.serve_compare.specs.Promise.{Holds, Same, ComparedBy, ComparePromise}
 use Rattle.serve_compare.proofs.ReadSheets.{two-first}
 use Rattle.serve_compare.proofs.ComparePlays.{as_one}
-use Rattle.serve_compare.proofs.Exactly.{exact-answer}
+use Rattle.serve_compare.proofs.Exactly.{exact-answer, not-same}
 use Rattle.serve_compare.proofs.Unique.{one-sheet, held-accepted}
 use Rattle.serve_part.specs.Around.{Around, filled, enclosing}
 use Rattle.serve_part.specs.Rules.{PartsAlike, CalledSame, PartsCompared}
@@ -122,7 +121,7 @@ called-alike old new {S} {T} h k c =
         ⊎ Shown X Y (Same c.old_uses c.new_uses) c.space-after →
         (u : Word) → Alike X Y u
     go X Y (inl (e, f)) = f
-    go X Y (inr s) = let e = s.answer in let z : ◌≡◌ {A = ℕ} 0 1 = cc in absurd (omega arith)
+    go X Y (inr s) = absurd (not-same _ _ _ _ _ _ (sym s.answer))
 
 -- THEOREM: whole sheets whose parts were called the same are called the same
 pub parts-compared : PartsCompared

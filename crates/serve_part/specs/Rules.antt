@@ -1,10 +1,11 @@
 -- What document 02 [7] says, as statements: "The head of setting wants to compare only the part an editor touched.
 -- Prove that she may." SHEETS 8.6.
-use Rattle.std.specs.Prelude.{◌≡◌, ◌↔◌, ◌⊎◌, List, ◌++◌, ℕ, ◌≤◌, length}
+use Rattle.std.specs.Prelude.{◌≡◌, ◌↔◌, ◌⊎◌, List, ◌++◌, ℕ, ◌≤◌, length, Result}
 use Rattle.std.proofs.Math.Option.{none}
 use Rattle.language.specs.Move.{Word}
 use Rattle.sheet_records.specs.Limits.{most_bytes, most_names, greatest_size}
 use Rattle.sheet_records.specs.Refusal.{too_long, too_many_names, too_large}
+use Rattle.sheet_records.specs.declared.refusal.Cause.{Cause}
 use Rattle.sheet_written.specs.Written.{Written, Name, Sheet}
 use Rattle.sheet_written.specs.Meaning.{type_of}
 use Rattle.sheet_reader.specs.Fine.{Accepted}
@@ -14,9 +15,8 @@ use Rattle.sheet_judge.specs.Mark.{uses_of}
 use Rattle.sheet_judge.specs.declared.mark.Uses.{Uses}
 use Rattle.serve_compare.specs.Plays.{reckoned, Alike}
 use Rattle.serve_compare.specs.Refusals.{compare_refusal}
-use Rattle.serve_compare.specs.Promise.{Holds, ComparePromise}
+use Rattle.serve_compare.specs.Promise.{Holds, Same, ComparePromise}
 use Rattle.serve_compare.specs.declared.Comparison.{Comparison}
-use Rattle.serve_compare.specs.declared.Comparison.TheVariants.{Same}
 use Rattle.serve_part.specs.Around.{Around, filled}
 use Rattle.serve_part.specs.Part.{PartOf, part_sheet, Lists, Differ}
 use Rattle.serve_part.specs.Bytes.{StandsAt}
@@ -44,7 +44,7 @@ abbrev pub PartsCompared : Type 0
 PartsCompared = (old new old-part new-part : List ℕ) (S T P Q : Sheet) (C : Around) (m n : Written) →
     Holds old S → Holds new T → Differ S T C m n →
     Holds old-part P → Holds new-part Q → PartOf S C m P → PartOf T C n Q → CalledSame old-part new-part →
-    (ws space : List ℕ) (r : Comparison) (ws' space' : List ℕ) → ComparePromise old new ws space r ws' space' →
+    (ws space : List ℕ) (r : Result Comparison Cause) (ws' space' : List ℕ) → ComparePromise old new ws space r ws' space' →
     compare_refusal old new (length ws) (length space) ≡ none → r ≡ Same (uses_of S) (uses_of T)
 
 -- two lists that are the same before and after a stretch of each

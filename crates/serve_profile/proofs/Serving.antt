@@ -1,4 +1,5 @@
 -- What the service answers.
+use Rattle.std.specs.Prelude.{Err}
 use Prim.Native.Nat.{ℕ, suc, ◌+◌, ◌≤◌, ◌<◌}
 use native.Mathlib.Omega.{arith}
 use mathlib.Core.Path.{◌≡◌, refl, sym, ap, ◌∙◌, subst}
@@ -13,15 +14,15 @@ use Rattle.sheet_written.specs.Width.{width, heading_width}
 use Rattle.sheet_reader.specs.Encoding.{encode, encode_names, encode_sheet}
 use Rattle.sheet_reader.specs.Reader.{Checks, accepted, rejected, read_sheet}
 use Rattle.sheet_reader.proofs.Right.{gives}
-use Rattle.sheet_judge.specs.Check.{checked_of}
+use Rattle.sheet_judge.specs.Check.{answered, checked_of}
 use Rattle.sheet_judge.specs.Mark.{uses_of}
-use Rattle.sheet_judge.specs.declared.check.Checked.TheVariants.{Accepted, Refused}
 use Rattle.sheet_judge.proofs.Places.{check-refused}
 use Rattle.sheet_reader.proofs.Widths.{wide, wide-heading}
 use Rattle.serve_profile.specs.Offence.{is_expression, offences, InProfile}
 use Rattle.serve_profile.specs.Quiet.{QuietPlays}
 use Rattle.serve_profile.specs.Places.{Rising, PlacesRise}
 use Rattle.serve_profile.specs.Profile.{held_to, profiled_of}
+use Rattle.sheet_judge.proofs.Judging.{answered-type, answered-size}
 use Rattle.serve_profile.specs.Service.{Passed, PassedRule, AsCheck, Offended, RefusedRule, WellRefused, ProfileNumbers}
 use Rattle.serve_profile.proofs.Resolving.{quiet-plays}
 use Rattle.serve_profile.proofs.Places.{places-rise}
@@ -31,16 +32,16 @@ pub passed-rule : PassedRule
 unfolding PassedRule profiled_of checked_of held_to InProfile QuietPlays
 passed-rule s ty size uses e = go (read_sheet s) refl e
   where
-    go : (c : Checks) → read_sheet s ≡ c → profiled_of c ≡ Accepted ty size uses → Passed s ty size uses
-    go (rejected n p) r h = let z : ◌≡◌ {A = ℕ} 0 1 = cc in absurd (omega arith)
+    go : (c : Checks) → read_sheet s ≡ c → profiled_of c ≡ answered ty size uses → Passed s ty size uses
+    go (rejected n p) r h = cc
     go (accepted S ty' size') r h = held (offences S) refl h
       where
-        held : (ps : List ℕ) → offences S ≡ ps → held_to ps (Accepted ty' size' (uses_of S)) ≡ Accepted ty size uses →
+        held : (ps : List ℕ) → offences S ≡ ps → held_to ps (answered ty' size' (uses_of S)) ≡ answered ty size uses →
             Passed s ty size uses
-        held (p ∷ ps) o h = let z : ◌≡◌ {A = ℕ} 0 1 = cc in absurd (omega arith)
+        held (p ∷ ps) o h = cc
         held [] o h =
-            let a : ty' ≡ ty = cc in
-            let b : size' ≡ size = cc in
+            let a = answered-type h in
+            let b = answered-size h in
             let r' : read_sheet s ≡ accepted S ty size =
             r ∙ ap (λ (k : ℕ). accepted S k size') a ∙ ap (accepted S ty) b in
             let g = gives Present s S ty size r' in
@@ -66,13 +67,13 @@ refused-rule : RefusedRule
 unfolding RefusedRule profiled_of held_to
 refused-rule s x e = go (read_sheet s) refl e
   where
-    go : (c : Checks) → read_sheet s ≡ c → profiled_of c ≡ Refused x →
-        (checked_of (read_sheet s) ≡ Refused x) ⊎ Offended s x
+    go : (c : Checks) → read_sheet s ≡ c → profiled_of c ≡ Err x →
+        (checked_of (read_sheet s) ≡ Err x) ⊎ Offended s x
     go (rejected n p) r h = inl (ap checked_of r ∙ h)
     go (accepted S ty size) r h = held (offences S) refl h
       where
-        held : (ps : List ℕ) → offences S ≡ ps → held_to ps (checked_of (accepted S ty size)) ≡ Refused x →
-            (checked_of (read_sheet s) ≡ Refused x) ⊎ Offended s x
+        held : (ps : List ℕ) → offences S ≡ ps → held_to ps (checked_of (accepted S ty size)) ≡ Err x →
+            (checked_of (read_sheet s) ≡ Err x) ⊎ Offended s x
         held [] o h = inl (ap checked_of r ∙ h)
         held (p ∷ ps) o h =
             let f : cause not_quiet old_sheet p ≡ x = cc in
@@ -116,14 +117,14 @@ pub profile-numbers : ProfileNumbers
 unfolding ProfileNumbers RefusedRule PlacesRise checked_of
 profile-numbers s x e = told (refused-rule s x e)
   where
-    checked : (c : Checks) → read_sheet s ≡ c → checked_of c ≡ Refused x → WellRefused x
+    checked : (c : Checks) → read_sheet s ≡ c → checked_of c ≡ Err x → WellRefused x
     checked (accepted S ty size) r h = let z : ◌≡◌ {A = ℕ} 0 1 = cc in absurd (omega arith)
     checked (rejected n p) r h =
         let f : cause n old_sheet p ≡ x = cc in
         let R = check-refused Present s r in
         subst WellRefused f (record { numbered = inl R.known; placed = R.within })
 
-    told : (checked_of (read_sheet s) ≡ Refused x) ⊎ Offended s x → WellRefused x
+    told : (checked_of (read_sheet s) ≡ Err x) ⊎ Offended s x → WellRefused x
     told (inl h) = checked (read_sheet s) refl h
     told (inr O) = record {
       numbered = inr O.number;

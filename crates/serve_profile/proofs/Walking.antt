@@ -1,4 +1,5 @@
 -- The pass over the records of a term, one after the other: what is left to go through, and the first that offends.
+use Rattle.std.specs.Prelude.{Some, None}
 use Prim.Native.Nat.{ℕ, ◌+◌, ◌≤◌, ◌<◌}
 use native.Mathlib.Omega.{arith}
 use mathlib.Core.Path.{◌≡◌, refl, sym, ap, ap₂, ◌∙◌, subst}
@@ -23,7 +24,6 @@ use Rattle.sheet_written.specs.Pieces.{Piece, pieces, own_width}
 use Rattle.sheet_table.specs.inner.Seats.{Seated, seated, SeatedAll, seated_more}
 use Rattle.serve_profile.specs.Offence.{loud, within, hit, offending, offences}
 use Rattle.serve_profile.specs.inner.Pass.{loud_at, reach_at, offends_at, first_of, Finds}
-use Rattle.serve_profile.specs.declared.offence.Offence.TheVariants.{Nothing, At}
 use Rattle.serve_profile.proofs.Pieces.{Item, item, items, bytes_of, offs, total, offs-open, head_of, kind_of, bytes-open}
 use Rattle.serve_profile.proofs.Pieces.{head-long, own_body, head-kind, width-open, FinePieces, fine-open}
 use Rattle.serve_profile.proofs.Loud.{loud-right, Side, inner, outer, Reached, reaches}
@@ -142,7 +142,7 @@ module _ (S : Sheet) (s t : List ℕ) (until at kind body next : ℕ) (G : Walki
   walk-on m = O.onward (ap (λ (b : Bool). pick b (at ∷ []) []) (offends-here m))
 
   -- it offends
-  walk-found : offends_at t at (reach_at t at until) kind ≡ true → At at ≡ first_of (offences S)
+  walk-found : offends_at t at (reach_at t at until) kind ≡ true → Some at ≡ first_of (offences S)
   unfolding hit first_of
   walk-found m = sym (ap first_of (O.found ∙ ap (λ (b : Bool). pick b (at ∷ []) [] ++ O.rest) (offends-here m)))
 
@@ -170,12 +170,12 @@ item-some x xs = omega (arith, length-append (encode x.term) (bytes_of xs), wide
 
 -- nothing is left
 walk-last : (S : Sheet) (s t : List ℕ) (until at : ℕ) → Walking S s t until at → length s ≤ at →
-    Nothing ≡ first_of (offences S)
+    None ≡ first_of (offences S)
 unfolding first_of offs
 walk-last S s t until at G h = go G.pending G.ends G.all
   where
     go : (xs : List Item) → at + length (bytes_of xs) ≡ length s → offences S ≡ offs S.names at xs →
-        Nothing ≡ first_of (offences S)
+        None ≡ first_of (offences S)
     go [] E A = rw A refl
     go (x ∷ xs) E A = absurd (omega (arith, E, h, item-some x xs))
 
@@ -196,12 +196,12 @@ module _ (s t : List ℕ) (root until again at kind body next : ℕ) (G : Walks 
       rw u (walk-on S s t until at kind body next (G S ty n a r Z) h e i z
       (ap (λ (k : ℕ). offends_at t at k kind) (sym u) ∙ sym v ∙ w))
 
-  pub walks-found : (m : Bool) → m ≡ offends_at t at again kind → m ≡ true → Finds s t root (At at)
+  pub walks-found : (m : Bool) → m ≡ offends_at t at again kind → m ≡ true → Finds s t root (Some at)
   walks-found m v w = record {
     does = λ S ty n a r Z.
         walk-found S s t until at kind (body_in (shape_of kind)) (at + (1 + body_in (shape_of kind))) (G S ty n a r Z) h e
         refl refl (ap (λ (k : ℕ). offends_at t at k kind) (sym u) ∙ sym v ∙ w);
   }
 
-pub walks-last : (s t : List ℕ) (root until at : ℕ) → Walks s t root until at → length s ≤ at → Finds s t root Nothing
+pub walks-last : (s t : List ℕ) (root until at : ℕ) → Walks s t root until at → length s ≤ at → Finds s t root None
 walks-last s t root until at G h = record { does = λ S ty n a r Z. walk-last S s t until at (G S ty n a r Z) h }

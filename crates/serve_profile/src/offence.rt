@@ -8,13 +8,6 @@ use sheet_records::limits::MOST_ARGUMENTS;
 use sheet_records::read::byte_at;
 use sheet_rows::row::{CLASS, END, TABLE, word_of};
 
-// What the pass finds: no record that offends, or the place of the first.
-#[derive(Drop)]
-pub(crate) enum Offence {
-    Nothing,
-    At(usize),
-}
-
 // The class of expressions.
 const EXPRESSIONS: usize = sheet_rows::class::EXPRESSIONS as usize;
 
@@ -84,8 +77,8 @@ fn offends(t: &[u16], at: usize, until: usize, kind: u8) -> bool
     is_loud(t, at, kind)
 }
 
-// The first record that offends, of a sheet whose term is at `root`.
-pub(crate) fn first_offence(s: &[u8], t: &[u16; TABLE], root: usize) -> Offence
+// The place of the first record that offends, of a sheet whose term is at `root`.
+pub(crate) fn first_offence(s: &[u8], t: &[u16; TABLE], root: usize) -> Option<usize>
     requires { length s.now ≤ 4096 }
     ensures { Finds s.now t.now root result }
 {
@@ -95,9 +88,9 @@ pub(crate) fn first_offence(s: &[u8], t: &[u16; TABLE], root: usize) -> Offence
         let kind = byte_at(s, at);
         until = reach(t, at, until);
         if offends(t, at, until, kind) {
-            return Offence::At(at);
+            return Some(at);
         }
         at += 1 + body_of(kind);
     }
-    Offence::Nothing
+    None
 }

@@ -14,26 +14,22 @@ use Rattle.sheet_written.specs.Renumber.{put, map_inside, over, lowest, changed,
 use Rattle.sheet_written.specs.Renumber.{with_id, renumber_parameters}
 use Rattle.sheet_reader.specs.Encoding.{pairs}
 use Rattle.serve_renumber.specs.Work.{marked, Takes, bound_entry, held_in, arity, Scoped, Lies, note, notes}
-use Rattle.serve_renumber.specs.Found.{Found, Within, Chosen, IdFound, WroteParameters, ParametersFound}
+use Rattle.serve_renumber.specs.Found.{Answer, stepped, Found, Within, Chosen, IdFound, WroteParameters, ParametersFound}
+use Rattle.std.specs.Prelude.{Ok, Err}
 use Rattle.serve_renumber.specs.declared.step.Step.{Step}
-use Rattle.serve_renumber.specs.declared.step.Step.TheVariants.{Done, Full}
 use Rattle.serve_renumber.proofs.Lists.{lies-head, lies-after, rewrites-same, rewrites-after, rewrites-then}
 use Rattle.serve_renumber.proofs.Lists.{rewrites-byte}
 use Rattle.serve_renumber.proofs.Entries.{scoped-bound, takes-put, lowest-same}
 use Rattle.serve_renumber.proofs.Finding.{found-over, found-so, found-full, found-next}
 
--- an answer that is Done
-pub within-value : (r : Step) (v d w c : ℕ) → Within v d r → r ≡ Done w c → w ≤ v
+-- of a step that is done
+pub within-done : {v d : ℕ} {x : Step} → Within v d (Ok x) → (x.value ≤ v) × (x.changes ≤ d)
 unfolding Within
-within-value r v d w c h e = (subst (λ (t : Step). Within v d t) e h).0
-
-pub within-changes : (r : Step) (v d w c : ℕ) → Within v d r → r ≡ Done w c → c ≤ d
-unfolding Within
-within-changes r v d w c h e = (subst (λ (t : Step). Within v d t) e h).1
+within-done h = h
 
 -- no enclosing binder has the id
 pub id-kept : (scope l k : List ℕ) (at id n e : ℕ) (h : Bool) → id < 256 → e ≡ get_or scope id 0 → h ≡ held_in e →
-    h ≡ false → IdFound scope l k at id n (Done id n) l k
+    h ≡ false → IdFound scope l k at id n (stepped id n) l k
 unfolding Within renumber_id Found notes
 id-kept scope l k at id n e h s i j f = record {
   within = (omega arith, omega arith);
@@ -42,12 +38,12 @@ id-kept scope l k at id n e h s i j f = record {
 }
   where
     go : (bs : List Binder) (taken : ℕ → Bool) (b : List ℕ) → id < 255 → is_held bs id ≡ false → Takes k taken →
-        Found (Chosen b) (renumber_id bs taken at id) n l (Done id n) b l k
+        Found (Chosen b) (renumber_id bs taken at id) n l (stepped id n) b l k
     go bs taken b small z T =
         let m : n ≡ n + 0 = omega arith in
         rw z (record {
           value = id;
-          answer = ap (Done id) m;
+          answer = ap (stepped id) m;
           post = record { valued = refl; small = small; bytes = refl };
           list = refl;
           takes = T;
@@ -55,7 +51,7 @@ id-kept scope l k at id n e h s i j f = record {
 
 -- an enclosing binder has it, and no id is left
 pub id-none : (scope l k : List ℕ) (at id n e low : ℕ) (h : Bool) → e ≡ get_or scope id 0 → h ≡ held_in e → h ≡ true →
-    low ≡ lowest (marked k) → 255 ≤ low → IdFound scope l k at id n (Full at) l k
+    low ≡ lowest (marked k) → 255 ≤ low → IdFound scope l k at id n (Err at) l k
 unfolding Within renumber_id changed Found
 id-none scope l k at id n e low h i j f q c = record {
   within = tt;
@@ -64,13 +60,13 @@ id-none scope l k at id n e low h i j f q c = record {
 }
   where
     go : (bs : List Binder) (taken : ℕ → Bool) (b : List ℕ) → is_held bs id ≡ true → low ≡ lowest taken →
-        Found (Chosen b) (renumber_id bs taken at id) n l (Full at) b l k
+        Found (Chosen b) (renumber_id bs taken at id) n l (Err at) b l k
     go bs taken b z y = rw (z, sym y, le-ltb low 255 c) refl
 
 -- or the lowest is given
 pub id-given : (scope l k l' k' : List ℕ) (at id n e low m : ℕ) (h : Bool) → e ≡ get_or scope id 0 → h ≡ held_in e →
     h ≡ true → low ≡ lowest (marked k) → low < 255 → l' ≡ note n (record { place = at; old = id; given = low }) l →
-    k' ≡ set k low 1 → m ≡ n + 1 → IdFound scope l k at id n (Done low m) l' k'
+    k' ≡ set k low 1 → m ≡ n + 1 → IdFound scope l k at id n (stepped low m) l' k'
 unfolding Within renumber_id changed Found notes
 id-given scope l k l' k' at id n e low m h i j f q c w v a = record {
   within = (omega arith, omega arith);
@@ -79,11 +75,11 @@ id-given scope l k l' k' at id n e low m h i j f q c w v a = record {
 }
   where
     go : (bs : List Binder) (taken : ℕ → Bool) (b : List ℕ) → is_held bs id ≡ true → low ≡ lowest taken →
-        Takes k taken → Found (Chosen b) (renumber_id bs taken at id) n l (Done low m) b l' k'
+        Takes k taken → Found (Chosen b) (renumber_id bs taken at id) n l (stepped low m) b l' k'
     go bs taken b z y T =
         rw (z, sym y, lt-ltb low 255 c) (record {
           value = low;
-          answer = ap (Done low) a;
+          answer = ap (stepped low) a;
           post = record { valued = refl; small = c; bytes = refl };
           list = w;
           takes = subst (λ (x : List ℕ). Takes x (put low true taken)) (sym v) (takes-put k taken low T);
@@ -91,7 +87,7 @@ id-given scope l k l' k' at id n e low m h i j f q c w v a = record {
 
 -- no parameter more
 pub parameters-none : (s scope inner b l k : List ℕ) (at count n : ℕ) → count ≡ 0 →
-    ParametersFound s scope inner b l k at count n (Done 0 n) inner b l k
+    ParametersFound s scope inner b l k at count n (stepped 0 n) inner b l k
 unfolding Within renumber_parameters Found notes inside map_inside
 parameters-none s scope inner b l k at count n c = record {
   within = (omega arith, omega arith);
@@ -100,12 +96,12 @@ parameters-none s scope inner b l k at count n c = record {
   where
     go : (ns : List Name) (bs cs : List Binder) (g : ℕ → ℕ) (taken : ℕ → Bool) (many : ℕ) (ps : List Parameter) →
         length ps ≡ 0 → Scoped ns cs g inner → Takes k taken →
-        Found (WroteParameters ns cs g at many ps b inner) (renumber_parameters bs taken at ps) n l (Done 0 n) b l k
+        Found (WroteParameters ns cs g at many ps b inner) (renumber_parameters bs taken at ps) n l (stepped 0 n) b l k
     go ns bs cs g taken many [] e I T =
         let m : n ≡ n + 0 = omega arith in
         record {
           value = 0;
-          answer = ap (Done 0) m;
+          answer = ap (stepped 0) m;
           post = record { same = refl; scoped = I; bytes = rewrites-same at (pairs many []) b };
           list = refl;
           takes = T;
@@ -124,12 +120,12 @@ unfolding pairs
 rest-lies s at a many p ps L e = lies-after s (p.id ∷ p.holds ∷ []) (pairs many ps) (pairs many ps) at a L refl e
 
 -- no id is left for it
-pub parameters-full : (s scope inner b l k l₁ k₁ inner' b' : List ℕ) (at count n id p : ℕ) (x : Step) →
-    (count ≡ 0 → ⊥) → id ≡ get_or s at 0 → IdFound scope l k at id n x l₁ k₁ → x ≡ Full p →
+pub parameters-full : (s scope inner b l k l₁ k₁ inner' b' : List ℕ) (at count n id p : ℕ) (x : Answer) →
+    (count ≡ 0 → ⊥) → id ≡ get_or s at 0 → IdFound scope l k at id n x l₁ k₁ → x ≡ Err p →
     ParametersFound s scope inner b l k at count n x inner' b' l₁ k₁
 unfolding Within renumber_parameters FineParameters
 parameters-full s scope inner b l k l₁ k₁ inner' b' at count n id p x c i D e = record {
-  within = subst (λ (y : Step). Within 0 (n + count) y) (sym e) tt;
+  within = subst (λ (y : Answer). Within 0 (n + count) y) (sym e) tt;
   does = λ ns bs cs f g taken many earlier ps F j m L S I T. go ns bs cs f g taken many earlier ps F j m L S T;
 }
   where
@@ -149,7 +145,7 @@ parameters-full s scope inner b l k l₁ k₁ inner' b' at count n id p x c i D 
 
 -- one parameter, and the others
 pub parameters-more : (s scope inner b l k l₁ k₁ b₁ inner₁ inner' b' l' k' : List ℕ) (at count n id w c e a m : ℕ)
-    (x r : Step) → (count ≡ 0 → ⊥) → id ≡ get_or s at 0 → IdFound scope l k at id n x l₁ k₁ → x ≡ Done w c →
+    (x r : Answer) → (count ≡ 0 → ⊥) → id ≡ get_or s at 0 → IdFound scope l k at id n x l₁ k₁ → x ≡ stepped w c →
     b₁ ≡ set b at w → e ≡ bound_entry w 0 → inner₁ ≡ set inner id e → a ≡ at + 2 → m ≡ count - 1 →
     ParametersFound s scope inner₁ b₁ l₁ k₁ a m c r inner' b' l' k' →
     ParametersFound s scope inner b l k at count n r inner' b' l' k'
@@ -161,11 +157,11 @@ parameters-more s scope inner b l k l₁ k₁ b₁ inner₁ inner' b' l' k' at c
     }
   where
     few : c ≤ n + 1
-    few = (subst (λ (t : Step). Within 255 (n + 1) t) d D.within).1
+    few = (subst (λ (t : Answer). Within 255 (n + 1) t) d D.within).1
 
-    within : (t : Step) → Within 0 (c + m) t → Within 0 (n + count) t
-    within (Done value changes) h = (h.0, omega (arith, h.1, few, q, z))
-    within (Full p) h = tt
+    within : (t : Answer) → Within 0 (c + m) t → Within 0 (n + count) t
+    within (Ok step) h = (h.0, omega (arith, h.1, few, q, z))
+    within (Err p) h = tt
 
     go : (ns : List Name) (bs cs : List Binder) (f g : ℕ → ℕ) (taken : ℕ → Bool) (many : ℕ)
         (earlier ps : List Parameter) → FineParameters ns earlier ps → count ≡ length ps → count ≤ many →

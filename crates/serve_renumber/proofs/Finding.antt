@@ -8,25 +8,28 @@ use lib.ListN.{length, length-append}
 use Rattle.sheet_written.specs.Written.{Written, Writtens, none, more}
 use Rattle.sheet_written.specs.Renumber.{Change, Renumbering, renumbered, none_left, over, before, next}
 use Rattle.serve_renumber.specs.Work.{Takes, notes}
-use Rattle.serve_renumber.specs.Found.{Did, Found}
+use Rattle.serve_renumber.specs.Found.{Answer, stepped, Did, Found}
+use Rattle.std.specs.Prelude.{Ok, Err}
 use Rattle.serve_renumber.specs.declared.step.Step.{Step}
-use Rattle.serve_renumber.specs.declared.step.Step.TheVariants.{Done, Full}
 use Rattle.serve_renumber.proofs.Lists.{notes-append}
 
 abbrev pub Posts : Type 0 → Type 1
 Posts X = X → ℕ → List ℕ → Type 0
 
--- Done is not Full
-pub not_full : {P : Type 0} (r : Step) (w c p : ℕ) → r ≡ Done w c → r ≡ Full p → P
-not_full r w c p d f = let z : ◌≡◌ {A = ℕ} 0 1 = cc in absurd (omega arith)
+-- a step that is done is no refusal
+pub not_full : {P : Type 0} (r : Answer) (w c p : ℕ) → r ≡ stepped w c → r ≡ Err p → P
+not_full r w c p d f = absurd (cc)
 
-done-value : (w c v d : ℕ) → Done w c ≡ Done v d → w ≡ v
-done-value w c v d e = cc
+same-step : (x y : Step) → ◌≡◌ {A = Answer} (Ok x) (Ok y) → x ≡ y
+same-step x y e = cc
 
-pub done-changes : (w c v d : ℕ) → Done w c ≡ Done v d → c ≡ d
-done-changes w c v d e = cc
+done-value : (w c v d : ℕ) → stepped w c ≡ stepped v d → w ≡ v
+done-value w c v d e = ap (λ (x : Step). x.value) (same-step _ _ e)
 
-module _ (n : ℕ) (l : List ℕ) (r : Step) (b' l' k' : List ℕ) where
+pub done-changes : (w c v d : ℕ) → stepped w c ≡ stepped v d → c ≡ d
+done-changes w c v d e = ap (λ (x : Step). x.changes) (same-step _ _ e)
+
+module _ (n : ℕ) (l : List ℕ) (r : Answer) (b' l' k' : List ℕ) where
   -- made into something else
   pub found-over : {X Y : Type 0} (Post : Posts Y) (g : X → Y) (A : Renumbering X) →
       Found (λ x. Post (g x)) A n l r b' l' k' → Found Post (over g A) n l r b' l' k'
@@ -149,7 +152,7 @@ module _ (n : ℕ) (l : List ℕ) (r : Step) (b' l' k' : List ℕ) where
       let i : n + length ds ≡ m + length (cs ++ ds) = omega (arith, length-append cs ds) in
       record {
         value = F.value;
-        answer = F.answer ∙ ap (Done F.value) i;
+        answer = F.answer ∙ ap (stepped F.value) i;
         post = F.post;
         list = F.list ∙ ap (λ x. notes n ds x) g ∙ ap (λ x. notes x ds (notes m cs l₀)) e ∙ sym
             (notes-append m cs ds l₀);
@@ -160,7 +163,7 @@ module _ (n : ℕ) (l : List ℕ) (r : Step) (b' l' k' : List ℕ) where
 -- an id was wanting
 pub found-full : {X Y : Type 0} (Post : Posts X) (Then : Posts Y) (A : Renumbering X)
     (K : X → (ℕ → Bool) → Renumbering Y)
-    (n p : ℕ) (l : List ℕ) (r : Step) (b l₁ k b' l' k' : List ℕ) → Found Post A n l r b l₁ k → r ≡ Full p →
+    (n p : ℕ) (l : List ℕ) (r : Answer) (b l₁ k b' l' k' : List ℕ) → Found Post A n l r b l₁ k → r ≡ Err p →
     Found Then (next A K) n l r b' l' k'
 unfolding Found next
 found-full Post Then (renumbered x cs then) K n p l r b l₁ k b' l' k' F e =
@@ -170,12 +173,12 @@ found-full Post Then (none_left q) K n p l r b l₁ k b' l' k' F e = F
 -- one and then the next
 pub found-next : {X Y : Type 0} (Post : Posts X) (Then : Posts Y) (A : Renumbering X)
     (K : X → (ℕ → Bool) → Renumbering Y)
-    (n w c : ℕ) (l : List ℕ) (x r : Step) (b₁ l₁ k₁ b' l' k' : List ℕ) → Found Post A n l x b₁ l₁ k₁ → x ≡ Done w c →
+    (n w c : ℕ) (l : List ℕ) (x r : Answer) (b₁ l₁ k₁ b' l' k' : List ℕ) → Found Post A n l x b₁ l₁ k₁ → x ≡ stepped w c →
     ((y : X) (then : ℕ → Bool) → Post y w b₁ → Takes k₁ then → Found Then (K y then) c l₁ r b' l' k') →
     Found Then (next A K) n l r b' l' k'
 unfolding Found next
 found-next Post Then (renumbered y cs then) K n w c l x r b₁ l₁ k₁ b' l' k' F e G =
-    let i : Done w c ≡ Done F.value (n + length cs) = sym e ∙ F.answer in
+    let i : stepped w c ≡ stepped F.value (n + length cs) = sym e ∙ F.answer in
     let v : F.value ≡ w = sym (done-value w c F.value (n + length cs) i) in
     let P : Post y w b₁ = subst (λ (z : ℕ). Post y z b₁) v F.post in
     found_before c l₁ r b' l' k' Then (K y then) n c l cs (done-changes w c F.value (n + length cs) i) F.list

@@ -8,7 +8,7 @@ use lib.ListN.{length, take, drop, replicate, length-append, length-drop, length
 use lib.Seq.{drop-append_seam, take-length, take_at}
 use lib.Dec.{eqb}
 use borrow.Author.Tests.{lt-ltb, le-ltb}
-use Rattle.sheet_records.specs.Refusal.{refusal, cause}
+use Rattle.sheet_records.specs.Refusal.{cause}
 use Rattle.sheet_records.specs.declared.refusal.Refusal.{Refusal}
 use Rattle.sheet_records.specs.declared.refusal.Cause.{Cause}
 use Rattle.sheet_written.specs.Written.{Written, Sheet}
@@ -24,17 +24,12 @@ use Rattle.sheet_reader.specs.Reader.{accepted, rejected}
 use Rattle.sheet_records.specs.declared.edition.Edition.TheVariants.{Earlier as Former}
 use Rattle.sheet_reader.proofs.Right.{gives}
 use Rattle.sheet_judge.specs.Judged.{refusal_in}
-use Rattle.sheet_judge.specs.declared.mark.Uses.{Uses}
 use Rattle.sheet_judge.specs.declared.judge.Judgement.{Judgement}
-use Rattle.sheet_judge.specs.declared.judge.Judgement.TheVariants as judged
 use Rattle.serve_renumber.specs.Outcome.{read_earlier, listed, written, checked, outcome, RenumberedBy, RenumberPromise}
 use Rattle.serve_renumber.specs.Work.{Takes, Scoped, held_in, becomes_in, arguments_in, arity, Lies, Rewrites}
-use Rattle.serve_renumber.specs.Found.{Found, Wrote, PartFound, AcceptedAt, EarlierJudged, Headed, Taken}
+use Rattle.serve_renumber.specs.Found.{Answer, stepped, Found, Wrote, PartFound, AcceptedAt, EarlierJudged, Headed, Taken}
 use Rattle.serve_renumber.specs.Found.{WroteSheet, Worked, Renumbers}
-use Rattle.serve_renumber.specs.declared.step.Step.{Step}
-use Rattle.serve_renumber.specs.declared.step.Step.TheVariants.{Done, Full}
-use Rattle.serve_renumber.specs.declared.renumber.Renumbered.{Renumbered}
-use Rattle.serve_renumber.specs.declared.renumber.Renumbered.TheVariants.{Changed, Refused}
+use Rattle.std.specs.Prelude.{Result, Ok, Err}
 use Rattle.serve_renumber.proofs.Lists.{notes-listed, listed-length}
 use Rattle.sheet_reader.proofs.Widths.{wide, wide-heading}
 use Rattle.serve_renumber.proofs.Finding.{found-so, not_full, done-changes}
@@ -89,7 +84,7 @@ module _ (S : Sheet) (s : List ℕ) (root ty n : ℕ) (e : read_earlier s ≡ ac
     }
 
     -- the pass over its term
-    term_found : (b l scope k b₁ b' l' k' : List ℕ) (x : Step) → Scoped S.names [] (λ id. id) scope →
+    term_found : (b l scope k b₁ b' l' k' : List ℕ) (x : Answer) → Scoped S.names [] (λ id. id) scope →
         Takes k (taken_at_first S) → b₁ ≡ take (length s) s ++ drop (length s) b →
         PartFound s scope b₁ l k 32 root 0 x b' l' k' → Found (WroteSheet S b) (renumber_sheet S) 0 l x b' l' k'
     unfolding renumber_sheet Rewrites
@@ -135,7 +130,7 @@ module _ (S : Sheet) (s : List ℕ) (root ty n : ℕ) (e : read_earlier s ≡ ac
         opened b₁ b' W A R q = A.bytes heading R heading-long q
 
 -- the copy renumbered
-pub worked : (s b l k₀ scope₀ k₁ scope₁ k₂ b₁ b' l' k' : List ℕ) (root : ℕ) (x : Step) → k₀ ≡ replicate 255 0 →
+pub worked : (s b l k₀ scope₀ k₁ scope₁ k₂ b₁ b' l' k' : List ℕ) (root : ℕ) (x : Answer) → k₀ ≡ replicate 255 0 →
     scope₀ ≡ replicate 255 0 → Headed s root k₀ scope₀ k₁ scope₁ → Taken s root k₁ k₂ →
     b₁ ≡ take (length s) s ++ drop (length s) b → PartFound s scope₁ b₁ l k₂ 32 root 0 x b' l' k' →
     Worked s root b l x b' l'
@@ -167,8 +162,8 @@ pub record Finished (S : Sheet) (s b l b' l' : List ℕ) (n : ℕ) : Type 0 wher
   pub bytes : b' ≡ encode_sheet (with_term S term) ++ drop (length s) b
   pub list : l' ≡ listed changes ++ drop (4 * n) l
 
-finished-so : (S : Sheet) (s b l b' l' : List ℕ) (root ty m v n : ℕ) (x : Step) → read_earlier s ≡ accepted S ty m →
-    root ≡ heading_width S → Worked s root b l x b' l' → x ≡ Done v n → length s ≤ length b → 1020 ≤ length l →
+finished-so : (S : Sheet) (s b l b' l' : List ℕ) (root ty m v n : ℕ) (x : Answer) → read_earlier s ≡ accepted S ty m →
+    root ≡ heading_width S → Worked s root b l x b' l' → x ≡ stepped v n → length s ≤ length b → 1020 ≤ length l →
     Finished S s b l b' l' n
 unfolding Found RenumberRule
 finished-so S s b l b' l' root ty m v n x e r W d h g = go (renumber_sheet S) refl (W.does S ty m e r h)
@@ -200,8 +195,8 @@ pub record Room (s b' l' : List ℕ) (n : ℕ) : Type 0 where
   pub list : length l' ≡ 1020
   pub few : n ≤ 254
 
-pub room : (s b l b' l' : List ℕ) (root v n : ℕ) (x : Step) → AcceptedAt s root → Worked s root b l x b' l' →
-    x ≡ Done v n → length b ≡ 4096 → length l ≡ 1020 → Room s b' l' n
+pub room : (s b l b' l' : List ℕ) (root v n : ℕ) (x : Answer) → AcceptedAt s root → Worked s root b l x b' l' →
+    x ≡ stepped v n → length b ≡ 4096 → length l ≡ 1020 → Room s b' l' n
 room s b l b' l' root v n x A W d h g =
     let i : length s ≤ 4096 = accepted-short A in
     let F : Finished A.sheet s b l b' l' n =
@@ -232,28 +227,27 @@ room s b l b' l' root v n x A W d h g =
       few = F.few;
     }
 
-same_place : (p q : ℕ) → Full p ≡ Full q → p ≡ q
+same_place : (p q : ℕ) → ◌≡◌ {A = Answer} (Err p) (Err q) → p ≡ q
 same_place p q e = cc
 
 -- the answers
-pub renumbers-full : (s b l b' l' out list : List ℕ) (root p : ℕ) (x : Step) → Worked s root b l x b' l' → x ≡ Full p →
-    AcceptedAt s root → length b ≡ 4096 → {y : Refusal} {z : Cause} → y ≡ refusal 17 p →
-    z ≡ cause y.number 0 y.place → Renumbers s root (Refused z) out out list list
+pub renumbers-full : (s b l b' l' out list : List ℕ) (root p : ℕ) (x : Answer) → Worked s root b l x b' l' → x ≡ Err p →
+    AcceptedAt s root → length b ≡ 4096 → {z : Cause} → z ≡ cause 17 0 p → Renumbers s root (Err z) out out list list
 unfolding Found written RenumberedBy
-renumbers-full s b l b' l' out list root p x W d A h {z = z} f g = record {
+renumbers-full s b l b' l' out list root p x W d A h {z = z} f = record {
   does = λ S ty n e r. go S (renumber_sheet S) (W.does S ty n e r (omega (arith, h, accepted-short A)));
 }
   where
     go : (S : Sheet) (a : Renumbering Written) → Found (WroteSheet S b) a 0 l x b' l' W.taken →
-        RenumberedBy (written S a) (Refused z) out out list list
+        RenumberedBy (written S a) (Err z) out out list list
     go S (renumbered T cs then) F = not_full x F.value (0 + length cs) p F.answer d
-    go S (none_left q) F = (rw (g, f, same_place p q (sym d ∙ F)) refl, refl, refl)
+    go S (none_left q) F = (ap Err (f ∙ ap (cause 17 0) (same_place p q (sym d ∙ F))), refl, refl)
 
-pub renumbers-done : (s b l b' l' out out' list list' : List ℕ) (root v n m : ℕ) (x : Step) → Worked s root b l x b'
+pub renumbers-done : (s b l b' l' out out' list list' : List ℕ) (root v n m : ℕ) (x : Answer) → Worked s root b l x b'
     l' →
-    x ≡ Done v n → AcceptedAt s root → length b ≡ 4096 → length l ≡ 1020 →
+    x ≡ stepped v n → AcceptedAt s root → length b ≡ 4096 → length l ≡ 1020 →
     out' ≡ take (length s) b' ++ drop (length s) out → list' ≡ take (4 * n) l' ++ drop (4 * n) list → m ≡ n →
-    Renumbers s root (Changed m) out out' list list'
+    Renumbers s root (Ok m) out out' list list'
 unfolding written RenumberedBy
 renumbers-done s b l b' l' out out' list list' root v n m x W d A h g o q i = record {
   does = λ S ty z e r.
@@ -262,9 +256,9 @@ renumbers-done s b l b' l' out out' list list' root v n m x W d A h g o q i = re
       let B : List ℕ = encode_sheet (with_term S F.term) in
       let L : List ℕ = listed F.changes in
       let k : length L ≡ 4 * n = omega (arith, listed-length F.changes, F.count) in
-      subst (λ (a : Renumbering Written). RenumberedBy (written S a) (Changed m) out out' list list')
+      subst (λ (a : Renumbering Written). RenumberedBy (written S a) (Ok m) out out' list list')
       (sym F.renumbers) (
-        ap Changed (i ∙ F.count),
+        ap Ok (i ∙ F.count),
         o ∙ ap₂ (λ (y z : List ℕ). y ++ z) (ap (take (length s)) F.bytes ∙ take_at B (drop (length s) b) (length s)
             F.wide) (ap (λ (y : ℕ). drop y out) (sym F.wide)),
         q ∙ ap₂ (λ (y z : List ℕ). y ++ z) (ap (take (4 * n)) F.list ∙ take_at L (drop (4 * n) l) (4 * n) k)
@@ -273,36 +267,36 @@ renumbers-done s b l b' l' out out' list list' root v n m x W d A h g o q i = re
 }
 
 -- the service
-pub accepted-of : (s : List ℕ) (y : Judgement) (root : ℕ) {ty size : ℕ} {uses : Uses} → EarlierJudged s y →
-    y ≡ judged.Sheet root ty size uses → AcceptedAt s root
+pub accepted-of : (s : List ℕ) (y : Result Judgement Refusal) (x : Judgement) → EarlierJudged s y → y ≡ Ok x →
+    AcceptedAt s x.root
 unfolding EarlierJudged
-accepted-of s y root E e = rw e at E
+accepted-of s y x E e = rw e at E
 
-turned : (s : List ℕ) (y : Judgement) (x : Refusal) → EarlierJudged s y → y ≡ judged.Refused x →
+turned : (s : List ℕ) (y : Result Judgement Refusal) (x : Refusal) → EarlierJudged s y → y ≡ Err x →
     read_earlier s ≡ rejected x.number x.place
 unfolding EarlierJudged
 turned s y x E e = rw e at E
 
-pub service-refused : (s out list : List ℕ) (y : Judgement) (x : Refusal) {v : Refusal} {z : Cause} →
-    EarlierJudged s y → y ≡ judged.Refused x → v ≡ refusal_in y → z ≡ cause v.number 0 v.place →
-    RenumberPromise s (Refused z) out out list list
+pub service-refused : (s out list : List ℕ) (y : Result Judgement Refusal) (x : Refusal) {v : Refusal} {z : Cause} →
+    EarlierJudged s y → y ≡ Err x → v ≡ refusal_in y → z ≡ cause v.number 0 v.place →
+    RenumberPromise s (Err z) out out list list
 unfolding outcome checked RenumberedBy refusal_in
 service-refused s out list y x E e f g =
     rw (turned s y x E e)
-    (ap Refused (g ∙ ap (λ (u : Refusal). cause u.number 0 u.place) (f ∙ ap refusal_in e)), refl, refl)
+    (ap Err (g ∙ ap (λ (u : Refusal). cause u.number 0 u.place) (f ∙ ap refusal_in e)), refl, refl)
 
-pub service-short : (s out list : List ℕ) (root : ℕ) (r : Renumbered) → AcceptedAt s root → length out < length s →
-    r ≡ Refused (cause 14 2 0) → RenumberPromise s r out out list list
+pub service-short : (s out list : List ℕ) (root : ℕ) (x : Cause) → AcceptedAt s root → length out < length s →
+    x ≡ cause 14 2 0 → RenumberPromise s (Err x) out out list list
 unfolding outcome checked RenumberedBy
-service-short s out list root r A h e = rw (A.reads, lt-ltb (length out) (length s) h) (e, refl, refl)
+service-short s out list root x A h e = rw (A.reads, lt-ltb (length out) (length s) h) (ap Err e, refl, refl)
 
-pub service-narrow : (s out list : List ℕ) (root : ℕ) (r : Renumbered) → AcceptedAt s root → length s ≤ length out →
-    length list < 1020 → r ≡ Refused (cause 14 2 0) → RenumberPromise s r out out list list
+pub service-narrow : (s out list : List ℕ) (root : ℕ) (x : Cause) → AcceptedAt s root → length s ≤ length out →
+    length list < 1020 → x ≡ cause 14 2 0 → RenumberPromise s (Err x) out out list list
 unfolding outcome checked RenumberedBy
-service-narrow s out list root r A h g e =
-    rw (A.reads, le-ltb (length out) (length s) h, lt-ltb (length list) 1020 g) (e, refl, refl)
+service-narrow s out list root x A h g e =
+    rw (A.reads, le-ltb (length out) (length s) h, lt-ltb (length list) 1020 g) (ap Err e, refl, refl)
 
-pub service-done : (s out out' list list' : List ℕ) (root : ℕ) (r : Renumbered) → AcceptedAt s root →
+pub service-done : (s out out' list list' : List ℕ) (root : ℕ) (r : Result ℕ Cause) → AcceptedAt s root →
     length s ≤ length out → 1020 ≤ length list → Renumbers s root r out out' list list' →
     RenumberPromise s r out out' list list'
 unfolding outcome checked

@@ -2,52 +2,12 @@
 use Prim.Native.Nat.{ℕ, suc, ◌+◌, ◌-◌, ◌*◌, ◌/◌, ◌%◌, ◌≤◌, ◌<◌, min}
 use native.Mathlib.Omega.{arith}
 use mathlib.Core.Path.{◌≡◌, refl, sym, ap, ap₂, ◌∙◌}
-use mathlib.Core.List.{List, ◌++◌}
-use lib.ListN.{length, get_or, set, take, drop, length-append, length-drop}
-use lib.Seq.{paste-suc, length-take-le}
+use mathlib.Core.List.{List}
+use lib.ListN.{get_or, set}
 use borrow.Author.Tests.{eq-eqb, ne_eqb, le-leb, lt-leb}
 use Rattle.sheet_written.specs.Renumber.{lowest_from, lowest}
 use Rattle.serve_renumber.specs.Work.{marked, took_parameters, took_ids, named_entry, name_entry}
 use Rattle.serve_renumber.specs.Work.{becomes_in, note}
-
--- the first i bytes copied
-
--- one byte more
-copied_more : (from to to' : List ℕ) (i : ℕ) → i < length from → i < length to →
-    to' ≡ take i from ++ drop i to → set to' i (get_or from i 0) ≡ take (suc i) from ++ drop (suc i) to
-copied_more from to to' i h g e =
-    let z : 0 + i ≡ i = omega arith in
-    let y : 0 + suc i ≡ suc i = omega arith in
-    let p = paste-suc to 0 from i 0 (omega (arith, g)) h in
-    ap (λ x. set x i (get_or from i 0)) e ∙ (rw (z, y) at p)
-
-copied-length : (from to : List ℕ) (i : ℕ) → i ≤ length from → i ≤ length to →
-    length (take i from ++ drop i to) ≡ length to
-copied-length from to i h g =
-    omega (arith, length-append (take i from) (drop i to), length-take-le i from h, length-drop i to)
-
--- a turn of the loop that copies n bytes
-pub copied-inside : (from to to' : List ℕ) (i n : ℕ) → (n ≤ length from) × (n ≤ length to) → i < n →
-    to' ≡ take i from ++ drop i to → i < length to'
-copied-inside from to to' i n p h e =
-    let l = copied-length from to i (omega (arith, p.0)) (omega (arith, p.1)) in
-    let g : length to' ≡ length (take i from ++ drop i to) = ap length e in
-    omega (arith, l, g, p.1)
-
-pub copied-again : (from to to' : List ℕ) (i n : ℕ) → (n ≤ length from) × (n ≤ length to) → i < n →
-    to' ≡ take i from ++ drop i to → set to' i (get_or from i 0) ≡ take (i + 1) from ++ drop (i + 1) to
-copied-again from to to' i n p h e =
-    let a : i + 1 ≡ suc i = omega arith in
-    rw a (copied_more from to to' i (omega (arith, p.0)) (omega (arith, p.1)) e)
-
-pub copied-same : (from to to' : List ℕ) (i n : ℕ) → (n ≤ length from) × (n ≤ length to) → i ≤ n →
-    to' ≡ take i from ++ drop i to → length to' ≡ length to
-copied-same from to to' i n p h e =
-    ap length e ∙ copied-length from to i (omega (arith, p.0)) (omega (arith, p.1))
-
-pub copied-last : (from to to' : List ℕ) (i n : ℕ) → i ≤ n → n ≤ i → to' ≡ take i from ++ drop i to →
-    to' ≡ take n from ++ drop n to
-copied-last from to to' i n h g e = let a : i ≡ n = omega arith in e ∙ ap (λ x. take x from ++ drop x to) a
 
 -- four bytes of a change
 pub noted : (l l₁ l₂ l₃ l₄ : List ℕ) (n place id given : ℕ) → l₁ ≡ set l (4 * n) (place % 256) →

@@ -16,9 +16,8 @@ use Rattle.sheet_written.specs.Renumber.{renumber, renumber_all}
 use Rattle.sheet_reader.specs.Encoding.{encode, encodes}
 use Rattle.serve_renumber.specs.Work.{Lies}
 use Rattle.serve_renumber.specs.Found as found
-use Rattle.serve_renumber.specs.Found.{Found, Given, Wrote, PartFound, AllFine, GivenAll, WroteAll, PartsFound}
+use Rattle.serve_renumber.specs.Found.{Answer, stepped, Found, Given, Wrote, PartFound, AllFine, GivenAll, WroteAll, PartsFound}
 use Rattle.serve_renumber.specs.Found.{CallFound, BlockFound, RoutineFound, Onward}
-use Rattle.serve_renumber.specs.declared.step.Step.{Step}
 use Rattle.serve_renumber.proofs.Lists.{lies-head, lies-after, rewrites-after}
 use Rattle.serve_renumber.proofs.Finding.{parts_none, parts-one, parts-two, parts-three}
 
@@ -46,7 +45,7 @@ wrote-all at a H W W' ws ws' b b' value e e' i m m' A = record {
 }
 
 module _ (N : Numbers) (ns : List Name) (s scope k : List ℕ) (bs : List Binder) (f : ℕ → ℕ) (taken : ℕ → Bool)
-    (left at n : ℕ) (r : Step) (b l b' l' k' : List ℕ) where
+    (left at n : ℕ) (r : Answer) (b l b' l' k' : List ℕ) where
   -- its parts are as they must be
   parts-given : (W : Written) (H : List ℕ) (ws : Writtens) (a : ℕ) → Given N ns s scope k bs f taken (suc left) at W →
       encode W ≡ H ++ encodes ws → a ≡ at + length H → width W ≡ length H + widths ws → depth W ≡ 1 + depths ws →
@@ -220,7 +219,7 @@ module _ (N : Numbers) (ns : List Name) (s scope k : List ℕ) (bs : List Binder
         (routine (e ∙ lies-head s (encode (procedure id ty ps x y)) at G.lies)).does N ns bs f taken id ty ps x y G
 
 -- a part by its kind
-part_by : (s scope b l k b' l' k' : List ℕ) (left m at n kind body count : ℕ) (r : Step) → left ≡ suc m →
+part_by : (s scope b l k b' l' k' : List ℕ) (left m at n kind body count : ℕ) (r : Answer) → left ≡ suc m →
     kind ≡ get_or s at 0 → Onward r → (kind ≡ 20 → CallFound s scope b l k m at n r b' l' k') →
     (kind ≡ 27 → BlockFound s scope b l k m at n r b' l' k') →
     (kind ≡ 28 → RoutineFound s scope b l k m at n r b' l' k') →
@@ -234,7 +233,7 @@ part_by s scope b l k b' l' k' left m at n kind body count r d e h u v w i c o =
           by_kind N ns s scope k bs f taken m at n r b l b' l' k' kind body count e u v w i c o W G;
     })
 
-pub part-call : (s scope b l k b' l' k' : List ℕ) (left m at n kind : ℕ) (r : Step) → left ≡ suc m → kind ≡ get_or s at
+pub part-call : (s scope b l k b' l' k' : List ℕ) (left m at n kind : ℕ) (r : Answer) → left ≡ suc m → kind ≡ get_or s at
     0 →
     kind ≡ 20 → CallFound s scope b l k m at n r b' l' k' → PartFound s scope b l k left at n r b' l' k'
 part-call s scope b l k b' l' k' left m at n kind r d e h P =
@@ -242,7 +241,7 @@ part-call s scope b l k b' l' k' left m at n kind r d e h P =
     (λ z. P) (λ z. absurd (omega (arith, h, z))) (λ z. absurd (omega (arith, h, z))) refl refl
     (λ x y z. absurd (x h))
 
-pub part-block : (s scope b l k b' l' k' : List ℕ) (left m at n kind : ℕ) (r : Step) → left ≡ suc m → kind ≡ get_or s
+pub part-block : (s scope b l k b' l' k' : List ℕ) (left m at n kind : ℕ) (r : Answer) → left ≡ suc m → kind ≡ get_or s
     at 0 →
     kind ≡ 27 → BlockFound s scope b l k m at n r b' l' k' → PartFound s scope b l k left at n r b' l' k'
 part-block s scope b l k b' l' k' left m at n kind r d e h P =
@@ -250,7 +249,7 @@ part-block s scope b l k b' l' k' left m at n kind r d e h P =
     (λ z. absurd (omega (arith, h, z))) (λ z. P) (λ z. absurd (omega (arith, h, z))) refl refl
     (λ x y z. absurd (y h))
 
-pub part-routine : (s scope b l k b' l' k' : List ℕ) (left m at n kind : ℕ) (r : Step) → left ≡ suc m →
+pub part-routine : (s scope b l k b' l' k' : List ℕ) (left m at n kind : ℕ) (r : Answer) → left ≡ suc m →
     kind ≡ get_or s at 0 → kind ≡ 28 → RoutineFound s scope b l k m at n r b' l' k' →
     PartFound s scope b l k left at n r b' l' k'
 part-routine s scope b l k b' l' k' left m at n kind r d e h P =
@@ -258,7 +257,7 @@ part-routine s scope b l k b' l' k' left m at n kind r d e h P =
     (λ z. absurd (omega (arith, h, z))) (λ z. absurd (omega (arith, h, z))) (λ z. P) refl refl
     (λ x y z. absurd (z h))
 
-pub part-plain : (s scope b l k b' l' k' : List ℕ) (left m at n kind body count : ℕ) (r : Step) → left ≡ suc m →
+pub part-plain : (s scope b l k b' l' k' : List ℕ) (left m at n kind body count : ℕ) (r : Answer) → left ≡ suc m →
     kind ≡ get_or s at 0 → (kind ≡ 20 → ⊥) → (kind ≡ 27 → ⊥) → (kind ≡ 28 → ⊥) → body ≡ body_in (shape_of kind) →
     count ≡ parts_in (shape_of kind) → PartsFound s scope b l k m (at + 1 + body) count n r b' l' k' →
     PartFound s scope b l k left at n r b' l' k'

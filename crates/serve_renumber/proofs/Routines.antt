@@ -14,11 +14,10 @@ use Rattle.sheet_written.specs.Renumber.{put, map_inside, Renumbering, over, nex
 use Rattle.sheet_written.proofs.Reach.{length_types}
 use Rattle.sheet_reader.specs.Encoding.{pairs, encode}
 use Rattle.serve_renumber.specs.Work.{Takes, bound_entry, arity, Scoped, Lies, Rewrites}
-use Rattle.serve_renumber.specs.Found.{Found, Chosen, IdFound, WroteParameters, ParametersFound, Given, Wrote}
+use Rattle.serve_renumber.specs.Found.{Answer, stepped, Found, Chosen, IdFound, WroteParameters, ParametersFound, Given, Wrote}
 use Rattle.serve_renumber.specs.Found.{PartFound}
 use Rattle.serve_renumber.specs.Found.{RoutineFound}
-use Rattle.serve_renumber.specs.declared.step.Step.{Step}
-use Rattle.serve_renumber.specs.declared.step.Step.TheVariants.{Done, Full}
+use Rattle.std.specs.Prelude.{Err}
 use Rattle.serve_renumber.proofs.Lists.{lies-get, lies-after, lies-first, rewrites-after, rewrites-then, rewrites-byte}
 use Rattle.sheet_reader.proofs.Pairs.{pairs-length}
 use Rattle.sheet_reader.proofs.Widths.{wide}
@@ -75,7 +74,7 @@ module _ (N : Numbers) (ns : List Name) (s scope k : List ℕ) (bs : List Binder
       omega (arith, d, m, few)
 
   -- the parameters
-  parameters-at : (b l k₁ inner b₂ l₂ k₂ : List ℕ) (count n : ℕ) (r : Step) (then : ℕ → Bool) →
+  parameters-at : (b l k₁ inner b₂ l₂ k₂ : List ℕ) (count n : ℕ) (r : Answer) (then : ℕ → Bool) →
       ParametersFound s scope scope b l k₁ (at + 4) count n r inner b₂ l₂ k₂ → count ≡ length ps → Takes k₁ then →
       Found (WroteParameters ns bs f (at + 4) 4 ps b inner) (renumber_parameters bs then (4 + at) ps) n l r b₂ l₂ k₂
   unfolding Fine
@@ -88,7 +87,7 @@ module _ (N : Numbers) (ns : List Name) (s scope k : List ℕ) (bs : List Binder
       (lies-first s (pairs 4 ps) (encode x ++ encode y) (at + 4) tail) G.scoped G.scoped T)
 
   -- its term
-  body_at : (inner b l k₁ b₂ l₂ k₂ : List ℕ) (n : ℕ) (r : Step) (qs : List Parameter) (then : ℕ → Bool) →
+  body_at : (inner b l k₁ b₂ l₂ k₂ : List ℕ) (n : ℕ) (r : Answer) (qs : List Parameter) (then : ℕ → Bool) →
       PartFound s inner b l k₁ left (at + 12) n r b₂ l₂ k₂ → Scoped ns (inside ps bs) (map_inside f ps qs) inner →
       Takes k₁ then →
       Found (Wrote (at + 12) x b) (renumber (inside ps bs) (map_inside f ps qs) then (12 + at) x) n l r b₂ l₂ k₂
@@ -107,7 +106,7 @@ module _ (N : Numbers) (ns : List Name) (s scope k : List ℕ) (bs : List Binder
       }))
 
   -- the term in which it may be used
-  rest_at : (outer b l k₁ b₂ l₂ k₂ : List ℕ) (n v given : ℕ) (r : Step) (then : ℕ → Bool) →
+  rest_at : (outer b l k₁ b₂ l₂ k₂ : List ℕ) (n v given : ℕ) (r : Answer) (then : ℕ → Bool) →
       PartFound s outer b l k₁ left v n r b₂ l₂ k₂ → v ≡ at + 12 + width x →
       Scoped ns (after i ty ps bs) (put i given f) outer → Takes k₁ then →
       Found (Wrote v y b) (renumber (after i ty ps bs) (put i given f) then (12 + at + width x) y) n l r b₂ l₂ k₂
@@ -162,8 +161,8 @@ module _ (N : Numbers) (ns : List Name) (s scope k : List ℕ) (bs : List Binder
       }
 
 -- no id is left for its own
-pub routine-full : (s scope b l k l₁ k₁ b' : List ℕ) (left at n id p : ℕ) (x : Step) → id ≡ get_or s (at + 1) 0 →
-    IdFound scope l k (at + 1) id n x l₁ k₁ → x ≡ Full p → RoutineFound s scope b l k left at n x b' l₁ k₁
+pub routine-full : (s scope b l k l₁ k₁ b' : List ℕ) (left at n id p : ℕ) (x : Answer) → id ≡ get_or s (at + 1) 0 →
+    IdFound scope l k (at + 1) id n x l₁ k₁ → x ≡ Err p → RoutineFound s scope b l k left at n x b' l₁ k₁
 routine-full s scope b l k l₁ k₁ b' left at n id p x i D e = record {
   onward = onward-full x p e;
   does = λ N ns bs f taken h ty ps X Y G.
@@ -177,9 +176,9 @@ routine-full s scope b l k l₁ k₁ b' left at n id p x i D e = record {
 
 -- for one of its parameters
 pub routine-full-parameter : (s scope inner b l k b₁ l₁ k₁ b₂ l₂ k₂ : List ℕ) (left at n id c count w m p : ℕ) (x z :
-    Step) →
+    Answer) →
     id ≡ get_or s (at + 1) 0 → c ≡ get_or s (at + 3) 0 → count ≡ min c 4 → IdFound scope l k (at + 1) id n x l₁ k₁ →
-    x ≡ Done w m → ParametersFound s scope scope b₁ l₁ k₁ (at + 4) count m z inner b₂ l₂ k₂ → z ≡ Full p →
+    x ≡ stepped w m → ParametersFound s scope scope b₁ l₁ k₁ (at + 4) count m z inner b₂ l₂ k₂ → z ≡ Err p →
     RoutineFound s scope b l k left at n z b₂ l₂ k₂
 unfolding parameters-of
 routine-full-parameter s scope inner b l k b₁ l₁ k₁ b₂ l₂ k₂ left at n id c count w m p x z i j q D d P e = record {
@@ -201,10 +200,10 @@ routine-full-parameter s scope inner b l k b₁ l₁ k₁ b₂ l₂ k₂ left at
 
 -- in its term
 pub routine-full-body : (s scope inner b l k b₁ l₁ k₁ b₂ l₂ k₂ b₃ l₃ k₃ : List ℕ)
-    (left at n id c count w m u o p : ℕ) (x z r : Step) →
+    (left at n id c count w m u o p : ℕ) (x z r : Answer) →
     id ≡ get_or s (at + 1) 0 → c ≡ get_or s (at + 3) 0 → count ≡ min c 4 → IdFound scope l k (at + 1) id n x l₁ k₁ →
-    x ≡ Done w m → ParametersFound s scope scope b₁ l₁ k₁ (at + 4) count m z inner b₂ l₂ k₂ → z ≡ Done u o →
-    PartFound s inner b₂ l₂ k₂ left (at + 12) o r b₃ l₃ k₃ → r ≡ Full p → RoutineFound s scope b l k left at n r b₃
+    x ≡ stepped w m → ParametersFound s scope scope b₁ l₁ k₁ (at + 4) count m z inner b₂ l₂ k₂ → z ≡ stepped u o →
+    PartFound s inner b₂ l₂ k₂ left (at + 12) o r b₃ l₃ k₃ → r ≡ Err p → RoutineFound s scope b l k left at n r b₃
     l₃ k₃
 unfolding parameters-of body_of
 routine-full-body s scope inner b l k b₁ l₁ k₁ b₂ l₂ k₂ b₃ l₃ k₃ left at n id c count w m u o p x z r i j q D d P g B
@@ -237,10 +236,10 @@ routine-full-body s scope inner b l k b₁ l₁ k₁ b₂ l₂ k₂ b₃ l₃ k�
 
 -- to the end
 pub routine-found : (s scope inner outer b l k b₁ l₁ k₁ b₂ l₂ k₂ b₃ l₃ k₃ b' l' k' : List ℕ)
-    (left at n id c count w m u o v a e : ℕ) (x z y r : Step) →
+    (left at n id c count w m u o v a e : ℕ) (x z y r : Answer) →
     id ≡ get_or s (at + 1) 0 → c ≡ get_or s (at + 3) 0 → count ≡ min c 4 → IdFound scope l k (at + 1) id n x l₁ k₁ →
-    x ≡ Done w m → b₁ ≡ set b (at + 1) w → ParametersFound s scope scope b₁ l₁ k₁ (at + 4) count m z inner b₂ l₂ k₂ →
-    z ≡ Done u o → PartFound s inner b₂ l₂ k₂ left (at + 12) o y b₃ l₃ k₃ → y ≡ Done v a → e ≡ bound_entry w count →
+    x ≡ stepped w m → b₁ ≡ set b (at + 1) w → ParametersFound s scope scope b₁ l₁ k₁ (at + 4) count m z inner b₂ l₂ k₂ →
+    z ≡ stepped u o → PartFound s inner b₂ l₂ k₂ left (at + 12) o y b₃ l₃ k₃ → y ≡ stepped v a → e ≡ bound_entry w count →
     outer ≡ set scope id e → PartFound s outer b₃ l₃ k₃ left v a r b' l' k' →
     RoutineFound s scope b l k left at n r b' l' k'
 unfolding parameters-of body_of rest_of

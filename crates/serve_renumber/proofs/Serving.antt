@@ -43,7 +43,7 @@ record Made (S : Sheet) (a : Renumbering Written) (b : List ℕ) (cs : List Chan
   bytes : encode_sheet (with_term S term) ≡ b
 
 clash : {P : Type 0} (x : Cause) (b : List ℕ) (cs : List Change) → refused x ≡ done b cs → P
-clash x b cs e = let z : ◌≡◌ {A = ℕ} 0 1 = cc in absurd (omega arith)
+clash x b cs e = absurd (cc)
 
 done-bytes : (b c : List ℕ) (cs ds : List Change) → done b cs ≡ done c ds → b ≡ c
 done-bytes b c cs ds e = cc

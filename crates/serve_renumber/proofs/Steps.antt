@@ -19,11 +19,11 @@ use Rattle.sheet_reader.specs.Encoding.{encode, encodes}
 use Rattle.serve_renumber.specs.Work.{Takes, bound_entry, arguments_in, becomes_in, arity, Scoped}
 use Rattle.serve_renumber.specs.Work.{notes}
 use Rattle.serve_renumber.specs.Found as found
-use Rattle.serve_renumber.specs.Found.{Found, Onward, Chosen, IdFound, Given}
+use Rattle.serve_renumber.specs.Found.{Answer, stepped, Found, Onward, Chosen, IdFound, Given}
 use Rattle.serve_renumber.specs.Found.{Wrote, PartFound, AllFine, GivenAll, WroteAll, PartsFound, CallFound}
 use Rattle.serve_renumber.specs.Found.{BlockFound}
+use Rattle.std.specs.Prelude.{Ok, Err}
 use Rattle.serve_renumber.specs.declared.step.Step.{Step}
-use Rattle.serve_renumber.specs.declared.step.Step.TheVariants.{Done, Full}
 use Rattle.serve_renumber.proofs.Lists.{lies-get, lies-after, lies-first, rewrites-same, rewrites-after}
 use Rattle.serve_renumber.proofs.Lists.{rewrites-then, rewrites-byte}
 use Rattle.sheet_reader.proofs.Widths.{wide, width_some}
@@ -43,14 +43,14 @@ pub past-procedure : (at : ℕ) {body : ℕ} → body ≡ body_in (shape_of 28) 
 unfolding body_in shape_of
 past-procedure at e = omega (arith, e)
 
-pub part-there : {s scope b l k b' l' k' : List ℕ} {left from at n : ℕ} {r : Step} → from ≡ at →
+pub part-there : {s scope b l k b' l' k' : List ℕ} {left from at n : ℕ} {r : Answer} → from ≡ at →
     PartFound s scope b l k left from n r b' l' k' → PartFound s scope b l k left at n r b' l' k'
 part-there {s} {scope} {b} {l} {k} {b'} {l'} {k'} {left} {n = n} {r = r} e F =
     subst (λ (a : ℕ). PartFound s scope b l k left a n r b' l' k') e F
 
-pub onward-full : (r : Step) (p : ℕ) → r ≡ Full p → Onward r
+pub onward-full : (r : Answer) (p : ℕ) → r ≡ Err p → Onward r
 unfolding Onward
-onward-full r p e = subst (λ (x : Step). Onward x) (sym e) tt
+onward-full r p e = subst (λ (x : Answer). Onward x) (sym e) tt
 
 depth-some : (W : Written) → 0 < depth W
 unfolding depth
@@ -69,14 +69,14 @@ depth-some (new id d c) = omega arith
 depth-some (procedure id ty ps x y) = omega arith
 
 -- no level left, or no byte
-pub part-deep : (s scope b l k : List ℕ) (left at n : ℕ) → left ≡ 0 → PartFound s scope b l k left at n (Full at) b l k
+pub part-deep : (s scope b l k : List ℕ) (left at n : ℕ) → left ≡ 0 → PartFound s scope b l k left at n (Err at) b l k
 unfolding Onward
 part-deep s scope b l k left at n e = record {
   onward = tt;
   does = λ N ns bs f taken W G. absurd (omega (arith, G.deep, depth-some W));
 }
 
-pub part-past : (s scope b l k : List ℕ) (left at n : ℕ) → 4096 ≤ at → PartFound s scope b l k left at n (Full at) b l k
+pub part-past : (s scope b l k : List ℕ) (left at n : ℕ) → 4096 ≤ at → PartFound s scope b l k left at n (Err at) b l k
 unfolding Onward
 part-past s scope b l k left at n e = record {
   onward = tt;
@@ -85,13 +85,13 @@ part-past s scope b l k left at n e = record {
 
 -- no part more
 none-at : (at n : ℕ) (b l k : List ℕ) (bs : List Binder) (f : ℕ → ℕ) (taken : ℕ → Bool) (ws : Writtens) →
-    found.number ws ≡ 0 → Takes k taken → Found (WroteAll at ws b) (renumber_all bs f taken at ws) n l (Done at n) b l k
+    found.number ws ≡ 0 → Takes k taken → Found (WroteAll at ws b) (renumber_all bs f taken at ws) n l (stepped at n) b l k
 unfolding found.number renumber_all Found notes widths
 none-at at n b l k bs f taken none e T =
     let m : n ≡ n + 0 = omega arith in
     record {
       value = at;
-      answer = ap (Done at) m;
+      answer = ap (stepped at) m;
       post = record { valued = omega arith; same = refl; bytes = rewrites-same at (encodes none) b };
       list = refl;
       takes = T;
@@ -99,7 +99,7 @@ none-at at n b l k bs f taken none e T =
 none-at at n b l k bs f taken (more w ws) e T = absurd (omega (arith, e))
 
 pub no_part : (s scope b l k : List ℕ) (left at count n : ℕ) → count ≡ 0 → n ≤ at → at ≤ 8192 →
-    PartsFound s scope b l k left at count n (Done at n) b l k
+    PartsFound s scope b l k left at count n (stepped at n) b l k
 unfolding Onward
 no_part s scope b l k left at count n c m h = record {
   onward = (h, m);
@@ -133,8 +133,8 @@ module _ (N : Numbers) (ns : List Name) (s scope k : List ℕ) (bs : List Binder
   }
 
 -- no id is left in the first
-pub parts-full : (s scope b l k b₁ l₁ k₁ : List ℕ) (left at count n p : ℕ) (x : Step) → (count ≡ 0 → ⊥) →
-    PartFound s scope b l k left at n x b₁ l₁ k₁ → x ≡ Full p → PartsFound s scope b l k left at count n x b₁ l₁ k₁
+pub parts-full : (s scope b l k b₁ l₁ k₁ : List ℕ) (left at count n p : ℕ) (x : Answer) → (count ≡ 0 → ⊥) →
+    PartFound s scope b l k left at n x b₁ l₁ k₁ → x ≡ Err p → PartsFound s scope b l k left at count n x b₁ l₁ k₁
 unfolding renumber_all found.number
 parts-full s scope b l k b₁ l₁ k₁ left at count n p x c P e = record {
   onward = P.onward;
@@ -150,8 +150,8 @@ parts-full s scope b l k b₁ l₁ k₁ left at count n p x c P e = record {
         (λ w' then. over (more w') (renumber_all bs f then (at + width w) ws)) n p l x b₁ l₁ k₁ b₁ l₁ k₁
         (P.does N ns bs f taken w (first-given N ns s scope k bs f taken left at w ws G)) e
 
-pub parts_more : (s scope b l k b₁ l₁ k₁ b' l' k' : List ℕ) (left at count n v c m : ℕ) (x r : Step) → (count ≡ 0 → ⊥) →
-    PartFound s scope b l k left at n x b₁ l₁ k₁ → x ≡ Done v c → m ≡ count - 1 →
+pub parts_more : (s scope b l k b₁ l₁ k₁ b' l' k' : List ℕ) (left at count n v c m : ℕ) (x r : Answer) → (count ≡ 0 → ⊥) →
+    PartFound s scope b l k left at n x b₁ l₁ k₁ → x ≡ stepped v c → m ≡ count - 1 →
     PartsFound s scope b₁ l₁ k₁ left v m c r b' l' k' → PartsFound s scope b l k left at count n r b' l' k'
 unfolding renumber_all found.number widths encodes
 parts_more s scope b l k b₁ l₁ k₁ b' l' k' left at count n v c m x r z P e q Q = record {
@@ -186,7 +186,7 @@ parts_more s scope b l k b₁ l₁ k₁ b' l' k' left at count n v c m x r z P e
         F'))
 
 -- an id byte
-pub id-at : (scope l k l₁ k₁ b : List ℕ) (at id i n : ℕ) (x : Step) (ns : List Name) (bs : List Binder) (f : ℕ → ℕ)
+pub id-at : (scope l k l₁ k₁ b : List ℕ) (at id i n : ℕ) (x : Answer) (ns : List Name) (bs : List Binder) (f : ℕ → ℕ)
     (taken : ℕ → Bool) → IdFound scope l k (at + 1) id n x l₁ k₁ → id ≡ i → i < 255 → Scoped ns bs f scope →
     Takes k taken → Found (Chosen b) (renumber_id bs taken (1 + at) i) n l x b l₁ k₁
 id-at scope l k l₁ k₁ b at id i n x ns bs f taken D e h S T =
@@ -210,7 +210,7 @@ use-none : (N : Numbers) (ns : List Name) (bs : List Binder) (ws : Writtens) →
     (0 ≡ found.number ws) × AllFine N ns bs ws
 unfolding found.number AllFine
 use-none N ns bs none e = (refl, tt)
-use-none N ns bs (more w ws) e = let z : ◌≡◌ {A = ℕ} 0 1 = cc in absurd (omega arith)
+use-none N ns bs (more w ws) e = absurd (cc)
 
 pub use-arity : (N : Numbers) (ns : List Name) (bs : List Binder) (ws : Writtens) (m : Meaning) →
     FineUse m (ws ≡ none) (λ tys. FineArgs N ns bs ws tys) → (arity m ≡ found.number ws) × AllFine N ns bs ws
@@ -223,7 +223,7 @@ use-arity N ns bs ws retired F = absurd F
 use-arity N ns bs ws free F = absurd F
 
 -- a use
-pub call-found : (s scope b l k b₁ b' l' k' : List ℕ) (left at n id e w count a : ℕ) (r : Step) →
+pub call-found : (s scope b l k b₁ b' l' k' : List ℕ) (left at n id e w count a : ℕ) (r : Answer) →
     id ≡ get_or s (at + 1) 0 → e ≡ get_or scope id 0 → w ≡ becomes_in e id → b₁ ≡ set b (at + 1) w → count ≡ arguments_in e →
     a ≡ at + 2 → PartsFound s scope b₁ l k left a count n r b' l' k' → CallFound s scope b l k left at n r b' l' k'
 unfolding Fine depth encode width renumber
@@ -262,8 +262,8 @@ call-found s scope b l k b₁ b' l' k' left at n id e w count a r i j u v q o P 
 }
 
 -- a new
-pub block-full : (s scope b l k l₁ k₁ b' : List ℕ) (left at n id p : ℕ) (x : Step) → id ≡ get_or s (at + 1) 0 →
-    IdFound scope l k (at + 1) id n x l₁ k₁ → x ≡ Full p → BlockFound s scope b l k left at n x b' l₁ k₁
+pub block-full : (s scope b l k l₁ k₁ b' : List ℕ) (left at n id p : ℕ) (x : Answer) → id ≡ get_or s (at + 1) 0 →
+    IdFound scope l k (at + 1) id n x l₁ k₁ → x ≡ Err p → BlockFound s scope b l k left at n x b' l₁ k₁
 unfolding Fine encode renumber
 block-full s scope b l k l₁ k₁ b' left at n id p x i D e = record {
   onward = onward-full x p e;
@@ -274,8 +274,8 @@ block-full s scope b l k l₁ k₁ b' left at n id p x i D e = record {
       l₁ k₁ (id-at scope l k l₁ k₁ b at id h n x ns bs f taken D here G.fine.0 G.scoped G.takes) e;
 }
 
-pub block-found : (s scope inner b l k b₁ l₁ k₁ b' l' k' : List ℕ) (left at n id w m e a : ℕ) (x r : Step) →
-    id ≡ get_or s (at + 1) 0 → IdFound scope l k (at + 1) id n x l₁ k₁ → x ≡ Done w m → b₁ ≡ set b (at + 1) w →
+pub block-found : (s scope inner b l k b₁ l₁ k₁ b' l' k' : List ℕ) (left at n id w m e a : ℕ) (x r : Answer) →
+    id ≡ get_or s (at + 1) 0 → IdFound scope l k (at + 1) id n x l₁ k₁ → x ≡ stepped w m → b₁ ≡ set b (at + 1) w →
     e ≡ bound_entry w 0 → inner ≡ set scope id e → a ≡ at + 3 → PartFound s inner b₁ l₁ k₁ left a m r b' l' k' →
     BlockFound s scope b l k left at n r b' l' k'
 unfolding Fine depth encode width renumber id_of arity meant
@@ -321,11 +321,7 @@ block-found s scope inner b l k b₁ l₁ k₁ b' l' k' left at n id w m e a x r
       F'));
 }
 
--- an answer that is Done
-pub onward-value : (r : Step) (w c : ℕ) → Onward r → r ≡ Done w c → w ≤ 8192
+-- of a step that is done
+pub onward-done : {x : Step} → Onward (Ok x) → (x.value ≤ 8192) × (x.changes ≤ x.value)
 unfolding Onward
-onward-value r w c h e = (subst (λ (t : Step). Onward t) e h).0
-
-pub onward-changes : (r : Step) (w c : ℕ) → Onward r → r ≡ Done w c → c ≤ w
-unfolding Onward
-onward-changes r w c h e = (subst (λ (t : Step). Onward t) e h).1
+onward-done h = h

@@ -1,6 +1,6 @@
 -- What the pass over the bytes of a term promises: it does what `renumber` of the crate sheet_written says. Only inner
 -- contracts cite it.
-use Rattle.std.specs.Prelude.{ℕ, suc, ◌+◌, ◌≤◌, ◌<◌, ◌≡◌, Bool, false, List, [], ◌++◌, length, drop}
+use Rattle.std.specs.Prelude.{ℕ, suc, ◌+◌, ◌≤◌, ◌<◌, ◌≡◌, Bool, false, List, [], ◌++◌, length, drop, Result, Ok, Err}
 use Rattle.language.specs.declared.Numbers.{Numbers}
 use Rattle.sheet_records.specs.Limits.{most_bytes}
 use Rattle.sheet_written.specs.Written.{Written, call, new, procedure, Parameter, Writtens, none, more, Name, Sheet}
@@ -14,38 +14,44 @@ use Rattle.sheet_written.specs.Renumber.{renumber, renumber_all, renumber_sheet,
 use Rattle.sheet_reader.specs.Encoding.{pairs, encode, encodes, encode_sheet}
 use Rattle.sheet_reader.specs.Reader.{accepted, rejected}
 use Rattle.sheet_judge.specs.declared.judge.Judgement.{Judgement}
-use Rattle.sheet_judge.specs.declared.judge.Judgement.TheVariants as judged
 use Rattle.serve_renumber.specs.Outcome.{read_earlier, written, RenumberedBy}
 use Rattle.serve_renumber.specs.Work.{Takes, Scoped, Lies, Rewrites, notes}
+use Rattle.sheet_records.specs.declared.refusal.Refusal.{Refusal}
+use Rattle.sheet_records.specs.declared.refusal.Cause.{Cause}
 use Rattle.serve_renumber.specs.declared.step.Step.{Step}
-use Rattle.serve_renumber.specs.declared.step.Step.TheVariants.{Done, Full}
-use Rattle.serve_renumber.specs.declared.renumber.Renumbered.{Renumbered}
+
+-- what a step answers: a value and the number of changes so far, or the place of the id byte for which no id is left
+abbrev pub Answer : Type 0
+Answer = Result Step ℕ
+
+abbrev pub stepped : ℕ → ℕ → Answer
+stepped value changes = Ok (record { value = value; changes = changes })
 
 -- an answer with the changes cs after n others: its value and the bytes are as Post says, the list l has the changes,
 -- the ids taken are those of `then`
 pub record Did {X : Type 0} (Post : X → ℕ → List ℕ → Type 0) (x : X) (cs : List Change) (then : ℕ → Bool) (n : ℕ)
-    (l : List ℕ) (r : Step) (b' l' k' : List ℕ) : Type 0 where
+    (l : List ℕ) (r : Answer) (b' l' k' : List ℕ) : Type 0 where
   pub value : ℕ
-  pub answer : r ≡ Done value (n + length cs)
+  pub answer : r ≡ stepped value (n + length cs)
   pub post : Post x value b'
   pub list : l' ≡ notes n cs l
   pub takes : Takes k' then
 
 -- the answer is that of a renumbering; where no id is left nothing is said of what was written
-unfoldable pub Found : {X : Type 0} → (X → ℕ → List ℕ → Type 0) → Renumbering X → ℕ → List ℕ → Step → List ℕ → List ℕ →
+unfoldable pub Found : {X : Type 0} → (X → ℕ → List ℕ → Type 0) → Renumbering X → ℕ → List ℕ → Answer → List ℕ → List ℕ →
     List ℕ → Type 0
 Found Post (renumbered x cs then) n l r b' l' k' = Did Post x cs then n l r b' l' k'
-Found Post (none_left p) n l r b' l' k' = r ≡ Full p
+Found Post (none_left p) n l r b' l' k' = r ≡ Err p
 
 -- at most so many changes, and a value of at most v
-unfoldable pub Within : ℕ → ℕ → Step → Type 0
-Within v c (Done value changes) = (value ≤ v) × (changes ≤ c)
-Within v c (Full place) = Unit
+unfoldable pub Within : ℕ → ℕ → Answer → Type 0
+Within v c (Ok step) = (step.value ≤ v) × (step.changes ≤ c)
+Within v c (Err place) = Unit
 
 -- a place of at most 8,192, before which there are no more changes than bytes
-unfoldable pub Onward : Step → Type 0
-Onward (Done value changes) = (value ≤ 8192) × (changes ≤ value)
-Onward (Full place) = Unit
+unfoldable pub Onward : Answer → Type 0
+Onward (Ok step) = (step.value ≤ 8192) × (step.changes ≤ step.value)
+Onward (Err place) = Unit
 
 -- the new id of a binder
 pub record Chosen (b : List ℕ) (id value : ℕ) (b' : List ℕ) : Type 0 where
@@ -54,7 +60,7 @@ pub record Chosen (b : List ℕ) (id value : ℕ) (b' : List ℕ) : Type 0 where
   pub bytes : b' ≡ b
 
 -- the id byte at a place
-pub record IdFound (scope l k : List ℕ) (at id n : ℕ) (r : Step) (l' k' : List ℕ) : Type 0 where
+pub record IdFound (scope l k : List ℕ) (at id n : ℕ) (r : Answer) (l' k' : List ℕ) : Type 0 where
   pub within : Within 255 (n + 1) r
   pub does : (ns : List Name) (bs : List Binder) (f : ℕ → ℕ) (taken : ℕ → Bool) (b : List ℕ) → id < 255 →
       Scoped ns bs f scope → Takes k taken → Found (Chosen b) (renumber_id bs taken at id) n l r b l' k'
@@ -66,7 +72,7 @@ pub record WroteParameters (ns : List Name) (bs : List Binder) (f : ℕ → ℕ)
   pub scoped : Scoped ns (inside ps bs) (map_inside f ps qs) inner'
   pub bytes : Rewrites at (pairs many ps) (pairs many qs) b b'
 
-pub record ParametersFound (s scope inner b l k : List ℕ) (at count n : ℕ) (r : Step) (inner' b' l' k' : List ℕ) :
+pub record ParametersFound (s scope inner b l k : List ℕ) (at count n : ℕ) (r : Answer) (inner' b' l' k' : List ℕ) :
     Type 0 where
   pub within : Within 0 (n + count) r
   pub does : (ns : List Name) (bs cs : List Binder) (f g : ℕ → ℕ) (taken : ℕ → Bool) (many : ℕ) (earlier ps : List
@@ -91,7 +97,7 @@ pub record Wrote (at : ℕ) (W : Written) (b : List ℕ) (W' : Written) (value :
   pub same : width W' ≡ width W
   pub bytes : Rewrites at (encode W) (encode W') b b'
 
-pub record PartFound (s scope b l k : List ℕ) (left at n : ℕ) (r : Step) (b' l' k' : List ℕ) : Type 0 where
+pub record PartFound (s scope b l k : List ℕ) (left at n : ℕ) (r : Answer) (b' l' k' : List ℕ) : Type 0 where
   pub onward : Onward r
   pub does : (N : Numbers) (ns : List Name) (bs : List Binder) (f : ℕ → ℕ) (taken : ℕ → Bool) (W : Written) →
       Given N ns s scope k bs f taken left at W → Found (Wrote at W b) (renumber bs f taken at W) n l r b' l' k'
@@ -120,26 +126,26 @@ pub record WroteAll (at : ℕ) (ws : Writtens) (b : List ℕ) (ws' : Writtens) (
   pub same : widths ws' ≡ widths ws
   pub bytes : Rewrites at (encodes ws) (encodes ws') b b'
 
-pub record PartsFound (s scope b l k : List ℕ) (left at count n : ℕ) (r : Step) (b' l' k' : List ℕ) : Type 0 where
+pub record PartsFound (s scope b l k : List ℕ) (left at count n : ℕ) (r : Answer) (b' l' k' : List ℕ) : Type 0 where
   pub onward : Onward r
   pub does : (N : Numbers) (ns : List Name) (bs : List Binder) (f : ℕ → ℕ) (taken : ℕ → Bool) (ws : Writtens) →
       count ≡ number ws → GivenAll N ns s scope k bs f taken left at ws →
       Found (WroteAll at ws b) (renumber_all bs f taken at ws) n l r b' l' k'
 
 -- a use, a new and a procedure, whose parts have `left` levels
-pub record CallFound (s scope b l k : List ℕ) (left at n : ℕ) (r : Step) (b' l' k' : List ℕ) : Type 0 where
+pub record CallFound (s scope b l k : List ℕ) (left at n : ℕ) (r : Answer) (b' l' k' : List ℕ) : Type 0 where
   pub onward : Onward r
   pub does : (N : Numbers) (ns : List Name) (bs : List Binder) (f : ℕ → ℕ) (taken : ℕ → Bool) (id : ℕ) (ws : Writtens) →
       Given N ns s scope k bs f taken (suc left) at (call id ws) →
       Found (Wrote at (call id ws) b) (renumber bs f taken at (call id ws)) n l r b' l' k'
 
-pub record BlockFound (s scope b l k : List ℕ) (left at n : ℕ) (r : Step) (b' l' k' : List ℕ) : Type 0 where
+pub record BlockFound (s scope b l k : List ℕ) (left at n : ℕ) (r : Answer) (b' l' k' : List ℕ) : Type 0 where
   pub onward : Onward r
   pub does : (N : Numbers) (ns : List Name) (bs : List Binder) (f : ℕ → ℕ) (taken : ℕ → Bool) (id d : ℕ) (c : Written) →
       Given N ns s scope k bs f taken (suc left) at (new id d c) →
       Found (Wrote at (new id d c) b) (renumber bs f taken at (new id d c)) n l r b' l' k'
 
-pub record RoutineFound (s scope b l k : List ℕ) (left at n : ℕ) (r : Step) (b' l' k' : List ℕ) : Type 0 where
+pub record RoutineFound (s scope b l k : List ℕ) (left at n : ℕ) (r : Answer) (b' l' k' : List ℕ) : Type 0 where
   pub onward : Onward r
   pub does : (N : Numbers) (ns : List Name) (bs : List Binder) (f : ℕ → ℕ) (taken : ℕ → Bool) (id ty : ℕ)
       (ps : List Parameter) (x y : Written) → Given N ns s scope k bs f taken (suc left) at (procedure id ty ps x y) →
@@ -153,9 +159,9 @@ pub record AcceptedAt (s : List ℕ) (root : ℕ) : Type 0 where
   pub reads : read_earlier s ≡ accepted sheet type size
   pub rooted : root ≡ heading_width sheet
 
-unfoldable pub EarlierJudged : List ℕ → Judgement → Type 0
-EarlierJudged s (judged.Sheet root ty size uses) = AcceptedAt s root
-EarlierJudged s (judged.Refused x) = read_earlier s ≡ rejected x.number x.place
+unfoldable pub EarlierJudged : List ℕ → Result Judgement Refusal → Type 0
+EarlierJudged s (Ok x) = AcceptedAt s x.root
+EarlierJudged s (Err x) = read_earlier s ≡ rejected x.number x.place
 
 -- the heading: the ids of its names are taken, and the scope has their arguments
 pub record Headed (s : List ℕ) (root : ℕ) (k scope k' scope' : List ℕ) : Type 0 where
@@ -173,13 +179,13 @@ pub record WroteSheet (S : Sheet) (b : List ℕ) (W : Written) (value : ℕ) (b'
   pub wide : length (encode_sheet (with_term S W)) ≡ length (encode_sheet S)
   pub bytes : b' ≡ encode_sheet (with_term S W) ++ drop (length (encode_sheet S)) b
 
-pub record Worked (s : List ℕ) (root : ℕ) (b l : List ℕ) (r : Step) (b' l' : List ℕ) : Type 0 where
+pub record Worked (s : List ℕ) (root : ℕ) (b l : List ℕ) (r : Answer) (b' l' : List ℕ) : Type 0 where
   pub taken : List ℕ
   pub few : Onward r
   pub does : (S : Sheet) (ty n : ℕ) → read_earlier s ≡ accepted S ty n → root ≡ heading_width S →
       length s ≤ length b → Found (WroteSheet S b) (renumber_sheet S) 0 l r b' l' taken
 
 -- the service, but for what reading and the lengths refuse
-pub record Renumbers (s : List ℕ) (root : ℕ) (r : Renumbered) (out out' list list' : List ℕ) : Type 0 where
+pub record Renumbers (s : List ℕ) (root : ℕ) (r : Result ℕ Cause) (out out' list list' : List ℕ) : Type 0 where
   pub does : (S : Sheet) (ty n : ℕ) → read_earlier s ≡ accepted S ty n → root ≡ heading_width S →
       RenumberedBy (written S (renumber_sheet S)) r out out' list list'

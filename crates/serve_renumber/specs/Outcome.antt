@@ -1,5 +1,5 @@
 -- What renumber promises, for all slices lent. Document 02 [4].
-use Rattle.std.specs.Prelude.{ℕ, ◌%◌, ◌/◌, ◌≡◌, ◌||◌, List, [], ◌∷◌, ◌++◌, length, drop, ltb}
+use Rattle.std.specs.Prelude.{ℕ, ◌%◌, ◌/◌, ◌≡◌, ◌||◌, List, [], ◌∷◌, ◌++◌, length, drop, ltb, Result, Ok, Err}
 use Rattle.language.specs.Choice.{pick}
 use Rattle.sheet_records.specs.Refusal.{cause, old_sheet, both_sheets, space_too_short, no_id_left}
 use Rattle.sheet_records.specs.declared.edition.Edition.TheVariants.{Earlier}
@@ -9,8 +9,6 @@ use Rattle.sheet_written.specs.Rules.{with_term}
 use Rattle.sheet_written.specs.Renumber.{Change, Renumbering, renumbered, none_left, renumber_sheet}
 use Rattle.sheet_reader.specs.Encoding.{encode_sheet}
 use Rattle.sheet_reader.specs.Reader.{Checks, accepted, rejected, read_under}
-use Rattle.serve_renumber.specs.declared.renumber.Renumbered.{Renumbered}
-use Rattle.serve_renumber.specs.declared.renumber.Renumbered.TheVariants.{Changed, Refused}
 
 -- "reads a sheet under the earlier rule"
 abbrev pub read_earlier : List ℕ → Checks
@@ -50,11 +48,11 @@ outcome s room space = checked (length s) room space (read_earlier s)
 
 -- "It writes the sheet ..; bytes after the sheet and after the list are untouched", "the number of changes is given";
 -- on refusal "each time sheet and list space are untouched"
-unfoldable pub RenumberedBy : Outcome → Renumbered → List ℕ → List ℕ → List ℕ → List ℕ → Type 0
+unfoldable pub RenumberedBy : Outcome → Result ℕ Cause → List ℕ → List ℕ → List ℕ → List ℕ → Type 0
 RenumberedBy (done b cs) r out out' list list' =
-    (r ≡ Changed (length cs)) × (out' ≡ b ++ drop (length b) out)
+    (r ≡ Ok (length cs)) × (out' ≡ b ++ drop (length b) out)
     × (list' ≡ listed cs ++ drop (length (listed cs)) list)
-RenumberedBy (refused x) r out out' list list' = (r ≡ Refused x) × (out' ≡ out) × (list' ≡ list)
+RenumberedBy (refused x) r out out' list list' = (r ≡ Err x) × (out' ≡ out) × (list' ≡ list)
 
-abbrev pub RenumberPromise : List ℕ → Renumbered → List ℕ → List ℕ → List ℕ → List ℕ → Type 0
+abbrev pub RenumberPromise : List ℕ → Result ℕ Cause → List ℕ → List ℕ → List ℕ → List ℕ → Type 0
 RenumberPromise s r out out' list list' = RenumberedBy (outcome s (length out) (length list)) r out out' list list'

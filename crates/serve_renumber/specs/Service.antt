@@ -1,5 +1,5 @@
 -- What document 02 [4] says of renumber, as statements.
-use Rattle.std.specs.Prelude.{ℕ, ◌≤◌, ◌≡◌, ◌⊎◌, List, [], length, Bool}
+use Rattle.std.specs.Prelude.{ℕ, ◌≤◌, ◌≡◌, ◌⊎◌, List, [], length, Bool, Result}
 use Rattle.sheet_records.specs.Refusal.{space_too_short, no_id_left}
 use Rattle.sheet_records.specs.declared.refusal.Cause.{Cause}
 use Rattle.sheet_written.specs.Written.{Sheet, Written}
@@ -7,7 +7,6 @@ use Rattle.sheet_written.specs.Hiding.{Apart}
 use Rattle.sheet_written.specs.Renumber.{Change, taken_at_first}
 use Rattle.sheet_reader.specs.Reader.{accepted, read_sheet}
 use Rattle.serve_renumber.specs.Outcome.{read_earlier, list_space, listed, done, refused, outcome, RenumberPromise}
-use Rattle.serve_renumber.specs.declared.renumber.Renumbered.{Renumbered}
 use Rattle.sheet_records.specs.declared.edition.Edition.TheVariants.{Earlier}
 use Rattle.sheet_written.specs.Rules.{with_term}
 use Rattle.sheet_written.specs.Renumbering.{Gives, Renumbered as RenumberedSheet}
@@ -65,6 +64,6 @@ RenumberNumbers =
 -- the promise allows one answer, and one state of all that is lent
 unfoldable pub RenumberUnique : Type 0
 RenumberUnique =
-    (s out list : List ℕ) (r q : Renumbered) (out' out'' list' list'' : List ℕ) →
+    (s out list : List ℕ) (r q : Result ℕ Cause) (out' out'' list' list'' : List ℕ) →
     RenumberPromise s r out out' list list' → RenumberPromise s q out out'' list list'' →
     (r ≡ q) × (out' ≡ out'') × (list' ≡ list'')

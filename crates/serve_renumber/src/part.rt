@@ -46,27 +46,27 @@ fn choose_id(
     at: usize,
     id: usize,
     n: usize,
-) -> Step
+) -> Result<Step, usize>
     requires { (at ≤ 8192) × (id < 256) × (n ≤ 8192) }
     ensures { IdFound scope.now list.old taken.old at id n result
         list.new taken.new }
 {
     if !held(word(scope, id)) {
-        return Step::Done {
+        return Ok(Step {
             value: id,
             changes: n,
-        };
+        });
     }
     let low = lowest_free(taken);
     if IDS <= low {
-        return Step::Full { place: at };
+        return Err(at);
     }
     note_change(list, n, at, id, low);
     put(taken, low, TAKEN);
-    Step::Done {
+    Ok(Step {
         value: low,
         changes: n + 1,
-    }
+    })
 }
 
 // Chooses the ids of `count` parameters, whose pairs begin at a place; `inner` becomes the scope inside.
@@ -80,38 +80,33 @@ fn choose_parameters(
     at: usize,
     count: usize,
     n: usize,
-) -> Step
+) -> Result<Step, usize>
     requires { (at + 2 * count ≤ 8192) × (count ≤ 4) × (n + count ≤ 8192) }
     ensures { ParametersFound s.now scope.now inner.old bytes.old
         list.old taken.old at count n result inner.new bytes.new
         list.new taken.new }
 {
     if count == 0 {
-        return Step::Done {
+        return Ok(Step {
             value: 0,
             changes: n,
-        };
+        });
     }
     let id = byte(s, at);
-    let x = choose_id(scope, list, taken, at, id, n);
-    match x {
-        Step::Full { place: _ } => x,
-        Step::Done { value, changes } => {
-            put(bytes, at, value);
-            enter(inner, id, bound_entry(value, 0));
-            choose_parameters(
-                s,
-                scope,
-                inner,
-                bytes,
-                list,
-                taken,
-                at + PAIR,
-                count - 1,
-                changes,
-            )
-        }
-    }
+    let x = choose_id(scope, list, taken, at, id, n)?;
+    put(bytes, at, x.value);
+    enter(inner, id, bound_entry(x.value, 0));
+    choose_parameters(
+        s,
+        scope,
+        inner,
+        bytes,
+        list,
+        taken,
+        at + PAIR,
+        count - 1,
+        x.changes,
+    )
 }
 
 // Renumbers the part at a place.
@@ -125,16 +120,16 @@ pub(crate) fn renumber_part(
     left: usize,
     at: usize,
     n: usize,
-) -> Step
+) -> Result<Step, usize>
     requires { (left ≤ 32) × (n ≤ at) × (at ≤ 8192) }
     ensures { PartFound s.now scope.now bytes.old list.old
         taken.old left at n result bytes.new list.new taken.new }
 {
     if left == 0 {
-        return Step::Full { place: at };
+        return Err(at);
     }
     if MOST_BYTES <= at {
-        return Step::Full { place: at };
+        return Err(at);
     }
     let kind = byte_at(s, at);
     if kind == NEW {
@@ -172,34 +167,29 @@ fn renumber_parts(
     at: usize,
     count: usize,
     n: usize,
-) -> Step
+) -> Result<Step, usize>
     requires { (left < 32) × (n ≤ at) × (at ≤ 8192) × (count < 256) }
     ensures { PartsFound s.now scope.now bytes.old list.old
         taken.old left at count n result bytes.new list.new taken.new }
 {
     if count == 0 {
-        return Step::Done {
+        return Ok(Step {
             value: at,
             changes: n,
-        };
+        });
     }
-    let x = renumber_part(s, scope, bytes, list, taken, left, at, n);
-    match x {
-        Step::Full { place: _ } => x,
-        Step::Done { value, changes } => {
-            renumber_parts(
-                s,
-                scope,
-                bytes,
-                list,
-                taken,
-                left,
-                value,
-                count - 1,
-                changes,
-            )
-        }
-    }
+    let x = renumber_part(s, scope, bytes, list, taken, left, at, n)?;
+    renumber_parts(
+        s,
+        scope,
+        bytes,
+        list,
+        taken,
+        left,
+        x.value,
+        count - 1,
+        x.changes,
+    )
 }
 
 // Renumbers the use at a place.
@@ -213,7 +203,7 @@ fn renumber_call(
     left: usize,
     at: usize,
     n: usize,
-) -> Step
+) -> Result<Step, usize>
     requires { (left < 32) × (n ≤ at) × (at ≤ 4096) }
     ensures { CallFound s.now scope.now bytes.old list.old
         taken.old left at n result bytes.new list.new taken.new }
@@ -237,23 +227,18 @@ fn renumber_block(
     left: usize,
     at: usize,
     n: usize,
-) -> Step
+) -> Result<Step, usize>
     requires { (left < 32) × (n ≤ at) × (at ≤ 4096) }
     ensures { BlockFound s.now scope.now bytes.old list.old
         taken.old left at n result bytes.new list.new taken.new }
 {
     let id = byte(s, at + ID);
-    let x = choose_id(scope, list, taken, at + ID, id, n);
-    match x {
-        Step::Full { place: _ } => x,
-        Step::Done { value, changes } => {
-            put(bytes, at + ID, value);
-            let mut inner = *scope;
-            enter(&mut inner, id, bound_entry(value, 0));
-            let from = at + 1 + body_of(NEW);
-            renumber_part(s, &inner, bytes, list, taken, left, from, changes)
-        }
-    }
+    let x = choose_id(scope, list, taken, at + ID, id, n)?;
+    put(bytes, at + ID, x.value);
+    let mut inner = *scope;
+    enter(&mut inner, id, bound_entry(x.value, 0));
+    let from = at + 1 + body_of(NEW);
+    renumber_part(s, &inner, bytes, list, taken, left, from, x.changes)
 }
 
 // Renumbers the procedure at a place, its term and the term in which it may be used.
@@ -267,40 +252,31 @@ fn renumber_routine(
     left: usize,
     at: usize,
     n: usize,
-) -> Step
+) -> Result<Step, usize>
     requires { (left < 32) × (n ≤ at) × (at ≤ 4096) }
     ensures { RoutineFound s.now scope.now bytes.old list.old
         taken.old left at n result bytes.new list.new taken.new }
 {
     let id = byte(s, at + ID);
     let count = least(byte(s, at + COUNT), MOST_ARGUMENTS);
-    let own = choose_id(scope, list, taken, at + ID, id, n);
-    let Step::Done { value, changes } = own else {
-        return own;
-    };
-    put(bytes, at + ID, value);
+    let own = choose_id(scope, list, taken, at + ID, id, n)?;
+    put(bytes, at + ID, own.value);
     let mut inner = *scope;
     let first = at + PARAMETER_IDS;
     let y = choose_parameters(
-        s, scope, &mut inner, bytes, list, taken, first, count, changes,
-    );
-    let Step::Done {
-        value: _,
-        changes: more,
-    } = y
-    else {
-        return y;
-    };
+        s,
+        scope,
+        &mut inner,
+        bytes,
+        list,
+        taken,
+        first,
+        count,
+        own.changes,
+    )?;
     let from = at + 1 + body_of(PROCEDURE);
-    let z = renumber_part(s, &inner, bytes, list, taken, left, from, more);
-    let Step::Done {
-        value: next,
-        changes: most,
-    } = z
-    else {
-        return z;
-    };
+    let z = renumber_part(s, &inner, bytes, list, taken, left, from, y.changes)?;
     let mut after = *scope;
-    enter(&mut after, id, bound_entry(value, count));
-    renumber_part(s, &after, bytes, list, taken, left, next, most)
+    enter(&mut after, id, bound_entry(own.value, count));
+    renumber_part(s, &after, bytes, list, taken, left, z.value, z.changes)
 }

@@ -21,12 +21,10 @@ pub(crate) const IDS: usize = sheet_records::limits::IDS as usize;
 pub(crate) fn lowest_free(taken: &[u8]) -> usize
     ensures { (result ≡ lowest (marked taken.now)) × (result ≤ 255) }
 {
-    let mut id = 0;
-    while id < IDS {
+    for id in 0..IDS {
         if byte(taken, id) != TAKEN {
             return id;
         }
-        id += 1;
     }
     IDS
 }

@@ -19,7 +19,7 @@ pub(crate) fn renumber_copy(
     root: usize,
     bytes: &mut [u8; MOST_BYTES],
     list: &mut [u8; LIST],
-) -> Step
+) -> Result<Step, usize>
     requires { (root ≤ 4096) × (length s.now ≤ 4096) × (length bytes.old ≡ 4096) }
     ensures { Worked s.now root bytes.old list.old result bytes.new
         list.new }

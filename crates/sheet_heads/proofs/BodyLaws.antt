@@ -18,9 +18,8 @@ use Rattle.sheet_records.specs.declared.kind.Rule.{Rule}
 use Rattle.sheet_records.specs.declared.kind.Rule.TheVariants.{Skip, Diverge, Truth, Number, Use, Fetch}
 use Rattle.sheet_records.specs.declared.kind.Rule.TheVariants.{Operate, Assign, Sequence, If, While, New, Procedure}
 use Rattle.sheet_heads.specs.declared.head.Record.{Record}
-use Rattle.sheet_heads.specs.declared.head.Head.TheVariants.{Good}
-use Rattle.sheet_judgements.specs.declared.judgement.Judged.{Judged}
-use Rattle.sheet_judgements.specs.declared.judgement.Judged.TheVariants.{Good as Fine, Refused as Bad}
+use Rattle.std.specs.Prelude.{Result, Ok, Err}
+use Rattle.sheet_records.specs.declared.refusal.Refusal.{Refusal}
 use Rattle.sheet_records.specs.Kind.{bytes_of}
 use Rattle.sheet_judgements.proofs.JudgeLaws.{procedure-inside}
 use Rattle.sheet_judgements.proofs.Tests.{pick-false, pick_true}
@@ -29,16 +28,16 @@ use Rattle.sheet_heads.proofs.ByteLaws.{bad-good, good-same, byte-good}
 module _ (s : List ℕ) (b r : Record) where
   -- one byte below a limit
   limited-body :
-      (limit : ℕ) → limited s b limit ≡ Good r →
+      (limit : ℕ) → limited s b limit ≡ Ok r →
       (b.place + 1 < length s) × (get_or s (b.place + 1) 0 < limit) × (r ≡ with_body b (get_or s (b.place + 1) 0) 0)
   unfolding limited
   limited-body limit h =
-      let g = byte-good s (b.place + 1) limit (λ a. Good (with_body b a 0)) r h in
+      let g = byte-good s (b.place + 1) limit (λ a. Ok (with_body b a 0)) r h in
       (g.0, g.1, sym (good-same g.2))
 
   -- a number
   constant-body :
-      (N : Numbers) → constant s N b ≡ Good r →
+      (N : Numbers) → constant s N b ≡ Ok r →
       (b.place + 1 < length s) × (get_or s (b.place + 1) 0 < 256) × (in_range N (get_or s (b.place + 1) 0) ≡ true)
       × (r ≡ with_body b (get_or s (b.place + 1) 0) 0)
   unfolding constant
@@ -49,7 +48,7 @@ module _ (s : List ℕ) (b r : Record) where
 
   -- an id and its standing
   use-body :
-      (st : List ℕ) (id c : ℕ) → id ≡ get_or s (b.place + 1) 0 → c ≡ get_or st id 0 → use_of s st b ≡ Good r →
+      (st : List ℕ) (id c : ℕ) → id ≡ get_or s (b.place + 1) 0 → c ≡ get_or st id 0 → use_of s st b ≡ Ok r →
       (b.place + 1 < length s) × (id < 255) × (c ≡ 0 → ⊥) × (c ≡ 1 → ⊥) × (r ≡ used s b id c)
   unfolding use_of
   use-body st id c e f h =
@@ -61,7 +60,7 @@ module _ (s : List ℕ) (b r : Record) where
 
   -- the data of a new
   data-body :
-      (id d : ℕ) → d ≡ get_or s (b.place + 2) 0 → data_byte s b id ≡ Good r →
+      (id d : ℕ) → d ≡ get_or s (b.place + 2) 0 → data_byte s b id ≡ Ok r →
       (b.place + 2 < length s) × (d < 3) × (d ≡ 0 → ⊥) × (r ≡ with_body b id d)
   unfolding data_byte
   data-body id d e h =
@@ -72,7 +71,7 @@ module _ (s : List ℕ) (b r : Record) where
   -- a new: its id, whose standing is c, and its data
   new-body :
       (ed : Edition) (st : List ℕ) (id d c : ℕ) →
-      id ≡ get_or s (b.place + 1) 0 → d ≡ get_or s (b.place + 2) 0 → c ≡ get_or st id 0 → new_of ed s st b ≡ Good r →
+      id ≡ get_or s (b.place + 1) 0 → d ≡ get_or s (b.place + 2) 0 → c ≡ get_or st id 0 → new_of ed s st b ≡ Ok r →
       (b.place + 2 < length s) × (id < 255) × (0 < d) × (d ≤ 2) × (is_named (standing_of c) ≡ false)
       × (hides ed (standing_of c) ≡ false) × (r ≡ with_body b id d)
   unfolding new_of
@@ -86,16 +85,17 @@ module _ (s : List ℕ) (b r : Record) where
 
   -- a procedure: its id and how many parameters it has
   procedure-body :
-      (ed : Edition) (st : List ℕ) → procedure_head ed s st b ≡ Good r →
-      (procedure_of ed s st b.place ≡ Fine)
+      (ed : Edition) (st : List ℕ) → procedure_head ed s st b ≡ Ok r →
+      (procedure_of ed s st b.place ≡ Ok tt)
       × (r ≡ with_body b (get_or s (b.place + 1) 0) (get_or s (b.place + 3) 0))
   unfolding procedure_head on_judged
   procedure-body ed st = go (procedure_of ed s st b.place)
     where
-      go : (x : Judged) → on_judged x (Good (with_body b (get_or s (b.place + 1) 0) (get_or s (b.place + 3) 0))) ≡ Good r →
-          (x ≡ Fine) × (r ≡ with_body b (get_or s (b.place + 1) 0) (get_or s (b.place + 3) 0))
-      go Fine h = (refl, sym (good-same h))
-      go (Bad x) h = absurd (bad-good h)
+      go : (x : Result (Unit {0}) Refusal) →
+          on_judged x (Ok (with_body b (get_or s (b.place + 1) 0) (get_or s (b.place + 3) 0))) ≡ Ok r →
+          (x ≡ Ok tt) × (r ≡ with_body b (get_or s (b.place + 1) 0) (get_or s (b.place + 3) 0))
+      go (Ok x) h = (refl, sym (good-same h))
+      go (Err x) h = absurd (bad-good h)
 
 -- what every body leaves, and that it stands in the list
 pub record Kept (R : Rule) (s : List ℕ) (b r : Record) : Type 0 where
@@ -118,17 +118,17 @@ kept-as R s b r i e p k q n =
     }
 
 module _ (s st : List ℕ) (N : Numbers) (b r : Record) (i : b.place < length s) where
-  plain : (R : Rule) → bytes_of R ≡ 0 → Good b ≡ Good r → Kept R s b r
+  plain : (R : Rule) → bytes_of R ≡ 0 → ◌≡◌ {A = Result Record Refusal} (Ok b) (Ok r) → Kept R s b r
   plain R e h = kept-as R s b r (omega arith) (sym (good-same h)) refl refl refl refl
 
-  one : (R : Rule) (limit : ℕ) → bytes_of R ≡ 1 → limited s b limit ≡ Good r → Kept R s b r
+  one : (R : Rule) (limit : ℕ) → bytes_of R ≡ 1 → limited s b limit ≡ Ok r → Kept R s b r
   unfolding with_body
   one R limit e h =
       let g = limited-body s b r limit h in
       let j = g.0 in
       kept-as R s b r (omega arith) g.2 refl refl refl refl
 
-  pub body_kept : (ed : Edition) (R : Rule) → body_of ed R s st N b ≡ Good r → Kept R s b r
+  pub body_kept : (ed : Edition) (R : Rule) → body_of ed R s st N b ≡ Ok r → Kept R s b r
   unfolding body_of with_body used
   body_kept ed Skip h = plain Skip refl h
   body_kept ed Diverge h = one Diverge 5 refl h

@@ -14,8 +14,8 @@ use Rattle.sheet_records.specs.declared.kind.Rule.{Rule}
 use Rattle.sheet_records.specs.declared.kind.Shape.{Shape}
 use Rattle.sheet_records.specs.declared.kind.Shape.TheVariants.{Part, Declare, Retire, Unknown}
 use Rattle.sheet_heads.specs.declared.head.Record.{Record}
-use Rattle.sheet_heads.specs.declared.head.Head.{Head}
-use Rattle.sheet_heads.specs.declared.head.Head.TheVariants.{Good}
+use Rattle.std.specs.Prelude.{Result, Ok}
+use Rattle.sheet_records.specs.declared.refusal.Refusal.{Refusal}
 use Rattle.sheet_records.proofs.KindLaws.{kind_of, parts_of, Fits, shape-known, shape-of-kind}
 use Rattle.sheet_judgements.proofs.Tests.{pick-false}
 use Rattle.sheet_heads.proofs.ByteLaws.{bad-good}
@@ -25,14 +25,15 @@ use Rattle.sheet_heads.proofs.BodyLaws.{Kept, body_kept}
 abbrev pub start : ℕ → Rule → Record
 start at R = blank at (kind_of R) (bytes_of R) (parts_of R) R
 
-record Shaped (x : Shape) (k : ℕ → ℕ → Rule → Head) (r : Record) : Type 0 where
+record Shaped (x : Shape) (k : ℕ → ℕ → Rule → Result Record Refusal) (r : Record) : Type 0 where
   body : ℕ
   parts : ℕ
   rule : Rule
   shape : x ≡ Part body parts rule
-  rest : k body parts rule ≡ Good r
+  rest : k body parts rule ≡ Ok r
 
-shaped : (x : Shape) (at : ℕ) (k : ℕ → ℕ → Rule → Head) (r : Record) → head_of_shape x at k ≡ Good r → Shaped x k r
+shaped : (x : Shape) (at : ℕ) (k : ℕ → ℕ → Rule → Result Record Refusal) (r : Record) →
+    head_of_shape x at k ≡ Ok r → Shaped x k r
 unfolding head_of_shape
 shaped (Part body parts R) at k r h = record { body = body; parts = parts; rule = R; shape = refl; rest = h }
 shaped (Declare body once) at k r h = absurd (bad-good h)
@@ -44,12 +45,12 @@ pub record Opened (ed : Edition) (R : Rule) (s st : List ℕ) (N : Numbers) (lef
   pub inside : at < length s
   pub kind : get_or s at 0 ≡ kind_of R
   pub depth : left ≡ 0 → ⊥
-  pub body : body_of ed R s st N (start at R) ≡ Good r
+  pub body : body_of ed R s st N (start at R) ≡ Ok r
 
 at-start :
     (ed : Edition) (s st : List ℕ) (N : Numbers) (at : ℕ) (r : Record) (k body parts : ℕ) (R : Rule) →
     Fits k body parts R →
-    body_of ed R s st N (blank at k body parts R) ≡ Good r → body_of ed R s st N (start at R) ≡ Good r
+    body_of ed R s st N (blank at k body parts R) ≡ Ok r → body_of ed R s st N (start at R) ≡ Ok r
 at-start ed s st N at r k body parts R f h = rw (f.0, f.1, f.2) at h
 
 -- the same with its rule
@@ -58,7 +59,7 @@ record Found (ed : Edition) (s st : List ℕ) (N : Numbers) (left at : ℕ) (r :
   opened : Opened ed rule s st N left at r
 
 module _
-    (ed : Edition) (s st : List ℕ) (N : Numbers) (left at : ℕ) (r : Record) (h : head_of ed s st N left at ≡ Good r) where
+    (ed : Edition) (s st : List ℕ) (N : Numbers) (left at : ℕ) (r : Record) (h : head_of ed s st N left at ≡ Ok r) where
   found : Found ed s st N left at r
   unfolding head_of
   found =
@@ -101,7 +102,7 @@ pub record GoodHead (s : List ℕ) (left at : ℕ) (r : Record) : Type 0 where
   pub next : r.next ≡ at + 1 + body
 
 pub head-good :
-    (ed : Edition) (s st : List ℕ) (N : Numbers) (left at : ℕ) (r : Record) → head_of ed s st N left at ≡ Good r →
+    (ed : Edition) (s st : List ℕ) (N : Numbers) (left at : ℕ) (r : Record) → head_of ed s st N left at ≡ Ok r →
     GoodHead s left at r
 unfolding blank
 head-good ed s st N left at r h =

@@ -1,7 +1,7 @@
 -- The kind byte and the body of a part of a term, or their refusal. Document 01, "Three services": "bytes left to right, each
 -- byte judged before the next is looked for. At one byte range comes first, then depth or the count of records, then 4, 5 or 6".
 -- SHEETS 2.4 and 9.2.
-use Rattle.std.specs.Prelude.{ℕ, ◌+◌, List, length, get_or, eqb, leb}
+use Rattle.std.specs.Prelude.{ℕ, ◌+◌, List, length, get_or, eqb, leb, Result, Ok, Err}
 use Rattle.language.specs.Choice.{pick}
 use Rattle.language.specs.Number.{in_range}
 use Rattle.language.specs.declared.Numbers.{Numbers}
@@ -18,22 +18,17 @@ use Rattle.sheet_records.specs.declared.kind.Rule.TheVariants.{Assign, Sequence,
 use Rattle.sheet_records.specs.declared.kind.Shape.{Shape}
 use Rattle.sheet_records.specs.declared.kind.Shape.TheVariants.{Part, Declare, Retire, Unknown}
 use Rattle.sheet_heads.specs.declared.head.Record.{Record}
-use Rattle.sheet_heads.specs.declared.head.Head.{Head}
-use Rattle.sheet_heads.specs.declared.head.Head.TheVariants.{Good, Refused}
-use Rattle.sheet_judgements.specs.declared.judgement.Judged.{Judged}
-use Rattle.sheet_judgements.specs.declared.judgement.Judged.TheVariants.{Good as Fine, Refused as Bad}
-use Rattle.sheet_heads.specs.declared.head.Byte.{Byte}
-use Rattle.sheet_heads.specs.declared.head.Byte.TheVariants.{Is, Refused as Unread}
+use Rattle.sheet_records.specs.declared.refusal.Refusal.{Refusal}
 
 -- the byte at a place, which must be below a limit
-unfoldable pub byte_of : List ℕ → ℕ → ℕ → Byte
+unfoldable pub byte_of : List ℕ → ℕ → ℕ → Result ℕ Refusal
 byte_of s at limit =
-    pick (leb (length s) at) (Unread (refusal cut_short (length s)))
-    (pick (leb limit (get_or s at 0)) (Unread (refusal out_of_range at)) (Is (get_or s at 0)))
+    pick (leb (length s) at) (Err (refusal cut_short (length s)))
+    (pick (leb limit (get_or s at 0)) (Err (refusal out_of_range at)) (Ok (get_or s at 0)))
 
-unfoldable pub on_byte : Byte → (ℕ → Head) → Head
-on_byte (Is b) k = k b
-on_byte (Unread x) k = Refused x
+unfoldable pub on_byte : Result ℕ Refusal → (ℕ → Result Record Refusal) → Result Record Refusal
+on_byte (Ok b) k = k b
+on_byte (Err x) k = Err x
 
 -- the same record with other body bytes
 unfoldable pub with_body : Record → ℕ → ℕ → Record
@@ -41,14 +36,14 @@ with_body r a b =
     record { place = r.place; kind = r.kind; rule = r.rule; parts = r.parts; a = a; b = b; next = r.next }
 
 -- a body of one byte, which must be below a limit
-unfoldable pub limited : List ℕ → Record → ℕ → Head
-limited s r limit = on_byte (byte_of s (r.place + 1) limit) (λ a. Good (with_body r a 0))
+unfoldable pub limited : List ℕ → Record → ℕ → Result Record Refusal
+limited s r limit = on_byte (byte_of s (r.place + 1) limit) (λ a. Ok (with_body r a 0))
 
 -- "one byte, two's complement, -Z to Z"
-unfoldable pub constant : List ℕ → Numbers → Record → Head
+unfoldable pub constant : List ℕ → Numbers → Record → Result Record Refusal
 constant s N r =
     on_byte (byte_of s (r.place + 1) bytes) (λ a.
-    pick (in_range N a) (Good (with_body r a 0)) (Refused (refusal out_of_range (r.place + 1))))
+    pick (in_range N a) (Ok (with_body r a 0)) (Err (refusal out_of_range (r.place + 1))))
 
 -- a use, whose id has the standing c: its parts are as many as its name declares, or its procedure has parameters
 unfoldable pub used : List ℕ → Record → ℕ → ℕ → Record
@@ -64,48 +59,48 @@ used s r id c =
     }
 
 -- "use of an id neither enclosing, declared nor retired: 5", "use of a retired id: 6"
-unfoldable pub use_of : List ℕ → List ℕ → Record → Head
+unfoldable pub use_of : List ℕ → List ℕ → Record → Result Record Refusal
 use_of s st r =
     on_byte (byte_of s (r.place + 1) ids) (λ id.
-    pick (eqb (get_or st id 0) free) (Refused (refusal id_unknown (r.place + 1)))
-    (pick (eqb (get_or st id 0) retired) (Refused (refusal id_retired (r.place + 1)))
-    (Good (used s r id (get_or st id 0)))))
+    pick (eqb (get_or st id 0) free) (Err (refusal id_unknown (r.place + 1)))
+    (pick (eqb (get_or st id 0) retired) (Err (refusal id_retired (r.place + 1)))
+    (Ok (used s r id (get_or st id 0)))))
 
 -- the data of a new: 1 truth, 2 number
-unfoldable pub data_byte : List ℕ → Record → ℕ → Head
+unfoldable pub data_byte : List ℕ → Record → ℕ → Result Record Refusal
 data_byte s r id =
     on_byte (byte_of s (r.place + 2) data_types) (λ d.
-    pick (eqb d 0) (Refused (refusal out_of_range (r.place + 2))) (Good (with_body r id d)))
+    pick (eqb d 0) (Err (refusal out_of_range (r.place + 2))) (Ok (with_body r id d)))
 
 -- "id declared or retired before, or a new on such an id: 4"; "16 at the id byte, judged after 4"
-unfoldable pub new_of : Edition → List ℕ → List ℕ → Record → Head
+unfoldable pub new_of : Edition → List ℕ → List ℕ → Record → Result Record Refusal
 new_of ed s st r =
     on_byte (byte_of s (r.place + 1) ids) (λ id.
-    pick (is_named (standing_of (get_or st id 0))) (Refused (refusal id_taken (r.place + 1)))
-    (pick (hides ed (standing_of (get_or st id 0))) (Refused (refusal id_enclosed (r.place + 1))) (data_byte s r id)))
+    pick (is_named (standing_of (get_or st id 0))) (Err (refusal id_taken (r.place + 1)))
+    (pick (hides ed (standing_of (get_or st id 0))) (Err (refusal id_enclosed (r.place + 1))) (data_byte s r id)))
 
-unfoldable pub on_judged : Judged → Head → Head
-on_judged Fine h = h
-on_judged (Bad x) h = Refused x
+unfoldable pub on_judged : Result (Unit {0}) Refusal → Result Record Refusal → Result Record Refusal
+on_judged (Ok x) h = h
+on_judged (Err x) h = Err x
 
 -- a procedure: its id and how many parameters it has
-unfoldable pub procedure_head : Edition → List ℕ → List ℕ → Record → Head
+unfoldable pub procedure_head : Edition → List ℕ → List ℕ → Record → Result Record Refusal
 procedure_head ed s st r =
-    on_judged (procedure_of ed s st r.place) (Good (with_body r (get_or s (r.place + 1) 0) (get_or s (r.place + 3) 0)))
+    on_judged (procedure_of ed s st r.place) (Ok (with_body r (get_or s (r.place + 1) 0) (get_or s (r.place + 3) 0)))
 
 -- the body of a record
-unfoldable pub body_of : Edition → Rule → List ℕ → List ℕ → Numbers → Record → Head
-body_of ed Skip s st N r = Good r
+unfoldable pub body_of : Edition → Rule → List ℕ → List ℕ → Numbers → Record → Result Record Refusal
+body_of ed Skip s st N r = Ok r
 body_of ed Diverge s st N r = limited s r types
 body_of ed Truth s st N r = limited s r truths
 body_of ed Number s st N r = constant s N r
 body_of ed Use s st N r = use_of s st r
-body_of ed Fetch s st N r = Good r
+body_of ed Fetch s st N r = Ok r
 body_of ed Operate s st N r = limited s r operators
-body_of ed Assign s st N r = Good r
-body_of ed Sequence s st N r = Good r
-body_of ed If s st N r = Good r
-body_of ed While s st N r = Good r
+body_of ed Assign s st N r = Ok r
+body_of ed Sequence s st N r = Ok r
+body_of ed If s st N r = Ok r
+body_of ed While s st N r = Ok r
 body_of ed New s st N r = new_of ed s st r
 body_of ed Procedure s st N r = procedure_head ed s st r
 
@@ -115,16 +110,16 @@ blank at kind body parts rule =
     record { place = at; kind = kind; rule = rule; parts = parts; a = 0; b = 0; next = at + 1 + body }
 
 -- "A name record's kind met inside the term is an unknown kind"
-unfoldable pub head_of_shape : Shape → ℕ → (ℕ → ℕ → Rule → Head) → Head
+unfoldable pub head_of_shape : Shape → ℕ → (ℕ → ℕ → Rule → Result Record Refusal) → Result Record Refusal
 head_of_shape (Part body parts rule) at k = k body parts rule
-head_of_shape (Declare body once) at k = Refused (refusal out_of_range at)
-head_of_shape (Retire body) at k = Refused (refusal out_of_range at)
-head_of_shape Unknown at k = Refused (refusal out_of_range at)
+head_of_shape (Declare body once) at k = Err (refusal out_of_range at)
+head_of_shape (Retire body) at k = Err (refusal out_of_range at)
+head_of_shape Unknown at k = Err (refusal out_of_range at)
 
 -- the record of the part at a place, with `left` levels of depth left
-unfoldable pub head_of : Edition → List ℕ → List ℕ → Numbers → ℕ → ℕ → Head
+unfoldable pub head_of : Edition → List ℕ → List ℕ → Numbers → ℕ → ℕ → Result Record Refusal
 head_of ed s st N left at =
-    pick (leb (length s) at) (Refused (refusal cut_short (length s)))
+    pick (leb (length s) at) (Err (refusal cut_short (length s)))
     (head_of_shape (shape_of (get_or s at 0)) at (λ body parts rule.
-    pick (eqb left 0) (Refused (refusal too_deep at))
+    pick (eqb left 0) (Err (refusal too_deep at))
     (body_of ed rule s st N (blank at (get_or s at 0) body parts rule))))

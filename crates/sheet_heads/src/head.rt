@@ -1,5 +1,5 @@
 // The kind byte and the body of a part of a term: every judgement of its bytes.
-ghost use Rattle.std.specs.Prelude.{◌≡◌, List, ℕ, ◌+◌, ◌≤◌, ◌<◌, length};
+ghost use Rattle.std.specs.Prelude.{◌≡◌, List, ℕ, ◌+◌, ◌≤◌, ◌<◌, length, Err};
 ghost use Rattle.language.specs.declared.Numbers.{Numbers};
 ghost use Rattle.sheet_records.specs.declared.edition.Edition.{Edition};
 ghost use Rattle.sheet_heads.specs.Head.{byte_of, with_body, limited, constant, used, use_of, data_byte, new_of, body_of};
@@ -8,7 +8,7 @@ ghost use Rattle.sheet_heads.specs.Bare.{bare};
 ghost use Rattle.sheet_records.specs.Refusal.{refusal, too_deep};
 
 use language::Numbers;
-use sheet_judgements::judgement::{Judged, is_hiding, judge_procedure};
+use sheet_judgements::judgement::{is_hiding, judge_procedure};
 use sheet_records::edition::Edition;
 use sheet_records::kind::{COUNT, ID, Rule, Shape, shape_of};
 use sheet_records::read::{byte_at, standing_of};
@@ -33,12 +33,6 @@ pub struct Record {
     pub next: usize,
 }
 
-#[derive(Drop)]
-pub enum Head {
-    Good { record: Record },
-    Refused(Refusal),
-}
-
 // Where the ranges of bytes end: types, truths, operators, ids, any bytes, the data of a new.
 const TYPES: u16 = sheet_records::limits::TYPES as u16;
 
@@ -52,202 +46,161 @@ const BYTES: u16 = sheet_records::limits::BYTES as u16;
 
 const DATA_TYPES: u16 = sheet_records::limits::DATA_TYPES as u16;
 
-// A byte in its range, or a refusal.
-#[derive(Drop)]
-pub enum Byte {
-    Is { byte: u8 },
-    Refused(Refusal),
-}
-
 // The byte at `at`, which must be below `limit`.
-fn byte_below(s: &[u8], at: usize, limit: u16) -> Byte
+#[tactic(auto, unfolding(crate::specs::Head::byte_of))]
+fn byte_below(s: &[u8], at: usize, limit: u16) -> Result<u8, Refusal>
     ensures { result ≡ byte_of s.now at limit }
 {
     if s.len() <= at {
-        return Byte::Refused(refuse(CUT_SHORT, s.len()));
+        return Err(refuse(CUT_SHORT, s.len()));
     }
     let b = s[at];
     if limit <= b as u16 {
-        return Byte::Refused(refuse(OUT_OF_RANGE, at));
+        return Err(refuse(OUT_OF_RANGE, at));
     }
-    Byte::Is { byte: b }
+    Ok(b)
 }
 
 // The same record with other body bytes.
+#[tactic(auto, unfolding(crate::specs::Head::with_body))]
 fn with_body(r: Record, a: u8, b: u32) -> Record
     ensures { result ≡ with_body r a b }
 {
-    let rule = r.rule;
-    Record {
-        place: r.place,
-        kind: r.kind,
-        rule,
-        parts: r.parts,
-        a,
-        b,
-        next: r.next,
-    }
+    Record { a, b, ..r }
 }
 
 // A body of one byte, which must be below `limit`.
-fn limited_body(s: &[u8], r: Record, limit: u16) -> Head
+#[tactic(auto, unfolding(crate::specs::Head::limited, crate::specs::Head::on_byte))]
+fn limited_body(s: &[u8], r: Record, limit: u16) -> Result<Record, Refusal>
     requires { r.place < 65536 }
     ensures { result ≡ limited s.now r limit }
 {
-    let at = r.place + 1;
-    let found = byte_below(s, at, limit);
-    match found {
-        Byte::Refused(refusal) => Head::Refused(refusal),
-        Byte::Is { byte } => Head::Good {
-            record: with_body(r, byte, 0),
-        },
-    }
+    let byte = byte_below(s, r.place + 1, limit)?;
+    Ok(with_body(r, byte, 0))
 }
 
 // A number from -Z to Z.
-fn constant_body(s: &[u8], n: Numbers, r: Record) -> Head
+#[tactic(auto, unfolding(crate::specs::Head::constant, crate::specs::Head::on_byte))]
+fn constant_body(s: &[u8], n: Numbers, r: Record) -> Result<Record, Refusal>
     requires { r.place < 65536 }
     ensures { result ≡ constant s.now n r }
 {
     let at = r.place + 1;
-    let found = byte_below(s, at, BYTES);
-    match found {
-        Byte::Refused(refusal) => Head::Refused(refusal),
-        Byte::Is { byte } => {
-            if language_codes::number::in_range(n, byte) {
-                return Head::Good {
-                    record: with_body(r, byte, 0),
-                };
-            }
-            Head::Refused(refuse(OUT_OF_RANGE, at))
-        }
+    let byte = byte_below(s, at, BYTES)?;
+    if language_codes::number::in_range(n, byte) {
+        return Ok(with_body(r, byte, 0));
     }
+    Err(refuse(OUT_OF_RANGE, at))
 }
 
 // A use of an id whose standing is `c`, neither free nor retired.
+#[tactic(auto, unfolding(crate::specs::Head::used))]
 fn used_record(s: &[u8], r: Record, id: u8, c: u32) -> Record
     ensures { result ≡ used s.now r id c }
 {
-    let rule = r.rule;
     let parts = count_of(s, c);
     Record {
-        place: r.place,
-        kind: r.kind,
-        rule,
         parts,
         a: id,
         b: c,
-        next: r.next,
+        ..r
     }
 }
 
 // A use: refused where the id is free or retired.
-fn use_body(s: &[u8], st: &[u32; 255], r: Record) -> Head
+#[tactic(auto, unfolding(crate::specs::Head::use_of, crate::specs::Head::on_byte))]
+fn use_body(s: &[u8], st: &[u32; 255], r: Record) -> Result<Record, Refusal>
     requires { r.place < 65536 }
     ensures { result ≡ use_of s.now st.now r }
 {
     let at = r.place + 1;
-    let found = byte_below(s, at, IDS);
-    match found {
-        Byte::Refused(refusal) => Head::Refused(refusal),
-        Byte::Is { byte } => {
-            let c = standing_of(st, byte);
-            if c == FREE {
-                return Head::Refused(refuse(ID_UNKNOWN, at));
-            }
-            if c == RETIRED {
-                return Head::Refused(refuse(ID_RETIRED, at));
-            }
-            Head::Good {
-                record: used_record(s, r, byte, c),
-            }
-        }
+    let id = byte_below(s, at, IDS)?;
+    let c = standing_of(st, id);
+    if c == FREE {
+        return Err(refuse(ID_UNKNOWN, at));
     }
+    if c == RETIRED {
+        return Err(refuse(ID_RETIRED, at));
+    }
+    Ok(used_record(s, r, id, c))
 }
 
 // The data of a new on an id.
-fn data_body(s: &[u8], r: Record, id: u8) -> Head
+#[tactic(auto, unfolding(crate::specs::Head::data_byte, crate::specs::Head::on_byte))]
+fn data_body(s: &[u8], r: Record, id: u8) -> Result<Record, Refusal>
     requires { r.place < 65536 }
     ensures { result ≡ data_byte s.now r id }
 {
     let data_at = r.place + 2;
-    let found = byte_below(s, data_at, DATA_TYPES);
-    match found {
-        Byte::Refused(refusal) => Head::Refused(refusal),
-        Byte::Is { byte } => {
-            if byte == 0 {
-                return Head::Refused(refuse(OUT_OF_RANGE, data_at));
-            }
-            Head::Good {
-                record: with_body(r, id, byte as u32),
-            }
-        }
+    let data = byte_below(s, data_at, DATA_TYPES)?;
+    if data == 0 {
+        return Err(refuse(OUT_OF_RANGE, data_at));
     }
+    Ok(with_body(r, id, data as u32))
 }
 
 // A new: refused where the id is declared or retired, or held by an enclosing binder.
-fn new_body(edition: Edition, s: &[u8], st: &[u32; 255], r: Record) -> Head
+#[tactic(auto, unfolding(crate::specs::Head::new_of, crate::specs::Head::on_byte))]
+fn new_body(edition: Edition, s: &[u8], st: &[u32; 255], r: Record) -> Result<Record, Refusal>
     requires { r.place < 65536 }
     ensures { result ≡ new_of edition s.now st.now r }
 {
     let id_at = r.place + 1;
-    let found = byte_below(s, id_at, IDS);
-    match found {
-        Byte::Refused(refusal) => Head::Refused(refusal),
-        Byte::Is { byte } => {
-            let c = standing_of(st, byte);
-            if is_named(c) {
-                return Head::Refused(refuse(ID_TAKEN, id_at));
-            }
-            if is_hiding(edition, c) {
-                return Head::Refused(refuse(ID_ENCLOSED, id_at));
-            }
-            data_body(s, r, byte)
-        }
+    let id = byte_below(s, id_at, IDS)?;
+    let c = standing_of(st, id);
+    if is_named(c) {
+        return Err(refuse(ID_TAKEN, id_at));
     }
+    if is_hiding(edition, c) {
+        return Err(refuse(ID_ENCLOSED, id_at));
+    }
+    data_body(s, r, id)
 }
 
 // A procedure: its id and how many parameters it has.
-fn procedure_body(edition: Edition, s: &[u8], st: &[u32; 255], r: Record) -> Head
+#[tactic(auto, unfolding(crate::specs::Head::procedure_head, crate::specs::Head::on_judged))]
+fn procedure_body(edition: Edition, s: &[u8], st: &[u32; 255], r: Record) -> Result<Record, Refusal>
     requires { r.place < 65536 }
     ensures { result ≡ procedure_head edition s.now st.now r }
 {
-    let judged = judge_procedure(edition, s, st, r.place);
-    match judged {
-        Judged::Refused(refusal) => Head::Refused(refusal),
-        Judged::Good => {
-            let id = byte_at(s, r.place + ID);
-            let count = byte_at(s, r.place + COUNT);
-            Head::Good {
-                record: with_body(r, id, count as u32),
-            }
-        }
-    }
+    judge_procedure(edition, s, st, r.place)?;
+    let id = byte_at(s, r.place + ID);
+    let count = byte_at(s, r.place + COUNT);
+    Ok(with_body(r, id, count as u32))
 }
 
 // The body of a record, by its rule.
-fn body_at(edition: Edition, rule: Rule, s: &[u8], st: &[u32; 255], n: Numbers, r: Record) -> Head
+#[tactic(auto, unfolding(crate::specs::Head::body_of))]
+fn body_at(
+    edition: Edition,
+    rule: Rule,
+    s: &[u8],
+    st: &[u32; 255],
+    n: Numbers,
+    r: Record,
+) -> Result<Record, Refusal>
     requires { r.place < 65536 }
     ensures { result ≡ body_of edition rule s.now st.now n r }
 {
     match rule {
-        Rule::Skip => Head::Good { record: r },
+        Rule::Skip => Ok(r),
         Rule::Diverge => limited_body(s, r, TYPES),
         Rule::Truth => limited_body(s, r, TRUTHS),
         Rule::Number => constant_body(s, n, r),
         Rule::Use => use_body(s, st, r),
-        Rule::Fetch => Head::Good { record: r },
+        Rule::Fetch => Ok(r),
         Rule::Operate => limited_body(s, r, OPERATORS),
-        Rule::Assign => Head::Good { record: r },
-        Rule::Sequence => Head::Good { record: r },
-        Rule::If => Head::Good { record: r },
-        Rule::While => Head::Good { record: r },
+        Rule::Assign => Ok(r),
+        Rule::Sequence => Ok(r),
+        Rule::If => Ok(r),
+        Rule::While => Ok(r),
         Rule::New => new_body(edition, s, st, r),
         Rule::Procedure => procedure_body(edition, s, st, r),
     }
 }
 
 // A record of which only the kind byte has been read.
+#[tactic(auto, unfolding(crate::specs::Head::blank))]
 fn blank_record(at: usize, kind: u8, body: u8, parts: u8, rule: Rule) -> Record
     requires { at < 65536 }
     ensures { result ≡ blank at kind body parts rule }
@@ -264,6 +217,7 @@ fn blank_record(at: usize, kind: u8, body: u8, parts: u8, rule: Rule) -> Record
 }
 
 // A record of which only the place, the rule and the body bytes are known: by these its parts are judged.
+#[tactic(auto, unfolding(crate::specs::Bare::bare))]
 pub fn bare_record(place: usize, rule: Rule, a: u8, b: u32) -> Record
     ensures { result ≡ bare place rule a b }
 {
@@ -279,9 +233,10 @@ pub fn bare_record(place: usize, rule: Rule, a: u8, b: u32) -> Record
 }
 
 // The number of the refusal of a kind where no depth is left: range comes before depth.
+#[tactic(auto, unfolding(crate::specs::Head::head_of_shape))]
 fn deep_number(shape: Shape) -> u8
-    ensures { (at : ℕ) → Head.Refused (refusal result at)
-        ≡ head_of_shape shape at (λ body parts rule. Head.Refused (refusal too_deep at)) }
+    ensures { (at : ℕ) → Err (refusal result at)
+        ≡ head_of_shape shape at (λ body parts rule. Err (refusal too_deep at)) }
 {
     match shape {
         Shape::Unknown => OUT_OF_RANGE,
@@ -296,19 +251,28 @@ fn deep_number(shape: Shape) -> u8
 }
 
 // The refusal of the part at a place, where no depth is left.
-fn too_deep(s: &[u8], at: usize) -> Head
+#[tactic(auto, unfolding(crate::specs::Head::head_of))]
+fn too_deep(s: &[u8], at: usize) -> Result<Record, Refusal>
     ensures { (ed : Edition) (st : List ℕ) (N : Numbers) → result ≡ head_of ed s.now st N 0 at }
 {
     if s.len() <= at {
-        return Head::Refused(refuse(CUT_SHORT, s.len()));
+        return Err(refuse(CUT_SHORT, s.len()));
     }
     let shape = shape_of(s[at]);
-    Head::Refused(refuse(deep_number(shape), at))
+    Err(refuse(deep_number(shape), at))
 }
 
 // The record of the part at a place, with `left` levels of depth left. No depth is a case of its own, so that nothing is
 // tested between the decision over the kind byte and the body.
-pub fn head_at(edition: Edition, s: &[u8], st: &[u32; 255], n: Numbers, left: u8, at: usize) -> Head
+#[tactic(auto, unfolding(crate::specs::Head::head_of, crate::specs::Head::head_of_shape, crate::specs::Head::blank))]
+pub fn head_at(
+    edition: Edition,
+    s: &[u8],
+    st: &[u32; 255],
+    n: Numbers,
+    left: u8,
+    at: usize,
+) -> Result<Record, Refusal>
     requires { length s.now ≤ 4096 }
     ensures { result ≡ head_of edition s.now st.now n left at }
 {
@@ -316,14 +280,14 @@ pub fn head_at(edition: Edition, s: &[u8], st: &[u32; 255], n: Numbers, left: u8
         return too_deep(s, at);
     }
     if s.len() <= at {
-        return Head::Refused(refuse(CUT_SHORT, s.len()));
+        return Err(refuse(CUT_SHORT, s.len()));
     }
     let kind = s[at];
     let shape = shape_of(kind);
     match shape {
-        Shape::Unknown => Head::Refused(refuse(OUT_OF_RANGE, at)),
-        Shape::Declare { body: _, once: _ } => Head::Refused(refuse(OUT_OF_RANGE, at)),
-        Shape::Retire { body: _ } => Head::Refused(refuse(OUT_OF_RANGE, at)),
+        Shape::Unknown => Err(refuse(OUT_OF_RANGE, at)),
+        Shape::Declare { body: _, once: _ } => Err(refuse(OUT_OF_RANGE, at)),
+        Shape::Retire { body: _ } => Err(refuse(OUT_OF_RANGE, at)),
         Shape::Part { body, parts, rule } => body_at(
             edition,
             rule,

@@ -1,4 +1,5 @@
 -- What judging a sheet says, from what was read and what it weighs.
+use Rattle.std.specs.Prelude.{Result, Ok, Err}
 use Prim.Native.Nat.{ℕ, zero, suc, ◌*◌, ◌≤◌, ◌<◌, min}
 use native.Mathlib.Omega.{arith}
 use native.Mathlib.Nat.{mul-le-mul, zero-mul, min-eq_left}
@@ -24,7 +25,7 @@ use Rattle.weight_theory.specs.Stack.{form_word}
 use Rattle.sheet_reader.specs.Reader.{Answer, got, refused, Whole, whole, numbers_at, whole_of, checks, read_under}
 use Rattle.sheet_reader.specs.Reader.{read_sheet, accepted, rejected}
 use Rattle.sheet_judge.specs.Size.{size_of}
-use Rattle.sheet_judge.specs.Check.{checked_of}
+use Rattle.sheet_judge.specs.Check.{answered, checked_of}
 use Rattle.sheet_reader.specs.table.Fill.{erase_sheet, ReadsSheet}
 use Rattle.sheet_reader.specs.table.Notes.{Blank}
 use Rattle.sheet_judge.specs.Masks.{uses_at}
@@ -32,10 +33,8 @@ use Rattle.sheet_table.specs.Tabled.{Tabled, TabledBy}
 use Rattle.sheet_table.proofs.Tabling.{tabled}
 use Rattle.sheet_judge.specs.Judged.{JudgedBy, refusal_in}
 use Rattle.sheet_reader.specs.declared.names.Reading.{Reading}
-use Rattle.sheet_reader.specs.declared.names.Reading.TheVariants.{Sheet as Read, Refused as Unread}
 use Rattle.sheet_judge.specs.declared.judge.Judgement.{Judgement}
-use Rattle.sheet_judge.specs.declared.judge.Judgement.TheVariants.{Sheet, Refused}
-use Rattle.sheet_judge.specs.declared.check.Checked.TheVariants.{Accepted, Refused as Turned}
+use Rattle.sheet_judge.specs.declared.check.Checked.{Checked}
 use Rattle.sheet_judge.specs.declared.mark.Uses.{Uses}
 use Rattle.sheet_judge.proofs.Masking.{uses-right}
 
@@ -86,13 +85,13 @@ module _ (ed : Edition) (s u : List ℕ) (root ty next : ℕ) (T : Tabled ed s r
           h ∙ rw (e, weighed W) (held-size (numbers_at s) ty (weight (term_of S))
           ∙ ap (λ k. min k 4097) (sym (size-of-weight (numbers_at s) ty S)))
 
-      pub judged-large : 4096 < n → JudgedBy ed s (Refused (refusal too_large 0)) u
+      pub judged-large : 4096 < n → JudgedBy ed s (Err (refusal too_large 0)) u
       unfolding JudgedBy
       judged-large l =
           let k : 4096 < full = omega (arith, sized) in
           T.finds ∙ rw (lt-ltb 4096 full k) refl
 
-      pub judged-accepted : n ≤ 4096 → (v : Uses) → v ≡ uses_at s u → JudgedBy ed s (Sheet root ty n v) u
+      pub judged-accepted : n ≤ 4096 → (v : Uses) → v ≡ uses_at s u → JudgedBy ed s (Ok (record { root = root; ty = ty; size = n; uses = v })) u
       unfolding JudgedBy
       judged-accepted l v f =
           let k : full ≤ 4096 = omega (arith, sized) in
@@ -111,33 +110,47 @@ module _ (ed : Edition) (s u : List ℕ) (root ty next : ℕ) (T : Tabled ed s r
           }
 
 -- a sheet that is refused while it is read
-refused_as : (s : List ℕ) (A : Answer Whole) {x : Refusal} → Unread x ≡ erase_sheet A →
+refused_as : (s : List ℕ) (A : Answer Whole) {x : Refusal} → Err x ≡ erase_sheet A →
     checks s A ≡ rejected x.number x.place
 unfolding erase_sheet checks
-refused_as s (got (whole ns root t) ty end) e = let z : ◌≡◌ {A = ℕ} 0 1 = cc in absurd (omega arith)
+refused_as s (got (whole ns root t) ty end) e = cc
 refused_as s (refused n p) {x} e = let h : x ≡ refusal n p = cc in rw h refl
 
 pub judged-refused :
-    (ed : Edition) (s u : List ℕ) {y : Reading} {x : Refusal} → y ≡ erase_sheet (whole_of ed s) → y ≡ Unread x →
-    JudgedBy ed s (Refused x) u
+    (ed : Edition) (s u : List ℕ) {y : Result Reading Refusal} {x : Refusal} → y ≡ erase_sheet (whole_of ed s) →
+    y ≡ Err x → JudgedBy ed s (Err x) u
 unfolding JudgedBy read_under
 judged-refused ed s u e f = refused_as s (whole_of ed s) (sym f ∙ e)
 
 -- a sheet that is read
-pub tabled-read : (ed : Edition) (s t u : List ℕ) {y : Reading} {root ty next : ℕ} → Blank t →
-    ReadsSheet (numbers_at s) (whole_of ed s) y t u → y ≡ Read root ty next → Tabled ed s root ty next u
+pub tabled-read : (ed : Edition) (s t u : List ℕ) {y : Result Reading Refusal} {x : Reading} → Blank t →
+    ReadsSheet (numbers_at s) (whole_of ed s) y t u → y ≡ Ok x → Tabled ed s x.root x.ty x.next u
 unfolding TabledBy
 tabled-read ed s t u B R e = let T = tabled ed s t u B R in rw e at T
 
 -- the answer of check
-pub checked_refused : (s u : List ℕ) {y : Judgement} {x z : Refusal} {q : Cause} → JudgedBy Present s y u →
-    y ≡ Refused x → z ≡ refusal_in y → q ≡ cause z.number old_sheet z.place →
-    Turned q ≡ checked_of (read_sheet s)
+pub checked_refused : (s u : List ℕ) {y : Result Judgement Refusal} {x z : Refusal} {q : Cause} →
+    JudgedBy Present s y u → y ≡ Err x → z ≡ refusal_in y → q ≡ cause z.number old_sheet z.place →
+    Err q ≡ checked_of (read_sheet s)
 unfolding JudgedBy checked_of refusal_in
 checked_refused s u J e f g = let j = rw e at J in rw (g, f, e, j) refl
 
-pub checked-accepted : (s u : List ℕ) {y : Judgement} {root ty size : ℕ} {v : Uses} →
-    JudgedBy Present s y u → y ≡ Sheet root ty size v → Accepted ty size v ≡ checked_of (read_sheet s)
+pub checked-accepted : (s u : List ℕ) {y : Result Judgement Refusal} {x : Judgement} →
+    JudgedBy Present s y u → y ≡ Ok x → answered x.ty x.size x.uses ≡ checked_of (read_sheet s)
 unfolding JudgedBy checked_of
-checked-accepted s u {ty = ty} {size = size} J e =
-    let j = rw e at J in rw j.accepts (ap (Accepted ty size) j.used)
+checked-accepted s u {x = x} J e =
+    let j = rw e at J in rw j.accepts (ap (answered x.ty x.size) j.used)
+
+-- two answers of check to sheets that it accepts are the same only if all is the same
+module _ {ty size ty' size' : ℕ} {v v' : Uses} (e : answered ty size v ≡ answered ty' size' v') where
+  found-same : {a b : Checked} → ◌≡◌ {A = Result Checked Cause} (Ok a) (Ok b) → a ≡ b
+  found-same h = cc
+
+  pub answered-type : ty ≡ ty'
+  answered-type = ap (λ (x : Checked). x.ty) (found-same e)
+
+  pub answered-size : size ≡ size'
+  answered-size = ap (λ (x : Checked). x.size) (found-same e)
+
+  pub answered-uses : v ≡ v'
+  answered-uses = ap (λ (x : Checked). x.uses) (found-same e)

@@ -1,5 +1,6 @@
 -- A refusal by check has a number from 1 to 11, or by the present rule 16, and a place that the sheet has, or its end;
 -- so no place is above 4,096.
+use Rattle.std.specs.Prelude.{Result, Ok, Err}
 use Prim.Native.Nat.{ℕ, zero, suc, ◌+◌, ◌*◌, ◌≤◌, ◌<◌}
 use native.Mathlib.Omega.{arith}
 use mathlib.Core.Path.{◌≡◌, refl}
@@ -12,6 +13,7 @@ use borrow.Author.Tests.{leb-false, ltb-false}
 use Rattle.language.specs.Choice.{pick}
 use Rattle.language.specs.Number.{in_range}
 use Rattle.language.specs.declared.Numbers.{Numbers}
+use Rattle.sheet_records.specs.declared.refusal.Refusal.{Refusal}
 use Rattle.sheet_records.specs.Limits.{greatest_z, greatest_rule}
 use Rattle.sheet_records.specs.Refusal.{refusal, too_deep, too_large}
 use Rattle.sheet_records.specs.Kind.{shape_of}
@@ -33,11 +35,6 @@ use Rattle.sheet_parts.specs.declared.scope.Opens.TheVariants.{Nothing, Block, R
 use Rattle.sheet_records.specs.declared.kind.Shape.{Shape}
 use Rattle.sheet_records.specs.declared.kind.Shape.TheVariants.{Part, Declare, Retire, Unknown}
 use Rattle.sheet_heads.specs.declared.head.Record.{Record}
-use Rattle.sheet_heads.specs.declared.head.Head.{Head}
-use Rattle.sheet_heads.specs.declared.head.Head.TheVariants.{Good, Refused as Bad}
-use Rattle.sheet_heads.specs.declared.head.Byte.{Byte}
-use Rattle.sheet_judgements.specs.declared.judgement.Judged.{Judged}
-use Rattle.sheet_judgements.specs.declared.judgement.Judged.TheVariants.{Good as Fine, Refused as Wrong}
 use Rattle.sheet_written.specs.Written.{Name}
 use Rattle.sheet_reader.specs.Heading.{fresh, argument, declare_of, retire_of, declare_at, retire_at}
 use Rattle.sheet_reader.specs.Reader.{Tree, Answer, got, refused, bind, on_head, on_judged, parts_of, scope_parts}
@@ -55,10 +52,10 @@ either : {X : Type 0} (P : X → Type 0) (t : Bool) {a b : X} → (t ≡ true �
 either P true f g = f refl
 either P false f g = g refl
 
-then-then : (a b c : Judged) → and_then (and_then a b) c ≡ and_then a (and_then b c)
+then-then : (a b c : Result (Unit {0}) Refusal) → and_then (and_then a b) c ≡ and_then a (and_then b c)
 unfolding and_then
-then-then Fine b c = refl
-then-then (Wrong x) b c = refl
+then-then (Ok x) b c = refl
+then-then (Err x) b c = refl
 
 -- a number of document 01's table
 listed : (ed : Edition) (k : ℕ) → 1 ≤ k → k ≤ 11 → NumberOf ed k
@@ -82,13 +79,13 @@ module _ (ed : Edition) (n : ℕ) where
   old {k} h l w = record { known = listed ed k h l; within = w }
 
   -- a head whose refusal is so
-  unfoldable HeadIn : Head → Type 0
-  HeadIn (Good r) = Unit
-  HeadIn (Bad x) = RefusedIn x.number x.place
+  unfoldable HeadIn : Result Record Refusal → Type 0
+  HeadIn (Ok r) = Unit
+  HeadIn (Err x) = RefusedIn x.number x.place
 
-  unfoldable JudgedIn : Judged → Type 0
-  JudgedIn Fine = Unit
-  JudgedIn (Wrong x) = RefusedIn x.number x.place
+  unfoldable JudgedIn : Result (Unit {0}) Refusal → Type 0
+  JudgedIn (Ok x) = Unit
+  JudgedIn (Err x) = RefusedIn x.number x.place
 
   -- what was read ends within n, or its refusal is so
   unfoldable In : {X : Type 0} → Answer X → Type 0
@@ -101,26 +98,26 @@ module _ (ed : Edition) (n : ℕ) where
   in-bind (got x ty next) k p f = f x ty next p
   in-bind (refused a b) k p f = p
 
-  in_head : {X : Type 0} (P : Record → Type 0) (h : Head) (k : Record → Answer X) → HeadIn h → HeadAll P h →
+  in_head : {X : Type 0} (P : Record → Type 0) (h : Result Record Refusal) (k : Record → Answer X) → HeadIn h → HeadAll P h →
       ((r : Record) → P r → In (k r)) → In (on_head h k)
   unfolding In HeadIn HeadAll on_head
-  in_head P (Good r) k p q f = f r q
-  in_head P (Bad x) k p q f = p
+  in_head P (Ok r) k p q f = f r q
+  in_head P (Err x) k p q f = p
 
-  in-judged : {X : Type 0} (j : Judged) (A : Answer X) → JudgedIn j → In A → In (on_judged j A)
+  in-judged : {X : Type 0} (j : Result (Unit {0}) Refusal) (A : Answer X) → JudgedIn j → In A → In (on_judged j A)
   unfolding In JudgedIn on_judged
-  in-judged Fine A p q = q
-  in-judged (Wrong x) A p q = p
+  in-judged (Ok x) A p q = q
+  in-judged (Err x) A p q = p
 
-  both-in : (j k : Judged) → JudgedIn j → JudgedIn k → JudgedIn (and_then j k)
+  both-in : (j k : Result (Unit {0}) Refusal) → JudgedIn j → JudgedIn k → JudgedIn (and_then j k)
   unfolding JudgedIn and_then
-  both-in Fine k p q = q
-  both-in (Wrong x) k p q = p
+  both-in (Ok x) k p q = q
+  both-in (Err x) k p q = p
 
-  judged-in : (j : Judged) (h : Head) → JudgedIn j → HeadIn h → HeadIn (head_judged j h)
+  judged-in : (j : Result (Unit {0}) Refusal) (h : Result Record Refusal) → JudgedIn j → HeadIn h → HeadIn (head_judged j h)
   unfolding HeadIn JudgedIn head_judged
-  judged-in Fine h p q = q
-  judged-in (Wrong x) h p q = p
+  judged-in (Ok x) h p q = q
+  judged-in (Err x) h p q = p
 
 module _ (ed : Edition) (s : List ℕ) where
   abbrev n : ℕ
@@ -129,15 +126,15 @@ module _ (ed : Edition) (s : List ℕ) where
   told : {k p : ℕ} → 1 ≤ k → k ≤ 11 → p ≤ n → RefusedIn ed n k p
   told = old ed n
 
-  abbrev Headed : Head → Type 0
+  abbrev Headed : Result Record Refusal → Type 0
   Headed = HeadIn ed n
 
   -- the kind byte and the body of a part
-  byte-in : (at limit : ℕ) (k : ℕ → Head) → (at < n → (b : ℕ) → Headed (k b)) → Headed (on_byte (byte_of s at limit) k)
+  byte-in : (at limit : ℕ) (k : ℕ → Result Record Refusal) → (at < n → (b : ℕ) → Headed (k b)) → Headed (on_byte (byte_of s at limit) k)
   unfolding byte_of on_byte HeadIn
   byte-in at limit k f =
-      either (λ (x : Byte). Headed (on_byte x k)) (leb n at) (λ e. told (omega arith) (omega arith) (omega arith)) (λ e.
-      either (λ (x : Byte). Headed (on_byte x k)) (leb limit (get_or s at 0))
+      either (λ (x : Result ℕ Refusal). Headed (on_byte x k)) (leb n at) (λ e. told (omega arith) (omega arith) (omega arith)) (λ e.
+      either (λ (x : Result ℕ Refusal). Headed (on_byte x k)) (leb limit (get_or s at 0))
       (λ d. told (omega arith) (omega arith) (omega (arith, leb-false n at e))) (λ d. f (leb-false n at e) (get_or s at 0)))
 
   limited-in : (r : Record) (limit : ℕ) → Headed (limited s r limit)
@@ -172,7 +169,7 @@ module _ (ed : Edition) (s : List ℕ) where
       (λ d. record { known = hidden ed _ d; within = omega arith }) (λ d. data-in r id)))
 
   -- judgements of bytes
-  abbrev Told : Judged → Type 0
+  abbrev Told : Result (Unit {0}) Refusal → Type 0
   Told = JudgedIn ed n
 
   below_in : (at limit : ℕ) → Told (below s at limit)
@@ -190,19 +187,19 @@ module _ (ed : Edition) (s : List ℕ) where
       either Told (eqb (get_or s at 0) 255) (λ d. tt) (λ d. told (omega arith) (omega arith) (omega arith)))
 
   -- a byte below a limit, then a judgement at the same place
-  then-in : (at limit : ℕ) (k : Judged) → (at < n → Told k) → Told (and_then (below s at limit) k)
+  then-in : (at limit : ℕ) (k : Result (Unit {0}) Refusal) → (at < n → Told k) → Told (and_then (below s at limit) k)
   unfolding below and_then JudgedIn
   then-in at limit k f =
-      either (λ (x : Judged). Told (and_then x k)) (leb n at) (λ e. told (omega arith) (omega arith) (omega arith)) (λ e.
+      either (λ (x : Result (Unit {0}) Refusal). Told (and_then x k)) (leb n at) (λ e. told (omega arith) (omega arith) (omega arith)) (λ e.
       let h = leb-false n at e in
-      either (λ (x : Judged). Told (and_then x k)) (leb limit (get_or s at 0))
+      either (λ (x : Result (Unit {0}) Refusal). Told (and_then x k)) (leb limit (get_or s at 0))
       (λ d. told (omega arith) (omega arith) (omega arith)) (λ d. f h))
 
-  bound-then : (st : List ℕ) (at : ℕ) (k : Judged) → (at < n → Told k) → Told (and_then (bound s st at) k)
+  bound-then : (st : List ℕ) (at : ℕ) (k : Result (Unit {0}) Refusal) → (at < n → Told k) → Told (and_then (bound s st at) k)
   unfolding bound JudgedIn and_then
   bound-then st at k f =
       rw (then-then (below s at 255) _ k) (then-in at 255 _ (λ h.
-      either (λ (x : Judged). Told (and_then x k)) (is_named (standing_of (get_or st (get_or s at 0) 0)))
+      either (λ (x : Result (Unit {0}) Refusal). Told (and_then x k)) (is_named (standing_of (get_or st (get_or s at 0) 0)))
       (λ e. told (omega arith) (omega arith) (omega arith)) (λ e. f h)))
 
   apart_in : (st : List ℕ) (at : ℕ) → at < n → Told (apart ed s st at)
@@ -252,7 +249,7 @@ module _ (ed : Edition) (s : List ℕ) where
   body-in New st N r = new_in st r
   body-in Procedure st N r = routine-in st r
 
-  shape-in : (x : Shape) (at : ℕ) (k : ℕ → ℕ → Rule → Head) → at < n → ((b p : ℕ) (R : Rule) → Headed (k b p R)) →
+  shape-in : (x : Shape) (at : ℕ) (k : ℕ → ℕ → Rule → Result Record Refusal) → at < n → ((b p : ℕ) (R : Rule) → Headed (k b p R)) →
       Headed (on_part x at k)
   unfolding on_part HeadIn
   shape-in (Part b p R) at k h f = f b p R
@@ -326,7 +323,7 @@ module _ (ed : Edition) (s : List ℕ) where
       either (HeadAll (λ r. ⊥)) (leb n at) (λ e. tt) (λ e. go (shape_of (get_or s at 0)))
     where
       go : (x : Shape) → HeadAll (λ r. ⊥) (on_part x at (λ body parts rule.
-          pick (eqb 0 0) (Bad (refusal too_deep at)) (body_of ed rule s st N (blank at (get_or s at 0) body parts rule))))
+          pick (eqb 0 0) (Err (refusal too_deep at)) (body_of ed rule s st N (blank at (get_or s at 0) body parts rule))))
       go (Part b p R) = tt
       go (Declare b asks) = tt
       go (Retire b) = tt
@@ -361,7 +358,7 @@ module _ (ed : Edition) (s : List ℕ) where
       (both-in ed n _ _ (argument-in at 2) (argument-in at 3))))))
 
   name_in : (rec : List ℕ → ℕ → Answer Whole) → ((st : List ℕ) (at : ℕ) → Within (rec st at)) →
-      (left : ℕ) (st : List ℕ) (at body c : ℕ) (judged : Judged) (name : Name) → at < n → Told judged →
+      (left : ℕ) (st : List ℕ) (at body c : ℕ) (judged : Result (Unit {0}) Refusal) (name : Name) → at < n → Told judged →
       Within (name_of rec left s st at body c judged name)
   unfolding name_of In
   name_in rec f left st at body c judged name h j =

@@ -1,7 +1,7 @@
 -- What judging a sheet leaves for the passes over its parts: the sheet is accepted, the table shows its term, with a
 -- row at the place of each record's kind byte, and the marks are those of its parts; or why it is refused. Only inner
 -- contracts cite it.
-use Rattle.std.specs.Prelude.{ℕ, ◌≡◌, List, []}
+use Rattle.std.specs.Prelude.{ℕ, ◌≡◌, List, [], Result, Ok, Err}
 use Rattle.sheet_records.specs.Refusal.{refusal, not_refused}
 use Rattle.sheet_records.specs.declared.edition.Edition.{Edition}
 use Rattle.sheet_records.specs.declared.refusal.Refusal.{Refusal}
@@ -17,7 +17,6 @@ use Rattle.sheet_table.specs.Tabled.{places}
 use Rattle.weight_theory.specs.Stack.{marks_in}
 use Rattle.sheet_judge.specs.declared.mark.Uses.{Uses}
 use Rattle.sheet_judge.specs.declared.judge.Judgement.{Judgement}
-use Rattle.sheet_judge.specs.declared.judge.Judgement.TheVariants.{Sheet, Refused}
 
 -- the sheet is accepted with type ty and the given size, and uses the given names; the table u shows its term from
 -- root on and has its marks
@@ -32,11 +31,11 @@ pub record Judged (ed : Edition) (s : List ℕ) (root ty size : ℕ) (uses : Use
   pub used : uses ≡ uses_of sheet
   pub marked : Marked (numbers_at s) sheet.names u (marks_in u) whole root sheet.term
 
-unfoldable pub JudgedBy : Edition → List ℕ → Judgement → List ℕ → Type 0
-JudgedBy ed s (Sheet root ty size uses) u = Judged ed s root ty size uses u
-JudgedBy ed s (Refused x) u = read_under ed s ≡ rejected x.number x.place
+unfoldable pub JudgedBy : Edition → List ℕ → Result Judgement Refusal → List ℕ → Type 0
+JudgedBy ed s (Ok x) u = Judged ed s x.root x.ty x.size x.uses u
+JudgedBy ed s (Err x) u = read_under ed s ≡ rejected x.number x.place
 
 -- the refusal of a sheet that is judged; its number is 0 where the sheet is not refused
-unfoldable pub refusal_in : Judgement → Refusal
-refusal_in (Sheet root ty size uses) = refusal not_refused 0
-refusal_in (Refused x) = x
+unfoldable pub refusal_in : Result Judgement Refusal → Refusal
+refusal_in (Ok x) = refusal not_refused 0
+refusal_in (Err x) = x

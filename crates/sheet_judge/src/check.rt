@@ -10,37 +10,37 @@ use sheet_records::edition::Edition;
 use sheet_records::refusal::{Cause, NOT_REFUSED, OLD_SHEET, Refusal, of_sheet, refuse};
 use sheet_rows::row::TABLE;
 
-// The answer of check: the type and the size of the sheet and which names it uses, or the refusal.
+// What check finds of a sheet that it accepts: its type, its size and which names it uses.
 #[derive(Drop)]
-pub enum Checked {
-    Accepted { ty: u8, size: u32, uses: Uses },
-    Refused(Cause),
+pub struct Checked {
+    pub ty: u8,
+    pub size: u32,
+    pub uses: Uses,
 }
 
 // The refusal of a sheet that is judged, its number 0 where the sheet is not refused.
-pub fn refusal_of(x: Judgement) -> Refusal
+pub fn refusal_of(x: Result<Judgement, Refusal>) -> Refusal
     ensures { result ≡ refusal_in x }
 {
-    let Judgement::Refused(refusal) = x else {
+    let Err(refusal) = x else {
         return refuse(NOT_REFUSED, 0);
     };
     refusal
 }
 
 // The service check: the type and the size of a sheet and which names it uses, or why it is refused.
-pub fn check(s: &[u8]) -> Checked
+pub fn check(s: &[u8]) -> Result<Checked, Cause>
     ensures { result ≡ checked_of (read_sheet s.now) }
 {
     let mut t = [0u16; TABLE];
     let x = judge_sheet(Edition::Present, s, &mut t);
-    let Judgement::Sheet {
-        root: _,
-        ty,
-        size,
-        uses,
-    } = x
-    else {
-        return Checked::Refused(of_sheet(refusal_of(x), OLD_SHEET));
+    // `let .. else`, not `?`: the form of document 01 in which the answer is taken apart and the refusal handed on.
+    let Ok(judgement) = x else {
+        return Err(of_sheet(refusal_of(x), OLD_SHEET));
     };
-    Checked::Accepted { ty, size, uses }
+    Ok(Checked {
+        ty: judgement.ty,
+        size: judgement.size,
+        uses: judgement.uses,
+    })
 }

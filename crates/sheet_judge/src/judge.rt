@@ -4,7 +4,6 @@ ghost use Rattle.sheet_judge.specs.Judged.{JudgedBy};
 
 use crate::mark::{Uses, uses_of};
 use crate::size::size_of;
-use sheet_reader::names::Reading;
 use sheet_reader::reading::{numbers_of, read_sheet};
 use sheet_records::edition::Edition;
 use sheet_records::limits::GREATEST_SIZE;
@@ -12,39 +11,31 @@ use sheet_records::refusal::{Refusal, TOO_LARGE, refuse};
 use sheet_rows::row::TABLE;
 use weight_plans::term::weight_of;
 
-// What judging a sheet gives: the place of its term, its type, its size and which names it uses; or the refusal.
+// What judging a sheet gives: the place of its term, its type, its size and which names it uses.
 #[derive(Drop)]
-pub enum Judgement {
-    Sheet {
-        root: usize,
-        ty: u8,
-        size: u32,
-        uses: Uses,
-    },
-    Refused(Refusal),
+pub struct Judgement {
+    pub root: usize,
+    pub ty: u8,
+    pub size: u32,
+    pub uses: Uses,
 }
 
 // Judges a whole sheet by the rule of an edition, and leaves the rows of its parts in the blank table and their marks.
-pub fn judge_sheet(edition: Edition, s: &[u8], t: &mut [u16; TABLE]) -> Judgement
+pub fn judge_sheet(edition: Edition, s: &[u8], t: &mut [u16; TABLE]) -> Result<Judgement, Refusal>
     requires { Blank t.old }
     ensures { JudgedBy edition s.now result t.new }
 {
-    let x = read_sheet(edition, s, t);
-    match x {
-        Reading::Refused(refusal) => Judgement::Refused(refusal),
-        Reading::Sheet { root, ty, next: _ } => {
-            let weight = weight_of(t);
-            let size = size_of(numbers_of(s), ty, weight);
-            if GREATEST_SIZE < size {
-                return Judgement::Refused(refuse(TOO_LARGE, 0));
-            }
-            let uses = uses_of(s, t);
-            Judgement::Sheet {
-                root,
-                ty,
-                size,
-                uses,
-            }
-        }
+    let sheet = read_sheet(edition, s, t)?;
+    let weight = weight_of(t);
+    let size = size_of(numbers_of(s), sheet.ty, weight);
+    if GREATEST_SIZE < size {
+        return Err(refuse(TOO_LARGE, 0));
     }
+    let uses = uses_of(s, t);
+    Ok(Judgement {
+        root: sheet.root,
+        ty: sheet.ty,
+        size,
+        uses,
+    })
 }

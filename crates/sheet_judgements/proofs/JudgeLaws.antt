@@ -12,22 +12,21 @@ use Rattle.sheet_judgements.specs.Judge.{and_then, below, unused, bound, apart, 
 use Rattle.sheet_judgements.specs.Judge.{procedure_of}
 use Rattle.sheet_records.specs.declared.edition.Edition.{Edition}
 use Rattle.sheet_records.specs.declared.refusal.Refusal.{Refusal}
-use Rattle.sheet_judgements.specs.declared.judgement.Judged.{Judged}
-use Rattle.sheet_judgements.specs.declared.judgement.Judged.TheVariants.{Good, Refused}
+use Rattle.std.specs.Prelude.{Result, Ok, Err}
 use Rattle.sheet_judgements.proofs.Tests.{pick-false, pick_true}
 
-not_good : {x : Refusal} → Refused x ≡ Good → ⊥
-not_good h = let z : ◌≡◌ {A = ℕ} 0 1 = cc in omega arith
+not_good : {x : Refusal} → ◌≡◌ {A = Result (Unit {0}) Refusal} (Err x) (Ok tt) → ⊥
+not_good h = cc
 
 -- both judgements are good
-both-good : (x y : Judged) → and_then x y ≡ Good → (x ≡ Good) × (y ≡ Good)
+both-good : (x y : Result (Unit {0}) Refusal) → and_then x y ≡ Ok tt → (x ≡ Ok tt) × (y ≡ Ok tt)
 unfolding and_then
-both-good Good y h = (refl, h)
-both-good (Refused x) y h = absurd (not_good h)
+both-good (Ok x) y h = (refl, h)
+both-good (Err x) y h = absurd (not_good h)
 
 module _ (s : List ℕ) (at : ℕ) where
   -- a byte below a limit
-  below-good : (limit : ℕ) → below s at limit ≡ Good → (at < length s) × (get_or s at 0 < limit)
+  below-good : (limit : ℕ) → below s at limit ≡ Ok tt → (at < length s) × (get_or s at 0 < limit)
   unfolding below
   below-good limit h =
       let o = pick-false (leb (length s) at) not_good h in
@@ -35,7 +34,7 @@ module _ (s : List ℕ) (at : ℕ) where
       (leb-false (length s) at o.0, leb-false limit (get_or s at 0) i.0)
 
   -- a byte of something that is not there
-  unused-good : unused s at ≡ Good → (at < length s) × (get_or s at 0 ≡ 255)
+  unused-good : unused s at ≡ Ok tt → (at < length s) × (get_or s at 0 ≡ 255)
   unfolding unused
   unused-good h =
       let o = pick-false (leb (length s) at) not_good h in
@@ -44,18 +43,18 @@ module _ (s : List ℕ) (at : ℕ) where
 
 -- the id and the type of a pair that is good stand in the list
 pair_inside :
-    (ed : Edition) (s st : List ℕ) (place j : ℕ) → pair ed s st place j ≡ Good → place + 5 + 2 * j < length s
+    (ed : Edition) (s st : List ℕ) (place j : ℕ) → pair ed s st place j ≡ Ok tt → place + 5 + 2 * j < length s
 unfolding pair
 pair_inside ed s st place j h = go (ltb j (get_or s (place + 3) 0)) h
   where
     go : (t : Bool) → pick t (and_then (parameter_id ed s st place j) (below s (place + 5 + 2 * j) 5))
-        (and_then (unused s (place + 4 + 2 * j)) (unused s (place + 5 + 2 * j))) ≡ Good → place + 5 + 2 * j < length s
+        (and_then (unused s (place + 4 + 2 * j)) (unused s (place + 5 + 2 * j))) ≡ Ok tt → place + 5 + 2 * j < length s
     go true h = (below-good s (place + 5 + 2 * j) 5 (both-good _ _ h).1).0
     go false h = (unused-good s (place + 5 + 2 * j) (both-good _ _ h).1).0
 
 -- all its eleven bytes stand in the list
 pub procedure-inside :
-    (ed : Edition) (s st : List ℕ) (place : ℕ) → procedure_of ed s st place ≡ Good → place + 11 < length s
+    (ed : Edition) (s st : List ℕ) (place : ℕ) → procedure_of ed s st place ≡ Ok tt → place + 11 < length s
 unfolding procedure_of
 procedure-inside ed s st place h =
     let a = (both-good (bound s st (place + 1)) _ h).1 in

@@ -1,4 +1,4 @@
-// Judgements of single bytes, one after the other.
+// Judgements of single bytes, one after the other: each is `Ok`, or the refusal's number and place.
 ghost use Rattle.std.specs.Prelude.{◌≡◌, ◌+◌, ◌<◌};
 ghost use Rattle.sheet_records.specs.Standing.{standing_of};
 ghost use Rattle.sheet_judgements.specs.Judge.{and_then, below, unused, bound, hides, apart, earlier, unlike};
@@ -12,67 +12,49 @@ use sheet_records::read::{byte_at, standing_of};
 use sheet_records::refusal::{CUT_SHORT, ID_ENCLOSED, ID_TAKEN, OUT_OF_RANGE, Refusal, refuse};
 use sheet_records::standing::{is_held, is_named};
 
-// A judgement of bytes: good, or the refusal's number and place.
-#[derive(Drop)]
-pub enum Judged {
-    Good,
-    Refused(Refusal),
-}
-
-// A judgement, then another.
-pub fn judge_both(first: Judged, then: Judged) -> Judged
-    ensures { result ≡ and_then first then }
-{
-    match first {
-        Judged::Good => then,
-        Judged::Refused(reason) => Judged::Refused(reason),
-    }
-}
-
 // A byte below a limit.
-pub fn judge_below(s: &[u8], at: usize, limit: u8) -> Judged
+#[tactic(auto, unfolding(crate::specs::Judge::below))]
+pub fn judge_below(s: &[u8], at: usize, limit: u8) -> Result<(), Refusal>
     ensures { result ≡ below s.now at limit }
 {
     if s.len() <= at {
-        return Judged::Refused(refuse(CUT_SHORT, s.len()));
+        return Err(refuse(CUT_SHORT, s.len()));
     }
     if limit <= s[at] {
-        return Judged::Refused(refuse(OUT_OF_RANGE, at));
+        return Err(refuse(OUT_OF_RANGE, at));
     }
-    Judged::Good
+    Ok(())
 }
 
 // A byte of something that is not there.
-pub fn judge_unused(s: &[u8], at: usize) -> Judged
+#[tactic(auto, unfolding(crate::specs::Judge::unused))]
+pub fn judge_unused(s: &[u8], at: usize) -> Result<(), Refusal>
     ensures { result ≡ unused s.now at }
 {
     if s.len() <= at {
-        return Judged::Refused(refuse(CUT_SHORT, s.len()));
+        return Err(refuse(CUT_SHORT, s.len()));
     }
     if s[at] == NOT_THERE {
-        return Judged::Good;
+        return Ok(());
     }
-    Judged::Refused(refuse(OUT_OF_RANGE, at))
+    Err(refuse(OUT_OF_RANGE, at))
 }
 
 // The id of a binder, which is neither declared nor retired.
-fn judge_bound(s: &[u8], st: &[u32; 255], at: usize) -> Judged
+#[tactic(auto, unfolding(crate::specs::Judge::bound, crate::specs::Judge::and_then))]
+fn judge_bound(s: &[u8], st: &[u32; 255], at: usize) -> Result<(), Refusal>
     ensures { result ≡ bound s.now st.now at }
 {
-    let range = judge_below(s, at, IDS);
-    match range {
-        Judged::Refused(refusal) => Judged::Refused(refusal),
-        Judged::Good => {
-            let id = byte_at(s, at);
-            if is_named(standing_of(st, id)) {
-                return Judged::Refused(refuse(ID_TAKEN, at));
-            }
-            Judged::Good
-        }
+    judge_below(s, at, IDS)?;
+    let id = byte_at(s, at);
+    if is_named(standing_of(st, id)) {
+        return Err(refuse(ID_TAKEN, at));
     }
+    Ok(())
 }
 
 // Whether a binder that takes an id with standing `c` hides an enclosing one, by the rule of an edition.
+#[tactic(auto, unfolding(crate::specs::Judge::hides))]
 pub fn is_hiding(edition: Edition, c: u32) -> bool
     ensures { result ≡ hides edition (standing_of c) }
 {
@@ -83,14 +65,15 @@ pub fn is_hiding(edition: Edition, c: u32) -> bool
 }
 
 // The id of a binder, which hides no enclosing one.
-fn judge_apart(edition: Edition, s: &[u8], st: &[u32; 255], at: usize) -> Judged
+#[tactic(auto, unfolding(crate::specs::Judge::apart))]
+fn judge_apart(edition: Edition, s: &[u8], st: &[u32; 255], at: usize) -> Result<(), Refusal>
     ensures { result ≡ apart edition s.now st.now at }
 {
     let id = byte_at(s, at);
     if is_hiding(edition, standing_of(st, id)) {
-        return Judged::Refused(refuse(ID_ENCLOSED, at));
+        return Err(refuse(ID_ENCLOSED, at));
     }
-    Judged::Good
+    Ok(())
 }
 
 // Whether one of the first j parameters of the procedure at a place has an id.
@@ -98,9 +81,7 @@ fn is_earlier(s: &[u8], place: usize, j: u8, id: u8) -> bool
     requires { place < 65536 }
     ensures { result ≡ earlier s.now place j id }
 {
-    let mut i = j;
-    while 0 < i {
-        i -= 1;
+    for i in (0..j).rev() {
         if byte_at(s, place + PARAMETER_IDS + 2 * (i as usize)) == id {
             return true;
         }
@@ -109,75 +90,88 @@ fn is_earlier(s: &[u8], place: usize, j: u8, id: u8) -> bool
 }
 
 // The id of parameter j, which no earlier parameter has.
-fn judge_unlike(s: &[u8], place: usize, j: u8) -> Judged
+#[tactic(auto, unfolding(crate::specs::Judge::unlike))]
+fn judge_unlike(s: &[u8], place: usize, j: u8) -> Result<(), Refusal>
     requires { place < 65536 }
     ensures { result ≡ unlike s.now place j }
 {
     let at = place + PARAMETER_IDS + 2 * (j as usize);
     let id = byte_at(s, at);
     if is_earlier(s, place, j, id) {
-        return Judged::Refused(refuse(ID_TAKEN, at));
+        return Err(refuse(ID_TAKEN, at));
     }
-    Judged::Good
+    Ok(())
 }
 
 // The id of parameter j: in no name record, no earlier parameter's, and hiding no enclosing binder.
-fn judge_parameter_id(edition: Edition, s: &[u8], st: &[u32; 255], place: usize, j: u8) -> Judged
+#[tactic(auto, unfolding(crate::specs::Judge::parameter_id, crate::specs::Judge::and_then))]
+fn judge_parameter_id(
+    edition: Edition,
+    s: &[u8],
+    st: &[u32; 255],
+    place: usize,
+    j: u8,
+) -> Result<(), Refusal>
     requires { place < 65536 }
     ensures { result ≡ parameter_id edition s.now st.now place j }
 {
     let at = place + PARAMETER_IDS + 2 * (j as usize);
-    let other = judge_unlike(s, place, j);
-    let apart = judge_apart(edition, s, st, at);
-    judge_both(judge_bound(s, st, at), judge_both(other, apart))
+    judge_bound(s, st, at)?;
+    judge_unlike(s, place, j)?;
+    judge_apart(edition, s, st, at)
 }
 
 // Pair j of the procedure at a place: a parameter's id and type, or 255 255.
-fn judge_pair(edition: Edition, s: &[u8], st: &[u32; 255], place: usize, j: u8) -> Judged
+#[tactic(auto, unfolding(crate::specs::Judge::pair, crate::specs::Judge::and_then))]
+fn judge_pair(
+    edition: Edition,
+    s: &[u8],
+    st: &[u32; 255],
+    place: usize,
+    j: u8,
+) -> Result<(), Refusal>
     requires { place < 65536 }
     ensures { result ≡ pair edition s.now st.now place j }
 {
     let id_at = place + PARAMETER_IDS + 2 * (j as usize);
     let type_at = place + PARAMETER_TYPES + 2 * (j as usize);
     if j < byte_at(s, place + COUNT) {
-        return judge_both(
-            judge_parameter_id(edition, s, st, place, j),
-            judge_below(s, type_at, TYPES),
-        );
+        judge_parameter_id(edition, s, st, place, j)?;
+        return judge_below(s, type_at, TYPES);
     }
-    judge_both(judge_unused(s, id_at), judge_unused(s, type_at))
+    judge_unused(s, id_at)?;
+    judge_unused(s, type_at)
 }
 
 // The four pairs of the procedure at a place.
-fn judge_pairs(edition: Edition, s: &[u8], st: &[u32; 255], place: usize) -> Judged
+#[tactic(auto, unfolding(crate::specs::Judge::and_then))]
+fn judge_pairs(edition: Edition, s: &[u8], st: &[u32; 255], place: usize) -> Result<(), Refusal>
     requires { place < 65536 }
     ensures { result ≡ and_then (pair edition s.now st.now place 0)
         (and_then (pair edition s.now st.now place 1)
         (and_then (pair edition s.now st.now place 2)
         (pair edition s.now st.now place 3))) }
 {
-    let last = judge_both(
-        judge_pair(edition, s, st, place, 2),
-        judge_pair(edition, s, st, place, 3),
-    );
-    judge_both(
-        judge_pair(edition, s, st, place, 0),
-        judge_both(judge_pair(edition, s, st, place, 1), last),
-    )
+    judge_pair(edition, s, st, place, 0)?;
+    judge_pair(edition, s, st, place, 1)?;
+    judge_pair(edition, s, st, place, 2)?;
+    judge_pair(edition, s, st, place, 3)
 }
 
 // The body of the procedure at a place: id, result type, count of parameters, pairs.
-pub fn judge_procedure(edition: Edition, s: &[u8], st: &[u32; 255], place: usize) -> Judged
+#[tactic(auto, unfolding(crate::specs::Judge::procedure_of, crate::specs::Judge::and_then))]
+pub fn judge_procedure(
+    edition: Edition,
+    s: &[u8],
+    st: &[u32; 255],
+    place: usize,
+) -> Result<(), Refusal>
     requires { place < 65536 }
     ensures { result ≡ procedure_of edition s.now st.now place }
 {
-    let counted = judge_both(
-        judge_below(s, place + COUNT, COUNTS),
-        judge_pairs(edition, s, st, place),
-    );
-    let typed = judge_both(judge_below(s, place + RESULT, TYPES), counted);
-    judge_both(
-        judge_bound(s, st, place + ID),
-        judge_both(judge_apart(edition, s, st, place + ID), typed),
-    )
+    judge_bound(s, st, place + ID)?;
+    judge_apart(edition, s, st, place + ID)?;
+    judge_below(s, place + RESULT, TYPES)?;
+    judge_below(s, place + COUNT, COUNTS)?;
+    judge_pairs(edition, s, st, place)
 }

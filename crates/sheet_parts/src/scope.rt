@@ -16,6 +16,7 @@ pub enum Opens {
 }
 
 // Which scopes the records with a rule open.
+#[tactic(auto, unfolding(crate::specs::Scope::opens))]
 pub fn opens_of(rule: Rule) -> Opens
     ensures { result ≡ opens rule }
 {
@@ -59,6 +60,7 @@ fn put_standing(st: &mut [u32], id: u8, standing: u32)
 }
 
 // Makes of the standings those inside a new that `number` binders enclose: its id is its variable's.
+#[tactic(auto, unfolding(crate::specs::Scope::entered))]
 pub fn enter(st: &mut [u32; 255], r: Record, number: u8)
     requires { r.b ≤ 2 }
     ensures { st.new ≡ entered st.old r number }
@@ -68,20 +70,20 @@ pub fn enter(st: &mut [u32; 255], r: Record, number: u8)
 
 // Makes of the standings those inside the first term of the procedure at a place that `number` binders enclose: the ids
 // of its `count` parameters are theirs.
+#[tactic(auto, unfolding(crate::specs::Scope::passed))]
 pub fn enter_parameters(s: &[u8], place: usize, number: u8, count: u8, st: &mut [u32; 255])
     requires { (place < 65536) × (number + count ≤ 255) }
     ensures { st.new ≡ passed s.now place number count st.old }
 {
-    let mut j = 0;
-    while j < count {
+    for j in 0..count {
         let id = byte_at(s, place + PARAMETER_IDS + 2 * (j as usize));
         let ty = byte_at(s, place + PARAMETER_TYPES + 2 * (j as usize));
         put_standing(st, id, parameter_standing(number + j, ty));
-        j += 1;
     }
 }
 
 // Makes of the standings those inside the second term of a procedure that `number` binders enclose: its id is its own.
+#[tactic(auto, unfolding(crate::specs::Scope::usable))]
 pub fn enter_procedure(st: &mut [u32; 255], r: Record, number: u8)
     requires { r.place < 65536 }
     ensures { st.new ≡ usable st.old r number }

@@ -20,6 +20,7 @@ pub const TRUTH_VARIABLE: u8 = 3;
 const NUMBER_VARIABLE: u8 = 4;
 
 // The type of an operator's operands: those below AND take numbers.
+#[tactic(auto, unfolding(crate::specs::Rule::operand_type))]
 fn operand_type(op: u8) -> u8
     ensures { result ≡ operand_type op }
 {
@@ -27,6 +28,7 @@ fn operand_type(op: u8) -> u8
 }
 
 // The type of its result: those below EQUAL give a number.
+#[tactic(auto, unfolding(crate::specs::Rule::result_type))]
 pub fn result_type(op: u8) -> u8
     ensures { result ≡ result_type op }
 {
@@ -34,6 +36,7 @@ pub fn result_type(op: u8) -> u8
 }
 
 // Whether part j of a record may have type ty, where the part before it has type prev.
+#[tactic(auto, unfolding(crate::specs::Rule::accepts_part))]
 pub fn accepts_part(rule: Rule, s: &[u8], r: Record, j: u8, prev: u8, ty: u8) -> bool
     requires { r.place < 65536 }
     ensures { result ≡ accepts_part rule s.now r j prev ty }
@@ -72,6 +75,7 @@ pub fn accepts_part(rule: Rule, s: &[u8], r: Record, j: u8, prev: u8, ty: u8) ->
 }
 
 // The type of a record whose last part has type last.
+#[tactic(auto, unfolding(crate::specs::Rule::part_type))]
 pub fn type_of(rule: Rule, s: &[u8], r: Record, last: u8) -> u8
     ensures { result ≡ part_type rule s.now r last }
 {

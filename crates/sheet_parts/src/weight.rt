@@ -5,43 +5,24 @@ ghost use Rattle.sheet_parts.specs.Rule.{values, questions, answers};
 
 use crate::typing::{COMMAND, TRUTH_VARIABLE};
 use language::Numbers;
-use sheet_records::limits::{GREATEST_SIZE, HELD_AT};
+use sheet_records::limits::HELD_AT;
 
 // a + b, held at 4,097.
 pub fn sat_add(a: u32, b: u32) -> u32
     ensures { result ≡ min (a + b) held_at }
 {
-    if HELD_AT <= a {
-        return HELD_AT;
-    }
-    if HELD_AT <= b {
-        return HELD_AT;
-    }
-    let c = a + b;
-    if HELD_AT <= c { HELD_AT } else { c }
+    a.saturating_add(b).min(HELD_AT)
 }
 
 // a * b, held at 4,097.
 pub fn sat_mul(a: u32, b: u32) -> u32
     ensures { result ≡ min (a * b) held_at }
 {
-    if a == 0 {
-        return 0;
-    }
-    if b == 0 {
-        return 0;
-    }
-    if GREATEST_SIZE < a {
-        return HELD_AT;
-    }
-    if GREATEST_SIZE < b {
-        return HELD_AT;
-    }
-    let c = a * b;
-    if HELD_AT <= c { HELD_AT } else { c }
+    a.saturating_mul(b).min(HELD_AT)
 }
 
 // The number of values of a type's data.
+#[tactic(auto, unfolding(crate::specs::Rule::values))]
 pub fn values_of(n: Numbers, ty: u32) -> u16
     ensures { (result ≡ values n ty) × (result ≤ 514) }
 {
@@ -53,6 +34,7 @@ pub fn values_of(n: Numbers, ty: u32) -> u16
 }
 
 // How many questions a type has.
+#[tactic(auto, unfolding(crate::specs::Rule::questions))]
 pub fn questions_of(n: Numbers, ty: u8) -> u32
     ensures { result ≡ questions n ty }
 {
@@ -63,6 +45,7 @@ pub fn questions_of(n: Numbers, ty: u8) -> u32
 }
 
 // How many answers these have in all.
+#[tactic(auto, unfolding(crate::specs::Rule::answers))]
 pub fn answers_of(n: Numbers, ty: u8) -> u32
     ensures { result ≡ answers n ty }
 {

@@ -1,14 +1,14 @@
 -- A property of everything that is read, and how it goes through the reader's steps.
+use Rattle.std.specs.Prelude.{Result, Ok, Err}
 use Prim.Native.Nat.{ℕ, suc, ◌+◌}
 use mathlib.Core.Path.{◌≡◌, refl}
 use mathlib.Core.Bool.{Bool, true, false}
 use mathlib.Core.List.{List}
 use Rattle.language.specs.Choice.{pick}
+use Rattle.sheet_records.specs.declared.refusal.Refusal.{Refusal}
 use Rattle.sheet_parts.specs.Rule.{accepts_part, part_type}
 use Rattle.sheet_parts.specs.Scope.{opens}
 use Rattle.sheet_heads.specs.declared.head.Record.{Record}
-use Rattle.sheet_heads.specs.declared.head.Head.{Head}
-use Rattle.sheet_heads.specs.declared.head.Head.TheVariants.{Good as Headed, Refused as Unheaded}
 use Rattle.sheet_reader.specs.Reader.{Tree, node, Trees, branch, Answer, got, refused, bind, on_head, parts_of, scope_parts}
 use Rattle.sheet_reader.specs.Reader.{read_record}
 
@@ -46,22 +46,22 @@ bind_all P Q x k (one {x = t} {ty = ty} {n = n} p) f = f t ty n p
 bind_all P Q x k none' f = none'
 
 -- the same of a head
-unfoldable pub HeadAll : (Record → Type 0) → Head → Type 0
-HeadAll P (Headed r) = P r
-HeadAll P (Unheaded x) = Unit
+unfoldable pub HeadAll : (Record → Type 0) → Result Record Refusal → Type 0
+HeadAll P (Ok r) = P r
+HeadAll P (Err x) = Unit
 
 pub head-all :
-    {X : Type 0} (P : Record → Type 0) (Q : X → ℕ → ℕ → Type 0) (h : Head) (k : Record → Answer X) →
+    {X : Type 0} (P : Record → Type 0) (Q : X → ℕ → ℕ → Type 0) (h : Result Record Refusal) (k : Record → Answer X) →
     HeadAll P h → ((r : Record) → P r → All Q (k r)) → All Q (on_head h k)
 unfolding on_head HeadAll
-head-all P Q (Headed r) k p f = f r p
-head-all P Q (Unheaded x) k p f = none'
+head-all P Q (Ok r) k p f = f r p
+head-all P Q (Err x) k p f = none'
 
 pub head-refused :
-    {X : Type 0} (Q : X → ℕ → ℕ → Type 0) (h : Head) (n p : ℕ) → All Q (on_head h (λ r. refused n p))
+    {X : Type 0} (Q : X → ℕ → ℕ → Type 0) (h : Result Record Refusal) (n p : ℕ) → All Q (on_head h (λ r. refused n p))
 unfolding on_head
-head-refused Q (Headed r) n p = none'
-head-refused Q (Unheaded x) n p = none'
+head-refused Q (Ok r) n p = none'
+head-refused Q (Err x) n p = none'
 
 -- the parts of a record: each of them has R of its place
 module _ (R : ℕ → Tree → ℕ → ℕ → Type 0) (rec : ℕ → Answer Tree) (s : List ℕ) (r : Record) where

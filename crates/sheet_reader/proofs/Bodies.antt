@@ -1,4 +1,5 @@
 -- The body of a procedure's record: what its judgement says.
+use Rattle.std.specs.Prelude.{Ok}
 use Prim.Native.Nat.{ℕ, ◌+◌, ◌*◌, ◌≤◌, ◌<◌}
 use native.Mathlib.Omega.{arith}
 use mathlib.Core.Path.{◌≡◌, refl}
@@ -8,10 +9,9 @@ use lib.ListN.{length, get_or}
 use lib.Dec.{ltb}
 use borrow.Author.Tests.{ltb-true, ltb-false}
 use Rattle.sheet_records.specs.Standing.{standing_of, is_named}
-use Rattle.sheet_judgements.specs.Judge.{and_then, below, bound, hides, apart, earlier, unlike, parameter_id, pair}
+use Rattle.sheet_judgements.specs.Judge.{and_then, bound, hides, apart, earlier, unlike, parameter_id, pair}
 use Rattle.sheet_judgements.specs.Judge.{procedure_of}
 use Rattle.sheet_records.specs.declared.edition.Edition.{Edition}
-use Rattle.sheet_judgements.specs.declared.judgement.Judged.TheVariants.{Good}
 use Rattle.sheet_reader.proofs.Standings.{by-test}
 use Rattle.sheet_reader.proofs.Answers.{pick_all}
 use Rattle.sheet_reader.proofs.Judgement.{JudgedAll, good, bad, judged-map, both-all, below_all, unused-all, four}
@@ -120,18 +120,18 @@ procedure-all ed s st at =
     }) (pair-all ed s st at 3))))))))
 
 -- the other way round
-pub bound-is : {ed : Edition} (s st : List ℕ) (p : ℕ) → Bound ed s st p → bound s st p ≡ Good
+pub bound-is : {ed : Edition} (s st : List ℕ) (p : ℕ) → Bound ed s st p → bound s st p ≡ Ok tt
 unfolding bound and_then
 bound-is s st p B = rw (below-is s p 255 B.within B.below, B.unnamed) refl
 
-apart-is : (ed : Edition) (s st : List ℕ) (p : ℕ) → Bound ed s st p → apart ed s st p ≡ Good
+apart-is : (ed : Edition) (s st : List ℕ) (p : ℕ) → Bound ed s st p → apart ed s st p ≡ Ok tt
 unfolding apart
 apart-is ed s st p B = rw B.unhiding refl
 
-pub pair_is : (ed : Edition) (s st : List ℕ) (at j : ℕ) → Pair ed s st at j → pair ed s st at j ≡ Good
+pub pair_is : (ed : Edition) (s st : List ℕ) (at j : ℕ) → Pair ed s st at j → pair ed s st at j ≡ Ok tt
 unfolding pair parameter_id unlike and_then
 pair_is ed s st at j P =
-    pick_all (λ x. x ≡ Good) (ltb j (get_or s (at + 3) 0))
+    pick_all (λ x. x ≡ Ok tt) (ltb j (get_or s (at + 3) 0))
     (λ e. let G = P.used (ltb-true j (get_or s (at + 3) 0) e) in
     rw (
       bound-is s st (at + 4 + 2 * j) G.id,
@@ -142,7 +142,7 @@ pair_is ed s st at j P =
     (λ e. let B = P.padding (ltb-false j (get_or s (at + 3) 0) e) in
     rw (unused-is s (at + 4 + 2 * j) B.id-within B.id, unused-is s (at + 5 + 2 * j) B.within B.type) refl)
 
-pub procedure-is : (ed : Edition) (s st : List ℕ) (at : ℕ) → Body ed s st at → procedure_of ed s st at ≡ Good
+pub procedure-is : (ed : Edition) (s st : List ℕ) (at : ℕ) → Body ed s st at → procedure_of ed s st at ≡ Ok tt
 unfolding procedure_of and_then
 procedure-is ed s st at B =
     rw (

@@ -1,4 +1,5 @@
 -- The type of a part is a byte, and the place after it is beyond the part's own and within the sheet.
+use Rattle.std.specs.Prelude.{Result, Ok, Err}
 use Prim.Native.Nat.{ℕ, zero, suc, ◌+◌, ◌-◌, ◌/◌, ◌≤◌, ◌<◌}
 use native.Mathlib.Omega.{arith}
 use mir.Val.{Fits}
@@ -20,14 +21,12 @@ use Rattle.sheet_records.specs.declared.edition.Edition.{Edition}
 use Rattle.sheet_parts.specs.declared.scope.Opens.{Opens}
 use Rattle.sheet_parts.specs.declared.scope.Opens.TheVariants.{Nothing, Block, Routine}
 use Rattle.sheet_heads.specs.declared.head.Record.{Record}
-use Rattle.sheet_heads.specs.declared.head.Head.{Head}
-use Rattle.sheet_heads.specs.declared.head.Head.TheVariants.{Good, Refused as Unheaded}
 use Rattle.sheet_heads.proofs.HeadLaws.{head-good}
 use Rattle.sheet_reader.specs.Reader.{Tree, Answer, got, refused, bind, on_head, parts_of, scope_parts}
 use Rattle.sheet_reader.specs.Reader.{read_record, read_part}
 use Rattle.sheet_reader.specs.table.Fill.{erase, Beyond, Ends}
 use Rattle.sheet_reader.specs.declared.part.Part.{Part}
-use Rattle.sheet_reader.specs.declared.part.Part.TheVariants.{Read, Refused}
+use Rattle.sheet_records.specs.declared.refusal.Refusal.{Refusal}
 use Rattle.sheet_reader.proofs.Answers.{pick_all}
 use Rattle.sheet_reader.proofs.Core.{headed}
 use Rattle.sheet_reader.proofs.Heads.{Heads, h-skip, h-diverge, h-truth, h-number, h-use, h-fetch, h-operate}
@@ -142,11 +141,11 @@ module _ (s : List ℕ) where
         (scope-next (opens r.rule)) (λ ts last end q. (m last q.0, omega arith, q.2))
 
   on-head :
-      (at : ℕ) (h : Head) (k : Record → Answer Tree) → ((r : Record) → h ≡ Good r → Whole at (k r)) →
+      (at : ℕ) (h : Result Record Refusal) (k : Record → Answer Tree) → ((r : Record) → h ≡ Ok r → Whole at (k r)) →
       Whole at (on_head h k)
   unfolding on_head Next
-  on-head at (Good r) k f = f r refl
-  on-head at (Unheaded x) k f = tt
+  on-head at (Ok r) k f = f r refl
+  on-head at (Err x) k f = tt
 
   part-next :
       Bytes s → (ed : Edition) (N : Numbers) (left : ℕ) (st : List ℕ) (around at : ℕ) →
@@ -167,16 +166,16 @@ beyond-of at n (refused a b) p = tt
 
 -- so is the place that the code answers
 pub part-beyond :
-    (ed : Edition) (left : ℕ) (N : Numbers) (s st : List ℕ) (around at : ℕ) {x : Part} → Bytes s →
+    (ed : Edition) (left : ℕ) (N : Numbers) (s st : List ℕ) (around at : ℕ) {x : Result Part Refusal} → Bytes s →
     x ≡ erase (read_part ed left N s st around at) → Beyond at (length s) x
 part-beyond ed left N s st around at b e =
     rw e (beyond-of at (length s) (read_part ed left N s st around at) (part-next s b ed N left st around at))
 
-pub beyond-within : (at n : ℕ) {ty next : ℕ} {x : Part} → Beyond at n x → x ≡ Read ty next → next ≤ n
+pub beyond-within : (at n : ℕ) {y : Part} {x : Result Part Refusal} → Beyond at n x → x ≡ Ok y → y.next ≤ n
 unfolding Beyond
 beyond-within at n b e = (rw e at b).2
 
-pub beyond-typed : (at n : ℕ) {ty next : ℕ} {x : Part} → Beyond at n x → x ≡ Read ty next → ty < 256
+pub beyond-typed : (at n : ℕ) {y : Part} {x : Result Part Refusal} → Beyond at n x → x ≡ Ok y → y.ty < 256
 unfolding Beyond
 beyond-typed at n b e = (rw e at b).0
 
@@ -187,29 +186,29 @@ ends_of at n (got x ty next) p = (p.0, p.2)
 ends_of at n (refused a b) p = tt
 
 module _ (ed : Edition) (left : ℕ) (N : Numbers) (s st : List ℕ) (around : ℕ) (r : Record) (b : Bytes s) where
-  pub scope_ends : {x : Part} → r.next ≤ length s →
+  pub scope_ends : {x : Result Part Refusal} → r.next ≤ length s →
       x ≡ erase (scope_parts (opens r.rule) (read_part ed left N s) s st around r) → Ends (length s) x
   scope_ends h e =
       rw e (ends_of r.next (length s) (scope_parts (opens r.rule) (read_part ed left N s) s st around r)
       (scope-next s (read_part ed left N s) (λ st' around' at'. part-next s b ed N left st' around' at') st around r h
       (opens r.rule)))
 
-  pub parts-end : (n j prev at : ℕ) {x : Part} → prev < 256 → at ≤ length s →
+  pub parts-end : (n j prev at : ℕ) {x : Result Part Refusal} → prev < 256 → at ≤ length s →
       x ≡ erase (parts_of (read_part ed left N s st around) s r n j prev at) → Ends (length s) x
   parts-end n j prev at l h e =
       rw e (ends_of at (length s) (parts_of (read_part ed left N s st around) s r n j prev at)
       (parts_next s (read_part ed left N s st around) (λ at'. part-next s b ed N left st around at') r n j prev at l
       h))
 
-pub ends-within : (n : ℕ) {ty next : ℕ} {x : Part} → Ends n x → x ≡ Read ty next → next ≤ n
+pub ends-within : (n : ℕ) {y : Part} {x : Result Part Refusal} → Ends n x → x ≡ Ok y → y.next ≤ n
 unfolding Ends
 ends-within n b e = (rw e at b).1
 
-pub ends-typed : (n : ℕ) {ty next : ℕ} {x : Part} → Ends n x → x ≡ Read ty next → ty < 256
+pub ends-typed : (n : ℕ) {y : Part} {x : Result Part Refusal} → Ends n x → x ≡ Ok y → y.ty < 256
 unfolding Ends
 ends-typed n b e = (rw e at b).0
 
-pub ends-further : (n m : ℕ) (x : Part) → n ≤ m → Ends n x → Ends m x
+pub ends-further : (n m : ℕ) (x : Result Part Refusal) → n ≤ m → Ends n x → Ends m x
 unfolding Ends
-ends-further n m (Read ty next) l h = (h.0, omega arith)
-ends-further n m (Refused x) l h = tt
+ends-further n m (Ok x) l h = (h.0, omega arith)
+ends-further n m (Err x) l h = tt

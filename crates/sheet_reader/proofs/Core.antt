@@ -1,8 +1,11 @@
 -- Laws of reading: what an answer of the code says of the answer in the definition, and one step of each recursion.
+use Rattle.std.specs.Prelude.{Result, Ok, Err}
+use Rattle.std.specs.Result.{IsErrAnd}
+use Rattle.std.proofs.lemmas.Result.{err_from_is_err_and}
 use Prim.Native.Nat.{ℕ, zero, suc, ◌+◌, ◌-◌, ◌≤◌}
 use native.Mathlib.Omega.{arith}
 use native.Mathlib.Numerals.{sub-one}
-use mathlib.Core.Path.{◌≡◌, refl, ap, ◌∙◌}
+use mathlib.Core.Path.{◌≡◌, refl, sym, ap, ◌∙◌}
 use mathlib.Core.List.{List}
 use lib.Dec.{eqb, eqb-suc-zero}
 use borrow.Author.Tests.{eq-eqb, ne_eqb}
@@ -17,7 +20,6 @@ use Rattle.sheet_parts.specs.Scope.{opens}
 use Rattle.sheet_records.specs.declared.edition.Edition.{Edition}
 use Rattle.sheet_parts.specs.declared.scope.Opens.TheVariants.{Block, Routine}
 use Rattle.sheet_heads.specs.declared.head.Record.{Record}
-use Rattle.sheet_heads.specs.declared.head.Head.TheVariants.{Good}
 use Rattle.sheet_heads.proofs.HeadLaws.{head-good}
 use Rattle.weight_theory.specs.Step.{weighed}
 use Rattle.sheet_reader.specs.Reader.{Tree, node, Trees, branch, Answer, got, refused, bind, on_head, parts_of}
@@ -26,30 +28,34 @@ use Rattle.sheet_reader.specs.table.Fill.{fill, fills, erase, Leaves, Reads, clo
 use Rattle.sheet_reader.specs.table.Notes.{noted}
 use Rattle.sheet_reader.specs.table.Number.{number_in, used_number}
 use Rattle.sheet_reader.specs.declared.part.Part.{Part}
-use Rattle.sheet_reader.specs.declared.part.Part.TheVariants.{Read, Refused}
 use Rattle.sheet_reader.proofs.Answers.{HeadAll}
 use Rattle.sheet_reader.proofs.Heads.{Heads, h-skip, h-diverge, h-truth, h-number, h-use, h-fetch, h-operate}
 use Rattle.sheet_reader.proofs.Heads.{h-assign, h-sequence, h-if, h-while, h-new, h-procedure, heads}
 
+-- the refusal that a `?` hands on
+pub handed : {T : Type 0} (r : Result T Refusal) {x : Refusal} → IsErrAnd r (λ y. y ≡ x) → r ≡ Err x
+handed r h = let p = err_from_is_err_and r h in rw (p.1, p.2)
+
 -- a refusal is handed on
 pub reads-hand :
     {X Y : Type 0} {f : X → List ℕ → List ℕ} {g : Y → List ℕ → List ℕ} (A : Answer X) (k : X → ℕ → ℕ → Answer Y)
-    {p : Part} {x : Refusal} {t u v : List ℕ} → Reads f A p t u → p ≡ Refused x → Reads g (bind A k) p v u
+    {p : Result Part Refusal} {x : Refusal} {t u v : List ℕ} → Reads f A p t u → p ≡ Err x →
+    Reads g (bind A k) (Err x) v u
 unfolding erase bind Leaves
-reads-hand (got x ty next) k R e = let z : ◌≡◌ {A = ℕ} 0 1 = cc R.answer in absurd (omega arith)
-reads-hand (refused n q) k R e = record { answer = R.answer; table = tt }
+reads-hand (got x ty next) k R e = cc R.answer
+reads-hand (refused n q) k R e = record { answer = sym e ∙ R.answer; table = tt }
 
 -- what was read goes on
 pub reads_then :
     {X Y : Type 0} {f : X → List ℕ → List ℕ} {g : Y → List ℕ → List ℕ} (A : Answer X) (k : X → ℕ → ℕ → Answer Y)
-    {p q : Part} {ty next : ℕ} {t u v y : List ℕ} → Reads f A p t u → p ≡ Read ty next →
-    ((x : X) → u ≡ f x t → Reads g (k x ty next) q v y) → Reads g (bind A k) q v y
+    {p q : Result Part Refusal} {z : Part} {t u v y : List ℕ} → Reads f A p t u → p ≡ Ok z →
+    ((x : X) → u ≡ f x t → Reads g (k x z.ty z.next) q v y) → Reads g (bind A k) q v y
 unfolding erase bind Leaves
-reads_then (got x ty' next') k {ty = ty} {next} R e h =
-    let e₁ : ty' ≡ ty = cc R.answer in
-    let e₂ : next' ≡ next = cc R.answer in
+reads_then (got x ty next) k {z = z} R e h =
+    let e₁ : ty ≡ z.ty = cc R.answer in
+    let e₂ : next ≡ z.next = cc R.answer in
     rw (e₁, e₂) (h x R.table)
-reads_then (refused n p) k R e h = let z : ◌≡◌ {A = ℕ} 0 1 = cc R.answer in absurd (omega arith)
+reads_then (refused n p) k R e h = cc R.answer
 
 -- one step of reading a part
 pub part_step :
@@ -73,9 +79,9 @@ parts-step rec s r (suc n) j prev at h = simp sub-one
 
 -- the row that is written, the note that is made and the record that is weighed where the answer of the parts is known
 pub closed-table :
-    (N : Numbers) (s : List ℕ) (around : ℕ) (r : Record) (t : List ℕ) {parts : Part} {last next ty k : ℕ}
-    {y u v w : List ℕ} → parts ≡ Read last next → ty ≡ part_type r.rule s r last → y ≡ t →
-    u ≡ row.row_written N r ty around next y → v ≡ noted r u → k ≡ used_number r → w ≡ weighed k r.place v →
+    (N : Numbers) (s : List ℕ) (around : ℕ) (r : Record) (t : List ℕ) {parts : Result Part Refusal} {x : Part} {ty k : ℕ}
+    {y u v w : List ℕ} → parts ≡ Ok x → ty ≡ part_type r.rule s r x.ty → y ≡ t →
+    u ≡ row.row_written N r ty around x.next y → v ≡ noted r u → k ≡ used_number r → w ≡ weighed k r.place v →
     w ≡ closed_table N s around r parts t
 unfolding closed_table
 closed-table N s around r t {k = k} e f d h g i l =
@@ -83,7 +89,7 @@ closed-table N s around r t {k = k} e f d h g i l =
 
 -- the same where it was done by one decision
 pub closed-as :
-    (N : Numbers) (s : List ℕ) (around : ℕ) (r : Record) (t : List ℕ) {parts p x : Part} {u : List ℕ} → parts ≡ p →
+    (N : Numbers) (s : List ℕ) (around : ℕ) (r : Record) (t : List ℕ) {parts p x : Result Part Refusal} {u : List ℕ} → parts ≡ p →
     (x ≡ closed_answer s r p) × (u ≡ closed_table N s around r p t) →
     (x ≡ closed_answer s r parts) × (u ≡ closed_table N s around r parts t)
 closed-as N s around r t e C = rw e C
@@ -99,7 +105,7 @@ number-none r e = rw (ne_eqb r.kind 20 e) refl
 
 -- a record closed after its parts
 pub closes :
-    (N : Numbers) (s : List ℕ) (around : ℕ) (r : Record) (A : Answer Trees) {parts x : Part} {t u v : List ℕ} →
+    (N : Numbers) (s : List ℕ) (around : ℕ) (r : Record) (A : Answer Trees) {parts x : Result Part Refusal} {t u v : List ℕ} →
     Reads (λ ts. fills N ts r.place 0) A parts t u → x ≡ closed_answer s r parts →
     v ≡ closed_table N s around r parts u →
     Reads (fill N)
@@ -149,13 +155,13 @@ small-routine s st N at r (h-procedure h B) e = omega (arith, B.few)
 
 module _ (ed : Edition) (s st : List ℕ) (N : Numbers) (at : ℕ) (r : Record) where
   -- the head of an accepted part
-  pub headed : (left : ℕ) → head_of ed s st N left at ≡ Good r → Heads ed s st N at r
+  pub headed : (left : ℕ) → head_of ed s st N left at ≡ Ok r → Heads ed s st N at r
   unfolding HeadAll
   headed zero e = absurd ((head-good ed s st N 0 at r e).depth refl)
   headed (suc left) e = rw e at (heads ed s st N at left)
 
-  pub block-small : (left : ℕ) → head_of ed s st N left at ≡ Good r → opens r.rule ≡ Block → r.b ≤ 2
+  pub block-small : (left : ℕ) → head_of ed s st N left at ≡ Ok r → opens r.rule ≡ Block → r.b ≤ 2
   block-small left e = small-block s st N at r (headed left e)
 
-  pub routine-small : (left : ℕ) → head_of ed s st N left at ≡ Good r → opens r.rule ≡ Routine → r.b ≤ 4
+  pub routine-small : (left : ℕ) → head_of ed s st N left at ≡ Ok r → opens r.rule ≡ Routine → r.b ≤ 4
   routine-small left e = small-routine s st N at r (headed left e)

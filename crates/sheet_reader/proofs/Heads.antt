@@ -1,4 +1,5 @@
 -- What a head says: the record by its kind, with the tests that its body passed.
+use Rattle.std.specs.Prelude.{Result, Ok}
 use Prim.Native.Nat.{ℕ, suc, ◌+◌, ◌<◌}
 use native.Mathlib.Omega.{arith}
 use mathlib.Core.Path.{◌≡◌, refl}
@@ -10,6 +11,7 @@ use borrow.Author.Tests.{eqb-true, eqb-false, leb-false, lt-leb, ne_eqb}
 use Rattle.language.specs.Choice.{pick}
 use Rattle.language.specs.Number.{in_range}
 use Rattle.language.specs.declared.Numbers.{Numbers}
+use Rattle.sheet_records.specs.declared.refusal.Refusal.{Refusal}
 use Rattle.sheet_records.specs.Kind.{shape_of}
 use Rattle.sheet_records.specs.Standing.{standing_of, is_named, count_of}
 use Rattle.sheet_judgements.specs.Judge.{hides, procedure_of}
@@ -22,10 +24,6 @@ use Rattle.sheet_records.specs.declared.kind.Rule.TheVariants.{Sequence, If, Whi
 use Rattle.sheet_records.specs.declared.kind.Shape.{Shape}
 use Rattle.sheet_records.specs.declared.kind.Shape.TheVariants.{Part, Declare, Retire, Unknown}
 use Rattle.sheet_heads.specs.declared.head.Record.{Record}
-use Rattle.sheet_heads.specs.declared.head.Head.{Head}
-use Rattle.sheet_heads.specs.declared.head.Head.TheVariants.{Good}
-use Rattle.sheet_heads.specs.declared.head.Byte.TheVariants.{Is}
-use Rattle.sheet_judgements.specs.declared.judgement.Judged.{Judged}
 use Rattle.sheet_reader.proofs.Parsed.{Byte}
 use Rattle.sheet_reader.proofs.Answers.{HeadAll, pick_all}
 use Rattle.sheet_reader.proofs.Judgement.{JudgedAll, good, bad}
@@ -92,7 +90,7 @@ pub data Heads (ed : Edition) (s st : List ℕ) (N : Numbers) (at : ℕ) : Recor
 
 -- a body byte that was read
 byte-all :
-    (P : Record → Type 0) (s : List ℕ) (at limit : ℕ) (f : ℕ → Head) →
+    (P : Record → Type 0) (s : List ℕ) (at limit : ℕ) (f : ℕ → Result Record Refusal) →
     ((b : ℕ) → Byte s at b → b < limit → HeadAll P (f b)) → HeadAll P (on_byte (byte_of s at limit) f)
 unfolding byte_of on_byte HeadAll
 byte-all P s at limit f h =
@@ -101,7 +99,7 @@ byte-all P s at limit f h =
     (λ e'. h (get_or s at 0) (leb-false (length s) at e, refl) (leb-false limit (get_or s at 0) e')))
 
 module _ (ed : Edition) (s st : List ℕ) (N : Numbers) (at : ℕ) where
-  abbrev Fit : Head → Type 0
+  abbrev Fit : Result Record Refusal → Type 0
   Fit = HeadAll (Heads ed s st N at)
 
   number-fit : Byte s at 19 → Fit (constant s N (blank at (get_or s at 0) 1 0 Number))
@@ -131,7 +129,7 @@ module _ (ed : Edition) (s st : List ℕ) (N : Numbers) (at : ℕ) where
       above d h = omega arith
 
   judged-fit :
-      {P : Type 0} (j : Judged) (k : Head) → JudgedAll P j → (P → Fit k) → Fit (on_judged j k)
+      {P : Type 0} (j : Result (Unit {0}) Refusal) (k : Result Record Refusal) → JudgedAll P j → (P → Fit k) → Fit (on_judged j k)
   unfolding on_judged HeadAll
   judged-fit j k (good p) f = f p
   judged-fit j k bad f = tt
@@ -172,13 +170,13 @@ module _ (ed : Edition) (s st : List ℕ) (N : Numbers) (at : ℕ) where
       (body-fit (shape_of (get_or s at 0)) (leb-false (length s) at e) (shaped (get_or s at 0))))
 
 -- and a record of some kind is the head
-pub byte-is : (s : List ℕ) (p limit : ℕ) {a : ℕ} → Byte s p a → a < limit → byte_of s p limit ≡ Is a
+pub byte-is : (s : List ℕ) (p limit : ℕ) {a : ℕ} → Byte s p a → a < limit → byte_of s p limit ≡ Ok a
 unfolding byte_of
 byte-is s p limit {a} (l, e) h = rw (lt-leb (length s) p l, e, lt-leb limit a h) refl
 
 pub head-is :
     (ed : Edition) (s st : List ℕ) (N : Numbers) (at left : ℕ) (r : Record) → Heads ed s st N at r →
-    head_of ed s st N (suc left) at ≡ Good r
+    head_of ed s st N (suc left) at ≡ Ok r
 unfolding head_of shape_of head_of_shape body_of limited constant use_of new_of data_byte procedure_head on_byte on_judged with_body
     used blank
 head-is ed s st N at left r (h-skip (l, e)) = rw (lt-leb (length s) at l, e, eqb-suc-zero left) refl

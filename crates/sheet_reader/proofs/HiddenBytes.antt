@@ -1,5 +1,6 @@
 -- A term that is in order by the earlier rule, in which some binder hides another, is refused by the present one with
 -- 16 at the id byte of the first that does.
+use Rattle.std.specs.Prelude.{Result, Ok, Err}
 use Prim.Native.Nat.{ℕ, zero, suc, ◌+◌, ◌*◌, ◌≤◌, ◌<◌}
 use native.Mathlib.Omega.{arith}
 use native.Mathlib.Numerals.{add-one}
@@ -11,6 +12,7 @@ use lib.ListN.{length, get_or, drop}
 use lib.Dec.{eqb-suc-zero}
 use borrow.Author.Tests.{eq-eqb, le-leb, lt-leb, lt-ltb}
 use Rattle.language.specs.declared.Numbers.{Numbers}
+use Rattle.sheet_records.specs.declared.refusal.Refusal.{Refusal}
 use Rattle.sheet_records.specs.Kind.{shape_of}
 use Rattle.sheet_records.specs.Refusal.{refusal, id_enclosed}
 use Rattle.sheet_records.specs.Standing.{standing_of, count_of, argument_of, is_named}
@@ -24,9 +26,6 @@ use Rattle.sheet_records.specs.declared.kind.Rule.TheVariants.{Use, Fetch, Opera
 use Rattle.sheet_records.specs.declared.kind.Rule.TheVariants.{Procedure}
 use Rattle.sheet_parts.specs.declared.scope.Opens.TheVariants.{Nothing}
 use Rattle.sheet_heads.specs.declared.head.Record.{Record}
-use Rattle.sheet_heads.specs.declared.head.Head.TheVariants.{Good as Headed, Refused as Unheaded}
-use Rattle.sheet_judgements.specs.declared.judgement.Judged.{Judged}
-use Rattle.sheet_judgements.specs.declared.judgement.Judged.TheVariants.{Good, Refused}
 use Rattle.sheet_written.specs.Environment.{beyond}
 use Rattle.sheet_written.specs.Written.{Written, Writtens, none, more, skip, diverge, truth, number, call, fetch, operate}
 use Rattle.sheet_written.specs.Written.{assign, sequence, while, choose, new, procedure, Parameter, Name}
@@ -73,13 +72,13 @@ module _ {s st : List ℕ} {ns : List Name} {bs : List Binder} {π : ℕ → ℕ
       (apart-says (at + 4 + 2 * j) id e (subst (λ (x : ℕ). x < 255) e G.id.below))))
       (below-is s (at + 5 + 2 * j) 5 G.within G.known))
 
-  blank-is : (j : ℕ) → get_or s (at + 3) 0 ≤ j → Blank s at j → pair Present s st at j ≡ Good
+  blank-is : (j : ℕ) → get_or s (at + 3) 0 ≤ j → Blank s at j → pair Present s st at j ≡ Ok tt
   blank-is j h B =
       pair_is Present s st at j (record { used = λ l. absurd (omega (arith, h, l)); padding = λ l. B })
 
   -- n pairs, from pair j on
-  unfoldable chain : ℕ → ℕ → Judged
-  chain zero j = Good
+  unfoldable chain : ℕ → ℕ → Result (Unit {0}) Refusal
+  chain zero j = Ok tt
   chain (suc n) j = and_then (pair Present s st at j) (chain n (suc j))
 
   chain-says : (n j : ℕ) (ps : List Parameter) → ParametersAt s at j ps → get_or s (at + 3) 0 ≤ j + length ps →
@@ -100,10 +99,10 @@ module _ {s st : List ℕ} {ns : List Name} {bs : List Binder} {π : ℕ → ℕ
       (says-as (ap (λ (x : ℕ). hiding_parameters bs x ps) e)
       (chain-says n (suc j) ps a.2 (omega arith) (λ z. omega arith) (omega arith) (omega arith) P))
 
-  and-good : (J : Judged) → and_then J Good ≡ J
+  and-good : (J : Result (Unit {0}) Refusal) → and_then J (Ok tt) ≡ J
   unfolding and_then
-  and-good Good = refl
-  and-good (Refused x) = refl
+  and-good (Ok x) = refl
+  and-good (Err x) = refl
 
   procedure-says : (id : ℕ) (ps : List Parameter) → Body Earlier s st at → get_or s (at + 1) 0 ≡ id →
       ParametersAt s at 0 ps → get_or s (at + 3) 0 ≡ length ps →
@@ -186,7 +185,7 @@ module _ (N : Numbers) (s : List ℕ) (ns : List Name) where
     -- a new on the id of an enclosing binder
     new-head : {a : ℕ} → Byte s at 27 → Byte s (at + 1) a → a < 255 → is_named (standing_of (get_or st a 0)) ≡ false →
         hides Present (standing_of (get_or st a 0)) ≡ true →
-        head_of Present s st N (suc left) at ≡ Unheaded (refusal id_enclosed (at + 1))
+        head_of Present s st N (suc left) at ≡ Err (refusal id_enclosed (at + 1))
     unfolding head_of shape_of head_of_shape body_of new_of on_byte blank
     new-head (l, e) b h f u = rw (lt-leb (length s) at l, e, eqb-suc-zero left, byte-is s (at + 1) 255 b h, f, u) refl
 
@@ -245,7 +244,7 @@ module _ (N : Numbers) (s : List ℕ) (ns : List Name) where
     -- the head of a procedure
     procedure-head : Byte s at 28 → head_of Present s st N (suc left) at
         ≡ on_judged (procedure_of Present s st at)
-        (Headed (made s at Procedure 2 (get_or s (at + 1) 0) (get_or s (at + 3) 0) (at + 1 + 11)))
+        (Ok (made s at Procedure 2 (get_or s (at + 1) 0) (get_or s (at + 3) 0) (at + 1 + 11)))
     unfolding head_of shape_of head_of_shape body_of procedure_head with_body blank
     procedure-head (l, e) = rw (lt-leb (length s) at l, e, eqb-suc-zero left) refl
 

@@ -1,10 +1,12 @@
 -- Where binders hide others, the first of them is why something is refused: how that goes through the reader's steps.
+use Rattle.std.specs.Prelude.{Result, Ok, Err}
 use Prim.Native.Nat.{ℕ, suc, ◌+◌}
 use native.Mathlib.Omega.{arith}
 use mathlib.Core.Path.{◌≡◌, refl, sym, ap, ◌∙◌, subst}
 use mathlib.Core.Bool.{Bool, true, false}
 use mathlib.Core.List.{List, [], ◌∷◌, ◌++◌}
 use Rattle.language.specs.Choice.{pick}
+use Rattle.sheet_records.specs.declared.refusal.Refusal.{Refusal}
 use Rattle.sheet_records.specs.Refusal.{refusal, id_enclosed}
 use Rattle.sheet_judgements.specs.Judge.{and_then}
 use Rattle.sheet_heads.specs.Head.{on_judged}
@@ -12,9 +14,6 @@ use Rattle.sheet_parts.specs.Rule.{accepts_part}
 use Rattle.sheet_parts.specs.Scope.{opens, passed, usable}
 use Rattle.sheet_parts.specs.declared.scope.Opens.TheVariants.{Routine as Terms}
 use Rattle.sheet_heads.specs.declared.head.Record.{Record}
-use Rattle.sheet_heads.specs.declared.head.Head.TheVariants.{Good as Headed}
-use Rattle.sheet_judgements.specs.declared.judgement.Judged.{Judged}
-use Rattle.sheet_judgements.specs.declared.judgement.Judged.TheVariants.{Good, Refused}
 use Rattle.sheet_written.specs.Written.{Written}
 use Rattle.sheet_written.specs.Meaning.{Binder}
 use Rattle.sheet_written.specs.Hiding.{is_held, Hiding, hiding_id}
@@ -27,9 +26,9 @@ pub record Hides {X : Type 0} (hs : List Hiding) (A : Answer X) : Type 0 where
   pub stops : (h : Hiding) (gs : List Hiding) → hs ≡ h ∷ gs → A ≡ refused id_enclosed h.place
 
 -- the same of a judgement, which is good where none does
-pub record Says (hs : List Hiding) (J : Judged) : Type 0 where
-  pub clears : hs ≡ [] → J ≡ Good
-  pub stops : (h : Hiding) (gs : List Hiding) → hs ≡ h ∷ gs → J ≡ Refused (refusal id_enclosed h.place)
+pub record Says (hs : List Hiding) (J : Result (Unit {0}) Refusal) : Type 0 where
+  pub clears : hs ≡ [] → J ≡ Ok tt
+  pub stops : (h : Hiding) (gs : List Hiding) → hs ≡ h ∷ gs → J ≡ Err (refusal id_enclosed h.place)
 
 pub none-hides : {X : Type 0} (A : Answer X) → Hides [] A
 none-hides A = record { stops = λ h gs e. let z : ◌≡◌ {A = ℕ} 0 1 = cc in absurd (omega arith) }
@@ -38,7 +37,7 @@ none-hides A = record { stops = λ h gs e. let z : ◌≡◌ {A = ℕ} 0 1 = cc 
 pub hides-as : {X : Type 0} {A : Answer X} {hs ks : List Hiding} → ks ≡ hs → Hides hs A → Hides ks A
 hides-as {A = A} e H = subst (λ (l : List Hiding). Hides l A) (sym e) H
 
-pub says-as : {J : Judged} {hs ks : List Hiding} → ks ≡ hs → Says hs J → Says ks J
+pub says-as : {J : Result (Unit {0}) Refusal} {hs ks : List Hiding} → ks ≡ hs → Says hs J → Says ks J
 says-as {J} e S = subst (λ (l : List Hiding). Says l J) (sym e) S
 
 -- of two lists the first decides, and the second where that is empty
@@ -53,21 +52,21 @@ hides-either (x ∷ xs) ks A H f = record {
 }
 
 -- one judgement after another
-pub says-good : {J : Judged} → J ≡ Good → Says [] J
+pub says-good : {J : Result (Unit {0}) Refusal} → J ≡ Ok tt → Says [] J
 says-good e = record {
   clears = λ k. e;
   stops = λ h gs k. let z : ◌≡◌ {A = ℕ} 0 1 = cc k in absurd (omega arith);
 }
 
-pub good-then : {J K : Judged} {hs : List Hiding} → J ≡ Good → Says hs K → Says hs (and_then J K)
+pub good-then : {J K : Result (Unit {0}) Refusal} {hs : List Hiding} → J ≡ Ok tt → Says hs K → Says hs (and_then J K)
 unfolding and_then
 good-then e S = rw e S
 
-pub then-good : {J K : Judged} {hs : List Hiding} → Says hs J → K ≡ Good → Says hs (and_then J K)
+pub then-good : {J K : Result (Unit {0}) Refusal} {hs : List Hiding} → Says hs J → K ≡ Ok tt → Says hs (and_then J K)
 unfolding and_then
 then-good S e = record { clears = λ k. rw (S.clears k) e; stops = λ h gs k. rw (S.stops h gs k) refl }
 
-pub says_then : {J K : Judged} (hs ks : List Hiding) → Says hs J → Says ks K → Says (hs ++ ks) (and_then J K)
+pub says_then : {J K : Result (Unit {0}) Refusal} (hs ks : List Hiding) → Says hs J → Says ks K → Says (hs ++ ks) (and_then J K)
 unfolding and_then
 says_then [] ks S T = rw (S.clears refl) T
 says_then (x ∷ xs) ks S T = record {
@@ -77,31 +76,31 @@ says_then (x ∷ xs) ks S T = record {
   stops = λ h gs e.
       let e' : x ∷ (xs ++ ks) ≡ h ∷ gs = e in
       let k : x ≡ h = cc e' in
-      rw (S.stops x xs refl) (ap (λ (v : Hiding). Refused (refusal id_enclosed v.place)) k);
+      rw (S.stops x xs refl) (ap (λ (v : Hiding). Err (refusal id_enclosed v.place)) k);
 }
 
 -- an id by whether an enclosing binder holds it
 held-says : (bs : List Binder) (at id : ℕ) →
-    Says (hiding_id bs at id) (pick (is_held bs id) (Refused (refusal id_enclosed at)) Good)
+    Says (hiding_id bs at id) (pick (is_held bs id) (Err (refusal id_enclosed at)) (Ok tt))
 unfolding hiding_id
 held-says bs at id = go (is_held bs id)
   where
     go : (t : Bool) →
-        Says (pick t (record { place = at; id = id } ∷ []) []) (pick t (Refused (refusal id_enclosed at)) Good)
+        Says (pick t (record { place = at; id = id } ∷ []) []) (pick t (Err (refusal id_enclosed at)) (Ok tt))
     go true = record {
       clears = λ e. let z : ◌≡◌ {A = ℕ} 0 1 = cc e in absurd (omega arith);
       stops = λ h gs e. let k : record { place = at; id = id } ≡ h = cc e in
-          ap (λ (v : Hiding). Refused (refusal id_enclosed v.place)) k;
+          ap (λ (v : Hiding). Err (refusal id_enclosed v.place)) k;
     }
     go false = says-good refl
 
-pub id-says : {J : Judged} (bs : List Binder) (at id : ℕ) →
-    J ≡ pick (is_held bs id) (Refused (refusal id_enclosed at)) Good → Says (hiding_id bs at id) J
-id-says bs at id e = subst (λ (J : Judged). Says (hiding_id bs at id) J) (sym e) (held-says bs at id)
+pub id-says : {J : Result (Unit {0}) Refusal} (bs : List Binder) (at id : ℕ) →
+    J ≡ pick (is_held bs id) (Err (refusal id_enclosed at)) (Ok tt) → Says (hiding_id bs at id) J
+id-says bs at id e = subst (λ (J : Result (Unit {0}) Refusal). Says (hiding_id bs at id) J) (sym e) (held-says bs at id)
 
 -- a head that is judged, then the record
-pub judged-hides : {J : Judged} (hs ks : List Hiding) (r : Record) (k : Record → Answer Tree) → Says hs J →
-    Hides ks (k r) → Hides (hs ++ ks) (on_head (on_judged J (Headed r)) k)
+pub judged-hides : {J : Result (Unit {0}) Refusal} (hs ks : List Hiding) (r : Record) (k : Record → Answer Tree) → Says hs J →
+    Hides ks (k r) → Hides (hs ++ ks) (on_head (on_judged J (Ok r)) k)
 unfolding on_head on_judged
 judged-hides hs ks r k S H =
     hides-either hs ks _ (record { stops = λ h gs e. rw (S.stops h gs e) refl }) (λ e. rw (S.clears e) H)

@@ -1,4 +1,5 @@
 -- Name records: what their judgement says.
+use Rattle.std.specs.Prelude.{Result, Ok, Err}
 use Prim.Native.Nat.{ℕ, zero, suc, ◌+◌, ◌≤◌, ◌<◌}
 use native.Mathlib.Omega.{arith}
 use mathlib.Core.Path.{◌≡◌, refl}
@@ -8,21 +9,19 @@ use lib.Dec.{eqb, leb, ltb}
 use borrow.Author.Tests.{eqb-true, leb-false, ltb-true, ltb-false, lt-leb, eq-eqb}
 use Rattle.sheet_records.specs.declared.refusal.Refusal.{Refusal}
 use Rattle.sheet_judgements.specs.Judge.{and_then, below, unused}
-use Rattle.sheet_judgements.specs.declared.judgement.Judged.{Judged}
-use Rattle.sheet_judgements.specs.declared.judgement.Judged.TheVariants.{Good, Refused}
 use Rattle.sheet_reader.specs.Heading.{fresh, argument, declare_of, retire_of}
 use Rattle.sheet_reader.proofs.Answers.{pick_all}
 
 -- P of a good judgement, nothing of a bad one
-pub data JudgedAll (P : Type 0) : Judged → Type 0 where
-  good : P → JudgedAll P Good
-  bad : {x : Refusal} → JudgedAll P (Refused x)
+pub data JudgedAll (P : Type 0) : Result (Unit {0}) Refusal → Type 0 where
+  good : P → JudgedAll P (Ok tt)
+  bad : {x : Refusal} → JudgedAll P (Err x)
 
-pub judged-map : {P Q : Type 0} {j : Judged} → (P → Q) → JudgedAll P j → JudgedAll Q j
+pub judged-map : {P Q : Type 0} {j : Result (Unit {0}) Refusal} → (P → Q) → JudgedAll P j → JudgedAll Q j
 judged-map f (good p) = good (f p)
 judged-map f bad = bad
 
-pub both-all : {P Q : Type 0} {a b : Judged} → JudgedAll P a → (P → JudgedAll Q b) → JudgedAll Q (and_then a b)
+pub both-all : {P Q : Type 0} {a b : Result (Unit {0}) Refusal} → JudgedAll P a → (P → JudgedAll Q b) → JudgedAll Q (and_then a b)
 unfolding and_then
 both-all (good p) f = f p
 both-all bad f = bad
@@ -115,27 +114,27 @@ unfolding retire_of
 retire-all s st at = fresh-all s st (at + 1)
 
 -- the other way round
-pub below-is : (s : List ℕ) (p limit : ℕ) → p < length s → get_or s p 0 < limit → below s p limit ≡ Good
+pub below-is : (s : List ℕ) (p limit : ℕ) → p < length s → get_or s p 0 < limit → below s p limit ≡ Ok tt
 unfolding below
 below-is s p limit l h = rw (lt-leb (length s) p l, lt-leb limit (get_or s p 0) h) refl
 
-pub unused-is : (s : List ℕ) (p : ℕ) → p < length s → get_or s p 0 ≡ 255 → unused s p ≡ Good
+pub unused-is : (s : List ℕ) (p : ℕ) → p < length s → get_or s p 0 ≡ 255 → unused s p ≡ Ok tt
 unfolding unused
 unused-is s p l h = rw (lt-leb (length s) p l, eq-eqb (get_or s p 0) 255 h) refl
 
-fresh-is : (s st : List ℕ) (p : ℕ) → Fresh s st p → fresh s st p ≡ Good
+fresh-is : (s st : List ℕ) (p : ℕ) → Fresh s st p → fresh s st p ≡ Ok tt
 unfolding fresh and_then
 fresh-is s st p F =
     rw (below-is s p 255 F.inside F.below, eq-eqb (get_or st (get_or s p 0) 0) 0 F.free) refl
 
-argument_is : (s : List ℕ) (at j : ℕ) → Argument s at j → argument s at j ≡ Good
+argument_is : (s : List ℕ) (at j : ℕ) → Argument s at j → argument s at j ≡ Ok tt
 unfolding argument
 argument_is s at j A =
-    pick_all (λ x. x ≡ Good) (ltb j (get_or s (at + 3) 0))
+    pick_all (λ x. x ≡ Ok tt) (ltb j (get_or s (at + 3) 0))
     (λ e. below-is s (at + 4 + j) 5 A.inside (A.known (ltb-true j (get_or s (at + 3) 0) e)))
     (λ e. unused-is s (at + 4 + j) A.inside (A.padding (ltb-false j (get_or s (at + 3) 0) e)))
 
-pub declare-is : (s st : List ℕ) (at : ℕ) → Declaration s st at → declare_of s st at ≡ Good
+pub declare-is : (s st : List ℕ) (at : ℕ) → Declaration s st at → declare_of s st at ≡ Ok tt
 unfolding declare_of and_then
 declare-is s st at D =
     rw (
@@ -148,6 +147,6 @@ declare-is s st at D =
       argument_is s at 3 (D.arguments 3 (omega arith)),
     ) refl
 
-pub retire-is : (s st : List ℕ) (at : ℕ) → Fresh s st (at + 1) → retire_of s st at ≡ Good
+pub retire-is : (s st : List ℕ) (at : ℕ) → Fresh s st (at + 1) → retire_of s st at ≡ Ok tt
 unfolding retire_of
 retire-is s st at F = fresh-is s st (at + 1) F

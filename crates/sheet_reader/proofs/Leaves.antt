@@ -1,4 +1,5 @@
 -- A record without parts: its row is the one that is written where it is closed at once.
+use Rattle.std.specs.Prelude.{Option, Some, None}
 use Prim.Native.Nat.{ℕ, ◌+◌, ◌*◌, ◌/◌, ◌%◌, ◌<◌, min}
 use native.Mathlib.Omega.{arith}
 use mathlib.Core.Path.{◌≡◌, refl, sym, ◌∙◌}
@@ -25,7 +26,6 @@ use Rattle.weight_theory.specs.Plan.{parts_of}
 use Rattle.weight_theory.specs.Step.{weighed}
 use Rattle.weight_records.specs.Few.{RowAt, LeafKind}
 use Rattle.sheet_reader.specs.declared.close.Leaf.{Leaf}
-use Rattle.sheet_reader.specs.declared.close.Leaf.TheVariants.{Is, Other}
 use Rattle.sheet_reader.specs.table.Close.{leaf_use, leaf_row, leaf_of}
 use Rattle.sheet_reader.specs.table.Notes.{noted}
 use Rattle.sheet_reader.proofs.RowKept.{row_at, noted-at}
@@ -59,20 +59,20 @@ pub record LeafIs (s : List ℕ) (N : Numbers) (r : Record) (around kind ty d : 
   pub same-detail : d ≡ detail r.rule N r around
   pub leaf : LeafKind kind d
 
-no-leaf : {kind ty d : ℕ} → Other ≡ Is kind ty d → ⊥
-no-leaf e = let z : ◌≡◌ {A = ℕ} 0 1 = cc e in omega arith
+no-leaf : {x : Leaf} → None ≡ Some x → ⊥
+no-leaf e = cc
 
-module _ (s : List ℕ) (N : Numbers) (r : Record) (around : ℕ) {kind ty d : ℕ} where
+module _ (s : List ℕ) (N : Numbers) (r : Record) (around : ℕ) {y : Leaf} where
   use-leaf :
       (x : Standing) → r.rule ≡ Use → standing_of r.b ≡ x → r.kind ≡ 20 → r.a < 256 → r.parts ≡ 0 →
-      leaf_use s r x ≡ Is kind ty d → LeafIs s N r around kind ty d
+      leaf_use s r x ≡ Some y → LeafIs s N r around y.kind y.ty y.detail
   unfolding leaf_use opens row_kind use_kind part_type result_of detail use_detail
   use-leaf Free f g k l p e = absurd (no-leaf e)
   use-leaf Retired f g k l p e = absurd (no-leaf e)
   use-leaf (Declared place once) f g k l p e =
-      let a : r.kind ≡ kind = cc e in
-      let b : get_or s (place + 2) 0 ≡ ty = cc e in
-      let c : declared_detail r.a 0 once ≡ d = cc e in
+      let a : r.kind ≡ y.kind = cc e in
+      let b : get_or s (place + 2) 0 ≡ y.ty = cc e in
+      let c : declared_detail r.a 0 once ≡ y.detail = cc e in
       record {
         none = p;
         inside = rw f refl;
@@ -82,76 +82,76 @@ module _ (s : List ℕ) (N : Numbers) (r : Record) (around : ℕ) {kind ty d : �
         leaf = name-leaf r.a once l (sym k ∙ a) c;
       }
   use-leaf (Variable number holds) f g k l p e =
-      let a : 128 ≡ kind = cc e in
-      let b : 2 + holds ≡ ty = cc e in
-      let c : number ≡ d = cc e in
+      let a : 128 ≡ y.kind = cc e in
+      let b : 2 + holds ≡ y.ty = cc e in
+      let c : number ≡ y.detail = cc e in
       record {
         none = p;
         inside = rw f refl;
         same_kind = rw (f, g) (sym a);
         same_type = rw (f, g) (sym b);
         same-detail = rw (f, g) (sym c);
-        leaf = private-leaf d a;
+        leaf = private-leaf y.detail a;
       }
   use-leaf (Parameter number holds) f g k l p e = absurd (no-leaf e)
   use-leaf (Procedure number place) f g k l p e = absurd (no-leaf e)
 
   -- no parts
-  leaf-none : (b : Bool) (x : Leaf) → pick b x Other ≡ Is kind ty d → (b ≡ true) × (x ≡ Is kind ty d)
+  leaf-none : (b : Bool) (x : Option Leaf) → pick b x None ≡ Some y → (b ≡ true) × (x ≡ Some y)
   leaf-none true x e = (refl, e)
   leaf-none false x e = absurd (no-leaf e)
 
 -- the row of a record that is closed at once
-module _ {ed : Edition} {st : List ℕ} {at : ℕ} (s : List ℕ) (N : Numbers) (around : ℕ) {kind ty d : ℕ} where
-  pub leaf-is : (r : Record) → Heads ed s st N at r → leaf_of s N r ≡ Is kind ty d → LeafIs s N r around kind ty d
+module _ {ed : Edition} {st : List ℕ} {at : ℕ} (s : List ℕ) (N : Numbers) (around : ℕ) {y : Leaf} where
+  pub leaf-is : (r : Record) → Heads ed s st N at r → leaf_of s N r ≡ Some y → LeafIs s N r around y.kind y.ty y.detail
   unfolding leaf_of leaf_row opens row_kind part_type detail
   leaf-is r (h-skip h) e =
-      let a : get_or s at 0 ≡ kind = cc e in
-      let b : 0 ≡ ty = cc e in
-      let c : 0 ≡ d = cc e in
+      let a : get_or s at 0 ≡ y.kind = cc e in
+      let b : 0 ≡ y.ty = cc e in
+      let c : 0 ≡ y.detail = cc e in
       record {
         none = refl;
         inside = refl;
         same_kind = sym a;
         same_type = sym b;
         same-detail = sym c;
-        leaf = low-leaf d a (omega (arith, h.1));
+        leaf = low-leaf y.detail a (omega (arith, h.1));
       }
   leaf-is r (h-diverge h p l) e =
-      let a : get_or s at 0 ≡ kind = cc e in
-      let b : r.a ≡ ty = cc e in
-      let c : 0 ≡ d = cc e in
+      let a : get_or s at 0 ≡ y.kind = cc e in
+      let b : r.a ≡ y.ty = cc e in
+      let c : 0 ≡ y.detail = cc e in
       record {
         none = refl;
         inside = refl;
         same_kind = sym a;
         same_type = sym b;
         same-detail = sym c;
-        leaf = low-leaf d a (omega (arith, h.1));
+        leaf = low-leaf y.detail a (omega (arith, h.1));
       }
   leaf-is r (h-truth h p l) e =
-      let a : get_or s at 0 ≡ kind = cc e in
-      let b : 1 ≡ ty = cc e in
-      let c : r.a ≡ d = cc e in
+      let a : get_or s at 0 ≡ y.kind = cc e in
+      let b : 1 ≡ y.ty = cc e in
+      let c : r.a ≡ y.detail = cc e in
       record {
         none = refl;
         inside = refl;
         same_kind = sym a;
         same_type = sym b;
         same-detail = sym c;
-        leaf = low-leaf d a (omega (arith, h.1));
+        leaf = low-leaf y.detail a (omega (arith, h.1));
       }
   leaf-is r (h-number h p l f) e =
-      let a : 18 ≡ kind = cc e in
-      let b : 2 ≡ ty = cc e in
-      let c : detail r.rule N r around ≡ d = cc e in
+      let a : 18 ≡ y.kind = cc e in
+      let b : 2 ≡ y.ty = cc e in
+      let c : detail r.rule N r around ≡ y.detail = cc e in
       record {
         none = refl;
         inside = refl;
         same_kind = sym a;
         same_type = sym b;
         same-detail = sym c;
-        leaf = low-leaf d a (omega arith);
+        leaf = low-leaf y.detail a (omega arith);
       }
   leaf-is r (h-use h p l f g) e =
       let x = leaf-none s N r around (eqb (count_of s (standing_of r.b)) 0) (leaf_use s r (standing_of r.b)) e in

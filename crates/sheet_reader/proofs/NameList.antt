@@ -1,4 +1,5 @@
 -- The name records of a sheet, one after the other: what was declared before, and what is read.
+use Rattle.std.specs.Prelude.{Result}
 use Prim.Native.Nat.{ℕ, zero, suc, ◌+◌, ◌-◌, ◌≤◌, ◌<◌}
 use native.Mathlib.Omega.{arith}
 use mathlib.Core.Path.{◌≡◌, refl, sym, ap, ◌∙◌, subst}
@@ -8,12 +9,12 @@ use lib.Dec.{eqb, leb}
 use borrow.Author.Tests.{eqb-true, eqb-false, leb-false}
 use Rattle.language.specs.declared.Numbers.{Numbers}
 use Rattle.language.specs.Term.{Often, freely, once, onces}
+use Rattle.sheet_records.specs.declared.refusal.Refusal.{Refusal}
 use Rattle.sheet_records.specs.Kind.{shape_of}
 use Rattle.sheet_records.specs.Standing.{declared_standing}
 use Rattle.sheet_records.specs.declared.edition.Edition.{Edition}
 use Rattle.sheet_records.specs.declared.kind.Shape.{Shape}
 use Rattle.sheet_records.specs.declared.kind.Shape.TheVariants.{Part, Declare, Retire, Unknown}
-use Rattle.sheet_judgements.specs.declared.judgement.Judged.{Judged}
 use Rattle.sheet_written.specs.Written.{Name, declare, retire}
 use Rattle.sheet_written.specs.Meaning.{Meaning, private, argument, routine, named, retired, free, declared, meaning}
 use Rattle.sheet_written.specs.Fine.{FineNames}
@@ -126,7 +127,7 @@ pub data NamesRead (ed : Edition) (N : Numbers) (s : List ℕ) (π : ℕ → ℕ
         NamesRead ed N s π n earlier at (whole ns root t) ty end
 
 judged-onto :
-    {X : Type 0} {P : Type 0} (Q : X → ℕ → ℕ → Type 0) {j : Judged} (k : Answer X) → JudgedAll P j → (P → All Q k)
+    {X : Type 0} {P : Type 0} (Q : X → ℕ → ℕ → Type 0) {j : Result (Unit {0}) Refusal} (k : Answer X) → JudgedAll P j → (P → All Q k)
     →
     All Q (on_judged j k)
 unfolding on_judged

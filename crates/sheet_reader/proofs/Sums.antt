@@ -1,5 +1,6 @@
 -- A record whose weight is the sum of its parts': its row by its rule, and the record closed.
-use Prim.Native.Nat.{ℕ, ◌+◌, ◌-◌, ◌≤◌, ◌<◌}
+use Rattle.std.specs.Prelude.{Option, Some, None}
+use Prim.Native.Nat.{ℕ, ◌-◌, ◌≤◌, ◌<◌}
 use native.Mathlib.Omega.{arith}
 use mathlib.Core.Path.{◌≡◌, refl, sym, ap, ◌∙◌}
 use mathlib.Core.List.{List}
@@ -16,10 +17,8 @@ use Rattle.weight_theory.specs.Step.{weighed}
 use Rattle.weight_records.specs.Few.{RowAt, SumKind, sum_fetch, sum_operate, sum_assign, sum_sequence, sum_if}
 use Rattle.weight_records.specs.Few.{sum_while, sum_new}
 use Rattle.sheet_reader.specs.declared.close.Sum.{Sum}
-use Rattle.sheet_reader.specs.declared.close.Sum.TheVariants.{Is, Other}
-use Rattle.sheet_reader.specs.declared.part.Part.TheVariants.{Read}
-use Rattle.sheet_reader.specs.table.Close.{SumIs, SumRow}
-use Rattle.sheet_reader.specs.table.Fill.{closed_answer, closed_table}
+use Rattle.sheet_reader.specs.table.Close.{sum, SumIs, SumRow}
+use Rattle.sheet_reader.specs.table.Fill.{read, closed_answer, closed_table}
 use Rattle.sheet_reader.specs.table.Number.{used_number}
 use Rattle.sheet_reader.proofs.Answers.{pick_all}
 use Rattle.sheet_reader.proofs.Core.{number-none}
@@ -28,8 +27,8 @@ use Rattle.sheet_reader.proofs.RowKept.{row_at, row_first, row-after, at_same}
 
 module _ (t : List ℕ) (N : Numbers) (r : Record) (last : ℕ) where
   -- rows without a detail, each part once
-  pub fetch-sum : {x : Sum} {ty : ℕ} → r.rule ≡ Fetch → ty ≡ last - 2 →
-      x ≡ pick (eqb r.kind 21) (Is ty 0 1 1 1) Other → SumRow t N r last x
+  pub fetch-sum : {x : Option Sum} {ty : ℕ} → r.rule ≡ Fetch → ty ≡ last - 2 →
+      x ≡ pick (eqb r.kind 21) (Some (sum ty 0 1 1 1)) None → SumRow t N r last x
   unfolding SumRow row_kind part_type detail
   fetch-sum {ty = ty} f g e =
       rw e (pick_all (SumRow t N r last) (eqb r.kind 21)
@@ -41,7 +40,7 @@ module _ (t : List ℕ) (N : Numbers) (r : Record) (last : ℕ) where
       })
       (λ h. tt))
 
-  pub sequence-sum : {x : Sum} → r.rule ≡ Sequence → x ≡ pick (eqb r.kind 24) (Is last 0 2 1 1) Other →
+  pub sequence-sum : {x : Option Sum} → r.rule ≡ Sequence → x ≡ pick (eqb r.kind 24) (Some (sum last 0 2 1 1)) None →
       SumRow t N r last x
   unfolding SumRow row_kind part_type detail
   sequence-sum f e =
@@ -54,7 +53,7 @@ module _ (t : List ℕ) (N : Numbers) (r : Record) (last : ℕ) where
       })
       (λ h. tt))
 
-  pub if-sum : {x : Sum} → r.rule ≡ If → x ≡ pick (eqb r.kind 25) (Is last 0 3 1 1) Other → SumRow t N r last x
+  pub if-sum : {x : Option Sum} → r.rule ≡ If → x ≡ pick (eqb r.kind 25) (Some (sum last 0 3 1 1)) None → SumRow t N r last x
   unfolding SumRow row_kind part_type detail
   if-sum f e =
       rw e (pick_all (SumRow t N r last) (eqb r.kind 25)
@@ -66,7 +65,7 @@ module _ (t : List ℕ) (N : Numbers) (r : Record) (last : ℕ) where
       })
       (λ h. tt))
 
-  pub while-sum : {x : Sum} → r.rule ≡ While → x ≡ pick (eqb r.kind 26) (Is 0 0 2 1 1) Other → SumRow t N r last x
+  pub while-sum : {x : Option Sum} → r.rule ≡ While → x ≡ pick (eqb r.kind 26) (Some (sum 0 0 2 1 1)) None → SumRow t N r last x
   unfolding SumRow row_kind part_type detail
   while-sum f e =
       rw e (pick_all (SumRow t N r last) (eqb r.kind 26)
@@ -79,8 +78,8 @@ module _ (t : List ℕ) (N : Numbers) (r : Record) (last : ℕ) where
       (λ h. tt))
 
   -- a block for each value of its variable
-  pub new-sum : {x : Sum} → r.rule ≡ New →
-      x ≡ pick (eqb r.kind 27) (Is 0 (values N r.b) 1 (values N r.b) 1) Other → SumRow t N r last x
+  pub new-sum : {x : Option Sum} → r.rule ≡ New →
+      x ≡ pick (eqb r.kind 27) (Some (sum 0 (values N r.b) 1 (values N r.b) 1)) None → SumRow t N r last x
   unfolding SumRow row_kind part_type detail
   new-sum f e =
       rw e (pick_all (SumRow t N r last) (eqb r.kind 27)
@@ -103,7 +102,7 @@ module _ (t : List ℕ) (N : Numbers) (r : Record) (last : ℕ) where
   first-kept u F p q = (rw p F.1.0, rw p (F.1.1 ∙ sym (q (word t r.place 5) F.0)))
 
   pub operate-sum : {v ty : ℕ} → r.rule ≡ Operate → r.kind ≡ 22 → ty ≡ result_type r.a → First v →
-      SumRow t N r last (Is ty r.a 2 1 v)
+      SumRow t N r last (Some (sum ty r.a 2 1 v))
   unfolding SumRow row_kind part_type detail
   operate-sum f k g F =
       record {
@@ -113,7 +112,7 @@ module _ (t : List ℕ) (N : Numbers) (r : Record) (last : ℕ) where
         sums = λ u p q. let x = first-kept u F p q in sum_operate k refl refl x.0 x.1;
       }
 
-  pub assign-sum : {v : ℕ} → r.rule ≡ Assign → r.kind ≡ 23 → First v → SumRow t N r last (Is 0 0 2 v 1)
+  pub assign-sum : {v : ℕ} → r.rule ≡ Assign → r.kind ≡ 23 → First v → SumRow t N r last (Some (sum 0 0 2 v 1))
   unfolding SumRow row_kind part_type detail
   assign-sum f k F =
       record {
@@ -123,11 +122,12 @@ module _ (t : List ℕ) (N : Numbers) (r : Record) (last : ℕ) where
         sums = λ u p q. let x = first-kept u F p q in sum_assign k refl x.0 x.1 refl;
       }
 
-  pub other-sum : SumRow t N r last Other
+  pub other-sum : SumRow t N r last None
   unfolding SumRow
   other-sum = tt
 
-  pub sum_is : {x : Sum} {ty d n v w : ℕ} → SumRow t N r last x → x ≡ Is ty d n v w → SumIs t N r last ty d n v w
+  pub sum_is : {x : Option Sum} {y : Sum} → SumRow t N r last x → x ≡ Some y →
+      SumIs t N r last y.ty y.detail y.parts y.first y.second
   unfolding SumRow
   sum_is S e = rw e at S
 
@@ -173,11 +173,11 @@ module _ (t : List ℕ) (N : Numbers) (r : Record) (last next : ℕ) {ty d n v w
 
       -- the record closed
       pub sum-closed : {y : List ℕ} → y ≡ weighed (used_number r) r.place u → (s : List ℕ) (around : ℕ) →
-          (Read (1 + ty - 1) next ≡ closed_answer s r (Read last next))
-          × (y ≡ closed_table N s around r (Read last next) t)
+          (read ty next ≡ closed_answer s r (read last next))
+          × (y ≡ closed_table N s around r (read last next) t)
       unfolding closed_answer closed_table
       sum-closed f s around = (
-        ap (λ x. Read x next) (omega (arith, S.has_type s)),
+        ap (λ x. read x next) (S.has_type s),
         f ∙ ap (weighed (used_number r) r.place) (sum-written around ∙ note-kind r _ sum-plain) ∙ rw (S.has_type s),
       )
 

@@ -1,10 +1,11 @@
 -- The reader: for any list of bytes the sheet as written with its type and size, or the refusal with its number and place.
 -- Document 01, "Three services", causes 1 to 11 and their order; document 02 [1] for procedures, [3] for the rule of an
 -- edition, [11] for the greatest Z. SHEETS 9.1 and 9.2.
-use Rattle.std.specs.Prelude.{ℕ, zero, suc, ◌+◌, List, [], ◌∷◌, length, get_or, set, drop, replicate, eqb, ltb, leb}
+use Rattle.std.specs.Prelude.{ℕ, zero, suc, ◌+◌, List, [], ◌∷◌, length, get_or, set, drop, replicate, eqb, ltb, leb, Result, Ok, Err}
 use Rattle.language.specs.Choice.{pick}
 use Rattle.language.specs.Weight.{size}
 use Rattle.language.specs.declared.Numbers.{Numbers}
+use Rattle.sheet_records.specs.declared.refusal.Refusal.{Refusal}
 use Rattle.sheet_records.specs.Limits.{greatest_z, greatest_rule, most_bytes, most_names, greatest_depth, greatest_size, ids}
 use Rattle.sheet_records.specs.Refusal.{too_long, cut_short, out_of_range, wrong_type, too_deep, too_many_names}
 use Rattle.sheet_records.specs.Refusal.{left_over, too_large}
@@ -23,10 +24,6 @@ use Rattle.sheet_records.specs.declared.kind.Shape.TheVariants.{Part, Declare, R
 use Rattle.sheet_parts.specs.declared.scope.Opens.{Opens}
 use Rattle.sheet_parts.specs.declared.scope.Opens.TheVariants.{Nothing, Block, Routine}
 use Rattle.sheet_heads.specs.declared.head.Record.{Record}
-use Rattle.sheet_heads.specs.declared.head.Head.{Head}
-use Rattle.sheet_heads.specs.declared.head.Head.TheVariants.{Good as Headed, Refused as Unheaded}
-use Rattle.sheet_judgements.specs.declared.judgement.Judged.{Judged}
-use Rattle.sheet_judgements.specs.declared.judgement.Judged.TheVariants.{Good, Refused}
 use Rattle.sheet_written.specs.Written.{Written, skip, diverge, truth, number, call, fetch, operate, assign, sequence}
 use Rattle.sheet_written.specs.Written.{while, choose, new, procedure, Parameter, Writtens, none, more, Name, Sheet}
 use Rattle.sheet_written.specs.Meaning.{ty_of, term_of}
@@ -51,13 +48,13 @@ unfoldable pub bind : {X Y : Type 0} → Answer X → (X → ℕ → ℕ → Ans
 bind (got x ty next) k = k x ty next
 bind (refused n p) k = refused n p
 
-unfoldable pub on_head : {X : Type 0} → Head → (Record → Answer X) → Answer X
-on_head (Headed r) k = k r
-on_head (Unheaded x) k = refused x.number x.place
+unfoldable pub on_head : {X : Type 0} → Result Record Refusal → (Record → Answer X) → Answer X
+on_head (Ok r) k = k r
+on_head (Err x) k = refused x.number x.place
 
-unfoldable pub on_judged : {X : Type 0} → Judged → Answer X → Answer X
-on_judged Good k = k
-on_judged (Refused x) k = refused x.number x.place
+unfoldable pub on_judged : {X : Type 0} → Result (Unit {0}) Refusal → Answer X → Answer X
+on_judged (Ok x) k = k
+on_judged (Err x) k = refused x.number x.place
 
 -- the parts of record r from part j on, n of them, the part before them of type prev: "A part's type is judged when its last byte
 -- is read"
@@ -114,7 +111,8 @@ whole_of_shape (Part body parts rule) d r p u = p
 whole_of_shape Unknown d r p u = u
 
 -- a name record, n of them still allowed, that is judged; then what follows it, in standings where its id has standing c
-unfoldable pub name_of : (List ℕ → ℕ → Answer Whole) → ℕ → List ℕ → List ℕ → ℕ → ℕ → ℕ → Judged → Name → Answer Whole
+unfoldable pub name_of :
+    (List ℕ → ℕ → Answer Whole) → ℕ → List ℕ → List ℕ → ℕ → ℕ → ℕ → Result (Unit {0}) Refusal → Name → Answer Whole
 name_of rec n s st at body c judged name =
     pick (eqb n 0) (refused too_many_names at)
     (on_judged judged

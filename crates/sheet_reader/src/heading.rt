@@ -2,32 +2,29 @@
 ghost use Rattle.std.specs.Prelude.{◌≡◌, ◌+◌, ◌<◌, get_or, set};
 ghost use Rattle.sheet_reader.specs.Heading.{fresh, argument, arguments, declare_of};
 
-use sheet_judgements::judgement::{Judged, judge_below, judge_both, judge_unused};
+use sheet_judgements::judgement::{judge_below, judge_unused};
 use sheet_parts::scope::with_standing;
 use sheet_records::limits::{COUNTS, IDS, TYPES};
 use sheet_records::read::{byte_at, standing_of};
-use sheet_records::refusal::{ID_TAKEN, refuse};
+use sheet_records::refusal::{ID_TAKEN, Refusal, refuse};
 use sheet_records::standing::FREE;
 
 // An id that is neither declared nor retired.
-pub(crate) fn judge_fresh(s: &[u8], st: &[u32; 255], at: usize) -> Judged
+#[tactic(auto, unfolding(crate::specs::Heading::fresh, sheet_judgements::specs::Judge::and_then))]
+pub(crate) fn judge_fresh(s: &[u8], st: &[u32; 255], at: usize) -> Result<(), Refusal>
     ensures { result ≡ fresh s.now st.now at }
 {
-    let range = judge_below(s, at, IDS);
-    match range {
-        Judged::Refused(refusal) => Judged::Refused(refusal),
-        Judged::Good => {
-            let id = byte_at(s, at);
-            if standing_of(st, id) == FREE {
-                return Judged::Good;
-            }
-            Judged::Refused(refuse(ID_TAKEN, at))
-        }
+    judge_below(s, at, IDS)?;
+    let id = byte_at(s, at);
+    if standing_of(st, id) == FREE {
+        return Ok(());
     }
+    Err(refuse(ID_TAKEN, at))
 }
 
 // The type of argument j of the record at a place.
-fn judge_argument(s: &[u8], at: usize, j: u8) -> Judged
+#[tactic(auto, unfolding(crate::specs::Heading::argument))]
+fn judge_argument(s: &[u8], at: usize, j: u8) -> Result<(), Refusal>
     requires { at < 65536 }
     ensures { result ≡ argument s.now at j }
 {
@@ -39,27 +36,27 @@ fn judge_argument(s: &[u8], at: usize, j: u8) -> Judged
 }
 
 // The four argument types of the record at a place.
-fn judge_arguments(s: &[u8], at: usize) -> Judged
+#[tactic(auto, unfolding(sheet_judgements::specs::Judge::and_then))]
+fn judge_arguments(s: &[u8], at: usize) -> Result<(), Refusal>
     requires { at < 65536 }
     ensures { result ≡ arguments s.now at }
 {
-    let last = judge_both(judge_argument(s, at, 2), judge_argument(s, at, 3));
-    judge_both(
-        judge_argument(s, at, 0),
-        judge_both(judge_argument(s, at, 1), last),
-    )
+    judge_argument(s, at, 0)?;
+    judge_argument(s, at, 1)?;
+    judge_argument(s, at, 2)?;
+    judge_argument(s, at, 3)
 }
 
 // The body of the declare record at a place: id, result type, count, argument types.
-pub(crate) fn judge_declare(s: &[u8], st: &[u32; 255], at: usize) -> Judged
+#[tactic(auto, unfolding(crate::specs::Heading::declare_of, sheet_judgements::specs::Judge::and_then))]
+pub(crate) fn judge_declare(s: &[u8], st: &[u32; 255], at: usize) -> Result<(), Refusal>
     requires { at < 65536 }
     ensures { result ≡ declare_of s.now st.now at }
 {
-    let counted = judge_both(judge_below(s, at + 3, COUNTS), judge_arguments(s, at));
-    judge_both(
-        judge_fresh(s, st, at + 1),
-        judge_both(judge_below(s, at + 2, TYPES), counted),
-    )
+    judge_fresh(s, st, at + 1)?;
+    judge_below(s, at + 2, TYPES)?;
+    judge_below(s, at + 3, COUNTS)?;
+    judge_arguments(s, at)
 }
 
 // The standings after the name record at a place, whose id gets standing c.

@@ -5,19 +5,19 @@ ghost use Rattle.sheet_reader.specs.Reader.{names_of, name_of};
 ghost use Rattle.sheet_reader.specs.table.Fill.{ReadsSheet, term_at};
 
 use crate::heading::{judge_declare, judge_fresh, registered};
-use crate::part::{Part, read_root};
+use crate::part::read_root;
 use language::Numbers;
-use sheet_judgements::judgement::Judged;
 use sheet_records::edition::Edition;
 use sheet_records::kind::{Shape, shape_of};
 use sheet_records::refusal::{CUT_SHORT, OUT_OF_RANGE, Refusal, TOO_MANY_NAMES, refuse};
 use sheet_records::standing::{RETIRED, declared_standing};
 
-// What reading a sheet gives: the place of the term, its type and the place after it; or the refusal.
+// What reading a sheet gives: the place of the term, its type and the place after it.
 #[derive(Drop)]
-pub enum Reading {
-    Sheet { root: usize, ty: u8, next: usize },
-    Refused(Refusal),
+pub struct Reading {
+    pub root: usize,
+    pub ty: u8,
+    pub next: usize,
 }
 
 // Reads the term.
@@ -28,20 +28,17 @@ fn read_term(
     t: &mut [u16],
     n: Numbers,
     at: usize,
-) -> Reading
+) -> Result<Reading, Refusal>
     requires { length s.now ≤ 4096 }
     ensures { ReadsSheet n (term_at edition n s.now st.now at) result
         t.old t.new }
 {
-    let p = read_root(edition, s, st, t, n, at);
-    match p {
-        Part::Refused(refusal) => Reading::Refused(refusal),
-        Part::Read { ty, next } => Reading::Sheet {
-            root: at,
-            ty: ty as u8,
-            next,
-        },
-    }
+    let term = read_root(edition, s, st, t, n, at)?;
+    Ok(Reading {
+        root: at,
+        ty: term.ty as u8,
+        next: term.next,
+    })
 }
 
 // Reads name records, `left` of them still allowed, and the term.
@@ -54,18 +51,18 @@ pub(crate) fn read_names(
     n: Numbers,
     left: u8,
     at: usize,
-) -> Reading
+) -> Result<Reading, Refusal>
     requires { length s.now ≤ 4096 }
     ensures { ReadsSheet n (names_of edition left n s.now st.now at) result
         t.old t.new }
 {
     if s.len() <= at {
-        return Reading::Refused(refuse(CUT_SHORT, s.len()));
+        return Err(refuse(CUT_SHORT, s.len()));
     }
     let kind = s[at];
     let shape = shape_of(kind);
     match shape {
-        Shape::Unknown => Reading::Refused(refuse(OUT_OF_RANGE, at)),
+        Shape::Unknown => Err(refuse(OUT_OF_RANGE, at)),
         Shape::Part {
             body: _,
             parts: _,
@@ -95,21 +92,17 @@ fn read_after(
     at: usize,
     body: u8,
     c: u32,
-    judged: Judged,
-) -> Reading
+    judged: Result<(), Refusal>,
+) -> Result<Reading, Refusal>
     requires { (length s.now ≤ 4096) × (at < 4096) }
     ensures { (name : Name) → ReadsSheet n
         (name_of (names_of edition (left - 1) n s.now) left s.now st.now at body c judged name) result
         t.old t.new }
 {
     if left == 0 {
-        return Reading::Refused(refuse(TOO_MANY_NAMES, at));
+        return Err(refuse(TOO_MANY_NAMES, at));
     }
-    match judged {
-        Judged::Refused(refusal) => Reading::Refused(refusal),
-        Judged::Good => {
-            let next = registered(s, st, at, c);
-            read_names(edition, s, &next, t, n, left - 1, at + 1 + body as usize)
-        }
-    }
+    judged?;
+    let next = registered(s, st, at, c);
+    read_names(edition, s, &next, t, n, left - 1, at + 1 + body as usize)
 }

@@ -34,6 +34,7 @@ pub(crate) fn note_use(t: &mut [u16], r: Record)
 }
 
 // Whether a use of the name with an id is noted.
+#[tactic(auto, unfolding(crate::specs::table::Notes::is_noted))]
 pub fn is_noted(t: &[u16], id: u8) -> bool
     ensures { result ≡ is_noted t.now id }
 {

@@ -5,14 +5,14 @@ ghost use Rattle.sheet_reader.specs.table.Number.{number_in, used_number};
 
 use sheet_heads::head::Record;
 use sheet_records::kind::USE;
-use sheet_records::standing::{Standing, meaning_of};
+use sheet_records::standing::Standing;
 
 // The number of the procedure whose standing is `c`; 0 where it is that of anything else.
+#[tactic(auto, unfolding(crate::specs::table::Number::number_in))]
 fn number_in(c: u32) -> u16
     ensures { result ≡ number_in (standing_of c) }
 {
-    let standing = meaning_of(c);
-    match standing {
+    match Standing::from(c) {
         Standing::Free => 0,
         Standing::Retired => 0,
         Standing::Declared { place: _, once: _ } => 0,
@@ -26,6 +26,7 @@ fn number_in(c: u32) -> u16
 }
 
 // The number of the procedure that the record uses; 0 where it uses none.
+#[tactic(auto, unfolding(crate::specs::table::Number::used_number))]
 pub(crate) fn used_number(r: Record) -> usize
     ensures number { result ≡ used_number r }
     ensures small { result < 65536 }

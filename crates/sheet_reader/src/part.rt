@@ -8,11 +8,11 @@ ghost use Rattle.sheet_parts.specs.declared.scope.Opens.TheVariants.{Block, Rout
 ghost use Rattle.sheet_reader.specs.Reader.{parts_of, scope_parts, read_record, read_part};
 ghost use Rattle.sheet_reader.specs.table.Fill.{fill, fills, fills_next, Reads, Beyond, Ends, closed_answer, closed_table};
 
-use crate::close::{Leaf, close_leaf, close_sum, leaf_of};
+use crate::close::{close_leaf, close_sum, leaf_of};
 use crate::note::note_use;
 use crate::number::used_number;
 use language::Numbers;
-use sheet_heads::head::{Head, Record, bare_record, head_at};
+use sheet_heads::head::{Record, bare_record, head_at};
 use sheet_parts::scope::{Opens, enter, enter_parameters, enter_procedure, opens_of};
 use sheet_parts::typing::{accepts_part, type_of};
 use sheet_records::edition::Edition;
@@ -25,41 +25,50 @@ use weight_records::record::weigh_record;
 // The number of the second part of a record.
 const SECOND: u8 = 1;
 
-// What reading gives: the type and the place after; or the refusal. The type has 32 bits because an answer is copied
-// with all bytes between its fields, and these are then copied fastest.
+// What was read: its type and the place after it. The type is as wide as the place because an answer is copied with all
+// bytes between its fields: with a type of 8 bits a check of a long sheet takes a third more time.
 #[derive(Drop)]
-pub(crate) enum Part {
-    Read { ty: u32, next: usize },
-    Refused(Refusal),
+pub(crate) struct Part {
+    pub ty: usize,
+    pub next: usize,
 }
 
 // The answer and the row of a record that `around` binders enclose, from the answer of its parts; a use of a declared
 // name is noted, and the record is weighed.
-fn close_record(s: &[u8], t: &mut [u16], n: Numbers, around: u8, r: Record, parts: Part) -> Part
+fn close_record(
+    s: &[u8],
+    t: &mut [u16],
+    n: Numbers,
+    around: u8,
+    r: Record,
+    parts: Result<Part, Refusal>,
+) -> Result<Part, Refusal>
     requires { (r.place < 4096) × Ends 4096 parts }
     ensures answer { result ≡ closed_answer s.now r parts }
     ensures table { t.new ≡ closed_table n s.now around r parts t.old }
 {
-    let Part::Read { ty: last, next } = parts else {
+    // `let .. else`, not `?`: the form of document 01 in which a refusal is handed on.
+    let Ok(last) = parts else {
         return parts;
     };
-    let closed = close_sum(t, n, r, last as u8, next);
-    if 0 < closed {
-        return Part::Read {
-            ty: closed - 1,
+    let ty = last.ty as u8;
+    let next = last.next;
+    if let Some(closed) = close_sum(t, n, r, ty, next) {
+        return Ok(Part {
+            ty: closed as usize,
             next,
-        };
+        });
     }
     let rule = r.rule;
-    let ty = type_of(rule, s, r, last as u8);
-    write_row(t, n, r, ty, around, next);
+    let own = type_of(rule, s, r, ty);
+    write_row(t, n, r, own, around, next);
     note_use(t, r);
     let k = used_number(r);
     weigh_record(t, r.place, k);
-    Part::Read {
-        ty: ty as u32,
+    Ok(Part {
+        ty: own as usize,
         next,
-    }
+    })
 }
 
 // Reads the part at a place, with `left` levels of depth left, inside `around` binders. Where no level is left its head
@@ -74,29 +83,21 @@ fn read_part(
     around: u8,
     left: u8,
     at: usize,
-) -> Part
+) -> Result<Part, Refusal>
     requires { (length s.now ≤ 4096) × (around + 4 * left ≤ 128) }
     ensures reads { Reads (fill n) (read_part edition left n s.now st.now around at) result
         t.old t.new }
     ensures beyond { Beyond at (length s.now) result }
 {
-    let h = head_at(edition, s, st, n, left, at);
-    match h {
-        Head::Refused(refusal) => Part::Refused(refusal),
-        Head::Good { record } => {
-            let leaf = leaf_of(s, n, record);
-            match leaf {
-                Leaf::Is { kind, ty, detail } => {
-                    close_leaf(t, n, record, kind, ty, detail);
-                    Part::Read {
-                        ty: ty as u32,
-                        next: record.next,
-                    }
-                }
-                Leaf::Other => read_record(edition, s, st, t, n, around, left - 1, record),
-            }
-        }
-    }
+    let record = head_at(edition, s, st, n, left, at)?;
+    let Some(row) = leaf_of(s, n, record) else {
+        return read_record(edition, s, st, t, n, around, left - 1, record);
+    };
+    close_leaf(t, n, record, row.kind, row.ty, row.detail);
+    Ok(Part {
+        ty: row.ty as usize,
+        next: record.next,
+    })
 }
 
 // Reads a record whose head is judged: a use with its arguments, or another with its parts.
@@ -110,7 +111,7 @@ fn read_record(
     around: u8,
     left: u8,
     r: Record,
-) -> Part
+) -> Result<Part, Refusal>
     requires { (length s.now ≤ 4096) × (around + 4 * left + 4 ≤ 128) × (r.place < 4096)
         × (r.next ≤ length s.now) × (opens r.rule ≡ Block → r.b ≤ 2) × (opens r.rule ≡ Routine → r.b ≤ 4) }
     ensures { Reads (fill n)
@@ -132,7 +133,7 @@ fn read_scope(
     around: u8,
     left: u8,
     r: Record,
-) -> Part
+) -> Result<Part, Refusal>
     requires { (length s.now ≤ 4096) × (around + 4 * left + 4 ≤ 128) × (r.place < 4096)
         × (r.next ≤ length s.now) × (opens r.rule ≡ Block → r.b ≤ 2) × (opens r.rule ≡ Routine → r.b ≤ 4) }
     ensures { Reads (λ ts. fills n ts r.place 0)
@@ -162,7 +163,7 @@ fn read_block(
     around: u8,
     left: u8,
     r: Record,
-) -> Part
+) -> Result<Part, Refusal>
     requires { (length s.now ≤ 4096) × (around + 4 * left + 4 ≤ 128) × (r.place < 4096)
         × (r.next ≤ length s.now) × (r.b ≤ 2) }
     ensures { Reads (λ ts. fills n ts r.place 0)
@@ -202,7 +203,7 @@ fn read_routine(
     around: u8,
     left: u8,
     r: Record,
-) -> Part
+) -> Result<Part, Refusal>
     requires { (length s.now ≤ 4096) × (around + 4 * left + 4 ≤ 128) × (r.place < 4096)
         × (r.next ≤ length s.now) × (r.b ≤ 4) }
     ensures { Reads (λ ts. fills n ts r.place 0)
@@ -229,11 +230,19 @@ fn read_routine(
         0,
         0,
         r.next,
-    );
-    let Part::Read { ty, next } = own else {
-        return own;
-    };
-    read_usable(edition, s, st, t, n, around, left, r, ty as u8, next)
+    )?;
+    read_usable(
+        edition,
+        s,
+        st,
+        t,
+        n,
+        around,
+        left,
+        r,
+        own.ty as u8,
+        own.next,
+    )
 }
 
 // Reads the second term of a procedure, at a place; the first has type prev.
@@ -249,7 +258,7 @@ fn read_usable(
     r: Record,
     prev: u8,
     at: usize,
-) -> Part
+) -> Result<Part, Refusal>
     requires { (length s.now ≤ 4096) × (around + 4 * left + 4 ≤ 128) × (r.place < 4096) × (at ≤ length s.now) }
     ensures { Reads (λ ts. fills n ts r.place 1)
         (parts_of (read_part edition left n s.now (usable st.now r around) (around + 1))
@@ -297,7 +306,7 @@ fn read_parts(
     j: u8,
     prev: u8,
     at: usize,
-) -> Part
+) -> Result<Part, Refusal>
     requires { (length s.now ≤ 4096) × (around + 4 * left ≤ 128) × (place < 4096) × (at ≤ length s.now)
         × (j + count ≤ 255) }
     ensures { Reads (λ ts. fills n ts place j)
@@ -306,10 +315,10 @@ fn read_parts(
         t.old t.new }
 {
     if count == 0 {
-        return Part::Read {
-            ty: prev as u32,
+        return Ok(Part {
+            ty: prev as usize,
             next: at,
-        };
+        });
     }
     link(t, place, j, at);
     read_next(
@@ -335,7 +344,7 @@ fn read_next(
     j: u8,
     prev: u8,
     at: usize,
-) -> Part
+) -> Result<Part, Refusal>
     requires { (length s.now ≤ 4096) × (around + 4 * left ≤ 128) × (place < 4096) × (j + count ≤ 255)
         × (0 < count) }
     ensures { Reads (λ ts. fills_next n ts place j)
@@ -344,12 +353,14 @@ fn read_next(
         t.old t.new }
 {
     let p = read_part(edition, s, st, t, n, around, left, at);
-    let Part::Read { ty: read, next } = p else {
+    // `let .. else`, not `?`: the form of document 01 in which a refusal is handed on.
+    let Ok(part) = p else {
         return p;
     };
-    let ty = read as u8;
+    let ty = part.ty as u8;
+    let next = part.next;
     if !accepts_part(rule, s, bare_record(place, rule, a, b), j, prev, ty) {
-        return Part::Refused(refuse(WRONG_TYPE, at));
+        return Err(refuse(WRONG_TYPE, at));
     }
     read_parts(
         edition,
@@ -378,7 +389,7 @@ pub(crate) fn read_root(
     t: &mut [u16],
     n: Numbers,
     at: usize,
-) -> Part
+) -> Result<Part, Refusal>
     requires { length s.now ≤ 4096 }
     ensures { Reads (fill n) (read_part edition 32 n s.now st.now 0 at) result
         t.old t.new }

@@ -8,50 +8,47 @@ use language::Numbers;
 use sheet_records::edition::Edition;
 use sheet_records::limits::{FIRST_RECORD, GREATEST_RULE, GREATEST_Z, MOST_BYTES, MOST_NAMES};
 use sheet_records::read::byte_at;
-use sheet_records::refusal::{CUT_SHORT, LEFT_OVER, OUT_OF_RANGE, TOO_LONG, refuse};
+use sheet_records::refusal::{CUT_SHORT, LEFT_OVER, OUT_OF_RANGE, Refusal, TOO_LONG, refuse};
 
 // Nothing after the term.
-fn close_sheet(s: &[u8], x: Reading) -> Reading
+#[tactic(auto, unfolding(crate::specs::table::Fill::closed_reading))]
+fn close_sheet(s: &[u8], x: Result<Reading, Refusal>) -> Result<Reading, Refusal>
     ensures { result ≡ closed_reading s.now x }
 {
-    let Reading::Sheet {
-        root: _,
-        ty: _,
-        next,
-    } = x
-    else {
+    // `let .. else`, not `?`: the form of document 01 in which a refusal is handed on.
+    let Ok(sheet) = x else {
         return x;
     };
-    if next < s.len() {
-        return Reading::Refused(refuse(LEFT_OVER, next));
+    if sheet.next < s.len() {
+        return Err(refuse(LEFT_OVER, sheet.next));
     }
-    x
+    Ok(sheet)
 }
 
 // Reads a whole sheet by the rule of an edition, and leaves the rows of its parts in the table.
-pub fn read_sheet(edition: Edition, s: &[u8], t: &mut [u16]) -> Reading
+pub fn read_sheet(edition: Edition, s: &[u8], t: &mut [u16]) -> Result<Reading, Refusal>
     ensures { ReadsSheet (numbers_at s.now) (whole_of edition s.now) result
         t.old t.new }
 {
     if MOST_BYTES < s.len() {
-        return Reading::Refused(refuse(TOO_LONG, MOST_BYTES));
+        return Err(refuse(TOO_LONG, MOST_BYTES));
     }
     if s.len() == 0 {
-        return Reading::Refused(refuse(CUT_SHORT, s.len()));
+        return Err(refuse(CUT_SHORT, s.len()));
     }
     let z = s[0];
     if z == 0 {
-        return Reading::Refused(refuse(OUT_OF_RANGE, 0));
+        return Err(refuse(OUT_OF_RANGE, 0));
     }
     if GREATEST_Z < z {
-        return Reading::Refused(refuse(OUT_OF_RANGE, 0));
+        return Err(refuse(OUT_OF_RANGE, 0));
     }
     if s.len() <= 1 {
-        return Reading::Refused(refuse(CUT_SHORT, s.len()));
+        return Err(refuse(CUT_SHORT, s.len()));
     }
     let rule = s[1];
     if GREATEST_RULE < rule {
-        return Reading::Refused(refuse(OUT_OF_RANGE, 1));
+        return Err(refuse(OUT_OF_RANGE, 1));
     }
     let n = Numbers { z, rule };
     let st = [0u32; 255];

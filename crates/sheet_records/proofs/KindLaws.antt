@@ -6,7 +6,7 @@ use mathlib.Core.Bool.{Bool, true, false}
 use lib.Dec.{eqb}
 use borrow.Author.Tests.{eqb-true}
 use Rattle.language.specs.Choice.{pick}
-use Rattle.sheet_records.specs.Kind.{bytes_of, shape_of, body_in, parts_in}
+use Rattle.sheet_records.specs.Kind.{bytes_of, shape_of}
 use Rattle.sheet_records.specs.declared.kind.Rule.{Rule}
 use Rattle.sheet_records.specs.declared.kind.Rule.TheVariants.{Skip, Diverge, Truth, Number, Use, Fetch}
 use Rattle.sheet_records.specs.declared.kind.Rule.TheVariants.{Operate, Assign, Sequence, If, While, New, Procedure}
@@ -109,38 +109,3 @@ module _ (k body parts : ℕ) (R : Rule) where
 
       none'' : {P : Type 0} → Unknown ≡ Part body parts R → P
       none'' h = let z : ◌≡◌ {A = ℕ} 0 1 = cc in absurd (omega arith)
-
--- the body and the parts of each shape
-pub body-part : (k body parts r : ℕ) (rule : Rule) → shape_of k ≡ Part body parts rule → r ≡ body →
-    r ≡ body_in (shape_of k)
-unfolding body_in
-body-part k body parts r rule e i = rw (e, i) refl
-
-pub body-declare : (k body once r : ℕ) → shape_of k ≡ Declare body once → r ≡ body → r ≡ body_in (shape_of k)
-unfolding body_in
-body-declare k body once r e i = rw (e, i) refl
-
-pub body-retire : (k body r : ℕ) → shape_of k ≡ Retire body → r ≡ body → r ≡ body_in (shape_of k)
-unfolding body_in
-body-retire k body r e i = rw (e, i) refl
-
-pub body-unknown : (k : ℕ) → shape_of k ≡ Unknown → 0 ≡ body_in (shape_of k)
-unfolding body_in
-body-unknown k e = rw e refl
-
-pub parts-part : (k body parts r : ℕ) (rule : Rule) → shape_of k ≡ Part body parts rule → r ≡ parts →
-    r ≡ parts_in (shape_of k)
-unfolding parts_in
-parts-part k body parts r rule e i = rw (e, i) refl
-
-pub parts-declare : (k body once : ℕ) → shape_of k ≡ Declare body once → 0 ≡ parts_in (shape_of k)
-unfolding parts_in
-parts-declare k body once e = rw e refl
-
-pub parts-retire : (k body : ℕ) → shape_of k ≡ Retire body → 0 ≡ parts_in (shape_of k)
-unfolding parts_in
-parts-retire k body e = rw e refl
-
-pub parts-unknown : (k : ℕ) → shape_of k ≡ Unknown → 0 ≡ parts_in (shape_of k)
-unfolding parts_in
-parts-unknown k e = rw e refl

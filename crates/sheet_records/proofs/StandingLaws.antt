@@ -3,8 +3,8 @@ use Prim.Native.Nat.{ℕ, ◌+◌, ◌-◌, ◌*◌, ◌/◌, ◌%◌, ◌≤◌
 use native.Mathlib.Omega.{arith}
 use mathlib.Core.Path.{◌≡◌, refl, ap₂, ◌∙◌}
 use mathlib.Core.Bool.{Bool, true, false}
-use lib.Dec.{eqb, ltb}
-use borrow.Author.Tests.{eq-eqb, ne_eqb, lt-ltb, le-ltb}
+use lib.Dec.{eqb, ltb, leb}
+use borrow.Author.Tests.{eq-eqb, ne_eqb, lt-ltb, le-ltb, leb-true, leb-false}
 use Rattle.language.specs.Choice.{pick}
 use Rattle.sheet_records.specs.Standing.{declared_standing, variable_standing, parameter_standing, procedure_standing}
 use Rattle.sheet_records.specs.Standing.{standing_of, is_held}
@@ -24,9 +24,6 @@ module _ (c : ℕ) where
   pub is_declared : 2 ≤ c → c < 12288 → standing_of c ≡ Declared ((c - 256) / 2) ((c - 256) % 2)
   unfolding standing_of
   is_declared l h = rw (ne_eqb c 0 (λ z. omega arith), ne_eqb c 1 (λ z. omega arith), lt-ltb c 12288 h)
-
-  pub is-first-declared : 2 ≤ c → c < 256 → standing_of c ≡ Declared 0 0
-  is-first-declared l h = is_declared l (omega arith) ∙ ap₂ (λ p o. Declared p o) (omega arith) (omega arith)
 
   pub is-variable : 12288 ≤ c → c < 16384 → standing_of c ≡ Variable ((c - 12288) / 4) ((c - 12288) % 4)
   unfolding standing_of
@@ -76,6 +73,13 @@ module _ (c : ℕ) where
       go true b = refl
       go false true = refl
       go false false = refl
+
+  pub held-by : leb 12288 c ≡ is_held (standing_of c)
+  held-by = go (leb 12288 c) refl
+    where
+      go : (b : Bool) → leb 12288 c ≡ b → b ≡ is_held (standing_of c)
+      go true e = held-from (leb-true 12288 c e)
+      go false e = held_below (leb-false 12288 c e)
 
 -- the data of a variable is below 4
 abbrev holds_of : Standing → ℕ

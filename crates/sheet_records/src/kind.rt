@@ -85,6 +85,7 @@ fn part(body: u8, parts: u8, rule: Rule) -> Shape
 }
 
 // The decision over the kind byte.
+#[tactic(auto, unfolding(crate::specs::Kind::shape_of))]
 pub fn shape_of(kind: u8) -> Shape
     ensures { result ≡ shape_of kind }
 {
@@ -110,11 +111,11 @@ pub fn shape_of(kind: u8) -> Shape
 }
 
 // The length of the body of a record.
+#[tactic(auto, unfolding(crate::specs::Kind::body_in))]
 pub fn body_of(kind: u8) -> usize
     ensures { (result ≡ body_in (shape_of kind)) × (result < 256) }
 {
-    let shape = shape_of(kind);
-    match shape {
+    match shape_of(kind) {
         Shape::Part {
             body,
             parts: _,
@@ -127,11 +128,11 @@ pub fn body_of(kind: u8) -> usize
 }
 
 // How many parts a record has that is no use.
+#[tactic(auto, unfolding(crate::specs::Kind::parts_in))]
 pub fn parts_of(kind: u8) -> usize
     ensures { (result ≡ parts_in (shape_of kind)) × (result < 256) }
 {
-    let shape = shape_of(kind);
-    match shape {
+    match shape_of(kind) {
         Shape::Part {
             body: _,
             parts,

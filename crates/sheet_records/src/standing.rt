@@ -45,6 +45,7 @@ pub enum Standing {
 }
 
 // Declared by the record at a place; once is 1 where the name asks once, else 0.
+#[tactic(auto, unfolding(crate::specs::Standing::declared_standing))]
 pub fn declared_standing(place: usize, once: u8) -> u32
     requires { place ≤ 4096 }
     ensures { result ≡ declared_standing place once }
@@ -53,6 +54,7 @@ pub fn declared_standing(place: usize, once: u8) -> u32
 }
 
 // The variable of a new that `number` binders enclose; it holds truths, 1, or numbers, 2.
+#[tactic(auto, unfolding(crate::specs::Standing::variable_standing))]
 pub fn variable_standing(number: u8, holds: u32) -> u32
     requires { holds ≤ 2 }
     ensures { result ≡ variable_standing number holds }
@@ -61,6 +63,7 @@ pub fn variable_standing(number: u8, holds: u32) -> u32
 }
 
 // The parameter with a number and a type.
+#[tactic(auto, unfolding(crate::specs::Standing::parameter_standing))]
 pub fn parameter_standing(number: u8, ty: u8) -> u32
     ensures { result ≡ parameter_standing number ty }
 {
@@ -68,6 +71,7 @@ pub fn parameter_standing(number: u8, ty: u8) -> u32
 }
 
 // The procedure at a place that `number` binders enclose.
+#[tactic(auto, unfolding(crate::specs::Standing::procedure_standing))]
 pub fn procedure_standing(number: u8, place: usize) -> u32
     requires { place < 65536 }
     ensures { result ≡ procedure_standing number place }
@@ -76,52 +80,55 @@ pub fn procedure_standing(number: u8, place: usize) -> u32
 }
 
 // What a standing says.
-pub fn meaning_of(c: u32) -> Standing
-    ensures { result ≡ standing_of c }
-{
-    if c == FREE {
-        return Standing::Free;
-    }
-    if c == RETIRED {
-        return Standing::Retired;
-    }
-    if c < FIRST_DECLARED {
-        return Standing::Declared { place: 0, once: 0 };
-    }
-    if c < FIRST_VARIABLE {
-        let rest = c - FIRST_DECLARED;
-        return Standing::Declared {
-            place: rest / DECLARED_STEP,
-            once: (rest % DECLARED_STEP) as u8,
-        };
-    }
-    if c < FIRST_PARAMETER {
-        let rest = c - FIRST_VARIABLE;
-        return Standing::Variable {
-            number: (rest / VARIABLE_STEP) as u16,
-            holds: (rest % VARIABLE_STEP) as u8,
-        };
-    }
-    if c < FIRST_PROCEDURE {
-        let rest = c - FIRST_PARAMETER;
-        return Standing::Parameter {
-            number: (rest / PARAMETER_STEP) as u16,
-            ty: (rest % PARAMETER_STEP) as u8,
-        };
-    }
-    let rest = c - FIRST_PROCEDURE;
-    Standing::Procedure {
-        number: (rest % PROCEDURE_STEP) as u16,
-        place: rest / PROCEDURE_STEP,
+impl From<u32> for Standing {
+    ghost from_gives = { λ c x. x ≡ standing_of c };
+
+    #[tactic(auto, unfolding(crate::specs::Standing::standing_of))]
+    fn from(c: u32) -> Standing {
+        if c == FREE {
+            return Standing::Free;
+        }
+        if c == RETIRED {
+            return Standing::Retired;
+        }
+        if c < FIRST_DECLARED {
+            return Standing::Declared { place: 0, once: 0 };
+        }
+        if c < FIRST_VARIABLE {
+            let rest = c - FIRST_DECLARED;
+            return Standing::Declared {
+                place: rest / DECLARED_STEP,
+                once: (rest % DECLARED_STEP) as u8,
+            };
+        }
+        if c < FIRST_PARAMETER {
+            let rest = c - FIRST_VARIABLE;
+            return Standing::Variable {
+                number: (rest / VARIABLE_STEP) as u16,
+                holds: (rest % VARIABLE_STEP) as u8,
+            };
+        }
+        if c < FIRST_PROCEDURE {
+            let rest = c - FIRST_PARAMETER;
+            return Standing::Parameter {
+                number: (rest / PARAMETER_STEP) as u16,
+                ty: (rest % PARAMETER_STEP) as u8,
+            };
+        }
+        let rest = c - FIRST_PROCEDURE;
+        Standing::Procedure {
+            number: (rest % PROCEDURE_STEP) as u16,
+            place: rest / PROCEDURE_STEP,
+        }
     }
 }
 
 // Whether a name record holds the id whose standing is `c`: no binder may take it.
+#[tactic(auto, unfolding(crate::specs::Standing::is_named))]
 pub fn is_named(c: u32) -> bool
     ensures { result ≡ is_named (standing_of c) }
 {
-    let standing = meaning_of(c);
-    match standing {
+    match Standing::from(c) {
         Standing::Free => false,
         Standing::Retired => true,
         Standing::Declared { place: _, once: _ } => true,
@@ -141,18 +148,15 @@ pub fn is_named(c: u32) -> bool
 pub fn is_held(c: u32) -> bool
     ensures { result ≡ is_held (standing_of c) }
 {
-    if FIRST_VARIABLE <= c {
-        return true;
-    }
-    false
+    FIRST_VARIABLE <= c
 }
 
 // The type of a use of an id whose standing is `c`.
+#[tactic(auto, unfolding(crate::specs::Standing::result_of))]
 pub fn result_of(s: &[u8], c: u32) -> u8
     ensures { result ≡ result_of s.now (standing_of c) }
 {
-    let standing = meaning_of(c);
-    match standing {
+    match Standing::from(c) {
         Standing::Free => 0,
         Standing::Retired => 0,
         Standing::Declared { place, once: _ } => byte_at(s, place as usize + RESULT),
@@ -163,11 +167,11 @@ pub fn result_of(s: &[u8], c: u32) -> u8
 }
 
 // How many arguments it has.
+#[tactic(auto, unfolding(crate::specs::Standing::count_of))]
 pub fn count_of(s: &[u8], c: u32) -> u8
     ensures { result ≡ count_of s.now (standing_of c) }
 {
-    let standing = meaning_of(c);
-    match standing {
+    match Standing::from(c) {
         Standing::Free => 0,
         Standing::Retired => 0,
         Standing::Declared { place, once: _ } => byte_at(s, place as usize + COUNT),
@@ -181,11 +185,11 @@ pub fn count_of(s: &[u8], c: u32) -> u8
 }
 
 // The type of its argument j: one byte for each in a name's record, an id and a type for each in a procedure's.
+#[tactic(auto, unfolding(crate::specs::Standing::argument_of))]
 pub fn argument_of(s: &[u8], c: u32, j: u8) -> u8
     ensures { result ≡ argument_of s.now (standing_of c) j }
 {
-    let standing = meaning_of(c);
-    match standing {
+    match Standing::from(c) {
         Standing::Free => 0,
         Standing::Retired => 0,
         Standing::Declared { place, once: _ } => byte_at(

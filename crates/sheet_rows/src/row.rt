@@ -13,7 +13,7 @@ use sheet_parts::typing::{COMMAND, TRUTH_VARIABLE};
 use sheet_parts::weight::values_of;
 use sheet_records::kind::Rule;
 use sheet_records::read::short_at;
-use sheet_records::standing::{Standing, meaning_of};
+use sheet_records::standing::Standing;
 
 // The words of a row: the kind of the part, the place after it, the class of its type and the number of values of its
 // data, a detail by its kind, and the places of its parts.
@@ -99,11 +99,11 @@ fn put_cell(t: &mut [u16], place: usize, i: usize, v: u16)
 }
 
 // The kind in the row of a use, of an id whose standing is `c`.
+#[tactic(auto, unfolding(crate::specs::Row::use_kind))]
 fn use_kind(kind: u16, c: u32) -> u16
     ensures { result ≡ use_kind kind (standing_of c) }
 {
-    let standing = meaning_of(c);
-    match standing {
+    match Standing::from(c) {
         Standing::Free => kind,
         Standing::Retired => kind,
         Standing::Declared { place: _, once: _ } => kind,
@@ -164,11 +164,11 @@ pub fn name_detail(id: u8, count: u8, once: u8) -> u16
 
 // The detail of a use: of a name as above, of a variable or a parameter its number, of a procedure the place of its
 // record and 4,096 times the number of its arguments.
+#[tactic(auto, unfolding(crate::specs::Row::use_detail))]
 fn use_detail(r: Record) -> u16
     ensures { result ≡ use_detail r.a r.parts (standing_of r.b) }
 {
-    let standing = meaning_of(r.b);
-    match standing {
+    match Standing::from(r.b) {
         Standing::Free => name_detail(r.a, r.parts, 0),
         Standing::Retired => name_detail(r.a, r.parts, 0),
         Standing::Declared { place: _, once } => name_detail(r.a, r.parts, once),

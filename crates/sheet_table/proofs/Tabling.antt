@@ -1,10 +1,12 @@
 -- The table that reading a whole sheet leaves shows the sheet's term, and has notes of the names that it uses, its weight
 -- and its marks.
+use Rattle.std.specs.Prelude.{Result}
 use Prim.Native.Nat.{ℕ}
 use native.Mathlib.Omega.{arith}
 use mathlib.Core.Path.{◌≡◌, refl, sym, ap, ◌∙◌}
 use mathlib.Core.List.{List, []}
 use lib.ListN.{length, drop, length-append, length-drop}
+use Rattle.sheet_records.specs.declared.refusal.Refusal.{Refusal}
 use Rattle.sheet_records.specs.declared.edition.Edition.{Edition}
 use Rattle.sheet_written.specs.Meaning.{type_of}
 use Rattle.sheet_reader.specs.Encoding.{encode_names}
@@ -71,5 +73,5 @@ module _ (ed : Edition) (s t u : List ℕ) (blank : Blank t) where
 
   -- THEOREM: where a sheet is read, the table shows its term, and has notes of the names that it uses, its weight and
   -- its marks
-  pub tabled : {x : Reading} → ReadsSheet (numbers_at s) (whole_of ed s) x t u → TabledBy ed s x u
+  pub tabled : {x : Result Reading Refusal} → ReadsSheet (numbers_at s) (whole_of ed s) x t u → TabledBy ed s x u
   tabled R = rw R.answer (tabled-by (whole_of ed s) refl (sheet-all ed s places) R.table)

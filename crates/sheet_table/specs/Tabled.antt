@@ -1,7 +1,8 @@
 -- What reading a sheet leaves: the sheet is in order but for its size, the table shows its term, with a row at the
 -- place of each record's kind byte, the uses of its names are noted, its weight stands in the first form, held at
 -- 4,097, and its parts are marked. Only inner contracts cite it.
-use Rattle.std.specs.Prelude.{ℕ, ◌≤◌, ◌<◌, ◌≡◌, List, [], length, ltb}
+use Rattle.std.specs.Prelude.{ℕ, ◌≤◌, ◌<◌, ◌≡◌, List, [], length, ltb, Result, Ok, Err}
+use Rattle.sheet_records.specs.declared.refusal.Refusal.{Refusal}
 use Rattle.sheet_records.specs.Limits.{greatest_z, greatest_rule}
 use Rattle.language.specs.Choice.{pick}
 use Rattle.language.specs.Weight.{size}
@@ -22,7 +23,6 @@ use Rattle.sheet_reader.specs.Reader.{numbers_at, read_under, accepted, rejected
 use Rattle.sheet_reader.specs.table.Notes.{is_noted}
 use Rattle.sheet_table.specs.inner.Seats.{Seated}
 use Rattle.sheet_reader.specs.declared.names.Reading.{Reading}
-use Rattle.sheet_reader.specs.declared.names.Reading.TheVariants.{Sheet, Refused}
 
 -- the places of procedures, of which none encloses a whole term
 abbrev pub places : ℕ → ℕ
@@ -53,6 +53,6 @@ pub record Tabled (ed : Edition) (s : List ℕ) (root ty next : ℕ) (u : List �
   pub weighs : form_word u 0 1 ≡ held (form_of (numbers_at s) sheet.names [] no_forms sheet.term).constant
   pub marked : Marked (numbers_at s) sheet.names u (marks_in u) whole root sheet.term
 
-unfoldable pub TabledBy : Edition → List ℕ → Reading → List ℕ → Type 0
-TabledBy ed s (Sheet root ty next) u = Tabled ed s root ty next u
-TabledBy ed s (Refused x) u = Unit
+unfoldable pub TabledBy : Edition → List ℕ → Result Reading Refusal → List ℕ → Type 0
+TabledBy ed s (Ok x) u = Tabled ed s x.root x.ty x.next u
+TabledBy ed s (Err x) u = Unit

@@ -2,8 +2,7 @@
 -- an id to the plays of its term, and an id plays what the environment says; every other clause is that of the let-free
 -- language (language/specs/Play). Document 02 [1]: "the argument is played anew at every use of the parameter, in the
 -- scope of the caller".
-use Rattle.std.specs.Prelude.{◌≡◌, ◌⊎◌, List, [], ◌∷◌, ◌++◌, ℕ, zero, suc, ◌-◌, length}
-use Rattle.std.proofs.Math.Option.{some}
+use Rattle.std.specs.Prelude.{◌≡◌, ◌⊎◌, List, [], ◌∷◌, ◌++◌, ℕ, zero, suc, ◌-◌, length, Some}
 use Rattle.language.specs.Number.{code, from_byte}
 use Rattle.language.specs.Ty.{Question, run, ask, read, write, Answer, done, ok, value, Answers}
 use Rattle.language.specs.Move.{question, answer, at, private, move, Word}
@@ -61,7 +60,7 @@ unfoldable mutual
   PlaysIn N ns bs π n (fetch v) q a u = PlaysIn N ns bs π n v read a u
   PlaysIn N ns bs π n (operate op l r) q a u =
       let o : Operation = record { over = N; operator = op } in
-      (x : Val (operands o)) × (y : Val (operands o)) × (z : ℕ) × (apply o x.0 y.0 ≡ some z) × (a ≡ value z)
+      (x : Val (operands o)) × (y : Val (operands o)) × (z : ℕ) × (apply o x.0 y.0 ≡ Some z) × (a ≡ value z)
       × Cat (PlaysIn N ns bs π n l ask (value x.0)) (PlaysIn N ns bs π n r ask (value y.0)) u
   PlaysIn N ns bs π n (assign v e) q a u =
       (a ≡ done) × (x : Val (values N (typed ns bs v)))

@@ -1,9 +1,9 @@
 -- What follows an answer, a result or a decision: a predicate that does not hold of `dead` holds of the transition
 -- exactly where the answer, the result or the decision is the one that is waited for.
+use Rattle.std.specs.Prelude.{Option, None, Some}
 use mathlib.Core.Path.{◌≡◌, refl}
 use mathlib.Core.Logic.{◌↔◌}
 use mathlib.Core.Bool.{Bool, true, false}
-use mathlib.Core.Option.{Option, none, some}
 use Prim.Native.Nat.{ℕ, zero, suc}
 use native.Mathlib.Bridge.{le_prop}
 use native.Mathlib.Decide.{dec_lt}
@@ -64,13 +64,13 @@ module _ {S A : Type 0} (F : Next S A → Type 0) (nowhere : F dead → ⊥) whe
       forth (value v) r = let d = (when-iff le_prop (dec_lt v m) (λ h. f (v, h))).0 r in ((v, d.0), refl, d.1)
 
   -- a result
-  pub some-iff : (o : Option ℕ) (f : ℕ → Next S A) → F (on_some o f) ↔ ((z : ℕ) × (o ≡ some z) × F (f z))
+  pub some-iff : (o : Option ℕ) (f : ℕ → Next S A) → F (on_some o f) ↔ ((z : ℕ) × (o ≡ Some z) × F (f z))
   unfolding on_some
   some-iff o f = (forth o, λ r. rw r.1 r.2)
     where
-      forth : (o : Option ℕ) → F (on_some o f) → (z : ℕ) × (o ≡ some z) × F (f z)
-      forth none r = absurd (nowhere r)
-      forth (some z) r = (z, refl, r)
+      forth : (o : Option ℕ) → F (on_some o f) → (z : ℕ) × (o ≡ Some z) × F (f z)
+      forth None r = absurd (nowhere r)
+      forth (Some z) r = (z, refl, r)
 
   -- a truth
   pub truth-iff : (a : Answer) (x y : Next S A) →

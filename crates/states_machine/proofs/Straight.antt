@@ -1,8 +1,8 @@
 -- Correctness of the terms without a loop, a variable or a name.
+use Rattle.std.specs.Prelude.{Some}
 use mathlib.Core.Path.{◌≡◌, refl}
 use mathlib.Core.Logic.{inl, inr, ◌↔◌}
 use mathlib.Core.Bool.{Bool, true, false}
-use mathlib.Core.Option.{some}
 use Prim.Native.Nat.{ℕ}
 use Rattle.language.specs.Choice.{pick}
 use Rattle.language.specs.Operator.{truth}
@@ -85,10 +85,10 @@ operate-correct m o L R hL hR n q σ w P =
     W = machine (operate m o L R) n q
 
     Result : Val m → Type 0
-    Result x = (y : Val m) × (z : ℕ) × (apply o x.0 y.0 ≡ some z)
+    Result x = (y : Val m) × (z : ℕ) × (apply o x.0 y.0 ≡ Some z)
 
     shuffle : (x : Val m) (d : Exit n) (u : Word) →
-        ((y : Val m) × (d.1 ≡ value y.0) × ((z : ℕ) × (apply o x.0 y.0 ≡ some z) × P (d.0, value z) u)) ↔
+        ((y : Val m) × (d.1 ≡ value y.0) × ((z : ℕ) × (apply o x.0 y.0 ≡ Some z) × P (d.0, value z) u)) ↔
         ((y : Result x) × (d.1 ≡ value y.0.0) × P (d.0, value y.1) u)
     shuffle x d u =
         (λ p. ((p.0, p.2.0, p.2.1), p.1, p.2.2), λ p. (p.0.0, p.1, (p.0.1, p.0.2, p.2)))

@@ -1,7 +1,6 @@
 -- The machine of a term: what each state does.
-use Rattle.std.specs.Prelude.{◌⊎◌, List, [], ◌∷◌, ℕ, zero, suc}
+use Rattle.std.specs.Prelude.{◌⊎◌, List, [], ◌∷◌, ℕ, zero, suc, Option, None, Some}
 use Rattle.std.proofs.Math.Logic.{inl, inr}
-use Rattle.std.proofs.Math.Option.{Option, none, some}
 use Rattle.std.proofs.Math.Decide.{dec_lt}
 use Rattle.language.specs.Ty.{Ty, Question, run, ask, read, write, Answer, done, ok, value}
 use Rattle.language.specs.Move.{question, answer, at, move}
@@ -56,8 +55,8 @@ module _ {S A : Type 0} where
 
   -- the result of an operator
   unfoldable pub on_some : Option ℕ → (ℕ → Next S A) → Next S A
-  on_some none x = dead
-  on_some (some v) x = x v
+  on_some None x = dead
+  on_some (Some v) x = x v
 
   -- a question to a variable of m values that holds v: the value it holds then, and the answer
   unfoldable pub ask_variable : (m : ℕ) → Val m → Question → (Val m → Answer → Next S A) → Next S A

@@ -28,6 +28,7 @@ const WAIT: usize = 1;
 const INNER: usize = 2;
 
 // Where the arguments of a name begin.
+#[tactic(auto, unfolding(crate::specs::Name::inner_of))]
 fn inner(t: &[u16; TERM_WORDS], at: usize) -> usize
     requires { Long t.now }
     ensures { result ≡ inner_of t.now at }
@@ -36,6 +37,7 @@ fn inner(t: &[u16; TERM_WORDS], at: usize) -> usize
 }
 
 // Where a name waits after the answer of an argument.
+#[tactic(auto, unfolding(crate::specs::Name::again_of))]
 fn after(t: &[u16; TERM_WORDS], at: usize) -> usize
     requires { Long t.now }
     ensures { result ≡ again_of t.now at }
@@ -71,6 +73,7 @@ pub fn framed(role: usize, base: usize, a: usize, b: usize, c: usize, d: usize) 
 }
 
 // How many positions argument j has: its weight for each question.
+#[tactic(auto, unfolding(crate::specs::Name::copies_of))]
 fn copies(t: &[u16; TERM_WORDS], at: usize, j: usize) -> usize
     requires { Long t.now }
     ensures { result ≡ copies_of t.now at j }
@@ -83,20 +86,20 @@ fn copies(t: &[u16; TERM_WORDS], at: usize, j: usize) -> usize
 }
 
 // How many positions the first n arguments have, counted from the last one back.
+#[tactic(auto, using(crate::proofs::Steps::spots_step))]
 fn spots(t: &[u16; TERM_WORDS], at: usize, n: usize) -> usize
     requires { Long t.now }
     ensures { result ≡ arg_spots t.now at 0 n }
 {
     let mut all = 0;
-    let mut left = n;
-    while 0 < left {
-        left -= 1;
-        all = sum(copies(t, at, left), all);
+    for j in (0..n).rev() {
+        all = sum(copies(t, at, j), all);
     }
     all
 }
 
 // The answer of number k of an argument, after which the name waits at the position `next`.
+#[tactic(auto, unfolding(crate::specs::Name::reply_here))]
 fn reply_here(id: usize, class: usize, values: usize, arg: usize, k: usize, next: usize) -> Out
     ensures { result ≡ reply_here id class values arg k next }
 {
@@ -110,6 +113,7 @@ fn reply_here(id: usize, class: usize, values: usize, arg: usize, k: usize, next
 }
 
 // Reply k of n arguments from argument j on.
+#[tactic(auto, using(crate::proofs::Steps::reply_step))]
 fn reply(
     t: &[u16; TERM_WORDS],
     id: usize,
@@ -123,9 +127,8 @@ fn reply(
     ensures { result ≡ reply_of t.now id at j n k next }
 {
     let mut arg = j;
-    let mut left = n;
     let mut rest = k;
-    while 0 < left {
+    for _ in 0..n {
         let class = part_class(t, at, arg);
         let values = part_values(t, at, arg);
         let w = answers(class, values);
@@ -134,12 +137,12 @@ fn reply(
             return reply_here(id, class, values, arg, rest, next);
         }
         rest -= w;
-        left -= 1;
     }
     Out::Stuck
 }
 
 // Position k of an argument, whose positions begin at base and whose replies at after.
+#[tactic(auto, unfolding(crate::specs::Name::arg_here))]
 pub fn arg_in(
     part: usize,
     class: usize,
@@ -168,6 +171,7 @@ pub fn arg_in(
 }
 
 // Position k of n arguments from argument j on; their positions begin at base, their replies at after.
+#[tactic(auto, using(crate::proofs::Steps::args_step))]
 fn in_args(
     t: &[u16; TERM_WORDS],
     at: usize,
@@ -181,11 +185,10 @@ fn in_args(
     ensures { result ≡ in_args t.now at j n k base after }
 {
     let mut arg = j;
-    let mut left = n;
     let mut rest = k;
     let mut start = base;
     let mut replies = after;
-    while 0 < left {
+    for _ in 0..n {
         let class = part_class(t, at, arg);
         let values = part_values(t, at, arg);
         let all = copies(t, at, arg);
@@ -204,12 +207,12 @@ fn in_args(
         rest -= all;
         start = sum(start, all);
         replies = sum(replies, answers(class, values));
-        left -= 1;
     }
     Spot::Here { out: Out::Stuck }
 }
 
 // The name's own move: an answer to its question ends it.
+#[tactic(auto, unfolding(crate::specs::Name::hear_answer))]
 fn hear_answer(t: &[u16; TERM_WORDS], at: usize, q: usize, x: usize, m: Move) -> Out
     requires { Long t.now }
     ensures { result ≡ hear_answer t.now at q x m }
@@ -229,6 +232,7 @@ fn hear_answer(t: &[u16; TERM_WORDS], at: usize, q: usize, x: usize, m: Move) ->
 }
 
 // A move at argument j, where the first n may be asked: a question enters its copy of the argument.
+#[tactic(auto, unfolding(crate::specs::Name::hear_question))]
 fn hear_question(t: &[u16; TERM_WORDS], at: usize, n: usize, j: usize, m: Move) -> Out
     requires { Long t.now }
     ensures { result ≡ hear_question t.now at n j m }
@@ -250,6 +254,7 @@ fn hear_question(t: &[u16; TERM_WORDS], at: usize, n: usize, j: usize, m: Move) 
 }
 
 // What follows a move at a name that waits, whose first n arguments may be asked.
+#[tactic(auto, unfolding(crate::specs::Name::listen_of))]
 fn listen(t: &[u16; TERM_WORDS], at: usize, q: usize, x: usize, n: usize, m: Move) -> Out
     requires { Long t.now }
     ensures { result ≡ listen_of t.now at q x n m }
@@ -265,6 +270,7 @@ fn listen(t: &[u16; TERM_WORDS], at: usize, q: usize, x: usize, n: usize, m: Mov
 }
 
 // A name that waits: for a move, or what follows the move that is given.
+#[tactic(auto, unfolding(crate::specs::Name::at_wait))]
 pub fn waiting(t: &[u16; TERM_WORDS], at: usize, q: usize, x: usize, n: usize, m: Move) -> Out
     requires { Long t.now }
     ensures { result ≡ at_wait t.now at q x n m }
@@ -281,6 +287,7 @@ pub fn waiting(t: &[u16; TERM_WORDS], at: usize, q: usize, x: usize, n: usize, m
 }
 
 // The second wait of a name with n arguments: without any it never comes there.
+#[tactic(auto, unfolding(crate::specs::Name::spent_of))]
 fn spent(at: usize, q: usize, x: usize, n: usize) -> Out
     ensures { result ≡ spent_of at q x n }
 {
@@ -296,6 +303,7 @@ fn spent(at: usize, q: usize, x: usize, n: usize) -> Out
 }
 
 // Position k of a name.
+#[tactic(auto, unfolding(crate::specs::Name::in_name, crate::specs::Name::at_wait, crate::specs::Name::at_spent, crate::specs::Name::spent_of))]
 pub fn in_name(t: &[u16; TERM_WORDS], at: usize, q: usize, x: usize, k: usize) -> Spot
     requires { Long t.now }
     ensures { result ≡ in_name t.now at q x k no_move }

@@ -101,9 +101,8 @@ module _ (t : List ℕ) (root : ℕ) where
     };
   }
 
-  pub arrives-deep : (p : List ℕ) (c k : ℕ) → 6145 ≤ c → KeptPath t root p c k → Covers p c k → Arrived t root p c k
-      Stuck
+  pub arrives-deep : (p : List ℕ) (c k : ℕ) → 6145 ≤ c → KeptPath t root p c k → Covers p c k →
+      Arrived t root p 6145 k Stuck
   arrives-deep p c k h K C =
       let e : c ≡ 6145 = omega (arith, K.sound.few) in
-      subst (λ (y : ℕ). Arrived t root p y k Stuck) (sym e)
-      (deep-arrives p k (subst (λ (y : ℕ). KeptPath t root p y k) e K) (subst (λ (y : ℕ). Covers p y k) e C))
+      deep-arrives p k (subst (λ (y : ℕ). KeptPath t root p y k) e K) (subst (λ (y : ℕ). Covers p y k) e C)

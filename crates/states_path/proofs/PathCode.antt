@@ -20,8 +20,6 @@ use Rattle.states_path.proofs.PathWords.{frames-length}
 use Rattle.states_path.specs.Levels.{field_of, frame_of, level_at, frames_of, Sound}
 use Rattle.states_names.specs.Name.{no_move}
 use Rattle.states_path.specs.Kept.{spot_in, start_of, stop_of, until_of, child_of, Covers}
-use Rattle.states_path.specs.declared.Site.{Site}
-use Rattle.states_path.specs.States.{target_of}
 use Rattle.states_positions.specs.declared.Out.TheVariants.{Go, Stuck}
 use Rattle.states_path.proofs.PathValues.{down-private}
 use Rattle.states_step.proofs.Steps.{told-other}
@@ -57,12 +55,6 @@ climb-last N p c (suc i) out o z inv = absurd (omega arith)
 pub from_first : (a b x r : ℕ) → a ≡ b → r ≡ sum_of b x → r ≡ sum_of a x
 from_first a b x r e h = rw e h
 
-pub far-leads : (N : Numbers) (s : Site) (p : List ℕ) (c r : ℕ) (out : Silent) (o : Out) →
-    Go out.next out.block out.set ≡ rise_all N (frames_of p c) o → r ≡ sum_of s.o out.next →
-    r ≡ target_of s (rise_all N (frames_of p c) o)
-unfolding target_of
-far-leads N s p c r out o e h = rw (← e) h
-
 -- where a state is in the innermost of some levels
 pub spot-private : (t : List ℕ) (root : ℕ) (p : List ℕ) (c k part kind value base : ℕ) (o : Out) → (c ≡ 0 → ⊥) →
     part ≡ field_of p (c - 1) 0 → kind ≡ field_of p (c - 1) 1 → value ≡ field_of p (c - 1) 2 → base ≡ field_of p (c - 1) 3 →
@@ -82,9 +74,11 @@ spot-down t root p c k part kind value base S n a b d e w q =
     (in_private t part kind value (k - base) (store_of (frames_of p c))) no_move w)
 
 -- a level that is left
-pub leaves : (p : List ℕ) (c k v : ℕ) → v ≡ field_of p (c - 1) 4 → k < v → Covers p c k
+pub leaves : (p : List ℕ) (i k v : ℕ) → v ≡ field_of p i 4 → k < v → Covers p (i + 1) k
 unfolding level_at
-leaves p c k v e h z = omega (arith, e)
+leaves p i k v e h z =
+    let n : i + 1 - 1 ≡ i = omega arith in
+    rw n (omega (arith, e))
 
 -- the level of a part
 pub child-is : (t : List ℕ) (root : ℕ) (p : List ℕ) (c k part kind value : ℕ) (f : Frame) (s w z e h u : ℕ) →

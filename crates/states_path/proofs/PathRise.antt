@@ -1,12 +1,12 @@
 -- What a step becomes in the part above and in the whole sheet: what is silent, an exit or none is so, and what an exit
 -- writes is handed on as it is.
+use Rattle.std.specs.Prelude.{Option, None, Some}
 use mathlib.Core.Path.{◌≡◌, refl}
 use mathlib.Core.Bool.{Bool, true, false}
 use mathlib.Core.List.{List, [], ◌∷◌}
 use Prim.Native.Nat.{ℕ, ◌-◌, ◌%◌}
 use native.Mathlib.Omega.{arith}
 use lib.Dec.{eqb, ltb}
-use mathlib.Core.Option.{Option, none, some}
 use borrow.Author.Tests.{ne_eqb}
 use Rattle.language.specs.Choice.{pick}
 use Rattle.language.specs.declared.Numbers.{Numbers}
@@ -44,13 +44,13 @@ alike-pick false p q = q
 
 quiet-result : (r : Option ℕ) (l u : ℕ) → Quiet (exit_result r l u)
 unfolding exit_result
-quiet-result none l u = q-stuck
-quiet-result (some v) l u = q-exit 5 v l u
+quiet-result None l u = q-stuck
+quiet-result (Some v) l u = q-exit 5 v l u
 
 alike-result : (r : Option ℕ) (l u v : ℕ) → Alike l u (exit_result r l u) (exit_result r 0 v)
 unfolding exit_result
-alike-result none l u v = a-stuck
-alike-result (some x) l u v = a-exit 5 x v
+alike-result None l u v = a-stuck
+alike-result (Some x) l u v = a-exit 5 x v
 
 -- the copy of a part that a value leads to, the result of an operator, the number of an answer
 abbrev copy : Frame → ℕ → ℕ

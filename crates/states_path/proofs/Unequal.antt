@@ -1,7 +1,7 @@
 -- *Equal* says no of two codes that are not the same, of any class.
+use Rattle.std.specs.Prelude.{Some}
 use mathlib.Core.Path.{◌≡◌, sym, ◌∙◌}
 use mathlib.Core.Bool.{false}
-use mathlib.Core.Option.{some}
 use Prim.Native.Nat.{ℕ, ◌+◌, ◌<◌}
 use native.Mathlib.Omega.{arith}
 use native.Mathlib.Decide.{dec_lt, ℕ_discrete}
@@ -53,6 +53,6 @@ unequal N x y n = go (class N x) (class N y)
     go (none a) (none b) = rw (a, b)
 
 -- THEOREM: *equal* says no of two codes that are not the same
-pub operate-unequal : (N : Numbers) (x y : ℕ) → (x ≡ y → ⊥) → operate N 4 x y ≡ some 0
+pub operate-unequal : (N : Numbers) (x y : ℕ) → (x ≡ y → ⊥) → operate N 4 x y ≡ Some 0
 unfolding operate truth
 operate-unequal N x y n = rw (unequal N x y n)

@@ -34,10 +34,7 @@ const MANY: usize = 32767;
 pub fn dead(n: usize) -> usize
     ensures { result ≡ n - 1 }
 {
-    if n == 0 {
-        return 0;
-    }
-    n - 1
+    n.saturating_sub(1)
 }
 
 // A silent step inside c levels, seen in the whole sheet, level by level.
@@ -46,17 +43,16 @@ fn climb(p: &[u32; PATH_WORDS], c: usize, g: Silent) -> Silent
     ensures { (N : Numbers) → Go result.next result.block result.set
         ≡ rise_all N (frames_of p.now c) (Go g.next g.block g.set) }
 {
-    let mut left = c;
     let mut out = g;
-    while 0 < left {
-        left -= 1;
-        out = goes(frame_at(p, left), out);
+    for i in (0..c).rev() {
+        out = goes(frame_at(p, i), out);
     }
     out
 }
 
 // Where a silent step inside c levels leads, level by level, in a sheet whose states begin at `first`. Nothing else of the
 // site matters to a silent step, and a number is handed on more cheaply than the site.
+#[tactic(auto, unfolding(crate::specs::States::target_of))]
 fn far(
     first: usize,
     p: &[u32; PATH_WORDS],
@@ -251,6 +247,7 @@ pub enum Ways {
 
 // The ways to the copies of a part, which are b states apart, the first of them a states after the state `start` of a
 // sheet whose states begin at `first`; only where no number can be too large.
+#[tactic(auto, unfolding(crate::specs::Ways::copies_of))]
 fn copies(first: usize, start: usize, a: usize, b: usize) -> Ways
     requires { start < 65536 }
     ensures { result ≡ copies_of first start a b }
@@ -269,17 +266,16 @@ fn copies(first: usize, start: usize, a: usize, b: usize) -> Ways
 }
 
 // A value that is not v.
+#[tactic(auto, unfolding(crate::specs::Ways::other_than))]
 fn other_than(v: usize) -> usize
     ensures { result ≡ other_than v }
 {
-    if v == 0 {
-        return 1;
-    }
-    0
+    usize::from(v == 0)
 }
 
 // The ways of the right operands of *equal* whose left operand is `left`: that one is like it, and no other is. Also
 // where it is not-a-number, which is like nothing: then `yes` is where a falsehood leads.
+#[tactic(auto, unfolding(crate::specs::Ways::either_of, crate::specs::Ways::value_to))]
 fn either(n: Numbers, s: Site, p: &[u32; PATH_WORDS], c: usize, left: usize) -> Ways
     requires { Sound p.now c }
     ensures { result ≡ either_of n s (frames_of p.now c) left }

@@ -52,6 +52,7 @@ fn wide(x: u32) -> usize
 }
 
 // Word j of level i.
+#[tactic(auto, unfolding(crate::specs::Levels::field_of))]
 pub(crate) fn field(p: &[u32; PATH_WORDS], i: usize, j: usize) -> usize
     requires { (i < 6145) × (j < 13) }
     ensures { result ≡ field_of p.now i j }
@@ -61,6 +62,7 @@ pub(crate) fn field(p: &[u32; PATH_WORDS], i: usize, j: usize) -> usize
 }
 
 // The frame of level i.
+#[tactic(auto, unfolding(crate::specs::Levels::frame_of))]
 pub(crate) fn frame_at(p: &[u32; PATH_WORDS], i: usize) -> Frame
     requires { i < 6145 }
     ensures { result ≡ frame_of p.now i }
@@ -82,6 +84,7 @@ pub(crate) fn frame_at(p: &[u32; PATH_WORDS], i: usize) -> Frame
 }
 
 // Four words from i on.
+#[tactic(auto, unfolding(crate::specs::Levels::set_all))]
 fn put_four(p: &mut [u32; PATH_WORDS], i: usize, a: usize, b: usize, c: usize, d: usize)
     requires { (i + 4 ≤ 79885) × ((a < LONGS) × ((b < LONGS) × ((c < LONGS) × (d < LONGS)))) }
     ensures { p.new ≡ set_all p.old i (a ∷ b ∷ c ∷ d ∷ []) }
@@ -106,6 +109,7 @@ pub(crate) fn put_level(p: &mut [u32; PATH_WORDS], i: usize, l: Level)
 }
 
 // The first state of the innermost of c levels.
+#[tactic(auto, unfolding(crate::specs::Kept::start_of, crate::specs::Levels::level_at))]
 pub(crate) fn start_at(p: &[u32; PATH_WORDS], c: usize) -> usize
     requires { Sound p.now c }
     ensures { result ≡ start_of p.now c }
@@ -117,6 +121,7 @@ pub(crate) fn start_at(p: &[u32; PATH_WORDS], c: usize) -> usize
 }
 
 // How many of c levels there are up to the innermost block's; 0 where there is none.
+// A number and no Option, as in `up_at` and `block_at`: a path keeps it as a word, and 0 levels are the whole sheet.
 pub(crate) fn innermost(p: &[u32; PATH_WORDS], c: usize) -> usize
     requires { Sound p.now c }
     ensures { result ≡ innermost_of (frames_of p.now c) }
@@ -142,6 +147,7 @@ pub(crate) fn up_at(p: &[u32; PATH_WORDS], c: usize) -> usize
 }
 
 // The same with a frame of this role inside them.
+#[tactic(auto, unfolding(crate::specs::Path::passes_of))]
 pub(crate) fn up_with(p: &[u32; PATH_WORDS], c: usize, role: usize) -> usize
     requires { Sound p.now c }
     ensures { result ≡ pick (passes_of role) (up_of (frames_of p.now c)) (suc c) }

@@ -37,6 +37,7 @@ fn value_at(p: &[u32; PATH_WORDS], c: usize, row: usize) -> usize
 }
 
 // Position k of a private variable inside c levels: its own step, then the exit.
+#[tactic(auto, unfolding(states_step::specs::walk::Down::in_private))]
 fn private_at(
     t: &[u16; TERM_WORDS],
     p: &[u32; PATH_WORDS],
@@ -102,6 +103,7 @@ fn spot_at(t: &[u16; TERM_WORDS], root: usize, p: &[u32; PATH_WORDS], c: usize, 
 }
 
 // The end of the states of the innermost of c levels.
+#[tactic(auto, unfolding(crate::specs::Kept::stop_of, crate::specs::Levels::level_at))]
 fn stop_at(t: &[u16; TERM_WORDS], root: usize, p: &[u32; PATH_WORDS], c: usize) -> usize
     requires long { Long t.now }
     requires sound { Sound p.now c }
@@ -114,16 +116,15 @@ fn stop_at(t: &[u16; TERM_WORDS], root: usize, p: &[u32; PATH_WORDS], c: usize) 
 }
 
 // The lesser of two numbers.
+#[tactic(auto, unfolding(crate::specs::Kept::least_of))]
 fn least(a: usize, b: usize) -> usize
     ensures { result ≡ least_of a b }
 {
-    if b < a {
-        return b;
-    }
-    a
+    a.min(b)
 }
 
 // The end of a part's states: past k, and within the whole's.
+#[tactic(auto, unfolding(crate::specs::Kept::until_of))]
 fn until(k: usize, past: usize, end: usize) -> usize
     requires { k < 65536 }
     ensures { result ≡ until_of k past end }
@@ -171,12 +172,10 @@ fn leave(p: &[u32; PATH_WORDS], c: usize, k: usize) -> usize
     requires { Sound p.now c }
     ensures { (result ≤ c) × Covers p.now result k }
 {
-    let mut at = c;
-    while 0 < at {
-        if k < field(p, at - 1, END) {
-            return at;
+    for i in (0..c).rev() {
+        if k < field(p, i, END) {
+            return i + 1;
         }
-        at -= 1;
     }
     0
 }
@@ -187,8 +186,7 @@ fn enter(t: &[u16; TERM_WORDS], root: usize, p: &mut [u32; PATH_WORDS], c: usize
     requires kept_path { KeptPath t.now root p.old c k × (Covers p.old c k × (k < 65536)) }
     ensures { Arrived t.now root p.new result.levels k result.out }
 {
-    let mut at = c;
-    while at < LEVELS {
+    for at in c..LEVELS {
         let d = spot_at(t, root, p, at, k);
         match d {
             Spot::Here { out } => {
@@ -205,10 +203,9 @@ fn enter(t: &[u16; TERM_WORDS], root: usize, p: &mut [u32; PATH_WORDS], c: usize
                 put_level(p, at, l);
             }
         }
-        at += 1;
     }
     Stop {
-        levels: at,
+        levels: LEVELS,
         out: Out::Stuck,
     }
 }

@@ -18,6 +18,7 @@ use term_expand::expand::TERM_WORDS;
 pub const WHOLE: usize = 255;
 
 // The first question enters its copy of the term.
+#[tactic(auto, unfolding(crate::specs::States::opened_of))]
 fn opened(t: &[u16; TERM_WORDS], root: usize, m: Move) -> Out
     requires { Long t.now }
     ensures { result ≡ opened_of t.now root m }
@@ -40,6 +41,7 @@ fn opened(t: &[u16; TERM_WORDS], root: usize, m: Move) -> Out
 }
 
 // The start: it waits for the question, or what follows the move that is given.
+#[tactic(auto, unfolding(crate::specs::States::at_start))]
 pub fn at_start(t: &[u16; TERM_WORDS], root: usize, m: Move) -> Out
     requires { Long t.now }
     ensures { result ≡ at_start t.now root m }
@@ -56,6 +58,7 @@ pub fn at_start(t: &[u16; TERM_WORDS], root: usize, m: Move) -> Out
 }
 
 // Answer k of a type, at the place of the whole term.
+#[tactic(auto, unfolding(crate::specs::States::replied_of))]
 fn replied(class: usize, values: usize, k: usize) -> Move
     ensures { result ≡ replied_of class values k }
 {
@@ -84,6 +87,7 @@ fn replied(class: usize, values: usize, k: usize) -> Move
 }
 
 // The first of the states that answer.
+#[tactic(auto, unfolding(crate::specs::States::after_of))]
 pub(crate) fn after_of(t: &[u16; TERM_WORDS], root: usize) -> usize
     requires { Long t.now }
     ensures { result ≡ after_of t.now root }
@@ -96,6 +100,7 @@ pub(crate) fn after_of(t: &[u16; TERM_WORDS], root: usize) -> usize
 }
 
 // How many states the sheet has but the end.
+#[tactic(auto, unfolding(crate::specs::States::spots_of))]
 pub fn spots_of(t: &[u16; TERM_WORDS], root: usize) -> usize
     requires { Long t.now }
     ensures { result ≡ spots_of t.now root }
@@ -107,6 +112,7 @@ pub fn spots_of(t: &[u16; TERM_WORDS], root: usize) -> usize
 }
 
 // Where the state k is: the start, a copy of the term, or an answer.
+#[tactic(auto, unfolding(crate::specs::Kept::sheet_spot))]
 pub(crate) fn sheet_spot(t: &[u16; TERM_WORDS], root: usize, k: usize) -> Spot
     requires { Long t.now }
     ensures { result ≡ sheet_spot t.now root k no_move }

@@ -49,6 +49,7 @@ pub fn part_at(t: &[u16; TERM_WORDS], at: usize, j: usize) -> usize
 }
 
 // The weight of part j.
+#[tactic(auto, unfolding(crate::specs::Row::part_weight))]
 pub fn part_weight(t: &[u16; TERM_WORDS], at: usize, j: usize) -> usize
     requires { Long t.now }
     ensures { result ≡ part_weight t.now at j }
@@ -57,6 +58,7 @@ pub fn part_weight(t: &[u16; TERM_WORDS], at: usize, j: usize) -> usize
 }
 
 // The class of part j's type.
+#[tactic(auto, unfolding(crate::specs::Row::part_class))]
 pub fn part_class(t: &[u16; TERM_WORDS], at: usize, j: usize) -> usize
     requires { Long t.now }
     ensures { result ≡ part_class t.now at j }
@@ -65,6 +67,7 @@ pub fn part_class(t: &[u16; TERM_WORDS], at: usize, j: usize) -> usize
 }
 
 // How many values part j's data has.
+#[tactic(auto, unfolding(crate::specs::Row::part_values))]
 pub fn part_values(t: &[u16; TERM_WORDS], at: usize, j: usize) -> usize
     requires { Long t.now }
     ensures { result ≡ part_values t.now at j }
@@ -73,6 +76,7 @@ pub fn part_values(t: &[u16; TERM_WORDS], at: usize, j: usize) -> usize
 }
 
 // The id of a name.
+#[tactic(auto, unfolding(crate::specs::Row::name_id))]
 pub fn name_id(t: &[u16; TERM_WORDS], at: usize) -> usize
     requires { Long t.now }
     ensures { result ≡ name_id t.now at }
@@ -81,6 +85,7 @@ pub fn name_id(t: &[u16; TERM_WORDS], at: usize) -> usize
 }
 
 // How many arguments a name has.
+#[tactic(auto, unfolding(crate::specs::Row::name_count))]
 pub fn name_count(t: &[u16; TERM_WORDS], at: usize) -> usize
     requires { Long t.now }
     ensures { result ≡ name_count t.now at }
@@ -89,6 +94,7 @@ pub fn name_count(t: &[u16; TERM_WORDS], at: usize) -> usize
 }
 
 // How many second waits a name has: one where it asks once.
+#[tactic(auto, unfolding(crate::specs::Row::name_spent))]
 pub fn name_spent(t: &[u16; TERM_WORDS], at: usize) -> usize
     requires { Long t.now }
     ensures { result ≡ name_spent t.now at }
@@ -97,6 +103,7 @@ pub fn name_spent(t: &[u16; TERM_WORDS], at: usize) -> usize
 }
 
 // a + b, and 0 where one of them is too large.
+#[tactic(auto, unfolding(crate::specs::Row::sum_of))]
 pub fn sum(a: usize, b: usize) -> usize
     ensures { result ≡ sum_of a b }
 {
@@ -109,6 +116,7 @@ pub fn sum(a: usize, b: usize) -> usize
 }
 
 // x * w + n, and 0 where one of them is too large.
+#[tactic(auto, unfolding(crate::specs::Row::mul_add_of))]
 pub fn mul_add(x: usize, w: usize, n: usize) -> usize
     ensures { result ≡ mul_add_of x w n }
 {

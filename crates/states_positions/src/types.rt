@@ -14,6 +14,7 @@ pub const EXPRESSIONS: usize = sheet_rows::class::EXPRESSIONS as usize;
 const VARIABLES: usize = sheet_rows::class::VARIABLES as usize;
 
 // How many questions a type has.
+#[tactic(auto, unfolding(crate::specs::Types::questions_of))]
 pub fn questions(class: usize, values: usize) -> usize
     ensures { result ≡ questions_of class values }
 {
@@ -24,6 +25,7 @@ pub fn questions(class: usize, values: usize) -> usize
 }
 
 // How many answers its questions have in all.
+#[tactic(auto, unfolding(crate::specs::Types::answers_of))]
 pub fn answers(class: usize, values: usize) -> usize
     ensures { result ≡ answers_of class values }
 {
@@ -37,6 +39,7 @@ pub fn answers(class: usize, values: usize) -> usize
 }
 
 // The kind of question i.
+#[tactic(auto, unfolding(crate::specs::Types::question_kind))]
 pub fn question_kind(class: usize, i: usize) -> usize
     ensures { result ≡ question_kind class i }
 {
@@ -53,6 +56,7 @@ pub fn question_kind(class: usize, i: usize) -> usize
 }
 
 // The value of question i.
+#[tactic(auto, unfolding(crate::specs::Types::question_value))]
 pub fn question_value(class: usize, i: usize) -> usize
     ensures { result ≡ question_value class i }
 {
@@ -66,6 +70,7 @@ pub fn question_value(class: usize, i: usize) -> usize
 
 // How many values a question of a kind has at a type: none where it is no question of the type, and one where it
 // carries no value.
+#[tactic(auto, unfolding(crate::specs::Types::question_limit))]
 pub fn question_limit(class: usize, values: usize, kind: usize) -> usize
     ensures { result ≡ question_limit class values kind }
 {
@@ -91,6 +96,7 @@ pub fn question_limit(class: usize, values: usize, kind: usize) -> usize
 }
 
 // 1 more than the number of a question; 0 where the type has no such question.
+#[tactic(auto, unfolding(crate::specs::Types::question_number))]
 pub fn question_number(class: usize, values: usize, kind: usize, value: usize) -> usize
     ensures { result ≡ question_number class values kind value }
 {
@@ -105,6 +111,7 @@ pub fn question_number(class: usize, values: usize, kind: usize, value: usize) -
 }
 
 // 1 more than a value that is answered; 0 where the answer is no such value.
+#[tactic(auto, unfolding(crate::specs::Types::value_answer))]
 fn value_answer(values: usize, kind: usize, value: usize) -> usize
     ensures { result ≡ value_answer values kind value }
 {
@@ -118,6 +125,7 @@ fn value_answer(values: usize, kind: usize, value: usize) -> usize
 
 // 1 more than the number of an answer to the question q of value x; 0 where the type has no such question or the
 // question no such answer.
+#[tactic(auto, unfolding(crate::specs::Types::answer_number))]
 pub fn answer_number(
     class: usize,
     values: usize,

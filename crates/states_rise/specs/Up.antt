@@ -1,6 +1,5 @@
 -- From a step of a part to one of the term: what the part's exits and states become.
-use Rattle.std.specs.Prelude.{ℕ, ◌-◌, ◌%◌, eqb, ltb}
-use Rattle.std.proofs.Math.Option.{Option, none, some}
+use Rattle.std.specs.Prelude.{ℕ, ◌-◌, ◌%◌, eqb, ltb, Option, None, Some}
 use Rattle.language.specs.Choice.{pick}
 use Rattle.language.specs.Operator.{operate}
 use Rattle.language.specs.declared.Numbers.{Numbers}
@@ -38,8 +37,8 @@ exit_value kind value f block set =
 
 -- the exit with a result, where there is one
 unfoldable pub exit_result : Option ℕ → ℕ → ℕ → Out
-exit_result none block set = Stuck
-exit_result (some v) block set = Exit VALUE v block set
+exit_result None block set = Stuck
+exit_result (Some v) block set = Exit VALUE v block set
 
 -- the result of the operator b for the left operand a
 unfoldable pub exit_operate : Numbers → ℕ → ℕ → Frame → ℕ → ℕ → Out

@@ -5,7 +5,6 @@ ghost use Rattle.states_rise.specs.Up.{exits_of, goes_of};
 ghost use Rattle.states_positions.specs.declared.Out.TheVariants.{Go};
 
 use language::Numbers;
-use language::operator::Outcome;
 use language_arithmetic::operator::operate;
 use sheet_records::limits::BYTES;
 use sheet_records::read::SHORTS;
@@ -21,6 +20,7 @@ const FALSE: usize = 0;
 const TRUE: usize = 1;
 
 // Done leads on.
+#[tactic(auto, unfolding(crate::specs::Up::exit_done))]
 fn exit_done(kind: usize, next: usize, block: usize, set: usize) -> Out
     ensures { result ≡ exit_done kind next block set }
 {
@@ -31,6 +31,7 @@ fn exit_done(kind: usize, next: usize, block: usize, set: usize) -> Out
 }
 
 // A truth leads to a, and a falsehood to b, or out where b is 0.
+#[tactic(auto, unfolding(crate::specs::Up::exit_truth))]
 fn exit_truth(kind: usize, value: usize, a: usize, b: usize, block: usize, set: usize) -> Out
     ensures { result ≡ exit_truth kind value a b block set }
 {
@@ -62,6 +63,7 @@ fn exit_truth(kind: usize, value: usize, a: usize, b: usize, block: usize, set: 
 }
 
 // A value leads to its copy of the other part.
+#[tactic(auto, unfolding(crate::specs::Up::exit_value))]
 fn exit_value(kind: usize, value: usize, f: Frame, block: usize, set: usize) -> Out
     ensures { result ≡ exit_value kind value f block set }
 {
@@ -78,6 +80,7 @@ fn exit_value(kind: usize, value: usize, f: Frame, block: usize, set: usize) -> 
 }
 
 // The result of an operator, where it has one.
+#[tactic(auto, unfolding(crate::specs::Up::exit_operate, crate::specs::Up::exit_result))]
 fn exit_operate(n: Numbers, kind: usize, value: usize, f: Frame, block: usize, set: usize) -> Out
     ensures { result ≡ exit_operate n kind value f block set }
 {
@@ -86,15 +89,14 @@ fn exit_operate(n: Numbers, kind: usize, value: usize, f: Frame, block: usize, s
             let op = (f.b % BYTES) as u8;
             let x = (f.a % SHORTS) as u16;
             let y = (value % SHORTS) as u16;
-            let result = operate(n, op, x, y);
-            return match result {
-                Outcome::Is { code } => Out::Exit {
+            return match operate(n, op, x, y) {
+                Some(code) => Out::Exit {
                     kind: VALUE,
                     value: code as usize,
                     block,
                     set,
                 },
-                Outcome::Nothing => Out::Stuck,
+                None => Out::Stuck,
             };
         }
     }
@@ -102,6 +104,7 @@ fn exit_operate(n: Numbers, kind: usize, value: usize, f: Frame, block: usize, s
 }
 
 // The answer ok of a variable ends its assignment.
+#[tactic(auto, unfolding(crate::specs::Up::exit_assign))]
 fn exit_assign(kind: usize, block: usize, set: usize) -> Out
     ensures { result ≡ exit_assign kind block set }
 {
@@ -117,6 +120,7 @@ fn exit_assign(kind: usize, block: usize, set: usize) -> Out
 }
 
 // An answer to the question of this copy of an argument leads to the reply.
+#[tactic(auto, unfolding(crate::specs::Up::exit_argument))]
 fn exit_argument(kind: usize, value: usize, f: Frame, block: usize, set: usize) -> Out
     ensures { result ≡ exit_argument kind value f block set }
 {
@@ -134,6 +138,7 @@ fn exit_argument(kind: usize, value: usize, f: Frame, block: usize, set: usize) 
 }
 
 // A block's own variable ends with it.
+#[tactic(auto, unfolding(crate::specs::Up::exit_new))]
 fn exit_new(kind: usize, value: usize, f: Frame, block: usize, set: usize) -> Out
     ensures { result ≡ exit_new kind value f block set }
 {
@@ -154,6 +159,7 @@ fn exit_new(kind: usize, value: usize, f: Frame, block: usize, set: usize) -> Ou
 }
 
 // A part's exit.
+#[tactic(auto, unfolding(crate::specs::Up::exits_of))]
 pub fn exits(n: Numbers, f: Frame, kind: usize, value: usize, block: usize, set: usize) -> Out
     ensures { result ≡ exits_of n f kind value block set }
 {
@@ -176,6 +182,7 @@ pub fn exits(n: Numbers, f: Frame, kind: usize, value: usize, block: usize, set:
 }
 
 // A part's silent step: a block whose variable is written moves to the copy of that value.
+#[tactic(auto, unfolding(crate::specs::Up::goes_of))]
 pub fn goes(f: Frame, g: Silent) -> Silent
     ensures { Go result.next result.block result.set ≡ goes_of f g.next g.block g.set }
 {

@@ -1,7 +1,7 @@
 -- A part's step, seen in the whole.
+use Rattle.std.specs.Prelude.{Option, None, Some}
 use mathlib.Core.Path.{◌≡◌, refl, sym, ◌∙◌, ap, subst}
 use mathlib.Core.Bool.{false}
-use mathlib.Core.Option.{Option, none, some}
 use mathlib.Core.List.{List}
 use Prim.Native.Nat.{ℕ, zero, suc, ◌%◌, ◌<◌}
 use native.Mathlib.Omega.{arith}
@@ -152,8 +152,8 @@ module _ (K : Numbers) (n : Context) (M : Term) (vs : Variables) where
           rw (mod-eq_of_lt small, mod-eq_of_lt x₁, mod-eq_of_lt v₁, over) refl
 
       result : (r : Option ℕ) → ShowsNext n M vs (on_some r (λ z. out (τ, value z))) (exit_result r l u)
-      result none = refl
-      result (some z) = (l, u, refl, w)
+      result None = refl
+      result (Some z) = (l, u, refl, w)
 
       cases : (y : Dec (v < c)) → ShowsNext n M vs (when y (λ h. on_some (apply o x v) (λ z. out (τ, value z))))
           (pick (ltb v c) (exit_result (op.operate K (o.operator % 256) (x % 65536) (v % 65536)) l u) Stuck)

@@ -29,6 +29,7 @@ fn leaves(kind: usize, value: usize) -> Spot
 }
 
 // Position k of a fetch: its variable is read.
+#[tactic(auto, unfolding(crate::specs::walk::Down::in_fetch))]
 fn in_fetch(t: &[u16; TERM_WORDS], at: usize, k: usize) -> Spot
     requires { Long t.now }
     ensures { result ≡ in_fetch t.now at k }
@@ -45,6 +46,7 @@ fn in_fetch(t: &[u16; TERM_WORDS], at: usize, k: usize) -> Spot
 }
 
 // Position k of a sequence.
+#[tactic(auto, unfolding(crate::specs::walk::Down::in_seq))]
 fn in_seq(t: &[u16; TERM_WORDS], at: usize, q: usize, x: usize, k: usize) -> Spot
     requires { Long t.now }
     ensures { result ≡ in_seq t.now at q x k }
@@ -73,6 +75,7 @@ fn in_seq(t: &[u16; TERM_WORDS], at: usize, q: usize, x: usize, k: usize) -> Spo
 }
 
 // Position k of a loop.
+#[tactic(auto, unfolding(crate::specs::walk::Down::in_while))]
 fn in_while(t: &[u16; TERM_WORDS], at: usize, k: usize) -> Spot
     requires { Long t.now }
     ensures { result ≡ in_while t.now at k }
@@ -101,6 +104,7 @@ fn in_while(t: &[u16; TERM_WORDS], at: usize, k: usize) -> Spot
 }
 
 // Position k of a choice: the test b weighs w, and the first branch m weighs v.
+#[tactic(auto, unfolding(crate::specs::walk::Down::cond_in))]
 fn cond_in(b: usize, m: usize, n: usize, w: usize, v: usize, q: usize, x: usize, k: usize) -> Spot
     ensures { result ≡ cond_in b m n w v q x k }
 {
@@ -135,6 +139,7 @@ fn cond_in(b: usize, m: usize, n: usize, w: usize, v: usize, q: usize, x: usize,
 }
 
 // Position k of the choice at a place.
+#[tactic(auto, unfolding(crate::specs::walk::Down::in_cond))]
 fn in_cond(t: &[u16; TERM_WORDS], at: usize, q: usize, x: usize, k: usize) -> Spot
     requires { Long t.now }
     ensures { result ≡ in_cond t.now at q x k }
@@ -154,6 +159,7 @@ fn in_cond(t: &[u16; TERM_WORDS], at: usize, q: usize, x: usize, k: usize) -> Sp
 }
 
 // Position k of an operation: the left operand weighs w, and the right one v for each of the m values of the left.
+#[tactic(auto, unfolding(crate::specs::walk::Down::operate_in))]
 fn operate_in(left: usize, right: usize, w: usize, v: usize, op: usize, m: usize, k: usize) -> Spot
     ensures { result ≡ operate_in left right w v op m k }
 {
@@ -182,6 +188,7 @@ fn operate_in(left: usize, right: usize, w: usize, v: usize, op: usize, m: usize
 }
 
 // Position k of the operation at a place.
+#[tactic(auto, unfolding(crate::specs::walk::Down::in_operate))]
 fn in_operate(t: &[u16; TERM_WORDS], at: usize, k: usize) -> Spot
     requires { Long t.now }
     ensures { result ≡ in_operate t.now at k }
@@ -201,6 +208,7 @@ fn in_operate(t: &[u16; TERM_WORDS], at: usize, k: usize) -> Spot
 }
 
 // Position k of an assignment: the expression e weighs w, and the variable v for each of its m values.
+#[tactic(auto, unfolding(crate::specs::walk::Down::assign_in))]
 fn assign_in(var: usize, e: usize, w: usize, v: usize, m: usize, k: usize) -> Spot
     ensures { result ≡ assign_in var e w v m k }
 {
@@ -229,6 +237,7 @@ fn assign_in(var: usize, e: usize, w: usize, v: usize, m: usize, k: usize) -> Sp
 }
 
 // Position k of the assignment at a place.
+#[tactic(auto, unfolding(crate::specs::walk::Down::in_assign))]
 fn in_assign(t: &[u16; TERM_WORDS], at: usize, k: usize) -> Spot
     requires { Long t.now }
     ensures { result ≡ in_assign t.now at k }
@@ -240,6 +249,7 @@ fn in_assign(t: &[u16; TERM_WORDS], at: usize, k: usize) -> Spot
 }
 
 // Position k of a block.
+#[tactic(auto, unfolding(crate::specs::walk::Down::in_new))]
 fn in_new(t: &[u16; TERM_WORDS], at: usize, q: usize, x: usize, k: usize) -> Spot
     requires { Long t.now }
     ensures { result ≡ in_new t.now at q x k }
@@ -262,6 +272,7 @@ fn in_new(t: &[u16; TERM_WORDS], at: usize, q: usize, x: usize, k: usize) -> Spo
 
 // Position k of the term at a place, asked the question q of value x. A private variable, whose value is not known here,
 // is stuck.
+#[tactic(auto, unfolding(crate::specs::walk::Down::down_as))]
 pub fn down(t: &[u16; TERM_WORDS], at: usize, q: usize, x: usize, k: usize) -> Spot
     requires { Long t.now }
     ensures { result ≡ down_bare t.now at q x k }

@@ -70,10 +70,6 @@ asking-all count arg l f = go (dec_lt 4 count) l
     go (yes h) l = let g : 4 < arg = rw (lt-ltb 4 count h) at l in absurd (omega arith)
     go (no h) l = rw (le-ltb 4 count (omega arith)) at l
 
-pub asking-most : (count : ℕ) → 4 < count → 4 ≡ asking_of count
-unfolding asking_of
-asking-most count h = rw (lt-ltb 4 count h)
-
 pub asking-few : (count : ℕ) → count ≤ 4 → count ≡ asking_of count
 unfolding asking_of
 asking-few count h = rw (le-ltb 4 count h)
@@ -137,11 +133,6 @@ module _ (t : List ℕ) (N : Numbers) (s : Site) (wait : Wait) where
   unfolding question_edges
   questions-again kind e j e' e'' ws ws' ws'' a b = rw (add-one) (wrote-append _ _ a (rw (add-one) at b))
 
-  pub questions-last : (kind e e' j count : ℕ) (ws ws' : List ℕ) → j ≡ count →
-      Wrote ws s.n e (question_edges t N s wait kind j) e' ws' →
-      Wrote ws s.n e (question_edges t N s wait kind count) e' ws'
-  questions-last kind e e' j count ws ws' q a = rw (← q) a
-
   -- the loop over kinds
   pub asked-first : (count first kind e : ℕ) (ws : List ℕ) → kind ≡ first →
       Wrote ws s.n e (asked_edges t N s wait count first (kind - first)) e ws
@@ -158,11 +149,6 @@ module _ (t : List ℕ) (N : Numbers) (s : Site) (wait : Wait) where
       let z : kind + 1 - first ≡ suc (kind - first) = omega arith in
       let k : first + (kind - first) ≡ kind = omega arith in
       rw (z, k) (wrote-append _ _ a b)
-
-  pub asked-last : (count first kind end e e' : ℕ) (ws ws' : List ℕ) → kind ≡ end →
-      Wrote ws s.n e (asked_edges t N s wait count first (kind - first)) e' ws' →
-      Wrote ws s.n e (asked_edges t N s wait count first (end - first)) e' ws'
-  asked-last count first kind end e e' ws ws' q a = rw (← q) a
 
   no_arguments : (first m : ℕ) → asked_edges t N s wait 0 first m ≡ []
   unfolding asked_edges question_edges

@@ -84,11 +84,6 @@ module _ (t : List ℕ) (N : Numbers) (s : Site) (wait : Wait) where
   unfolding value_edges
   values-again kind arg below e r e' e'' ws ws' ws'' a b = rw (add-one) (wrote-append _ _ a b)
 
-  pub values-last : (kind arg below e e' r r' : ℕ) (ws ws' : List ℕ) → r ≡ r' →
-      Wrote ws s.n e (value_edges t N s wait kind arg below r) e' ws' →
-      Wrote ws s.n e (value_edges t N s wait kind arg below r') e' ws'
-  values-last kind arg below e e' r r' ws ws' q a = rw (← q) a
-
   pub block-some : (kind arg e e' l r : ℕ) (ws ws' : List ℕ) → l ≡ limit_of t wait kind arg → (l ≡ 0 → ⊥) →
       r ≡ numbers N → Wrote ws s.n e (value_edges t N s wait kind arg l r) e' ws' →
       Wrote ws s.n e (block_edges t N s wait kind arg) e' ws'
@@ -105,10 +100,6 @@ module _ (t : List ℕ) (N : Numbers) (s : Site) (wait : Wait) where
       Wrote ws s.n e (heard_edges t N s wait (b + 1)) e'' ws''
   unfolding heard_edges
   heard-again e b e' e'' ws ws' ws'' a c = rw (add-one) (wrote-append _ _ a c)
-
-  pub heard-last : (e b e' : ℕ) (ws ws' : List ℕ) → b ≡ 35 → Wrote ws s.n e (heard_edges t N s wait b) e' ws' →
-      Wrote ws s.n e (heard_edges t N s wait 35) e' ws'
-  heard-last e b e' ws ws' h a = rw (← h) a
 
 -- a head, an edge and edges, by what the calls before them give
 pub head_of : (ws ws' : List ℕ) (n o k p e silent : ℕ) (s : Site) (d : Out) → silent ≡ silent_of s d → p ≡ sum_of o k →
@@ -178,7 +169,3 @@ pub filled-last : (t : List ℕ) (N : Numbers) (s : Site) (e k e' all p : ℕ) (
 unfolding edges_after filled_of with_row with_edges
 filled-last t N s e k e' all p ws ws' ws'' F z a q w =
     rw (← a, ← z, ← F.returned, ← F.written) (refl, rw (z, ← q) w)
-
--- the loop over values takes them all
-pub numbers-all : (N : Numbers) {n : ℕ} (r : ℕ) → n ≡ numbers N → r ≤ n → n ≤ r → r ≡ numbers N
-numbers-all N r e h l = omega arith

@@ -48,7 +48,3 @@ module _ (N : Numbers) (n place below : ℕ) (to : ℕ → ℕ) where
       one : Wrote ws' n e' (edge_to N place below to r) e'' ws''
       one = rw (lt-leb below (code_at N r) (omega (arith, c)), ← c, ← q, ← l, ← g)
           (record { returned = x; written = w })
-
-  pub to_last : (r e e' : ℕ) (ws ws' : List ℕ) → r ≡ numbers N → Wrote ws n e (values_to N place below to r) e' ws' →
-      Wrote ws n e (values_to N place below to (numbers N)) e' ws'
-  to_last r e e' ws ws' q a = rw (← q) a

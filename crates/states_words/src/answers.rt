@@ -30,11 +30,9 @@ pub(crate) fn answer_copies(
         (values_to n place below (λ v. to + v * stride) (numbers n)) }
 {
     let all = numbers(n) as usize;
-    let mut r = 0;
     let mut next = e;
-    while r < all {
+    for r in 0..all {
         let v = code_at(n, r);
-        r += 1;
         if v < below {
             write_edge(words, states, next, place + rank_of(n, v), to + v * stride);
             next = sum(next, 1);
@@ -47,10 +45,7 @@ pub(crate) fn answer_copies(
 fn either(v: usize, value: usize, yes: usize, no: usize) -> usize
     ensures { result ≡ pick (eqb v value) yes no }
 {
-    if v == value {
-        return yes;
-    }
-    no
+    if v == value { yes } else { no }
 }
 
 // The same where one value leads to the state `yes` and all others to `no`.
@@ -71,11 +66,9 @@ pub(crate) fn answer_either(
         (values_to n place below (λ v. pick (eqb v value) yes no) (numbers n)) }
 {
     let all = numbers(n) as usize;
-    let mut r = 0;
     let mut next = e;
-    while r < all {
+    for r in 0..all {
         let v = code_at(n, r);
-        r += 1;
         if v < below {
             write_edge(
                 words,

@@ -28,24 +28,8 @@ fn silent_at(n: Numbers, s: Site, p: &[u32; PATH_WORDS], c: usize, o: Out) -> us
     ensures { result ≡ silent_of s (rise_all n (frames_of p.now c) o) }
 {
     match o {
-        Out::Go {
-            next: _,
-            block: _,
-            set: _,
-        } => sum(reach(n, s, p, c, o), 1),
-        Out::Exit {
-            kind: _,
-            value: _,
-            block: _,
-            set: _,
-        } => sum(reach(n, s, p, c, o), 1),
-        Out::Say { said: _, next: _ } => 0,
-        Out::Hear {
-            at: _,
-            kind: _,
-            value: _,
-            count: _,
-        } => 0,
+        Out::Go { .. } | Out::Exit { .. } => sum(reach(n, s, p, c, o), 1),
+        Out::Say { .. } | Out::Hear { .. } => 0,
         Out::Stuck => sum(dead(s.n), 1),
     }
 }
@@ -71,17 +55,7 @@ fn write_row(
     let o = at.out;
     write_head(words, s.n, sum(s.o, k), e, silent_at(n, s, p, c, o));
     match o {
-        Out::Go {
-            next: _,
-            block: _,
-            set: _,
-        } => e,
-        Out::Exit {
-            kind: _,
-            value: _,
-            block: _,
-            set: _,
-        } => e,
+        Out::Go { .. } | Out::Exit { .. } | Out::Stuck => e,
         Out::Say { said, next } => {
             write_edge(
                 words,
@@ -101,7 +75,6 @@ fn write_row(
             let wait = wait_of(t, k, of, kind, value, count);
             hear(t, n, s, words, p, c, wait, e)
         }
-        Out::Stuck => e,
     }
 }
 
@@ -124,19 +97,18 @@ pub fn fill(
     let root = s.root;
     let all = spots_of(t, root);
     let mut c = 0;
-    let mut k = 0;
     let mut next = e;
-    while k < all {
+    for k in 0..all {
         let at = go_to(t, root, p, c, k);
         next = write_row(t, n, s, words, p, at, k, next);
         c = at.levels;
-        k += 1;
     }
     write_head(words, s.n, sum(s.o, all), next, 0);
     next
 }
 
 // The dead state, n - 1, and the end of the edges.
+#[tactic(auto, unfolding(crate::specs::inner::Rows::closed_of))]
 pub fn close(words: &mut [u32], n: usize, e: usize)
     ensures { words.new ≡ closed_of words.old n e }
 {

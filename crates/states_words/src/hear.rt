@@ -125,12 +125,11 @@ fn hear_values(
     ensures written { words.new ≡ with_edges words.old s.n e
         (value_edges t.now n s wait kind arg below (numbers n)) }
 {
+    let first = first_place(n, below);
     let end = end_place(n, below);
-    let mut r = first_place(n, below);
     let mut next = e;
-    while r < end {
+    for r in first..end {
         next = hear_value(t, n, s, words, p, c, wait, kind, arg, below, r, next);
-        r += 1;
     }
     next
 }
@@ -210,11 +209,9 @@ fn hear_questions(
     if !is_question(kind) {
         return e;
     }
-    let mut arg = 0;
     let mut next = e;
-    while arg < count {
-        arg += 1;
-        next = hear_argument(t, n, s, words, p, c, wait, kind, arg, next);
+    for j in 0..count {
+        next = hear_argument(t, n, s, words, p, c, wait, kind, j + 1, next);
     }
     next
 }
@@ -239,11 +236,9 @@ fn hear_kinds(
     ensures written { words.new ≡ with_edges words.old s.n e
         (asked_edges t.now n s wait count first (end - first)) }
 {
-    let mut kind = first;
     let mut next = e;
-    while kind < end {
+    for kind in first..end {
         next = hear_questions(t, n, s, words, p, c, wait, kind, count, next);
-        kind += 1;
     }
     next
 }
@@ -308,11 +303,9 @@ fn hear_each(
         (value_edges t.now n s wait kind 0 below (numbers n)) }
 {
     let all = numbers(n) as usize;
-    let mut r = 0;
     let mut next = e;
-    while r < all {
+    for r in 0..all {
         next = hear_answer(t, n, s, words, p, c, wait, kind, below, r, next);
-        r += 1;
     }
     next
 }
@@ -424,23 +417,19 @@ fn hear_all(
     ensures written { words.new ≡ with_edges words.old s.n e
         (heard_edges t.now n s wait 35) }
 {
-    let mut b = 0;
     let mut next = e;
-    while b < BLOCKS {
+    for b in 0..BLOCKS {
         next = hear_block(t, n, s, words, p, c, wait, b / PLACES, b % PLACES, next);
-        b += 1;
     }
     next
 }
 
 // How many arguments of a name have moves, where so many may be asked.
+#[tactic(auto, unfolding(crate::specs::inner::Moves::asking_of))]
 fn asking(count: usize) -> usize
     ensures { result ≡ asking_of count }
 {
-    if MOST_ARGUMENTS < count {
-        return MOST_ARGUMENTS;
-    }
-    count
+    count.min(MOST_ARGUMENTS)
 }
 
 // The edges of a state that waits for a name: it takes the questions of its arguments and, in their place among the

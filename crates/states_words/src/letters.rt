@@ -48,6 +48,7 @@ fn count_of(n: Numbers) -> usize
 }
 
 // The value at place r in the order of the signed values.
+#[tactic(auto, unfolding(language::specs::Order::code_at))]
 pub(crate) fn code_at(n: Numbers, r: usize) -> usize
     ensures { result ≡ code_at n r }
 {
@@ -67,6 +68,7 @@ pub(crate) fn code_at(n: Numbers, r: usize) -> usize
 }
 
 // The place of the value 0.
+#[tactic(auto, unfolding(crate::specs::inner::Moves::zero_place))]
 fn zero_place(n: Numbers) -> usize
     ensures { (result ≡ zero_place n) × (result ≤ 256) }
 {
@@ -74,6 +76,7 @@ fn zero_place(n: Numbers) -> usize
 }
 
 // The place from which on there are values below a limit: only the value 0 is below 1.
+#[tactic(auto, unfolding(crate::specs::inner::Moves::first_place))]
 pub(crate) fn first_place(n: Numbers, below: usize) -> usize
     ensures { result ≡ first_place n below }
 {
@@ -84,6 +87,7 @@ pub(crate) fn first_place(n: Numbers, below: usize) -> usize
 }
 
 // The place from which on there are none.
+#[tactic(auto, unfolding(crate::specs::inner::Moves::end_place))]
 pub(crate) fn end_place(n: Numbers, below: usize) -> usize
     ensures { result ≡ end_place n below }
 {
@@ -94,6 +98,7 @@ pub(crate) fn end_place(n: Numbers, below: usize) -> usize
 }
 
 // The rank of a value.
+#[tactic(auto, unfolding(language::specs::Order::rank))]
 pub(crate) fn rank_of(n: Numbers, value: usize) -> usize
     ensures { result ≡ rank n (value % 65536) }
 {
@@ -119,6 +124,7 @@ pub(crate) fn rank_of(n: Numbers, value: usize) -> usize
 }
 
 // The letter of a move without the rank of its value.
+#[tactic(auto, unfolding(crate::specs::inner::Moves::place_of))]
 pub(crate) fn place_of(kind: usize, id: usize, arg: usize) -> usize
     ensures { result ≡ place_of kind id arg }
 {
@@ -126,6 +132,7 @@ pub(crate) fn place_of(kind: usize, id: usize, arg: usize) -> usize
 }
 
 // The letter of a move.
+#[tactic(auto, unfolding(crate::specs::inner::Moves::letter_of))]
 pub(crate) fn letter_of(n: Numbers, m: Move) -> usize
     ensures { result ≡ letter_of n m }
 {
@@ -138,58 +145,31 @@ pub(crate) fn letter_of(n: Numbers, m: Move) -> usize
 
 // How many values the answers of a kind to the question q of value x have at a type: none where the type has no such
 // question or the question no such answers, and one where they carry no value.
+#[tactic(auto, unfolding(crate::specs::inner::Moves::answer_limit))]
 fn answer_limit(class: usize, values: usize, q: usize, x: usize, kind: usize) -> usize
     ensures { result ≡ answer_limit class values q x kind }
 {
-    if class == COMMANDS {
-        if q == RUN {
-            if kind == DONE {
-                return 1;
-            }
-        }
-        return 0;
+    match (class, q, kind) {
+        (COMMANDS, RUN, DONE) => 1,
+        (COMMANDS, _, _) => 0,
+        (EXPRESSIONS, ASK, VALUE) => values,
+        (EXPRESSIONS, _, _) => 0,
+        (_, READ, VALUE) => values,
+        (_, WRITE, OK) if x < values => 1,
+        _ => 0,
     }
-    if class == EXPRESSIONS {
-        if q == ASK {
-            if kind == VALUE {
-                return values;
-            }
-        }
-        return 0;
-    }
-    if q == READ {
-        if kind == VALUE {
-            return values;
-        }
-        return 0;
-    }
-    if q == WRITE {
-        if x < values {
-            if kind == OK {
-                return 1;
-            }
-        }
-    }
-    0
 }
 
 // Whether moves of a kind are questions.
+#[tactic(auto, unfolding(crate::specs::inner::Moves::is_question))]
 pub(crate) fn is_question(kind: usize) -> bool
     ensures { result ≡ is_question kind }
 {
-    if kind == RUN {
-        return true;
-    }
-    if kind == ASK {
-        return true;
-    }
-    if kind == READ {
-        return true;
-    }
-    kind == WRITE
+    matches!(kind, RUN | ASK | READ | WRITE)
 }
 
 // The kind of the answers to the question q at a type.
+#[tactic(auto, unfolding(crate::specs::inner::Moves::answer_kind))]
 pub(crate) fn answer_kind(class: usize, q: usize) -> usize
     ensures { result ≡ answer_kind class q }
 {
@@ -203,6 +183,7 @@ pub(crate) fn answer_kind(class: usize, q: usize) -> usize
 }
 
 // The same for the moves of a kind at an argument of the one a state waits for; argument 0 is the name itself.
+#[tactic(auto, unfolding(crate::specs::inner::Moves::limit_of))]
 pub(crate) fn limit(t: &[u16; TERM_WORDS], e: Wait, kind: usize, arg: usize) -> usize
     requires { Long t.now }
     ensures { result ≡ limit_of t.now e kind arg }
@@ -234,6 +215,7 @@ pub(crate) fn limit(t: &[u16; TERM_WORDS], e: Wait, kind: usize, arg: usize) -> 
 }
 
 // Whom the state k waits for.
+#[tactic(auto, unfolding(crate::specs::inner::Moves::wait_of))]
 pub(crate) fn wait_of(
     t: &[u16; TERM_WORDS],
     state: usize,
@@ -245,19 +227,14 @@ pub(crate) fn wait_of(
     requires { Long t.now }
     ensures { result ≡ wait_of t.now state at kind value count }
 {
-    if kind == OPENING {
-        return Wait {
-            state,
-            id: WHOLE,
-            at,
-            kind,
-            value,
-            count,
-        };
-    }
+    let id = if kind == OPENING {
+        WHOLE
+    } else {
+        name_id(t, at)
+    };
     Wait {
         state,
-        id: name_id(t, at),
+        id,
         at,
         kind,
         value,

@@ -32,6 +32,7 @@ fn store(words: &mut [u32], i: usize, v: usize)
 }
 
 // Edge e, each of its words where there is such a word.
+#[tactic(auto, unfolding(crate::specs::inner::Rows::with_edge, crate::specs::inner::Rows::edge_at))]
 fn put_edge(words: &mut [u32], n: usize, e: usize, letter: usize, target: usize)
     ensures { words.new ≡ with_edge words.old n e letter target }
 {
@@ -58,6 +59,7 @@ pub(crate) fn write_edge(words: &mut [u32], n: usize, e: usize, letter: usize, t
 }
 
 // The silent word and the first edge of the state p, each where there is such a word.
+#[tactic(auto, unfolding(crate::specs::inner::Rows::with_head))]
 fn put_head(words: &mut [u32], n: usize, p: usize, e: usize, silent: usize)
     ensures { words.new ≡ with_head words.old n p e silent }
 {

@@ -29,50 +29,29 @@ const TWO: u16 = 3;
 const THREE: u16 = 7;
 
 // Which parts a record of a kind has, where its detail is given.
+#[tactic(auto, unfolding(crate::specs::Close::parts_of))]
 pub fn parts_of(kind: u16, detail: u16) -> u16
     ensures { result ≡ parts_of kind detail }
 {
-    if kind == NAME {
-        return first_bits(arguments_of(detail));
+    match kind {
+        NAME => first_bits(arguments_of(detail)),
+        FETCH | NEW => ONE,
+        OPERATE | ASSIGN | SEQUENCE | WHILE => TWO,
+        IF => THREE,
+        _ => 0,
     }
-    if kind == FETCH {
-        return ONE;
-    }
-    if kind == NEW {
-        return ONE;
-    }
-    if kind == OPERATE {
-        return TWO;
-    }
-    if kind == ASSIGN {
-        return TWO;
-    }
-    if kind == SEQUENCE {
-        return TWO;
-    }
-    if kind == WHILE {
-        return TWO;
-    }
-    if kind == IF { THREE } else { 0 }
 }
 
 // Whether the slots stay as they are for the parts of a record of a kind.
+#[tactic(auto, unfolding(crate::specs::Close::stays_of))]
 pub fn stays(kind: u16) -> bool
     ensures { result ≡ stays_of kind }
 {
-    if kind == PROCEDURE {
-        return false;
-    }
-    if kind == ROUTINE {
-        return false;
-    }
-    if kind == NEW {
-        return false;
-    }
-    true
+    !matches!(kind, PROCEDURE | ROUTINE | NEW)
 }
 
 // What argument j of the name at a place adds to its weight, where the argument's row weighs w.
+#[tactic(auto, unfolding(crate::specs::Close::argument_weight))]
 fn argument_weight(t: &[u16], at: u16, j: u16, w: u16) -> u32
     requires { j < 4 }
     ensures { result ≡ min (argument_weight t.now at j w) held_at }
@@ -88,6 +67,7 @@ fn argument_weight(t: &[u16], at: u16, j: u16, w: u16) -> u32
 }
 
 // The weight of a name at a place whose arguments' rows weigh as given.
+#[tactic(auto, unfolding(crate::specs::Close::name_weight))]
 fn name_weight(t: &[u16], at: u16, a: u16, b: u16, c: u16, d: u16) -> u32
     ensures { result ≡ min (name_weight t.now at a b c d) held_at }
 {
@@ -103,6 +83,7 @@ fn name_weight(t: &[u16], at: u16, a: u16, b: u16, c: u16, d: u16) -> u32
 }
 
 // The values of the first part of the part at a place.
+#[tactic(auto, unfolding(crate::specs::Close::first_values))]
 fn first_values(t: &[u16], at: u16) -> u16
     ensures { result ≡ first_values t.now at }
 {
@@ -111,48 +92,30 @@ fn first_values(t: &[u16], at: u16) -> u16
 
 // The weight of the row for the part of a kind at a place, where a, b, c and d weigh its parts. In the order in which
 // document 001 defines the plays: constants, operators, commands, identifiers, then variables; 1 for no kind of a row.
+#[tactic(auto, unfolding(crate::specs::Close::kind_weight))]
 fn kind_weight(t: &[u16], at: u16, kind: u16, a: u16, b: u16, c: u16, d: u16) -> u32
     ensures { result ≡ min (kind_weight t.now at kind a b c d) held_at }
 {
-    // constants (definition 13); skip and diverge
-    if kind < NAME {
-        return 1;
+    match kind {
+        // operators (definition 14)
+        OPERATE => sat_add(a as u32, sat_mul(first_values(t, at) as u32, b as u32)),
+        // commands (definition 15)
+        SEQUENCE | WHILE => sat_add(a as u32, b as u32),
+        IF => sat_add(a as u32, sat_add(b as u32, c as u32)),
+        // identifiers (definition 18), with application (definition 22)
+        NAME => name_weight(t, at, a, b, c, d),
+        PRIVATE => 2,
+        // variables (definitions 24 to 26): fetch, assign and new
+        FETCH => sat_add(a as u32, 0),
+        ASSIGN => sat_add(b as u32, sat_mul(first_values(t, at) as u32, a as u32)),
+        NEW => sat_mul(word_at(t, at, DETAIL) as u32, a as u32),
+        // constants (definition 13); skip and diverge
+        _ => 1,
     }
-    // operators (definition 14)
-    if kind == OPERATE {
-        return sat_add(a as u32, sat_mul(first_values(t, at) as u32, b as u32));
-    }
-    // commands (definition 15)
-    if kind == SEQUENCE {
-        return sat_add(a as u32, b as u32);
-    }
-    if kind == WHILE {
-        return sat_add(a as u32, b as u32);
-    }
-    if kind == IF {
-        return sat_add(a as u32, sat_add(b as u32, c as u32));
-    }
-    // identifiers (definition 18), with application (definition 22)
-    if kind == NAME {
-        return name_weight(t, at, a, b, c, d);
-    }
-    if kind == PRIVATE {
-        return 2;
-    }
-    // variables (definitions 24 to 26): fetch, assign and new
-    if kind == FETCH {
-        return sat_add(a as u32, 0);
-    }
-    if kind == ASSIGN {
-        return sat_add(b as u32, sat_mul(first_values(t, at) as u32, a as u32));
-    }
-    if kind == NEW {
-        return sat_mul(word_at(t, at, DETAIL) as u32, a as u32);
-    }
-    1
 }
 
 // The weight of the row for the part at a place whose parts are the rows a, b, c and d, held at 4,097.
+#[tactic(auto, unfolding(crate::specs::Close::weight_of))]
 fn weight_of(t: &[u16], rows: &[u16], at: u16, a: u16, b: u16, c: u16, d: u16) -> u16
     ensures { result ≡ min (weight_of t.now rows.now at a b c d) held_at }
 {
@@ -165,21 +128,20 @@ fn weight_of(t: &[u16], rows: &[u16], at: u16, a: u16, b: u16, c: u16, d: u16) -
 }
 
 // The detail of the row for the part at a place.
+#[tactic(auto, unfolding(crate::specs::Close::detail_of))]
 fn detail_of(t: &[u16], slots: &[u16; 128], at: u16) -> u16
     ensures { result ≡ detail_of t.now slots.now at }
 {
-    let kind = word_at(t, at, KIND);
     let detail = word_at(t, at, DETAIL);
-    if kind == PRIVATE {
-        return slot_at(slots, detail);
+    match word_at(t, at, KIND) {
+        PRIVATE => slot_at(slots, detail),
+        ASSIGN => first_values(t, at),
+        _ => detail,
     }
-    if kind == ASSIGN {
-        return first_values(t, at);
-    }
-    detail
 }
 
 // Stores five words from `at` on.
+#[tactic(auto, unfolding(crate::specs::Close::five_at))]
 fn put_five(
     rows: &mut [u16],
     at: usize,
@@ -200,6 +162,7 @@ fn put_five(
 }
 
 // Stores four words from `at` on.
+#[tactic(auto, unfolding(crate::specs::Close::four_at))]
 fn put_four(rows: &mut [u16], at: usize, a: u16, b: u16, c: u16, d: u16)
     requires { at + 3 < length rows.old }
     ensures { rows.new ≡ four_at rows.old at a b c d }
@@ -211,6 +174,7 @@ fn put_four(rows: &mut [u16], at: usize, a: u16, b: u16, c: u16, d: u16)
 }
 
 // Stores the first five words of row n one by one.
+#[tactic(auto, unfolding(crate::specs::Close::head_put))]
 fn put_head_each(
     rows: &mut [u16],
     n: u16,
@@ -230,6 +194,7 @@ fn put_head_each(
 }
 
 // Stores the first five words of row n: with one test where the rows have them all.
+#[tactic(auto, unfolding(crate::specs::Close::head_put, crate::specs::Close::five_at, sheet_rows::specs::Row::cell))]
 fn put_head(rows: &mut [u16], n: u16, kind: u16, weight: u16, class: u16, values: u16, detail: u16)
     ensures { rows.new ≡ head_put rows.old n kind weight class values detail }
 {
@@ -241,6 +206,7 @@ fn put_head(rows: &mut [u16], n: u16, kind: u16, weight: u16, class: u16, values
 }
 
 // Stores the rows of the parts of row n one by one.
+#[tactic(auto, unfolding(crate::specs::Close::parts_put))]
 fn put_parts_each(rows: &mut [u16], n: u16, a: u16, b: u16, c: u16, d: u16)
     ensures { rows.new ≡ parts_put rows.old n a b c d }
 {
@@ -251,6 +217,7 @@ fn put_parts_each(rows: &mut [u16], n: u16, a: u16, b: u16, c: u16, d: u16)
 }
 
 // Stores the rows of the parts of row n: with one test where the rows have them all.
+#[tactic(auto, unfolding(crate::specs::Close::parts_put, crate::specs::Close::four_at, sheet_rows::specs::Row::cell))]
 fn put_parts(rows: &mut [u16], n: u16, a: u16, b: u16, c: u16, d: u16)
     ensures { rows.new ≡ parts_put rows.old n a b c d }
 {
@@ -262,6 +229,7 @@ fn put_parts(rows: &mut [u16], n: u16, a: u16, b: u16, c: u16, d: u16)
 }
 
 // Writes row n for the part at a place whose parts are the rows a, b, c and d.
+#[tactic(auto, unfolding(crate::specs::Close::closed_row))]
 pub fn close_row(
     t: &[u16],
     slots: &[u16; 128],
@@ -286,21 +254,17 @@ pub fn close_row(
 }
 
 // The weight of a row without parts, where its detail is given.
+#[tactic(auto, unfolding(crate::specs::Close::leaf_weight))]
 fn leaf_weight(kind: u16, detail: u16) -> u16
     ensures { result ≡ leaf_weight kind detail }
 {
-    // constants (definition 13); skip and diverge
-    if kind < NAME {
-        return 1;
+    match kind {
+        // identifiers (definition 18)
+        NAME => own_of(detail),
+        PRIVATE => 2,
+        // constants (definition 13); skip and diverge
+        _ => 1,
     }
-    // identifiers (definition 18)
-    if kind == NAME {
-        return own_of(detail);
-    }
-    if kind == PRIVATE {
-        return 2;
-    }
-    1
 }
 
 // Writes row n for the part at a place, which has no parts.

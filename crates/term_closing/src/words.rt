@@ -32,9 +32,8 @@ const COUNT_SPAN: u16 = sheet_rows::pack::COUNT_SPAN as u16;
 
 const ONCE: u16 = sheet_rows::pack::ONCE as u16;
 
-const LAST_WORD: u16 = 65535;
-
 // Where word i of row r stands.
+#[tactic(auto, unfolding(sheet_rows::specs::Row::cell))]
 pub(crate) fn place_of(r: u16, i: u16) -> usize
     ensures { result ≡ cell r i }
 {
@@ -42,6 +41,7 @@ pub(crate) fn place_of(r: u16, i: u16) -> usize
 }
 
 // Word i of row r, or 0 beyond the table.
+#[tactic(auto, unfolding(sheet_rows::specs::Row::word))]
 pub fn word_at(t: &[u16], r: u16, i: u16) -> u16
     ensures { result ≡ word t.now r i }
 {
@@ -64,6 +64,7 @@ fn mark_at(marks: &[u16], at: u16) -> u16
 }
 
 // What the part at a place comes down to: 0, or 1 and the number of a parameter.
+#[tactic(auto, unfolding(crate::specs::Close::come_of))]
 pub fn come_at(marks: &[u16], at: u16) -> u16
     ensures { result ≡ come_of (get_or marks.now at 0) }
 {
@@ -71,6 +72,7 @@ pub fn come_at(marks: &[u16], at: u16) -> u16
 }
 
 // Which arguments the procedure at a place uses: a bit for each.
+#[tactic(auto, unfolding(crate::specs::Close::used_of))]
 pub fn used_at(marks: &[u16], at: u16) -> u16
     ensures { result ≡ used_of (get_or marks.now at 0) }
 {
@@ -92,6 +94,7 @@ pub fn put_slot(slots: &mut [u16; 128], s: u16, v: u16)
 }
 
 // The slots of procedure k become the rows of its arguments.
+#[tactic(auto, unfolding(crate::specs::Close::passed_slots))]
 pub fn pass(slots: &mut [u16; 128], k: u16, a: u16, b: u16, c: u16, d: u16)
     ensures { slots.new ≡ passed_slots slots.old k a b c d }
 {
@@ -103,10 +106,11 @@ pub fn pass(slots: &mut [u16; 128], k: u16, a: u16, b: u16, c: u16, d: u16)
 }
 
 // x + y, held at the greatest word.
+#[tactic(auto, unfolding(crate::specs::Close::more_of))]
 pub fn more(x: u16, y: u16) -> u16
     ensures { result ≡ more_of x y }
 {
-    if y <= LAST_WORD - x { x + y } else { LAST_WORD }
+    x.saturating_add(y)
 }
 
 // The place of the procedure that a use with this detail leads to.
@@ -138,6 +142,7 @@ pub(crate) fn own_of(detail: u16) -> u16
 }
 
 // A bit for each of so many arguments.
+#[tactic(auto, unfolding(crate::specs::Close::first_bits))]
 pub(crate) fn first_bits(count: u16) -> u16
     ensures { result ≡ first_bits count }
 {

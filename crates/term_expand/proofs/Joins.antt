@@ -4,12 +4,11 @@ use native.Mathlib.Omega.{arith}
 use mathlib.Core.Path.{◌≡◌, refl, sym, ◌∙◌}
 use mathlib.Core.Bool.{Bool, true, false, false≢true}
 use mathlib.Core.List.{List}
-use lib.ListN.{set, get_or}
 use Rattle.sheet_rows.specs.PartKind.{PROCEDURE, ROUTINE, NEW, KIND, DETAIL, PARTS}
 use Rattle.sheet_rows.specs.Row.{word}
 use Rattle.term_closing.specs.Rows.{ROWS}
-use Rattle.term_closing.specs.Close.{used_of, stays_of, bit_of, more_of, parts_of, closed_row, passed_slots}
-use Rattle.term_expand.specs.Contract.{Expanding, Piece, Pieces, Closed, Used, Entered, Recorded, ByKind}
+use Rattle.term_closing.specs.Close.{stays_of, bit_of, more_of, parts_of, closed_row}
+use Rattle.term_expand.specs.Contract.{Expanding, Piece, Pieces, Closed, Used, Recorded, ByKind}
 
 -- one of five by its number
 by-five {ℓ} : {X : Type ℓ} → X → X → X → X → X → ℕ → X
@@ -95,42 +94,6 @@ module _ (t marks slots : List ℕ) where
       (piece-none level left at (w / 2 / 2 % 2) 2 rows m (omega arith))
       (piece-none level left at (w / 2 / 2 / 2 % 2) 3 rows m (omega arith))) x
 
--- a record whose bits are none has no parts
-pub no-parts : (t : List ℕ) (at kind detail w : ℕ) → kind ≡ word t at KIND → detail ≡ word t at DETAIL →
-    w ≡ parts_of kind detail → w ≡ 0 → parts_of (word t at KIND) (word t at DETAIL) ≡ 0
-no-parts t at kind detail w k e f z = rw (← k, ← e) (sym f ∙ z)
-
--- a use
-use-made : (t marks slots : List ℕ) (level left at : ℕ) (rows between after : List ℕ)
-    (n a b c d i r m detail p k l body used more : ℕ) (inner : List ℕ) →
-    detail ≡ word t at DETAIL → p ≡ detail % 4096 → k ≡ word t p DETAIL → body ≡ word t p PARTS →
-    used ≡ used_of (get_or marks p 0) → l ≡ detail / 4096 → more ≡ more_of k l →
-    inner ≡ passed_slots slots k a b c d → Pieces t marks slots level left at used rows between n a b c d i →
-    Expanding t marks inner more left body between after i r m →
-    Used t marks slots level left at rows after n r m
-use-made t marks slots level left at rows between after n a b c d i r m detail p k l body used more inner
-    e₁ e₂ e₃ e₄ e₅ e₆ e₇ e₈ x y =
-    let x' : Pieces t marks slots level left at (used_of (get_or marks (word t at DETAIL % 4096) 0)) rows between n a b c d
-    i = rw (e₅, e₂, e₁) at x in
-    let y' : Expanding t marks (passed_slots slots (word t (word t at DETAIL % 4096) DETAIL) a b c d)
-    (more_of (word t (word t at DETAIL % 4096) DETAIL) (word t at DETAIL / 4096)) left
-    (word t (word t at DETAIL % 4096) PARTS) between after i r m = rw (e₈, e₇, e₆, e₄, e₃, e₂, e₁) at y in
-    record { between = between; a = a; b = b; c = c; d = d; i = i; pieces = x'; body = y' }
-
--- a use is entered
-pub entered : (t marks slots : List ℕ) (level left at : ℕ) (rows between : List ℕ)
-    (n a b c d i detail p k l body used more : ℕ) (inner : List ℕ) →
-    detail ≡ word t at DETAIL → p ≡ detail % 4096 → k ≡ word t p DETAIL → body ≡ word t p PARTS →
-    used ≡ used_of (get_or marks p 0) → l ≡ detail / 4096 → more ≡ more_of k l →
-    inner ≡ passed_slots slots k a b c d → Pieces t marks slots level left at used rows between n a b c d i →
-    Entered t marks slots inner level left at rows between n body more i
-entered t marks slots level left at rows between n a b c d i detail p k l body used more inner
-    e₁ e₂ e₃ e₄ e₅ e₆ e₇ e₈ x = record {
-      used = λ after r m y.
-          use-made t marks slots level left at rows between after n a b c d i r m detail p k l body used more inner
-          e₁ e₂ e₃ e₄ e₅ e₆ e₇ e₈ x y;
-    }
-
 -- of which kinds the slots stay
 stays-not : (kind : ℕ) → stays_of kind ≡ true →
     (kind ≡ PROCEDURE → ⊥) × (kind ≡ ROUTINE → ⊥) × (kind ≡ NEW → ⊥)
@@ -144,12 +107,6 @@ stays-not kind h = (
 -- any other record
 module _ (t marks slots : List ℕ) (level left at : ℕ) (rows after : List ℕ) (n r m kind : ℕ)
     (k : kind ≡ word t at KIND) where
-  pub record-block : (l : ℕ) (inner : List ℕ) → kind ≡ NEW → inner ≡ set slots level n → l ≡ more_of level 1 → r ≡ n →
-      Closed t marks inner l left at rows after n m → Recorded t marks slots level left at rows after n r m
-  record-block l inner e f g i x =
-      let x' : Closed t marks (set slots level n) (more_of level 1) left at rows after n m = rw (f, g) at x in
-      record { block = λ h. (i, x'); plain = λ h. absurd (h (sym k ∙ e)) }
-
   pub record-plain : (kind ≡ NEW → ⊥) → r ≡ n → Closed t marks slots level left at rows after n m →
       Recorded t marks slots level left at rows after n r m
   record-plain g i x = record { block = λ h. absurd (g (k ∙ h)); plain = λ h. (i, x) }

@@ -20,9 +20,6 @@ pub record Led (t marks slots₀ : List ℕ) (level₀ left at₀ : ℕ) (rows�
   pub fewer : turns ≤ left
 
 module _ (t marks slots₀ : List ℕ) (level₀ left at₀ : ℕ) (rows₀ : List ℕ) (n₀ : ℕ) where
-  pub led-first : Led t marks slots₀ level₀ left at₀ rows₀ n₀ slots₀ rows₀ level₀ left at₀ n₀
-  led-first = record { leads = λ after r m x. x; fewer = omega arith }
-
   module _ (slots rows : List ℕ) (level turns at n : ℕ)
       (l : Led t marks slots₀ level₀ left at₀ rows₀ n₀ slots rows level turns at n) where
     -- no turns are left

@@ -64,11 +64,7 @@ fn expand(
 {
     let kind = word_at(t, at, KIND);
     if !stays(kind) {
-        let own = expand_own(t, marks, slots, rows, level, left, n, at);
-        return Made {
-            row: own.row,
-            count: own.count,
-        };
+        return expand_own(t, marks, slots, rows, level, left, n, at);
     }
     if left == 0 {
         return Made {
@@ -99,10 +95,8 @@ fn expand_own(
     let mut own = *slots;
     let mut here = at;
     let mut around = level;
-    let mut turns = left;
     let mut made = n;
-    while 0 < turns {
-        turns -= 1;
+    for turns in (0..left).rev() {
         let come = come_at(marks, here);
         if 0 < come {
             return Made {

@@ -25,16 +25,15 @@ use Rattle.sheet_table.specs.Tabled.{places}
 use Rattle.sheet_judge.specs.Judged.{Judged, JudgedBy, refusal_in}
 use Rattle.sheet_judge.specs.declared.mark.Uses.{Uses}
 use Rattle.sheet_judge.specs.declared.judge.Judgement.{Judgement}
-use Rattle.sheet_judge.specs.declared.judge.Judgement.TheVariants as judged
 use Rattle.sheet_reader.proofs.Right.{gives}
 use Rattle.weight_theory.specs.Stack.{marks_in}
 use Rattle.weight_theory.proofs.Same.{marked-agree}
-use Rattle.term_load.specs.Loaded.{MarksOf, Expanded, Ready, LoadedBy, Shows}
-use Rattle.term_load.specs.declared.load.Loaded.TheVariants.{Sheet, Refused}
+use Rattle.term_load.specs.Loaded.{MarksOf, Expanded, LoadedBy, Shows}
+use Rattle.std.specs.Prelude.{Result, Ok, Err}
 
 -- a sheet that is judged, by either rule
-pub judged-of : (ed : Edition) (s u : List ℕ) {x : Judgement} {root ty size : ℕ} {uses : Uses} →
-    JudgedBy ed s x u → x ≡ judged.Sheet root ty size uses → Judged ed s root ty size uses u
+pub judged-of : (ed : Edition) (s u : List ℕ) {x : Result Judgement Refusal} {y : Judgement} → JudgedBy ed s x u →
+    x ≡ Ok y → Judged ed s y.root y.ty y.size y.uses u
 unfolding JudgedBy
 judged-of ed s u J e = rw e at J
 
@@ -46,8 +45,8 @@ root-small {s = s} {u = u} J =
     omega (arith, r.before, r.within)
 
 -- one that is refused
-pub load-refused : (s u after : List ℕ) {x : Judgement} {y z : Refusal} → JudgedBy Present s x u →
-    x ≡ judged.Refused y → z ≡ refusal_in x → LoadedBy s (Refused z) after
+pub load-refused : (s u after : List ℕ) {x : Result Judgement Refusal} {y z : Refusal} → JudgedBy Present s x u →
+    x ≡ Err y → z ≡ refusal_in x → LoadedBy s (Err z) after
 unfolding JudgedBy LoadedBy refusal_in
 load-refused s u after J e f = let j = rw e at J in rw (f, e) j
 
@@ -91,7 +90,7 @@ module _ {s u : List ℕ} {root ty size : ℕ} {uses : Uses} (J : Judged Present
 
   -- THEOREM: the rows to which it is expanded represent its term
   pub load-sheet : {r : ℕ} {rows after : List ℕ} → Expanded u root rows after r → length rows ≡ 110592 →
-      LoadedBy s (Sheet root r ty size uses) after
+      LoadedBy s (Ok (record { root = root; row = r; ty = ty; size = size; uses = uses })) after
   unfolding LoadedBy
   load-sheet {r} {rows} {after} T l =
       let n : ℕ = T.count in

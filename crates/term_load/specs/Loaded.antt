@@ -1,6 +1,6 @@
 -- What loading a sheet leaves: the sheet is accepted, and the rows represent its term; or why it is refused. Only inner
 -- contracts cite it.
-use Rattle.std.specs.Prelude.{ℕ, ◌<◌, ◌≡◌, List, [], length, get_or}
+use Rattle.std.specs.Prelude.{ℕ, ◌<◌, ◌≡◌, List, [], length, get_or, Result, Ok, Err}
 use Rattle.sheet_records.specs.Limits.{most_bytes}
 use Rattle.weight_theory.specs.Stack.{marks_in}
 use Rattle.sheet_written.specs.Written as written
@@ -10,10 +10,10 @@ use Rattle.sheet_rows.specs.Rep.{DEPTH, Rep}
 use Rattle.term_closing.specs.Rows.{TERM-WORDS}
 use Rattle.term_expand.specs.Contract.{Readied, Top}
 use Rattle.sheet_reader.specs.Reader.{numbers_at, read_sheet, accepted, rejected}
+use Rattle.sheet_records.specs.declared.refusal.Refusal.{Refusal}
 use Rattle.sheet_judge.specs.Mark.{uses_of}
 use Rattle.sheet_judge.specs.declared.mark.Uses.{Uses}
 use Rattle.term_load.specs.declared.load.Loaded.{Loaded}
-use Rattle.term_load.specs.declared.load.Loaded.TheVariants.{Sheet, Refused}
 
 -- the marks of the first n places of the table t
 pub record MarksOf (t marks : List ℕ) (n : ℕ) : Type 0 where
@@ -42,6 +42,6 @@ pub record Ready (s : List ℕ) (root row ty size : ℕ) (uses : Uses) (u : List
   pub long : length u ≡ TERM-WORDS
   pub represents : Rep (numbers_at s) u DEPTH row [] [] (term_of sheet) (ty_of (numbers_at s) ty)
 
-unfoldable pub LoadedBy : List ℕ → Loaded → List ℕ → Type 0
-LoadedBy s (Sheet root row ty size uses) u = Ready s root row ty size uses u
-LoadedBy s (Refused x) u = read_sheet s ≡ rejected x.number x.place
+unfoldable pub LoadedBy : List ℕ → Result Loaded Refusal → List ℕ → Type 0
+LoadedBy s (Ok x) u = Ready s x.root x.row x.ty x.size x.uses u
+LoadedBy s (Err x) u = read_sheet s ≡ rejected x.number x.place

@@ -3,7 +3,7 @@ ghost use Rattle.term_load.specs.Loaded.{MarksOf, Expanded, LoadedBy, Shows};
 ghost use Rattle.std.specs.Prelude.{◌≡◌, length};
 
 use sheet_judge::check::refusal_of;
-use sheet_judge::judge::{Judgement, judge_sheet};
+use sheet_judge::judge::judge_sheet;
 use sheet_judge::mark::Uses;
 use sheet_records::edition::Edition;
 use sheet_records::limits::MOST_BYTES;
@@ -12,18 +12,15 @@ use sheet_records::refusal::Refusal;
 use sheet_rows::row::{MARKS, TABLE, put};
 use term_expand::expand::{TERM_WORDS, expand_term};
 
-// What loading a sheet gives: the place of its term, the row of the term, its type, the sheet's size and which names it
-// uses; or the refusal.
+// A sheet that is loaded: the place of its term, the row of the term, its type, the sheet's size and which names it
+// uses.
 #[derive(Drop)]
-pub enum Loaded {
-    Sheet {
-        root: usize,
-        row: usize,
-        ty: u8,
-        size: u32,
-        uses: Uses,
-    },
-    Refused(Refusal),
+pub struct Loaded {
+    pub root: usize,
+    pub row: usize,
+    pub ty: u8,
+    pub size: u32,
+    pub uses: Uses,
 }
 
 // The marks of a table's places.
@@ -31,10 +28,8 @@ fn copy_marks(t: &[u16], marks: &mut [u16])
     requires { length marks.old ≡ 4096 }
     ensures { MarksOf t.now marks.new 4096 }
 {
-    let mut i = 0;
-    while i < MOST_BYTES {
+    for i in 0..MOST_BYTES {
         put(marks, i, short_at(t, MARKS + i));
-        i += 1;
     }
 }
 
@@ -50,27 +45,22 @@ fn expand_root(t: &[u16; TABLE], rows: &mut [u16; TERM_WORDS], root: usize) -> u
 }
 
 // Loads a sheet, and leaves the rows of its term.
-pub fn load(s: &[u8], rows: &mut [u16; TERM_WORDS]) -> Loaded
+pub fn load(s: &[u8], rows: &mut [u16; TERM_WORDS]) -> Result<Loaded, Refusal>
     requires { length rows.old ≡ 110592 }
     ensures { LoadedBy s.now result rows.new }
 {
     let mut t = [0u16; TABLE];
     let x = judge_sheet(Edition::Present, s, &mut t);
-    let Judgement::Sheet {
-        root,
-        ty,
-        size,
-        uses,
-    } = x
-    else {
-        return Loaded::Refused(refusal_of(x));
+    // `let .. else`, not `?`: the form of document 01 in which the answer is taken apart and the refusal handed on.
+    let Ok(judgement) = x else {
+        return Err(refusal_of(x));
     };
-    let row = expand_root(&t, rows, root);
-    Loaded::Sheet {
-        root,
+    let row = expand_root(&t, rows, judgement.root);
+    Ok(Loaded {
+        root: judgement.root,
         row,
-        ty,
-        size,
-        uses,
-    }
+        ty: judgement.ty,
+        size: judgement.size,
+        uses: judgement.uses,
+    })
 }

@@ -6,8 +6,8 @@ ghost use Rattle.dfa.specs.Graph.{rest};
 ghost use Rattle.dfa_silent.specs.Silent.{Settling};
 
 use crate::tested::{live_ok, silent_ok, words_ok};
+use dfa_difference::Task;
 use dfa_difference::search::first_difference;
-use dfa_difference::{Task, Verdict};
 use dfa_live::{is_marked, mark_live};
 use dfa_search::word::spell;
 use dfa_silent::settle;
@@ -36,10 +36,9 @@ pub(crate) fn compare_checked(words: &mut [u32], t: Task) -> Answer
     if n <= q {
         return Answer::Invalid;
     }
-    let v = first_difference(words, t);
-    match v {
-        Verdict::Same => Answer::Equivalent,
-        Verdict::Apart(k) => {
+    match first_difference(words, t) {
+        None => Answer::Equivalent,
+        Some(k) => {
             let len = spell(words, n, k);
             Answer::Distinguished(len)
         }

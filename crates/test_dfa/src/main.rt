@@ -31,10 +31,8 @@ fn store(words: &mut [u32], base: usize, i: usize, v: u32) {
 
 // part, from word base on
 fn fill(words: &mut [u32], base: usize, part: &[u32]) {
-    let mut i = 0;
-    while i < part.len() {
-        store(words, base, i, part[i]);
-        i += 1;
+    for (i, v) in part.iter().enumerate() {
+        store(words, base, i, *v);
     }
 }
 
@@ -44,11 +42,9 @@ fn say(rt: &impl Print, text: &[u8]) {
 
 // count words from base on, and a line's end
 fn list(rt: &impl Print, words: &[u32], base: usize, count: usize) {
-    let mut i = 0;
-    while i < count {
+    for i in 0..count {
         say(rt, b" ");
         let _ = rt.print(word(words, base, i));
-        i += 1;
     }
     say(rt, b"\n");
 }
@@ -181,12 +177,10 @@ const TARGET: usize = 734;
 
 // A chain of steps by 7 from the state 0 to the state 120.
 fn chain(words: &mut [u32]) {
-    let mut i: usize = 0;
-    while i < STEPS {
+    for i in 0..STEPS {
         store(words, GRAPH, i, i as u32);
         store(words, LETTER, 2 * i, 7);
         store(words, TARGET, 2 * i, (i + 1) as u32);
-        i += 1;
     }
     store(words, GRAPH, 120, 120);
     store(words, GRAPH, 121, 120);

@@ -44,12 +44,10 @@ fn edges_ok(graph: &[u32], n: usize, i: usize, end: usize) -> bool
     requires { (i ≤ end) × (n + 1 + 2 * end ≤ length graph.now) }
     ensures { result ≡ true → Edges graph.now n i end }
 {
-    let mut k = i;
-    while k < end {
+    for k in i..end {
         if !edge_ok(graph, n, k, end) {
             return false;
         }
-        k += 1;
     }
     true
 }
@@ -85,14 +83,7 @@ fn graph_ok(graph: &[u32], n: usize) -> bool
     if graph.len() <= n {
         return false;
     }
-    let mut p = 0;
-    while p < n {
-        if !state_ok(graph, n, p) {
-            return false;
-        }
-        p += 1;
-    }
-    true
+    (0..n).all(|p| state_ok(graph, n, p))
 }
 
 // Whether the words from 5 n on are an automaton of n states.
@@ -114,14 +105,7 @@ pub(crate) fn silent_ok(words: &[u32], n: usize) -> bool
     requires { n ≤ length words.now }
     ensures { result ≡ true → Silent n words.now }
 {
-    let mut p = 0;
-    while p < n {
-        if n < at(words, p) {
-            return false;
-        }
-        p += 1;
-    }
-    true
+    words[..n].iter().all(|w| *w as usize <= n)
 }
 
 // Whether f may be the one accepting state, the dead state has no edges, and there is room to mark the live states.

@@ -2,7 +2,7 @@
 // binders hold, and names that ask once, through the service check.
 #![tactic(auto)]
 
-use sheet_judge::check::{Checked, check};
+use sheet_judge::check::check;
 use sheet_records::refusal::{NEW_SHEET, OLD_SHEET};
 
 fn say(rt: &impl Print, s: &[u8]) {
@@ -30,15 +30,14 @@ fn name(rt: &impl Print, sheet: u8) {
 
 // Writes the answer to a sheet as one line.
 fn show(rt: &impl Print, s: &[u8]) {
-    let r = check(s);
-    match r {
-        Checked::Accepted { ty, size, uses: _ } => {
+    match check(s) {
+        Ok(checked) => {
             say(rt, b"accepted type ");
-            number(rt, ty as u64);
+            number(rt, checked.ty as u64);
             say(rt, b" size ");
-            number(rt, size as u64);
+            number(rt, checked.size as u64);
         }
-        Checked::Refused(x) => {
+        Err(x) => {
             say(rt, b"refused ");
             number(rt, x.number as u64);
             name(rt, x.sheet);
@@ -59,10 +58,8 @@ fn put(s: &mut [u8], base: usize, i: usize, v: u8) {
 
 // The bytes of part from byte base on.
 fn fill(s: &mut [u8], base: usize, part: &[u8]) {
-    let mut i = 0;
-    while i < part.len() {
-        put(s, base, i, part[i]);
-        i += 1;
+    for (i, v) in part.iter().enumerate() {
+        put(s, base, i, *v);
     }
 }
 

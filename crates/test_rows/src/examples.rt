@@ -36,10 +36,8 @@ fn range(rt: &impl Print, z: u8, rule: u8, names: &[u8], old: &[u8], new: &[u8])
 
 // Every range.
 fn ranges(rt: &impl Print, rule: u8, names: &[u8], old: &[u8], new: &[u8]) {
-    let mut z = 1;
-    while z < 8 {
+    for z in 1..8 {
         range(rt, z, rule, names, old, new);
-        z += 1;
     }
 }
 

@@ -32,9 +32,9 @@ fn refusal(out: &mut [u8], x: Cause) -> usize
 }
 
 // Prints how many moves follow finds, and whether the play is complete; or the refusal.
-fn print(rt: &impl Print, r: Following) {
+fn print(rt: &impl Print, r: Result<Following, Cause>) {
     match r {
-        Following::Follows { count, complete } => {
+        Ok(Following { count, complete }) => {
             number(rt, count as u64);
             if complete {
                 say(rt, b" yes\n")
@@ -42,7 +42,7 @@ fn print(rt: &impl Print, r: Following) {
                 say(rt, b" no\n")
             }
         }
-        Following::Refused(x) => {
+        Err(x) => {
             let mut out = [0u8; 64];
             let n = refusal(&mut out, x);
             say(rt, &out[..n]);

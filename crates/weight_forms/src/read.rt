@@ -22,6 +22,7 @@ pub fn constant(t: &[u16], row: usize) -> u32
 }
 
 // The coefficient of the parameter s in a form.
+#[tactic(auto, unfolding(weight_theory::specs::Stack::coefficient_of))]
 pub fn coefficient(t: &[u16], row: usize, s: usize) -> u32
     requires { row < 65536 }
     ensures { (result ≡ coefficient_of t.now row s) × (result < 65536) }

@@ -11,13 +11,11 @@ use sheet_parts::weight::sat_add;
 pub fn least(a: usize, b: usize) -> usize
     ensures { result ≡ min a b }
 {
-    if a < b {
-        return a;
-    }
-    b
+    a.min(b)
 }
 
 // A form becomes the constant c.
+#[tactic(auto, unfolding(weight_theory::specs::Stack::constant_form, sheet_written::specs::Held::held))]
 pub fn set_constant(t: &mut [u16], row: usize, c: u32)
     requires { row < 65536 }
     ensures { t.new ≡ constant_form row c t.old }
@@ -36,6 +34,7 @@ pub fn has_form(t: &[u16], row: usize) -> bool
 }
 
 // A form becomes the parameter s.
+#[tactic(auto, unfolding(weight_theory::specs::Stack::unit_form, weight_theory::specs::Stack::spot))]
 pub fn set_unit(t: &mut [u16], row: usize, s: usize)
     requires { (row < 65536) × (s < 65535) }
     ensures { t.new ≡ unit_form row s t.old }
@@ -48,12 +47,13 @@ pub fn set_unit(t: &mut [u16], row: usize, s: usize)
 }
 
 // A form becomes another without its coefficients from k on.
+#[tactic(auto, unfolding(weight_theory::specs::Stack::lower_form))]
 pub fn set_lower(t: &mut [u16], to: usize, from: usize, k: usize)
     requires { (to < 65536) × (from < 65536) }
     ensures { t.new ≡ lower_form to from k t.old }
 {
     let w = width(t, from);
-    let n = least(k, w);
+    let n = k.min(w);
     put_word(t, to, COUNT, n as u16);
     copy(t, to, from, 1 + n);
 }

@@ -7,6 +7,7 @@ use sheet_records::read::short_at;
 use sheet_rows::row::{FORMS, put};
 
 // Where word i of a form stands.
+#[tactic(auto, unfolding(weight_theory::specs::Stack::spot))]
 pub(crate) fn spot(row: usize, i: usize) -> usize
     requires { (row < 65536) × (i < 131072) }
     ensures { result ≡ spot row i }
@@ -15,6 +16,7 @@ pub(crate) fn spot(row: usize, i: usize) -> usize
 }
 
 // Word i of a form, 0 past the end.
+#[tactic(auto, unfolding(weight_theory::specs::Stack::form_word))]
 pub(crate) fn word_at(t: &[u16], row: usize, i: usize) -> u16
     requires { (row < 65536) × (i < 131072) }
     ensures { result ≡ form_word t.now row i }
@@ -33,26 +35,24 @@ pub(crate) fn put_word(t: &mut [u16], row: usize, i: usize, v: u16)
 }
 
 // The n words from one on become 0.
+#[tactic(auto, unfolding(weight_theory::specs::Stack::cleared))]
 pub(crate) fn clear(t: &mut [u16], at: usize, n: usize)
     requires { (at < 16777216) × (n < 131072) }
     ensures { t.new ≡ cleared at n t.old }
 {
-    let mut i = 0;
-    while i < n {
+    for i in 0..n {
         put(t, at + i, 0);
-        i += 1;
     }
 }
 
 // The n words of a form from the constant on become those of another.
+#[tactic(auto, unfolding(weight_theory::specs::Stack::copied))]
 pub(crate) fn copy(t: &mut [u16], to: usize, from: usize, n: usize)
     requires { (to < 65536) × ((from < 65536) × (n < 131071)) }
     ensures { t.new ≡ copied to from n t.old }
 {
-    let mut i = 0;
-    while i < n {
+    for i in 0..n {
         let v = word_at(t, from, CONSTANT + i);
         put_word(t, to, CONSTANT + i, v);
-        i += 1;
     }
 }

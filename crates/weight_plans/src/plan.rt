@@ -5,63 +5,47 @@ ghost use Rattle.weight_theory.specs.Step.{started};
 
 use crate::row::{answers_at, questions_at, short, term_form, values_at};
 use sheet_records::limits::MOST_ARGUMENTS;
-use sheet_rows::kind::{ASSIGN, FETCH, IF, NAME, NEW, OPERATE, PARAMETER, PRIVATE, ROUTINE};
+use sheet_rows::kind::{
+    ASSIGN, FETCH, IF, NAME, NEW, OPERATE, PARAMETER, PRIVATE, ROUTINE, SEQUENCE, WHILE,
+};
 use sheet_rows::pack::{COUNT_SPAN, ID_SPAN, ONCE, PLACE_SPAN};
 use sheet_rows::row::{PARTS, word_of};
 use weight_forms::read::coefficient;
-use weight_forms::set::{least, set_constant, set_lower, set_unit};
+use weight_forms::set::{set_constant, set_lower, set_unit};
 
 // The greatest number of a parameter.
 const LAST_PARAMETER: usize = 127;
 
 // How many parts a record has.
+#[tactic(auto, unfolding(weight_theory::specs::Plan::parts_of))]
 pub fn parts_of(kind: usize, detail: usize) -> usize
     ensures { result ≡ parts_of kind detail }
 {
-    if kind < NAME {
-        return 0;
+    match kind {
+        NAME => (detail / ID_SPAN % COUNT_SPAN).min(MOST_ARGUMENTS),
+        FETCH | NEW => 1,
+        OPERATE | ASSIGN | SEQUENCE | WHILE => 2,
+        IF => 3,
+        ROUTINE => (detail / PLACE_SPAN).min(MOST_ARGUMENTS),
+        _ => 0,
     }
-    if kind == NAME {
-        return least(detail / ID_SPAN % COUNT_SPAN, MOST_ARGUMENTS);
-    }
-    if kind == FETCH {
-        return 1;
-    }
-    if kind < IF {
-        return 2;
-    }
-    if kind == IF {
-        return 3;
-    }
-    if kind < NEW {
-        return 2;
-    }
-    if kind == NEW {
-        return 1;
-    }
-    if kind == ROUTINE {
-        return least(detail / PLACE_SPAN, MOST_ARGUMENTS);
-    }
-    0
 }
 
 // The weight of a record without its parts; a name that asks once weighs one more.
+#[tactic(auto, unfolding(weight_theory::specs::Plan::own_of))]
 pub fn own_of(kind: usize, detail: usize) -> u32
     ensures { result ≡ own_of kind detail }
 {
-    if kind < NAME {
-        return 1;
+    match kind {
+        NAME => 2 + (detail / ONCE % 2) as u32,
+        PRIVATE => 2,
+        _ if kind < NAME => 1,
+        _ => 0,
     }
-    if kind == NAME {
-        return 2 + (detail / ONCE % 2) as u32;
-    }
-    if kind == PRIVATE {
-        return 2;
-    }
-    0
 }
 
 // A form becomes that of a record without its parts; k is the number of the procedure that a use means.
+#[tactic(auto, unfolding(weight_theory::specs::Step::started))]
 pub fn start(t: &mut [u16], row: usize, kind: usize, detail: usize, k: usize)
     requires { (row < 65536) × (k < 65536) }
     ensures { t.new ≡ started kind detail k row t.old }
@@ -73,7 +57,7 @@ pub fn start(t: &mut [u16], row: usize, kind: usize, detail: usize, k: usize)
     }
     // parameters, then uses of procedures
     if kind == PARAMETER {
-        let s = least(detail, LAST_PARAMETER);
+        let s = detail.min(LAST_PARAMETER);
         set_unit(t, row, s);
         return;
     }
@@ -82,6 +66,7 @@ pub fn start(t: &mut [u16], row: usize, kind: usize, detail: usize, k: usize)
 }
 
 // By what the form of part j, which is at a place, is multiplied.
+#[tactic(auto, unfolding(weight_theory::specs::Plan::factor_of))]
 pub fn factor_of(
     t: &[u16],
     kind: usize,
@@ -94,35 +79,22 @@ pub fn factor_of(
     requires { (detail < 65536) × (k < 65536) × (at < 65536) × (place < 65536) × (j < 4) }
     ensures { result ≡ factor_of t.now kind detail k at place j }
 {
-    // operators (definition 14)
-    if kind == OPERATE {
-        if j == 0 {
-            return 1;
-        }
-        return values_at(t, word_of(t, at, PARTS));
+    match kind {
+        // operators (definition 14)
+        OPERATE if j == 0 => 1,
+        OPERATE => values_at(t, word_of(t, at, PARTS)),
+        // application (definition 22), and uses of procedures
+        NAME => questions_at(t, place),
+        ROUTINE => coefficient(t, term_form(t, detail), k + j),
+        // variables (definitions 24 to 26): assign and new
+        ASSIGN if j == 0 => values_at(t, place),
+        NEW => short(detail),
+        _ => 1,
     }
-    // application (definition 22), and uses of procedures
-    if kind == NAME {
-        return questions_at(t, place);
-    }
-    if kind == ROUTINE {
-        let term = term_form(t, detail);
-        return coefficient(t, term, k + j);
-    }
-    // variables (definitions 24 to 26): assign and new
-    if kind == ASSIGN {
-        if j == 0 {
-            return values_at(t, place);
-        }
-        return 1;
-    }
-    if kind == NEW {
-        return short(detail);
-    }
-    1
 }
 
 // What the part at a place adds besides.
+#[tactic(auto, unfolding(weight_theory::specs::Plan::extra_of))]
 pub fn extra_of(t: &[u16], kind: usize, place: usize) -> u32
     requires { place < 65536 }
     ensures { result ≡ extra_of t.now kind place }

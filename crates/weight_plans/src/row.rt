@@ -36,6 +36,7 @@ fn class_at(t: &[u16], place: usize) -> u32
 }
 
 // The questions of the type of the part at a place.
+#[tactic(auto, unfolding(sheet_rows::specs::Class::questions_by))]
 pub(crate) fn questions_at(t: &[u16], place: usize) -> u32
     requires { place < 65536 }
     ensures { result ≡ questions_by (word t.now place CLASS) (word t.now place VALUES) }
@@ -44,6 +45,7 @@ pub(crate) fn questions_at(t: &[u16], place: usize) -> u32
 }
 
 // The answers to them in all.
+#[tactic(auto, unfolding(sheet_rows::specs::Class::answers_by))]
 pub(crate) fn answers_at(t: &[u16], place: usize) -> u32
     requires { place < 65536 }
     ensures { result ≡ answers_by (word t.now place CLASS) (word t.now place VALUES) }
@@ -52,6 +54,7 @@ pub(crate) fn answers_at(t: &[u16], place: usize) -> u32
 }
 
 // How many forms are on the stack.
+#[tactic(auto, unfolding(weight_theory::specs::Stack::height_of))]
 pub fn height_of(t: &[u16]) -> usize
     ensures { (result ≡ height_of t.now) × (result < 65536) }
 {
@@ -59,6 +62,7 @@ pub fn height_of(t: &[u16]) -> usize
 }
 
 // Which form is that of the part at a place.
+#[tactic(auto, unfolding(weight_theory::specs::Stack::slot_of))]
 fn slot_of(t: &[u16], place: usize) -> usize
     requires { place < 65536 }
     ensures { (result ≡ slot_of t.now place) × (result < 65536) }
@@ -67,6 +71,7 @@ fn slot_of(t: &[u16], place: usize) -> usize
 }
 
 // Where the term of the procedure stands that a use with the given detail means.
+#[tactic(auto, unfolding(weight_theory::specs::Plan::term_place))]
 pub(crate) fn term_place(t: &[u16], detail: usize) -> usize
     ensures { (result ≡ term_place t.now detail) × (result < 65536) }
 {
@@ -74,6 +79,7 @@ pub(crate) fn term_place(t: &[u16], detail: usize) -> usize
 }
 
 // Which form is that of this term.
+#[tactic(auto, unfolding(weight_theory::specs::Plan::term_form))]
 pub(crate) fn term_form(t: &[u16], detail: usize) -> usize
     ensures { (result ≡ term_form t.now detail) × (result < 65536) }
 {

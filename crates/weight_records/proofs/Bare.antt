@@ -1,16 +1,25 @@
 -- Forms without coefficients: a constant that is set, that others are added to, and that is moved.
-use Prim.Native.Nat.{ℕ, ◌+◌, ◌*◌, ◌<◌, min}
+use Prim.Native.Nat.{ℕ, ◌+◌, ◌-◌, ◌*◌, ◌≤◌, ◌<◌, min}
 use native.Mathlib.Omega.{arith}
 use mathlib.Core.List.{List}
 use mathlib.Core.Path.{◌≡◌, refl, sym, ap, ◌∙◌}
 use lib.ListN.{length, get_or, set, length-set}
 use lib.Seq.{get_or-set_same, get_or-set_other, set-set}
+use borrow.Author.Tests.{le-ltb}
+use Rattle.language.specs.Choice.{pick}
 use Rattle.sheet_rows.specs.Row.{cell, word}
 use Rattle.sheet_written.specs.Held.{held}
-use Rattle.weight_theory.specs.Stack.{form_words, spot, form_word, copied, summed, constant_form, lower_form, widened}
-use Rattle.weight_theory.specs.Stack.{added_form}
+use Rattle.weight_theory.specs.Stack.{form_words, spot, form_word, cleared, copied, summed, constant_form, lower_form}
+use Rattle.weight_theory.specs.Stack.{widened, added_form}
 use Rattle.weight_theory.specs.Shows.{most_parameters}
-use Rattle.weight_forms.proofs.Made.{widened_same}
+
+-- a form that is wide enough stays as it is
+widened_same : (t : List ℕ) (to n w : ℕ) → w ≡ form_word t to 0 → n ≤ w → t ≡ widened to n t
+unfolding widened
+widened_same t to n w e h =
+    let l : n ≤ form_word t to 0 = omega (arith, e) in
+    sym (ap (λ b. pick b (set (cleared (spot to (2 + form_word t to 0)) (n - form_word t to 0) t) (spot to 0) n) t)
+    (le-ltb (form_word t to 0) n l))
 
 held_more : (a z : ℕ) → held (held (held a + z) + 0) ≡ held (a + z)
 unfolding held

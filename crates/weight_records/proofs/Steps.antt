@@ -1,24 +1,15 @@
 -- The steps of weighing a record, over plain variables.
-use Prim.Native.Nat.{ℕ, suc, ◌+◌, ◌-◌, ◌*◌, ◌≤◌, ◌<◌, min}
+use Prim.Native.Nat.{ℕ, suc, ◌+◌, ◌-◌, ◌≤◌, ◌<◌, min}
 use native.Mathlib.Omega.{arith}
 use mathlib.Core.List.{List}
 use mathlib.Core.Path.{◌≡◌, ap, ap₂, sym, ◌∙◌}
 use lib.ListN.{set}
 use borrow.Author.Tests.{eq-eqb, ne_eqb}
-use Rattle.sheet_rows.specs.PartKind.{KIND, DETAIL, PARTS, PROCEDURE}
+use Rattle.sheet_rows.specs.PartKind.{KIND, DETAIL, PROCEDURE}
 use Rattle.sheet_rows.specs.Row.{word}
-use Rattle.weight_theory.specs.Stack.{marks_from, slots_from, height-at, most_forms, marks_in, height_of, lower_form, added_form}
-use Rattle.weight_theory.specs.Plan.{parts_of, factor_of, extra_of, come_at, come_of, used_of}
-use Rattle.weight_theory.specs.Step.{started, part_added, parts_added, closed, weighed_plain, weighed_procedure, weighed}
-
--- a part
-pub part-added : (kind detail k at first row j place factor extra : ℕ) (t u : List ℕ) →
-    place ≡ word t at (PARTS + j) → factor ≡ factor_of t kind detail k at place j → extra ≡ extra_of t kind place →
-    u ≡ added_form row (first + j) factor extra t → u ≡ part_added kind detail k at first row j t
-unfolding part_added
-part-added kind detail k at first row j place factor extra t u p f x e =
-    e ∙ ap₂ (λ a b. added_form row (first + j) a b t) (f ∙ ap (λ y. factor_of t kind detail k at y j) p)
-    (x ∙ ap (extra_of t kind) p)
+use Rattle.weight_theory.specs.Stack.{marks_from, slots_from, height-at, most_forms, marks_in, height_of, lower_form}
+use Rattle.weight_theory.specs.Plan.{parts_of, come_of}
+use Rattle.weight_theory.specs.Step.{started, part_added, parts_added, closed, weighed_plain, weighed}
 
 -- the parts from j on are left
 module _ (kind detail k at first row n : ℕ) where
@@ -42,11 +33,6 @@ module _ (kind detail k at first row n : ℕ) where
       ap (λ a. left a j t) m ∙ g
 
 -- the end of a record
-pub noted : (at to mark to' h : ℕ) (t t₁ t₂ u : List ℕ) → t₁ ≡ set t (marks_from + at) mark →
-    t₂ ≡ set t₁ (slots_from + at) to → to' ≡ suc to → h ≡ min to' most_forms → u ≡ set t₂ height-at h →
-    u ≡ set (set (set t (marks_from + at) mark) (slots_from + at) to) height-at (min (suc to) most_forms)
-noted at to mark to' h t t₁ t₂ u p q s l e = e ∙ rw (l, s, q, p)
-
 pub close-there : (at to row mark : ℕ) (t u : List ℕ) → to ≡ row →
     u ≡ set (set (set t (marks_from + at) mark) (slots_from + at) to) height-at (min (suc to) most_forms) →
     u ≡ closed at to row mark t
@@ -76,21 +62,7 @@ plain-none k at kind detail n row mark t t₁ u pn pr pm p₁ z e =
     plain_more k at kind detail n row mark row t t₁ t₁ u pn pr pm p₁ (omega arith)
     (ap (λ m. parts_added kind detail k at row row m 0 t₁) (sym z)) e
 
--- a procedure
-pub procedure-weighed : (at number h to to' used place c : ℕ) (t u : List ℕ) → h ≡ height_of t → to ≡ h - 2 →
-    to' ≡ suc to → used ≡ used_of t to number → place ≡ word t at (PARTS + 1) → c ≡ come_at (marks_in t) place →
-    u ≡ closed at to to' (c + 128 * used) t → u ≡ weighed_procedure at number t
-unfolding weighed_procedure
-procedure-weighed at number h to to' used place c t u ph pt ps pu pp pc e =
-    e ∙ rw (pc, pp, pu, ps, pt, ph)
-
 -- a record
-pub record-procedure : (k at kind detail : ℕ) (t u : List ℕ) → kind ≡ word t at KIND → detail ≡ word t at DETAIL →
-    kind ≡ PROCEDURE → u ≡ weighed_procedure at detail t → u ≡ weighed k at t
-unfolding weighed
-record-procedure k at kind detail t u p q h e =
-    rw (eq-eqb (word t at KIND) PROCEDURE (sym p ∙ h)) (e ∙ ap (λ d. weighed_procedure at d t) q)
-
 pub record-plain : (k at kind detail : ℕ) (t u : List ℕ) → kind ≡ word t at KIND → detail ≡ word t at DETAIL →
     (kind ≡ PROCEDURE → ⊥) → u ≡ weighed_plain k at kind detail t → u ≡ weighed k at t
 unfolding weighed

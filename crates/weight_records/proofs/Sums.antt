@@ -47,13 +47,13 @@ held-third : (z y x c m d r : ℕ) → c ≡ min z 4097 → m ≡ min y 4097 →
 unfolding held
 held-third z y x c m d r p q e f = omega arith
 
-module _ (t : List ℕ) (from first second w₁ x₁ c : ℕ) (v₁ : w₁ ≡ form_word t from 0) (b₁ : w₁ ≤ 0)
-    (e₁ : x₁ ≡ form_word t from 1) (p₁ : c ≡ min (first * x₁) 4097) where
+module _ (t : List ℕ) (from first second x₁ c : ℕ) (b₁ : (form_word t from 0 ≡ 0) × (x₁ ≡ form_word t from 1))
+    (p₁ : c ≡ min (first * x₁) 4097) where
   first-bare : form_word t (from + 0) 0 ≡ 0
-  first-bare = let z : from + 0 ≡ from = omega arith in ap (λ i. form_word t i 0) z ∙ omega arith
+  first-bare = let z : from + 0 ≡ from = omega arith in ap (λ i. form_word t i 0) z ∙ b₁.0
 
   first_word : x₁ ≡ form_word t (from + 0) 1
-  first_word = let z : from ≡ from + 0 = omega arith in e₁ ∙ ap (λ i. form_word t i 1) z
+  first_word = let z : from ≡ from + 0 = omega arith in b₁.1 ∙ ap (λ i. form_word t i 1) z
 
   pub sum_one : (n : ℕ) → n ≡ 1 → SumOf t from n first second c
   unfolding sum_from times
@@ -62,19 +62,19 @@ module _ (t : List ℕ) (from first second w₁ x₁ c : ℕ) (v₁ : w₁ ≡ f
     sum = rw first_word at (held_first (first * x₁) c p₁);
   })
 
-  module _ (w₂ x₂ m d : ℕ) (v₂ : w₂ ≡ form_word t (from + 1) 0) (b₂ : w₂ ≤ 0) (e₂ : x₂ ≡ form_word t (from + 1) 1)
+  module _ (x₂ m d : ℕ) (b₂ : (form_word t (from + 1) 0 ≡ 0) × (x₂ ≡ form_word t (from + 1) 1))
       (p₂ : m ≡ min (second * x₂) 4097) (q₂ : d ≡ min (c + m) 4097) where
     pub sum-two : (n : ℕ) → n ≡ 2 → SumOf t from n first second d
     unfolding sum_from times
     sum-two n h = rw h (record {
-      bare = two (λ j. form_word t (from + j) 0 ≡ 0) first-bare (omega arith);
-      sum = rw (first_word, e₂) at (held-second (first * x₁) (second * x₂) c m d p₁ p₂ q₂);
+      bare = two (λ j. form_word t (from + j) 0 ≡ 0) first-bare b₂.0;
+      sum = rw (first_word, b₂.1) at (held-second (first * x₁) (second * x₂) c m d p₁ p₂ q₂);
     })
 
-    pub sum-three : (w₃ x₃ r n : ℕ) → w₃ ≡ form_word t (from + 2) 0 → w₃ ≤ 0 → x₃ ≡ form_word t (from + 2) 1 →
+    pub sum-three : (x₃ r n : ℕ) → (form_word t (from + 2) 0 ≡ 0) × (x₃ ≡ form_word t (from + 2) 1) →
         r ≡ min (d + x₃) 4097 → n ≡ 3 → SumOf t from n first second r
     unfolding sum_from times
-    sum-three w₃ x₃ r n v₃ b₃ e₃ q₃ h = rw h (record {
-      bare = three (λ j. form_word t (from + j) 0 ≡ 0) first-bare (omega arith) (omega arith);
-      sum = rw (first_word, e₂, e₃) at (held-third (first * x₁) (second * x₂) x₃ c m d r p₁ p₂ q₂ q₃);
+    sum-three x₃ r n b₃ q₃ h = rw h (record {
+      bare = three (λ j. form_word t (from + j) 0 ≡ 0) first-bare b₂.0 b₃.0;
+      sum = rw (first_word, b₂.1, b₃.1) at (held-third (first * x₁) (second * x₂) x₃ c m d r p₁ p₂ q₂ q₃);
     })

@@ -70,15 +70,13 @@ not-false false e = sym e
 
 pub parts-weighed : (k at kind detail n first second row to c : ℕ) (has : Bool) (t u : List ℕ) → at < 4096 →
     row ≡ height_of t → n ≤ row → has ≡ ltb (spot row 1) (length t) → not has ≡ false → to ≡ row - n →
-    (0 < c → SumOf t to n first second c) → (c ≡ 0 → ⊥) →
+    SumOf t to n first second c →
     (spot row 1 < length t → u ≡ closed at to row 0 (constant_form row c t)) →
     RowAt t at kind detail → SumKind t at kind detail n first second → u ≡ weighed k at t
-parts-weighed k at kind detail n first second row to c has t u h pr l b y pt s z e R S =
+parts-weighed k at kind detail n first second row to c has t u h pr l b y pt X e R S =
     let i : spot row 1 < length t = ltb-true (spot row 1) (length t) (sym b ∙ not-false has y) in
     let m : marks_from ≤ length t = marks-in row t i in
     let P : Plan t at k row kind detail n first second = plan-of t at k row h kind detail n first second S in
-    let some : 0 < c = omega (arith, z) in
-    let X : SumOf t to n first second c = s some in
     record-plain k at kind detail t u (sym (R.has_kind m)) (sym (R.has_detail m)) P.other
     (plain_more k at kind detail n row 0 to t (constant_form row 0 t) (constant_form row c t) u P.parts pr P.come
     P.start pt

@@ -1,7 +1,7 @@
 // The weight of a record whose parts are weighed: their forms are the last of the stack, and its own takes their place.
-ghost use Rattle.std.specs.Prelude.{◌≡◌, ℕ, suc, ◌+◌, ◌-◌, ◌≤◌, ◌<◌, min, length, set};
+ghost use Rattle.std.specs.Prelude.{◌≡◌, ℕ, suc, ◌+◌, ◌-◌, ◌≤◌, ◌<◌, min, length, set, IfSome};
 ghost use Rattle.language.specs.Choice.{pick};
-ghost use Rattle.weight_theory.specs.Stack.{marks_from, slots_from, height-at, most_forms, spot, constant_form};
+ghost use Rattle.weight_theory.specs.Stack.{marks_from, slots_from, height-at, most_forms, spot, form_word, constant_form};
 ghost use Rattle.sheet_rows.specs.PartKind.{PARTS, VALUES};
 ghost use Rattle.sheet_rows.specs.Row.{word};
 ghost use Rattle.weight_theory.specs.Step.{part_added, parts_added, closed, weighed_plain, weighed_procedure, weighed};
@@ -14,7 +14,7 @@ use sheet_rows::kind::PROCEDURE;
 use sheet_rows::pack::COME_SPAN;
 use sheet_rows::row::{DETAIL, HEIGHT, KIND, MARKS, PARTS, SLOTS, put, word_of};
 use weight_forms::read::{constant, width};
-use weight_forms::set::{has_form, least, set_constant, set_lower};
+use weight_forms::set::{has_form, set_constant, set_lower};
 use weight_forms::sum::add;
 use weight_forms::table::{MOST_FORMS, MOST_PARAMETERS};
 use weight_plans::mark::{come_at, come_of, used_of};
@@ -23,16 +23,6 @@ use weight_plans::row::{height_of, values_at};
 
 // How many parts a procedure has.
 const TERMS: usize = 2;
-
-// a - b, or 0.
-fn less(a: usize, b: usize) -> usize
-    ensures { result ≡ a - b }
-{
-    if a < b {
-        return 0;
-    }
-    a - b
-}
 
 // Stores v at i, if the table reaches that far.
 fn store(t: &mut [u16], i: usize, v: usize)
@@ -43,6 +33,7 @@ fn store(t: &mut [u16], i: usize, v: usize)
 }
 
 // Adds part j of the record at a place, whose form is `first + j`, to a form.
+#[tactic(auto, unfolding(weight_theory::specs::Step::part_added))]
 fn add_part(
     t: &mut [u16],
     kind: usize,
@@ -76,10 +67,8 @@ fn add_parts(
     requires { (detail < 65536) × (k < 65536) × (at < 65536) × (first + n < 65536) × (row < 65536) × (n ≤ 4) }
     ensures { t.new ≡ parts_added kind detail k at first row n 0 t.old }
 {
-    let mut j = 0;
-    while j < n {
+    for j in 0..n {
         add_part(t, kind, detail, k, at, first, row, j);
-        j += 1;
     }
 }
 
@@ -91,11 +80,12 @@ fn note(t: &mut [u16], at: usize, to: usize, mark: usize)
 {
     store(t, MARKS + at, mark);
     store(t, SLOTS + at, to);
-    let height = least(to + 1, MOST_FORMS);
+    let height = (to + 1).min(MOST_FORMS);
     store(t, HEIGHT, height);
 }
 
 // The form `row` becomes the form `to`, which is that of the part at a place and the last one; and its mark.
+#[tactic(auto, unfolding(weight_theory::specs::Step::closed))]
 fn close(t: &mut [u16], at: usize, to: usize, row: usize, mark: usize)
     requires { (at < 65536) × (to < 65536) × (row < 65536) × (mark < 65536) }
     ensures { t.new ≡ closed at to row mark t.old }
@@ -121,6 +111,7 @@ fn settle(t: &mut [u16], at: usize, to: usize, row: usize, c: u32)
 }
 
 // Weighs and marks a record that is no procedure.
+#[tactic(auto, unfolding(weight_theory::specs::Step::weighed_plain, weight_theory::specs::Step::parts_added))]
 fn weigh_plain(t: &mut [u16], k: usize, at: usize, kind: usize, detail: usize)
     requires { (k < 65536) × (at < 65536) × (detail < 65536) }
     ensures { t.new ≡ weighed_plain k at kind detail t.old }
@@ -133,24 +124,26 @@ fn weigh_plain(t: &mut [u16], k: usize, at: usize, kind: usize, detail: usize)
         close(t, at, row, row, mark);
         return;
     }
-    let to = less(row, n);
+    let to = row.saturating_sub(n);
     add_parts(t, kind, detail, k, at, to, row, n);
     close(t, at, to, row, mark);
 }
 
 // Weighs and marks a procedure, which weighs what its second term weighs. Its number says which arguments its own term
 // uses.
+#[tactic(auto, unfolding(weight_theory::specs::Step::weighed_procedure))]
 fn weigh_procedure(t: &mut [u16], at: usize, number: usize)
     requires { (at < 65536) × (number < 65536) }
     ensures { t.new ≡ weighed_procedure at number t.old }
 {
-    let to = less(height_of(t), TERMS);
+    let to = height_of(t).saturating_sub(TERMS);
     let used = used_of(t, to, number);
     let c = come_at(t, word_of(t, at, PARTS + 1));
     close(t, at, to, to + 1, c + COME_SPAN * used);
 }
 
 // Weighs and marks the record at a place; k is the number of the procedure that it uses, if it is such a use.
+#[tactic(auto, unfolding(weight_theory::specs::Step::weighed))]
 pub fn weigh_record(t: &mut [u16], at: usize, k: usize)
     requires { (at < 4096) × (k < 65536) }
     ensures { t.new ≡ weighed k at t.old }
@@ -192,30 +185,33 @@ pub fn first_values(t: &[u16], at: usize) -> u32
     values_at(t, place)
 }
 
-// The sum of the constants of n forms from one on, at most three: the first and the second as often as said; 0 where a
-// form has coefficients.
-fn sum_of(t: &[u16], from: usize, n: usize, first: u32, second: u32) -> u32
-    requires { (from + n < 65536) × ((0 < n) × (n ≤ 3)) }
-    ensures { 0 < result → SumOf t.now from n first second result }
+// The constant of a form, where it has no coefficients.
+fn bare(t: &[u16], row: usize) -> Option<u32>
+    requires { row < 65536 }
+    ensures { IfSome result (λ c. (form_word t.now row 0 ≡ 0) × (c ≡ form_word t.now row 1)) }
 {
-    if 0 < width(t, from) {
-        return 0;
+    if width(t, row) == 0 {
+        Some(constant(t, row))
+    } else {
+        None
     }
-    let c = sat_mul(first, constant(t, from));
+}
+
+// The sum of the constants of n forms from one on, at most three: the first and the second as often as said; none where
+// a form has coefficients.
+fn sum_of(t: &[u16], from: usize, n: usize, first: u32, second: u32) -> Option<u32>
+    requires { (from + n < 65536) × ((0 < n) × (n ≤ 3)) }
+    ensures { IfSome result (λ c. SumOf t.now from n first second c) }
+{
+    let c = sat_mul(first, bare(t, from)?);
     if n == 1 {
-        return c;
+        return Some(c);
     }
-    if 0 < width(t, from + 1) {
-        return 0;
-    }
-    let d = sat_add(c, sat_mul(second, constant(t, from + 1)));
+    let d = sat_add(c, sat_mul(second, bare(t, from + 1)?));
     if n == 2 {
-        return d;
+        return Some(d);
     }
-    if 0 < width(t, from + 2) {
-        return 0;
-    }
-    sat_add(d, constant(t, from + 2))
+    Some(sat_add(d, bare(t, from + 2)?))
 }
 
 // Weighs and marks the record at a place by its n parts, at most three, the first and the second as often as said;
@@ -233,10 +229,9 @@ pub fn weigh_parts(t: &mut [u16], at: usize, n: usize, first: u32, second: u32) 
     if !has_form(t, row) {
         return false;
     }
-    let c = sum_of(t, row - n, n, first, second);
-    if c == 0 {
+    let Some(c) = sum_of(t, row - n, n, first, second) else {
         return false;
-    }
+    };
     settle(t, at, row - n, row, c);
     true
 }

@@ -2,14 +2,14 @@
 use mathlib.Core.List.{List, []}
 use mathlib.Core.Logic.{◌≢◌}
 use mathlib.Core.Path.{◌∙◌, ◌≡◌, ap, refl, sym}
-use Prim.Native.Nat.{◌%◌, ◌+◌, ◌-◌, ◌<◌, ◌≤◌, ℕ}
+use Prim.Native.Nat.{◌%◌, ◌+◌, ◌-◌, ℕ}
 use native.Mathlib.Omega.{arith}
 use lib.ListN.{length}
 use lib.Seq.{sets}
 use borrow.Author.Tests.{eq-eqb, ne_eqb}
-use Rattle.dfa_classes.specs.Places.{class_at, first_at, letter_at, number_at, target_at}
+use Rattle.dfa_classes.specs.Places.{class_at, letter_at, number_at, target_at}
 use Rattle.card_bytes.specs.Places.{move_bytes}
-use Rattle.card_bytes.specs.InWords.{Edge, Legible, edge_bytes, towards}
+use Rattle.card_bytes.specs.InWords.{edge_bytes, towards}
 
 -- an edge to the dead class has no bytes
 pub none-bytes : (ws : List ℕ) (n e : ℕ) → class_at ws (target_at n ws e) ≡ class_at ws (n - 1) → edge_bytes ws n e ≡ []
@@ -43,22 +43,3 @@ module _ (ws : List ℕ) (n e t c d : ℕ) (is : t ≡ target_at n ws e) (a : c 
         let z = some_bytes ws n e (λ q. h (class-is ∙ q ∙ sym b)) in
         let m : move_bytes l (to % 65536) ≡ edge_bytes ws n e = rw (z, el, et, class-is) in
         (er ∙ ap (λ (x : List ℕ). place + length x) m, es ∙ ap (sets s place) m)
-
--- the class of the target is a class
-pub edge-class : (n e t c : ℕ) (ws : List ℕ) → Edge n e ws → t ≡ target_at n ws e → c ≡ class_at ws t → c < n
-edge-class n e t c ws E is a = omega (arith, E.class, a ∙ ap (class_at ws) is)
-
--- an edge of a state can be read
-pub legible-edge : (n p e : ℕ) (ws : List ℕ) → Legible n ws → p < n → first_at n ws p ≤ e → e < first_at n ws (p + 1)
-    → Edge n e ws
-legible-edge n p e ws L h a b =
-    let t = L.target p e h a b in
-    let z = L.to (p + 1) (omega arith) in
-    record {
-      some = L.some;
-      few = L.few;
-      low = omega (arith, z, L.end);
-      room = omega (arith, z, L.room);
-      target = t;
-      class = L.class (target_at n ws e) t;
-    }

@@ -1,7 +1,7 @@
 -- Bytes written one after the other, as a run of stores. Assumes nothing.
 use mathlib.Core.List.{List, [], ◌++◌, ◌∷◌}
 use mathlib.Core.Path.{◌∙◌, ◌≡◌, ap, ap₂, refl, sym}
-use Prim.Native.Nat.{◌+◌, ◌<◌, ◌≤◌, suc, ℕ}
+use Prim.Native.Nat.{◌+◌, ◌<◌, suc, ℕ}
 use native.Mathlib.Omega.{arith}
 use lib.ListN.{length, length-append, set}
 use lib.Seq.{length-sets, set_comm, sets}
@@ -27,11 +27,6 @@ laying-again all space from xs left s i L i' s' e f = record {
   same_length = ap length f ∙ length-sets s i xs ∙ L.same_length;
   same = ap₂ (λ (t : List ℕ) j. sets t j left) f e ∙ sym (sets-append xs left s i) ∙ L.same;
 }
-
--- the place is not past the end
-pub laying-place : (all space : List ℕ) (from : ℕ) (left s : List ℕ) (i b : ℕ) → Laying all space from left s i
-    → from + length all ≤ b → i ≤ b
-laying-place all space from left s i b L h = omega (arith, L.place)
 
 -- all is written
 pub laying-last : (all space : List ℕ) (from : ℕ) (left s : List ℕ) (i : ℕ) → Laying all space from left s i → left ≡ []

@@ -1,7 +1,7 @@
 -- The loops over the edges of a state and over positions. Assumes nothing.
 use mathlib.Core.Bool.{Bool, cond, false, true}
 use mathlib.Core.List.{List, [], ◌++◌}
-use mathlib.Core.Path.{◌∙◌, ◌≡◌, ap, ap₂, refl, subst, sym}
+use mathlib.Core.Path.{◌∙◌, ◌≡◌, ap, ap₂, refl, sym}
 use Prim.Native.Nat.{◌%◌, ◌+◌, ◌-◌, ◌<◌, ◌≤◌, suc, ℕ}
 use native.Mathlib.Numerals.{add-one}
 use native.Mathlib.Omega.{arith}
@@ -10,10 +10,9 @@ use lib.ListN.{length, length-append, set}
 use lib.Seq.{sets}
 use Rattle.dfa_classes.specs.Places.{state_at}
 use Rattle.dfa_classes.specs.Places.{first_at}
-use Rattle.card_bytes.specs.InWords.{Edge, Legible, edge_bytes, edges_bytes, position_bytes}
+use Rattle.card_bytes.specs.InWords.{edge_bytes, edges_bytes, position_bytes}
 use Rattle.card_bytes.specs.InWords.{positions_bytes, state_bytes}
-use Rattle.card_bytes.specs.inner.Laying.{Laying, Edging, Placing}
-use Rattle.card_bytes.proofs.laws.Edges.{legible-edge}
+use Rattle.card_bytes.specs.inner.Laying.{Edging, Placing}
 use Rattle.card_bytes.proofs.laws.Laying.{laying-again, laying-first, laying-last}
 
 -- the first of the edges to the end, and the others
@@ -37,12 +36,6 @@ edging-first ws n p space place e end a b = record {
   from = omega (arith, a);
   laying = rw (a, b) (laying-first (state_bytes ws n p) space place);
 }
-
--- the next edge can be read
-pub edging-edge : (ws : List ℕ) (n p : ℕ) (space : List ℕ) (place end : ℕ) (s : List ℕ) (e i : ℕ) → Legible n ws
-    → p < n → Edging ws n p space place end s e i → e < end → Edge n e ws
-edging-edge ws n p space place end s e i L h E less =
-    legible-edge n p e ws L h E.from (omega (arith, less, E.ends))
 
 pub edging-again : (ws : List ℕ) (n p : ℕ) (space : List ℕ) (place end : ℕ) (s : List ℕ) (e i : ℕ)
     → Edging ws n p space place end s e i → e < end → (i' : ℕ) (s' : List ℕ) → i' ≡ i + length (edge_bytes ws n e)
@@ -96,13 +89,6 @@ unfolding positions_bytes
 positions-none ws n f count k h = ap (λ c. positions_bytes ws n f c k) {x = count - k} {y = 0} (omega arith)
 
 -- the loop over the positions
-pub placing-first : (ws : List ℕ) (n f count : ℕ) (space : List ℕ) (place : ℕ)
-    → Placing ws n f count space place space 0 place
-placing-first ws n f count space place = record {
-  laying = subst (λ c. Laying (positions_bytes ws n f count 0) space place (positions_bytes ws n f c 0) space place)
-      {x = count} {y = count - 0} (omega arith) (laying-first (positions_bytes ws n f count 0) space place);
-}
-
 pub placing-again : (ws : List ℕ) (n f count : ℕ) (space : List ℕ) (place : ℕ) (s : List ℕ) (k i : ℕ)
     → Placing ws n f count space place s k i → k < count → (p : ℕ) → p ≡ state_at n ws k → (i' : ℕ) (s' : List ℕ)
     → i' ≡ i + length (position_bytes ws n f p) → s' ≡ sets s i (position_bytes ws n f p)

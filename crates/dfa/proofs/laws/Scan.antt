@@ -1,17 +1,12 @@
 -- What the loop of scan keeps. Assumes nothing.
 use mathlib.Core.List.{List}
 use mathlib.Core.Logic.{◌≢◌}
-use mathlib.Core.Path.{◌∙◌, ◌≡◌, refl, sym}
+use mathlib.Core.Path.{◌∙◌, ◌≡◌, sym}
 use Prim.Native.Nat.{◌+◌, ◌-◌, ◌<◌, ◌≤◌, ℕ}
 use native.Mathlib.Omega.{arith}
-use lib.ListN.{get_or}
-use Rattle.dfa.specs.Graph.{Graph, letter, target, δ}
+use Rattle.dfa.specs.Graph.{letter, target, δ}
 use Rattle.dfa.specs.inner.Scan.{Scanning}
 use Rattle.dfa.proofs.laws.Look.{edges-tail, look_at, look-before, look-past}
-
-pub scan-first : (G : List ℕ) (n p m i end : ℕ) → Graph G n → p < n → i ≡ get_or G p 0 → end ≡ get_or G (p + 1) 0
-    → Scanning G n p m i end
-scan-first G n p m i end g h ei ee = rw (ei, ee) (record { edges = g.edges p h; left = refl })
 
 pub scan-hit : (G : List ℕ) (n p m i end a r : ℕ) → Scanning G n p m i end → i < end → a ≡ letter G n i → a ≡ m
     → r ≡ target G n i → r ≡ δ G n p m

@@ -16,31 +16,6 @@ use Rattle.dfa_classes.specs.inner.Linking.{Linking, Zeroed}
 pub zeroed_first : (from : ℕ) (ws : List ℕ) → Zeroed from 0 ws ws
 zeroed_first from ws = record { len = refl; zero = λ i h. absurd (omega arith); keeps = λ x h. refl }
 
-pub zeroed-again : (from i : ℕ) (ws v w : List ℕ) → Zeroed from i ws v → from + i < length ws → w ≡ set v (from + i) 0
-    → Zeroed from (i + 1) ws w
-zeroed-again from i ws v w Z h e = rw e (record {
-  len = length-set v (from + i) 0 ∙ Z.len;
-  zero = λ j l. zero j l (ℕ_discrete j i);
-  keeps = λ x o. get_or-set_other v (from + i) x 0 0 (λ q. away x o q) ∙ Z.keeps x (out x o);
-})
-  where
-    zero : (j : ℕ) → j < i + 1 → Dec (j ≡ i) → get_or (set v (from + i) 0) (from + j) 0 ≡ 0
-    zero j l (yes q) = ap (λ y. get_or (set v (from + i) 0) (from + y) 0) q
-        ∙ get_or-set_same v (from + i) 0 0 (omega (arith, Z.len))
-    zero j l (no q) = get_or-set_other v (from + i) (from + j) 0 0 (λ y. q (omega arith)) ∙ Z.zero j (less (dec_lt j i))
-      where
-        less : Dec (j < i) → j < i
-        less (yes y) = y
-        less (no y) = absurd (q (omega arith))
-
-    away : (x : ℕ) → (x < from) ⊎ (from + (i + 1) ≤ x) → x ≡ from + i → ⊥
-    away x (inl l) q = omega arith
-    away x (inr l) q = omega arith
-
-    out : (x : ℕ) → (x < from) ⊎ (from + (i + 1) ≤ x) → (x < from) ⊎ (from + i ≤ x)
-    out x (inl l) = inl l
-    out x (inr l) = inr (omega arith)
-
 -- an edge between the first and the end is an edge of some state
 pub has-source : (G : List ℕ) (n : ℕ) → Graph G n → (k : ℕ) → k ≤ n → (e : ℕ) → get_or G 0 0 ≤ e → e < get_or G k 0
     → (p : ℕ) × ((p < n) × ((get_or G p 0 ≤ e) × (e < get_or G (p + 1) 0)))
@@ -74,9 +49,6 @@ latest-other G n t b h ne l = record {
 
 -- the first edge and the end
 module _ (G : List ℕ) (n g : ℕ) (ws : List ℕ) (L : Linking G n g ws (get_or G 0 0) ws) where
-  pub ends-asks : (p : ℕ) → p ≤ n → (p ≤ n) × ((n ≤ 8192) × (6 * n < length ws))
-  ends-asks p h = let z = L.sized in (h, (z.few, omega arith))
-
   pub first-is : (e : ℕ) → e ≡ get_or ws (5 * n + 0) 0 → e ≡ get_or G 0 0
   first-is e q = q ∙ L.firsts 0 (omega arith)
 

@@ -5,14 +5,13 @@ use mathlib.Core.Path.{◌∙◌, ◌≡◌, ap, refl, subst, sym}
 use Prim.Native.Nat.{◌*◌, ◌+◌, ◌-◌, ◌/◌, ◌<◌, ◌≤◌, ℕ}
 use native.Mathlib.Decide.{dec_lt, ℕ_discrete}
 use native.Mathlib.Omega.{arith}
-use lib.ListN.{get_or, length, length-set, set}
-use lib.Seq.{get_or-set_other, get_or-set_same}
+use lib.ListN.{get_or, length}
 use Rattle.dfa.specs.Graph.{EdgeOf, letter, target, δ}
 use Rattle.dfa.proofs.laws.Edges.{edge-from, edge-step, edge_to, one-source, step-edge}
 use Rattle.dfa_smallest.specs.Classes.{Into}
 use Rattle.dfa_classes.specs.Packed.{Latest}
 use Rattle.dfa_classes.specs.Places.{copy_at, from_at, head_at, member_at, place_at, to_at, touched_at}
-use Rattle.dfa_classes.specs.inner.Sources.{AllTouched, AllTouching, Copied, CopiedTo, Copying, Sourced, Sourcing}
+use Rattle.dfa_classes.specs.inner.Sources.{AllTouched, AllTouching, Copied, Sourced, Sourcing}
 use Rattle.dfa_classes.specs.inner.Touching.{IsTouched, TouchKeeps, Touches, Touching}
 use Rattle.dfa_classes.proofs.laws.Packed.{edge-room, packed_keep, target-low}
 use Rattle.dfa_classes.proofs.laws.Touching.{few-own, parted-keep}
@@ -27,47 +26,6 @@ keeps-trans n g u v w a b = record {
   graph = λ x h k. b.graph x h k ∙ a.graph x h k;
   copy = λ x l. b.copy x l ∙ a.copy x l;
 }
-
--- copying
-pub copied-first : (n g a : ℕ) (ws : List ℕ) → CopiedTo n g a a ws ws
-copied-first n g a ws = record { len = refl; keeps = λ x l. refl; copy = λ x l. absurd (omega arith) }
-
-module _ (n g a b : ℕ) (ws₀ : List ℕ) (C : Copying n g a b ws₀) (i : ℕ) (ws : List ℕ) (low : a ≤ i) (h : i < b)
-    (D : CopiedTo n g a i ws₀ ws) where
-  pub member-asks : (i < n) × ((n ≤ 8192) × (5 * n ≤ length ws))
-  member-asks = (omega (arith, C.top), (C.few, omega (arith, C.behind, C.room, D.len)))
-
-  module _ (p : ℕ) (e : p ≡ member_at n ws i) where
-    p-is : p ≡ member_at n ws₀ i
-    p-is = e ∙ D.keeps (n + i) (omega (arith, C.top, C.behind))
-
-    pub copied-asks : (i - a < n) × ((p ≤ n) × ((n ≤ 8192) × ((g ≤ 600000) × (g + 4 * n ≤ length ws))))
-    copied-asks = (
-      omega (arith, C.top),
-      (
-        omega (arith, p-is, C.members i (omega (arith, C.top))),
-        (C.few, (C.small, omega (arith, C.room, D.len))),
-      ),
-    )
-
-    pub copied-again : (ws' : List ℕ) → ws' ≡ set ws (g + 3 * n + (i - a)) p → CopiedTo n g a (i + 1) ws₀ ws'
-    copied-again ws' f = rw f (record {
-      len = length-set ws (g + 3 * n + (i - a)) p ∙ D.len;
-      keeps = λ x l. get_or-set_other ws (g + 3 * n + (i - a)) x p 0 (λ q. omega arith) ∙ D.keeps x l;
-      copy = λ x l. go x l (ℕ_discrete x (i - a));
-    })
-      where
-        go : (x : ℕ) → a + x < i + 1 → Dec (x ≡ i - a)
-            → copy_at n g (set ws (g + 3 * n + (i - a)) p) x ≡ member_at n ws₀ (a + x)
-        go x l (yes q) = ap (λ y. get_or (set ws (g + 3 * n + (i - a)) p) (g + 3 * n + y) 0) q
-            ∙ get_or-set_same ws (g + 3 * n + (i - a)) p 0 (omega (arith, C.room, D.len, C.top))
-            ∙ p-is ∙ ap (member_at n ws₀) {x = i} {y = a + x} (omega arith)
-        go x l (no q) = get_or-set_other ws (g + 3 * n + (i - a)) (g + 3 * n + x) p 0 (λ y. q (omega arith))
-            ∙ D.copy x (less (dec_lt (a + x) i))
-          where
-            less : Dec (a + x < i) → a + x < i
-            less (yes y) = y
-            less (no y) = absurd (q (omega arith))
 
 -- the sources of the edges to t
 module _ (G : List ℕ) (n g s : ℕ) (own : ℕ → ℕ) (count t : ℕ) where
@@ -164,17 +122,6 @@ module _ (G : List ℕ) (n g s : ℕ) (own : ℕ → ℕ) (count : ℕ) (ws : Li
   class-asks = let z = T.packed.sized in (omega (arith, few-own G n g s own count ws 0 T), (z.few, omega arith))
 
   module _ (a b : ℕ) (ea : a ≡ from_at n ws s) (eb : b ≡ to_at n ws s) where
-    pub copy-asks : Copying n g a b ws
-    copy-asks = let z = T.packed.sized in record {
-      order = omega (arith, T.parted.some s low);
-      top = omega (arith, T.parted.top s low);
-      few = z.few;
-      small = omega arith;
-      behind = omega arith;
-      room = z.room;
-      members = T.parted.member_low;
-    }
-
     module _ (ws₁ : List ℕ) (D : Copied n g a b ws ws₁) where
       -- the copy touches nothing
       copied-touching : Touching G n g s own count ws₁ 0
@@ -212,10 +159,6 @@ module _ (G : List ℕ) (n g s : ℕ) (own : ℕ → ℕ) (count : ℕ) (ws : Li
       all_first = record { touching = copied-touching; keeps = keeps-refl n g ws₁; done = λ x l. absurd (omega arith) }
 
       module _ (ws₂ : List ℕ) (k j : ℕ) (A : AllTouching G n g s own count ws₁ ws₂ k j) (h : j < b - a) where
-        pub copied-room : (j < n) × ((n ≤ 8192) × ((g ≤ 600000) × (g + 4 * n ≤ length ws₂)))
-        copied-room = let z = A.touching.packed.sized in
-            (omega (arith, eb, T.parted.top s low), (z.few, (omega arith, z.room)))
-
         module _ (t : ℕ) (et : t ≡ copy_at n g ws₂ j) where
           t-is : t ≡ member_at n ws (a + j)
           t-is = et ∙ A.keeps.copy (g + 3 * n + j) (omega arith) ∙ D.copy j (omega arith)

@@ -72,11 +72,6 @@ module _ (G : List ℕ) (n g s : ℕ) (own : ℕ → ℕ) (count : ℕ) (ws : Li
   pub class_low : (p d : ℕ) → p < n → d ≡ class_at ws p → d < n
   class_low p d h e = omega (arith, e, T.class p h, T.parted.own_low p h, few-own)
 
-  pub class-sum : (p d : ℕ) → p < n → d ≡ class_at ws p → from_at n ws d + touched_at n g ws d ≤ n
-  class-sum p d h e =
-      let l : d < count = omega (arith, e, T.class p h, T.parted.own_low p h) in
-      omega (arith, T.within d l, T.parted.top d l)
-
   -- what a class without touched members, and one more, leave room for
   few-more : (d : ℕ) → d < count → touched_at n g ws d ≡ 0 → k < count
   few-more d h z = let r = pigeons count (k + 1) f low one in omega arith
@@ -119,16 +114,6 @@ module _ (G : List ℕ) (n g s : ℕ) (own : ℕ → ℕ) (count : ℕ) (ws : Li
 
     d_low : d < n
     d_low = omega (arith, d-count, few-own)
-
-    -- p is touched already
-    pub touch-done : i < first → Touches G n g s own count p ws k ws
-    touch-done h = record {
-      touching = T;
-      keeps = record { len = refl; classes = λ x l. refl; graph = λ x a b. refl; copy = λ x l. refl };
-      grows = λ q l t. t;
-      done = subst (λ e. place_at n ws p < from_at n ws e + touched_at n g ws e) {x = d} {y = own p} (sym own_is)
-          (omega arith);
-    }
 
     module _ (new : first ≤ i) where
       i-top : i < to_at n ws d

@@ -1,6 +1,6 @@
 -- What an expanded entry leaves of the levels. Assumes nothing.
 use mathlib.Core.List.{List}
-use mathlib.Core.Path.{◌∙◌, ◌≡◌, ap, refl, subst}
+use mathlib.Core.Path.{◌∙◌, ◌≡◌, ap, subst}
 use Prim.Native.Nat.{◌*◌, ◌+◌, ◌<◌, ◌≤◌, suc, ℕ}
 use native.Mathlib.Decide.{dec_lt}
 use native.Mathlib.Omega.{arith}
@@ -8,7 +8,7 @@ use lib.ListN.{get_or, length}
 use Rattle.dfa_search.specs.Spelled.{Spelled, more, none}
 use Rattle.dfa_difference.specs.inner.Level.{Deep, Layer}
 use Rattle.dfa_difference.specs.inner.Queue.{Grown}
-use Rattle.dfa_search.proofs.Trace.{empty, longer}
+use Rattle.dfa_search.proofs.Trace.{longer}
 
 -- the words of the entries that stay
 pub spelled_stays : (n tail : ℕ) (ws ws' : List ℕ)
@@ -21,18 +21,6 @@ spelled_stays n tail ws ws' s _ _ h (more {u = v} k l f w) =
     (omega arith) w in
     rw (s (n + 4 * k + 3) (omega arith) (omega arith))
     (more k l (omega (arith, e₂, f)) (subst (λ j. Spelled n ws j v) e₂ r))
-
--- the first level
-pub deep-first : (n : ℕ) (ws : List ℕ) → Deep n ws 0 1 0
-deep-first n ws k h l u s = ap length (empty n ws k u (omega arith) s)
-
-pub layer-first : (n from end : ℕ) (ws : List ℕ) → Layer n from end end ws ws
-layer-first n from end ws = record {
-  more = omega arith;
-  stays = λ i h l. refl;
-  least = λ k h l. absurd (omega arith);
-  below = λ k h l. absurd (omega arith);
-}
 
 -- an entry of the level is expanded
 pub layer-again : (n from end head tail tail' : ℕ) (ws ws₁ ws₂ : List ℕ) → Layer n from end tail ws ws₁ → from ≤ head

@@ -9,11 +9,10 @@ use native.Mathlib.Omega.{arith}
 use lib.ListN.{drop, get_or, length, length-take, set, take}
 use borrow.Author.Tests.{le-ltb, lt-ltb}
 use Rattle.dfa.specs.Graph.{rest, δ}
-use Rattle.dfa_difference.specs.Outcome.{Outcome, Setting, ToldApart}
+use Rattle.dfa_difference.specs.Outcome.{Setting, ToldApart}
 use Rattle.dfa_search.specs.Spelled.{Spelled, more, none}
 use Rattle.dfa.specs.Word.{First, accepting, after}
 use Rattle.dfa_difference.specs.declared.Task.{Task}
-use Rattle.dfa_difference.specs.declared.Verdict.{Verdict}
 use Rattle.dfa.specs.declared.step.Move.{Move}
 use Rattle.dfa_search.specs.Classes.{Low, Rep, linked}
 use Rattle.dfa_difference.specs.inner.Comparison.{Entry, Top}
@@ -35,13 +34,6 @@ pub record Within (n head tail : ℕ) (ws : List ℕ) : Type 0 where
   pub few : n ≤ 8193
   pub room : 5 * n ≤ length ws
   pub graph : 5 * n + n < length ws
-
--- prepared on the front, the whole can run
-pub prepared : (t : Task) (ws ys : List ℕ) → 5 * t.n ≤ length ws → length ys ≡ length (take (5 * t.n) ws)
-    → Setting (rest (5 * t.n) ws) t
-    → ((G : List ℕ) → Setting G t → State G t ys 0 1) → Setting (rest (5 * t.n) (ys ++ drop (5 * t.n) ws)) t × State
-    (rest (5 * t.n) (ys ++ drop (5 * t.n) ws)) t (take (5 * t.n) (ys ++ drop (5 * t.n) ws)) 0 1
-prepared t ws ys room len s f = back (5 * t.n) ws ys room len (λ G w. Setting G t × State G t w 0 1) (s, f _ s)
 
 -- the entries of a state
 module _ (G : List ℕ) (t : Task) (s : Setting G t) (ws : List ℕ) (head tail : ℕ) (u : State G t ws head tail) where
@@ -228,8 +220,3 @@ pub expand-last : (t : Task) (head tail : ℕ) (ws₀ ws : List ℕ) (i ie j je 
     ws) (head + 1) last
 expand-last t head tail ws₀ ws i ie j je last f h = subst (λ G. State G t (take (5 * t.n) ws) (head + 1) last) f.graph
     (turn_last _ t head _ i ie j je last f.turn h)
-
-pub outcome-of : (t : Task) (ws ys zs : List ℕ) (v : Verdict) → 5 * t.n ≤ length ws → length ys ≡ length
-    (take (5 * t.n) ws) → Outcome (rest (5 * t.n) (ys ++ drop (5 * t.n) ws)) t zs v
-    → Outcome (rest (5 * t.n) ws) t zs v
-outcome-of t ws ys zs v room len o = subst (λ G. Outcome G t zs v) (back-rest (5 * t.n) ws ys room len) o

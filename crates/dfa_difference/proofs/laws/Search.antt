@@ -3,23 +3,19 @@ use mathlib.Core.Bool.{Bool, beq, false, true}
 use mathlib.Core.List.{List}
 use mathlib.Core.Path.{◌∙◌, ◌≡◌, ap₂, refl, subst, sym}
 use Prim.Native.Nat.{◌*◌, ◌+◌, ◌<◌, ◌≤◌, suc, ℕ}
-use native.Mathlib.Decide.{ℕ_discrete}
 use native.Mathlib.Omega.{arith}
 use lib.ListN.{length, length-take, take}
 use Rattle.dfa.specs.Graph.{rest}
 use Rattle.dfa.specs.Word.{accepting}
 use Rattle.dfa.proofs.laws.Rest.{front_at}
-use Rattle.dfa_difference.specs.Outcome.{Outcome, Setting, ToldApart}
+use Rattle.dfa_difference.specs.Outcome.{Outcome, Setting}
 use Rattle.dfa_difference.specs.declared.Task.{Task}
-use Rattle.dfa_difference.specs.declared.Verdict.{Verdict}
-use Rattle.dfa_difference.specs.declared.Verdict.TheVariants.{Same, Apart as Told}
-use Rattle.dfa_difference.specs.declared.search.Level.{Level}
-use Rattle.dfa_difference.specs.declared.search.Level.TheVariants.{Alike, Apart}
+use Rattle.std.specs.Prelude.{Option, Some, None, Ok, Err}
 use Rattle.dfa_difference.specs.inner.Level.{Deep, Leveled, Shallow, alike_at}
 use Rattle.dfa_difference.specs.inner.Queue.{Grown}
 use Rattle.dfa_difference.specs.inner.Search.{Leveling, Runs, Testing}
 use Rattle.dfa_difference.specs.inner.State.{Half, State}
-use Rattle.dfa_difference.proofs.laws.Level.{deep-first, deep-next, layer-again, layer-first, spelled_stays}
+use Rattle.dfa_difference.proofs.laws.Level.{deep-next, layer-again, spelled_stays}
 use Rattle.dfa_difference.proofs.laws.Run.{last-same, last-told, run_on, run-same, run-told, spells, tail-low}
 
 -- what is said of an entry in all words is said of it in the front
@@ -44,18 +40,6 @@ room_of t ws head tail s u = record {
 }
 
 -- expand_level
-pub leveling-first : (t : Task) (from end : ℕ) (ws : List ℕ) → Setting (rest (5 * t.n) ws) t
-    → State (rest (5 * t.n) ws) t (take (5 * t.n) ws) from end → Leveling t from end ws ws from end
-leveling-first t from end ws s u = record {
-  state = u;
-  layer = layer-first t.n from end _;
-  begun = omega arith;
-  within = u.top.within;
-  len = refl;
-  graph = refl;
-  set_at = s;
-}
-
 module _ (t : Task) (from end : ℕ) (ws₀ ws : List ℕ) (head tail : ℕ) (r : Leveling t from end ws₀ ws head tail) where
   pub level-room : Room t.n tail ws
   level-room = room_of t ws head tail r.set_at r.state
@@ -73,8 +57,8 @@ module _ (t : Task) (from end : ℕ) (ws₀ ws : List ℕ) (head tail : ℕ) (r 
         (alike-front t ws head (omega (arith, level-room)) ∙ e)
 
     pub level-told : alike_at t.n ws head t.f t.g ≡ false
-        → Leveled (rest (5 * t.n) ws₀) t from end (take (5 * t.n) ws₀) (take (5 * t.n) ws) (Apart head)
-    level-told e = subst (λ G. Leveled G t from end (take (5 * t.n) ws₀) (take (5 * t.n) ws) (Apart head)) r.graph
+        → Leveled (rest (5 * t.n) ws₀) t from end (take (5 * t.n) ws₀) (take (5 * t.n) ws) (Err head)
+    level-told e = subst (λ G. Leveled G t from end (take (5 * t.n) ws₀) (take (5 * t.n) ws) (Err head)) r.graph
         (run-told _ t r.set_at _ head tail r.state here (alike-front t ws head (omega (arith, level-room)) ∙ e))
 
     pub level-again : (ws' : List ℕ) (tail' : ℕ) → length ws' ≡ length ws
@@ -92,15 +76,6 @@ module _ (t : Task) (from end : ℕ) (ws₀ ws : List ℕ) (head tail : ℕ) (r 
       set_at = subst (λ G. Setting G t) (sym e.1.0) r.set_at;
     }
 
-  pub level-last : end ≤ head
-      → Leveled (rest (5 * t.n) ws₀) t from end (take (5 * t.n) ws₀) (take (5 * t.n) ws) (Alike tail)
-  level-last h =
-      let e : head ≡ end = omega (arith, r.within) in (
-        subst (λ k. State (rest (5 * t.n) ws₀) t (take (5 * t.n) ws) k tail) e
-            (subst (λ G. State G t (take (5 * t.n) ws) head tail) r.graph r.state),
-        r.layer,
-      )
-
 -- test_level
 module _ (t : Task) (from end : ℕ) (ws : List ℕ) (s : Setting (rest (5 * t.n) ws) t)
     (u : State (rest (5 * t.n) ws) t (take (5 * t.n) ws) from end)
@@ -110,45 +85,17 @@ module _ (t : Task) (from end : ℕ) (ws : List ℕ) (s : Setting (rest (5 * t.n
   at_front k h b e = alike-front t ws k (omega (arith, room_of t ws from end s u)) ∙ e
 
   pub test-told : head < end → alike_at t.n ws head t.f t.g ≡ false
-      → Outcome (rest (5 * t.n) ws) t (take (5 * t.n) ws) (Told head)
+      → Outcome (rest (5 * t.n) ws) t (take (5 * t.n) ws) (Some head)
   test-told h e = last-told _ t s _ from end u d head r.begun h
       (λ k a b. at_front k (omega arith) true (r.alike k a b)) (at_front head h false e)
 
-  pub test-same : end ≤ head → Outcome (rest (5 * t.n) ws) t (take (5 * t.n) ws) Same
+  pub test-same : end ≤ head → Outcome (rest (5 * t.n) ws) t (take (5 * t.n) ws) None
   test-same h = last-same _ t s _ from end u d (λ k a b. at_front k b true (r.alike k a (omega arith)))
 
-pub testing-again : (t : Task) (from : ℕ) (ws : List ℕ) (head : ℕ) → Testing t from ws head
-    → alike_at t.n ws head t.f t.g ≡ true → Testing t from ws (head + 1)
-testing-again t from ws head r e = record
-    { begun = omega (arith, r.begun); alike = λ k h l. go k h l (ℕ_discrete k head) }
-  where
-    go : (k : ℕ) → from ≤ k → k < head + 1 → Dec (k ≡ head) → alike_at t.n ws k t.f t.g ≡ true
-    go k h l (yes q) = rw q e
-    go k h l (no q) = r.alike k h (omega arith)
-
--- what a level has given
-module _ (G : List ℕ) (t : Task) (from end : ℕ) (ws ws' : List ℕ) (v : Level) (k : ℕ) where
-  pub leveled-apart : v ≡ Apart k → Leveled G t from end ws ws' v → ToldApart G t ws' k
-  leveled-apart e o = subst (λ v. Leveled G t from end ws ws' v) e o
-
-  pub leveled-alike : v ≡ Alike k → Leveled G t from end ws ws' v → Leveled G t from end ws ws' (Alike k)
-  leveled-alike e o = subst (λ v. Leveled G t from end ws ws' v) e o
-
 -- run
-pub runs-first : (t : Task) (ws : List ℕ) (left : ℕ) → Setting (rest (5 * t.n) ws) t
-    → State (rest (5 * t.n) ws) t (take (5 * t.n) ws) 0 1 → left ≡ t.most → Runs t ws ws 0 1 left
-runs-first t ws left s u e = record
-    { state = u; depth = 0; sum = omega arith; deep = deep-first t.n _; len = refl; graph = refl; set_at = s }
-
 module _ (t : Task) (ws₀ ws : List ℕ) (head tail left : ℕ) (r : Runs t ws₀ ws head tail left) where
-  pub runs-deep : left ≡ 0 → Deep t.n (take (5 * t.n) ws) head tail t.most
-  runs-deep e k a b u s = omega (arith, r.deep k a b u s, r.sum)
-
-  pub runs-shallow : 0 < left → Shallow t.n (take (5 * t.n) ws) head tail t.most
-  runs-shallow h k a b u s = omega (arith, r.deep k a b u s, r.sum)
-
   pub runs-again : (ws' : List ℕ) (left' next : ℕ) → left ≡ suc left' → length ws' ≡ length ws
-      → Leveled (rest (5 * t.n) ws) t head tail (take (5 * t.n) ws) (take (5 * t.n) ws') (Alike next)
+      → Leveled (rest (5 * t.n) ws) t head tail (take (5 * t.n) ws) (take (5 * t.n) ws') (Ok next)
       → rest (5 * t.n) ws' ≡ rest (5 * t.n) ws → Runs t ws₀ ws' tail next left'
   runs-again ws' left' next q l e g = record {
     state = subst (λ G. State G t (take (5 * t.n) ws') tail next) (sym g) e.0;
@@ -160,9 +107,9 @@ module _ (t : Task) (ws₀ ws : List ℕ) (head tail left : ℕ) (r : Runs t ws�
     set_at = subst (λ G. Setting G t) (sym g) r.set_at;
   }
 
-  pub runs-out : (ws' : List ℕ) (v : Verdict) → Outcome (rest (5 * t.n) ws) t (take (5 * t.n) ws') v
+  pub runs-out : (ws' : List ℕ) (v : Option ℕ) → Outcome (rest (5 * t.n) ws) t (take (5 * t.n) ws') v
       → Outcome (rest (5 * t.n) ws₀) t (take (5 * t.n) ws') v
   runs-out ws' v o = subst (λ G. Outcome G t (take (5 * t.n) ws') v) r.graph o
 
-  pub runs_same : tail ≤ head → Outcome (rest (5 * t.n) ws₀) t (take (5 * t.n) ws) Same
-  runs_same h = runs-out ws Same (λ x l. run-same _ t r.set_at _ head tail r.state h x)
+  pub runs_same : tail ≤ head → Outcome (rest (5 * t.n) ws₀) t (take (5 * t.n) ws) None
+  runs_same h = runs-out ws None (λ x l. run-same _ t r.set_at _ head tail r.state h x)

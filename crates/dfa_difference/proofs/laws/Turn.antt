@@ -89,14 +89,6 @@ turn-first G t s ws head tail p q i ie j je h ep eq ei eie ej eje =
       tj = λ m u. refl;
     })
 
-pub turn-less : (G : List ℕ) (n i ie j je m i' j' : ℕ) → Next G n i ie j je m → Past G n i ie m i'
-    → Past G n j je m j' → ie + je - (i' + j') < ie + je - (i + j)
-turn-less G n i ie j je m i' j' x a b = go x.hit
-  where
-    go : ((i < ie) × (letter G n i ≡ m)) ⊎ ((j < je) × (letter G n j ≡ m)) → ie + je - (i' + j') < ie + je - (i + j)
-    go (inl h) = omega (arith, a.step h.0 h.1, b.ge, a.edges.le, b.edges.le, h.0)
-    go (inr h) = omega (arith, b.step h.0 h.1, a.ge, a.edges.le, b.edges.le, h.0)
-
 module _ (G : List ℕ) (t : Task) (s : Setting G t) (head : ℕ) (ws : List ℕ) (i ie j je last : ℕ)
     (u : Turn G t head ws i ie j je last) (m : ℕ) (x : Next G t.n i ie j je m) where
   abbrev E : ℕ → Entry

@@ -1,12 +1,10 @@
 -- Levels of the queue: entries whose words have as many letters. Assumes nothing.
-use Rattle.std.specs.Prelude.{Bool, List, ◌≡◌, ◌*◌, ◌+◌, ◌<◌, ◌≤◌, ℕ, get_or, length}
+use Rattle.std.specs.Prelude.{Bool, List, ◌≡◌, ◌*◌, ◌+◌, ◌<◌, ◌≤◌, ℕ, get_or, length, Result, Ok, Err}
 use Rattle.std.specs.Bool.{beq}
 use Rattle.dfa.specs.Word.{accepting}
 use Rattle.dfa_difference.specs.Outcome.{ToldApart}
 use Rattle.dfa_search.specs.Spelled.{Spelled}
 use Rattle.dfa_difference.specs.declared.Task.{Task}
-use Rattle.dfa_difference.specs.declared.search.Level.{Level}
-use Rattle.dfa_difference.specs.declared.search.Level.TheVariants.{Alike, Apart}
 use Rattle.dfa_difference.specs.inner.State.{State}
 
 -- whether both states of entry k accept, or neither
@@ -30,6 +28,6 @@ pub record Layer (n from end tail : ℕ) (ws ws' : List ℕ) : Type 0 where
 
 -- what expand_level ensures: the word of entry k is the first that tells the two states apart; or all of the level are
 -- processed, and the entries behind it are the next one
-abbrev pub Leveled : List ℕ → Task → ℕ → ℕ → List ℕ → List ℕ → Level → Type 0
-Leveled G t from end ws ws' (Apart k) = ToldApart G t ws' k
-Leveled G t from end ws ws' (Alike tail) = State G t ws' end tail × Layer t.n from end tail ws ws'
+abbrev pub Leveled : List ℕ → Task → ℕ → ℕ → List ℕ → List ℕ → Result ℕ ℕ → Type 0
+Leveled G t from end ws ws' (Err k) = ToldApart G t ws' k
+Leveled G t from end ws ws' (Ok tail) = State G t ws' end tail × Layer t.n from end tail ws ws'

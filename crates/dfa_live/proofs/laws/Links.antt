@@ -10,7 +10,7 @@ use lib.Seq.{get_or-set_other, get_or-set_same}
 use Rattle.dfa.specs.Graph.{EdgeOf, Graph, target}
 use borrow.Author.Tests.{le-ltb, lt-ltb}
 use Rattle.dfa.specs.Frame.{SameFrom}
-use Rattle.dfa_live.specs.inner.Links.{Held, Latest, Left, Linked, Linking, Links, NoLists, head_at}
+use Rattle.dfa_live.specs.inner.Links.{Held, Latest, Left, Linked, Linking, Links, head_at}
 use Rattle.dfa_live.specs.inner.Links.{link_of, link_place, linked_to}
 use Rattle.dfa.proofs.laws.Edges.{first_edge}
 
@@ -20,15 +20,6 @@ packed-next h p l = omega arith
 
 pub packed-source : (h p : ℕ) → p < 16384 → (h * 16384 + p) % 16384 ≡ p
 packed-source h p l = omega arith
-
--- before the first edge
-latest-none : (G : List ℕ) (n t : ℕ) → Latest G n t (get_or G 0 0) 0
-latest-none G n t = record {
-  within = omega arith;
-  above = λ h. absurd (omega arith);
-  leads = λ h. absurd (omega arith);
-  later = λ e a b c. absurd (omega arith);
-}
 
 -- edge e leads to t
 latest-this : (G : List ℕ) (n e : ℕ) → get_or G 0 0 ≤ e → Latest G n (target G n e) (e + 1) (e + 1)
@@ -141,9 +132,6 @@ module _ (G : List ℕ) (n : ℕ) (ws : List ℕ) (h : Held G n ws) where
   end_is : get_or ws (6 * n) 0 ≡ get_or G n 0
   end_is = ap (λ k. get_or ws k 0) {x = 6 * n} {y = 5 * n + n} (omega arith) ∙ h.same n (omega arith)
 
-  first-is : get_or ws (5 * n) 0 ≡ get_or G 0 0
-  first-is = ap (λ k. get_or ws k 0) {x = 5 * n} {y = 5 * n + 0} (omega arith) ∙ h.same 0 (omega arith)
-
   edges-is : (p : ℕ) → p < n → get_or ws (5 * n + p + 1) 0 ≡ get_or G (p + 1) 0
   edges-is p l = ap (λ k. get_or ws k 0) {x = 5 * n + p + 1} {y = 5 * n + (p + 1)} (omega arith)
       ∙ h.same (p + 1) (omega arith)
@@ -175,31 +163,35 @@ bounds G n ws h = record {
 edge-target : (G : List ℕ) (n p e : ℕ) → Graph G n → EdgeOf G n p e → target G n e < n
 edge-target G n p e g h = ((g.edges p h.below).small e h.from h.to).1
 
--- what link stores
-pub link-stores : (ws w₁ w₂ : List ℕ) (place t p e v : ℕ) → v ≡ get_or ws t 0
-    → w₁ ≡ set ws place (v / 16384 * 16384 + p) → w₂ ≡ set w₁ t ((e + 1) * 16384) → w₂ ≡ linked_to ws place t p e
-link-stores ws w₁ w₂ place t p e v en e₁ e₂ = rw (e₂, e₁, en)
+-- the loop over the edges of the state p, from edge i on and before edge k
+module _ (G : List ℕ) (n : ℕ) (ws₀ ws : List ℕ) (p i k : ℕ) (K : Links G n ws₀ ws (get_or G p 0)) (h : p < n)
+    (ei : i ≡ get_or ws (5 * n + p) 0) (ek : k ≡ get_or ws (5 * n + p + 1) 0) where
+  first-of : i ≡ get_or G p 0
+  first-of = ei ∙ K.held.same p (omega arith)
 
--- before the loop
-pub link-first : (G : List ℕ) (n e : ℕ) (ws : List ℕ) → Held G n ws → NoLists n ws → e ≡ get_or ws (5 * n) 0
-    → Linking G n ws ws 0 e
-link-first G n e ws h none q =
-    let e-is : e ≡ get_or G 0 0 = q ∙ first-is G n ws h in
-    rw e-is (record {
-      links = record {
-        held = h;
-        linked = record {
-          heads = λ t l. rw (none t l) (latest-none G n t);
-          nexts = λ e a b. absurd (omega arith);
-          sources = λ e a b. absurd (omega arith);
-        };
-        len = refl;
-        keep = λ i a. refl;
-      };
-      below = h.graph.some;
-      from = omega arith;
-      to = first_edge G n h.graph 0 n (omega arith) (omega arith);
-    })
+  end-of : k ≡ get_or G (p + 1) 0
+  end-of = ek ∙ edges-is G n ws K.held p h
+
+  pub link-begun : Linking G n ws₀ ws p i
+  link-begun = rw first-of (record {
+    links = K;
+    below = h;
+    from = omega arith;
+    to = first_edge G n K.held.graph p n (omega arith) (omega arith);
+  })
+
+  pub link-within : (ws₁ : List ℕ) (e : ℕ) → Linking G n ws₀ ws₁ p e → e < k
+      → (e < get_or G n 0) × (e < get_or ws₁ (5 * n + p + 1) 0)
+  link-within ws₁ e L l = (
+    omega (arith, end-of, first_edge G n K.held.graph (p + 1) n (omega arith) (omega arith)),
+    omega (arith, end-of, edges-is G n ws₁ L.links.held p h),
+  )
+
+  pub link-done : (ws₁ : List ℕ) (e : ℕ) → Linking G n ws₀ ws₁ p e → k ≤ e → (i ≤ k → e ≤ k)
+      → Links G n ws₀ ws₁ (get_or G (p + 1) 0)
+  link-done ws₁ e L l f =
+      let z : e ≤ k = f (omega (arith, first-of, end-of, (K.held.graph.edges p h).le)) in
+      subst (λ b. Links G n ws₀ ws₁ b) {x = e} {y = get_or G (p + 1) 0} (omega (arith, end-of)) L.links
 
 -- the words with one more edge linked
 module _ (ws : List ℕ) (place t p e : ℕ) (low : t < length ws) (room : place < length ws) (apart : t ≢ place) where
@@ -222,16 +214,6 @@ module _ (ws : List ℕ) (place t p e : ℕ) (low : t < length ws) (room : place
   same_size = length-set (set ws place stored) t ((e + 1) * 16384) ∙ length-set ws place stored
 
 module _ (G : List ℕ) (n : ℕ) (ws₀ ws : List ℕ) (p e : ℕ) (L : Linking G n ws₀ ws p e) (l : e < get_or G n 0) where
-  -- the edges of p are done
-  pub link_on : get_or ws (5 * n + p + 1) 0 ≤ e → Linking G n ws₀ ws (p + 1) e
-  link_on h =
-      let ends = edges-is G n ws L.links.held p L.below in
-      record { links = L.links; below = go (ℕ_discrete (p + 1) n); from = omega arith; to = L.to }
-    where
-      go : Dec (p + 1 ≡ n) → p + 1 < n
-      go (yes q) = absurd (omega (arith, ap (λ k. get_or G k 0) q, edges-is G n ws L.links.held p L.below))
-      go (no q) = omega (arith, L.below)
-
   -- e is an edge of p
   link-edge : e < get_or ws (5 * n + p + 1) 0 → EdgeOf G n p e
   link-edge h = record
@@ -330,9 +312,3 @@ module _ (G : List ℕ) (n : ℕ) (ws₀ ws : List ℕ) (p e : ℕ) (L : Linking
           from = omega (arith, L.from);
           to = omega arith;
         })
-
--- after the loop
-pub link-last : (G : List ℕ) (n : ℕ) (ws₀ ws : List ℕ) (p e : ℕ) → Linking G n ws₀ ws p e → get_or G n 0 ≤ e
-    → Links G n ws₀ ws (get_or G n 0)
-link-last G n ws₀ ws p e L h = subst (λ b. Links G n ws₀ ws b) {x = e} {y = get_or G n 0} (omega (arith, L.to))
-    L.links

@@ -144,14 +144,3 @@ module _ (G : List ℕ) (n f : ℕ) (ws : List ℕ) (tail p : ℕ) (Q : Queued G
       go : Dec (mark_at n ws p ≡ 1) → Notes G n f ws v tail r p
       go (yes e) = rw (ev, er, eq-eqb (mark_at n ws p) 1 e) (note-old e)
       go (no e) = rw (ev, er, ne_eqb (mark_at n ws p) 1 e) (note-new e)
-
--- what note stores
-pub note-kept : (ws : List ℕ) (n tail p v : ℕ) → v ≡ mark_at n ws p → v ≡ 1
-    → (tail ≡ tail_after ws n tail p) × (ws ≡ noted ws n tail p)
-note-kept ws n tail p v e h = rw (eq-eqb (mark_at n ws p) 1 (sym e ∙ h)) (refl, refl)
-
-pub note-stores : (ws w₁ w₂ : List ℕ) (n tail p v : ℕ) → v ≡ mark_at n ws p → v ≢ 1 → w₁ ≡ set ws (n + p) 1
-    → (u : ℕ) → u ≡ get_or w₁ tail 0 → w₂ ≡ set w₁ tail (u / 16384 * 16384 + p) → (tail + 1 ≡ tail_after ws n tail p) × (w₂
-    ≡ noted ws n tail p)
-note-stores ws w₁ w₂ n tail p v e h e₁ u eu e₂ =
-    rw (ne_eqb (mark_at n ws p) 1 (λ q. h (e ∙ q)), e₂, eu, e₁) (refl, refl)

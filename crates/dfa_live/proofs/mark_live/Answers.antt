@@ -1,17 +1,6 @@
 -- `mark_live` keeps what `Marks` says.
-use native.Mathlib.Omega.{arith}
-use Prim.Native.Nat.{◌*◌}
-use lib.ListN.{length-take}
 use Rattle.dfa_live.proofs.laws.Marked.{linkable, marked, unmarked}
 use Rattle.dfa_live.proofs.mark_live.Goals as goal
-
-pub slice_bounds-clear-end-2 : goal.slice_bounds-clear-end-2
-slice_bounds-clear-end-2 c = omega (
-  arith,
-  length-take (2 * c.args.n)
-      c.args.words.now,
-  c.requires.room,
-)
 
 pub link_edges-requires : goal.link_edges-requires
 link_edges-requires c = linkable _ _ _ _ c.requires

@@ -55,7 +55,7 @@ pub record Links (G : List ℕ) (n : ℕ) (ws₀ ws : List ℕ) (b : ℕ) : Type
   pub len : length ws ≡ length ws₀
   pub keep : (i : ℕ) → Left n (get_or G n 0) i → get_or ws i 0 ≡ get_or ws₀ i 0
 
--- the loop of link_edges: edge e is next, and is none of a state below p
+-- the loops of link_edges: edge e is next, and is none of a state below p
 pub record Linking (G : List ℕ) (n : ℕ) (ws₀ ws : List ℕ) (p e : ℕ) : Type 0 where
   pub links : Links G n ws₀ ws e
   pub below : p < n

@@ -558,21 +558,6 @@ noted-length n dead t k r ws w (lost q er ew) = ap length ew
 noted-length n dead t k r ws w (known q p er ew) = ap length ew
 noted-length n dead t k r ws w (fresh q p er ew) = rw ew (simp length-set)
 
--- the answers of note
-module _ (n dead t k : ℕ) (ws : List ℕ) (c : ℕ) (ec : c ≡ class_at ws t) where
-  pub noted-lost : c ≡ dead → Noted n dead t k ws k ws
-  noted-lost q = lost (sym ec ∙ q) refl refl
-
-  pub noted-known : (c ≡ dead → ⊥) → (d : ℕ) → d ≡ get_or ws (n + c) 0 → 0 < d → Noted n dead t k ws k ws
-  noted-known ne d q h = known (λ z. ne (ec ∙ z)) (subst (λ x. 0 < number_at n ws x) {x = c} {y = class_at ws t} ec
-      (omega arith)) refl refl
-
-  pub noted-fresh : (c ≡ dead → ⊥) → (d : ℕ) → d ≡ get_or ws (n + c) 0 → d ≤ 0 → (w₁ w₂ : List ℕ)
-      → w₁ ≡ set ws (n + c) (k + 1) → w₂ ≡ set w₁ (2 * n + k) t → Noted n dead t k ws (k + 1) w₂
-  noted-fresh ne d q h w₁ w₂ e₁ e₂ = fresh (λ z. ne (ec ∙ z))
-      (subst (λ x. number_at n ws x ≡ 0) {x = c} {y = class_at ws t} ec (omega arith)) refl
-      (e₂ ∙ ap (λ w. set w (2 * n + k) t) (e₁ ∙ ap (λ x. set ws (n + x) (k + 1)) ec))
-
 -- the loop of meet
 module _ (G : List ℕ) (n g : ℕ) (own : ℕ → ℕ) (head p dead : ℕ) (ed : dead ≡ own (n - 1)) where
   pub meet-first : (ws : List ℕ) (tail e end : ℕ) → Counting G n g own ws head 0 tail → head < tail
@@ -655,9 +640,6 @@ module _ (G : List ℕ) (n g : ℕ) (own : ℕ → ℕ) (ws : List ℕ) (head ta
   pub meet_low : p < n
   meet_low = rw ep (C.low head h)
 
-  pub meet-room : (n ≤ 8192) × (6 * n < length ws)
-  meet-room = let z = C.packed.sized in (z.few, omega arith)
-
 -- before the loop of number_states
 module _ (G : List ℕ) (n g : ℕ) (own : ℕ → ℕ) (ws : List ℕ) (B : Countable G n g own ws) where
   pub count_room : (0 < n) × ((n ≤ 8192) × (6 * n < length ws))
@@ -676,11 +658,6 @@ module _ (G : List ℕ) (n g : ℕ) (own : ℕ → ℕ) (ws : List ℕ) (B : Cou
 
     first-low : class_at v 0 < n
     first-low = let z = B.packed.sized in rw (cleared.class 0 z.some) (B.own_low 0 z.some)
-
-    pub first-asks : (n ≤ 8192) × ((0 < n) × ((0 ≤ n) × ((class_at v 0 < n) × ((5 * n ≤ length v)
-        × (number_at n v (class_at v 0) ≡ 0 → 0 < n)))))
-    first-asks = let z = B.packed.sized in
-        (z.few, (z.some, (omega arith, (first-low, (omega (arith, Z.len), (λ q. z.some))))))
 
     pub count-first : (dead r : ℕ) (w : List ℕ) → dead ≡ get_or ws (n - 1) 0 → Noted n dead 0 0 v r w
         → Counted G n g own w 0 r

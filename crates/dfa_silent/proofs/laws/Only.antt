@@ -1,22 +1,11 @@
 -- What a store among the ends leaves. Assumes nothing.
 use mathlib.Core.List.{List}
-use mathlib.Core.Logic.{◌≢◌}
-use mathlib.Core.Path.{◌∙◌, ◌≡◌, refl}
+use mathlib.Core.Path.{◌∙◌, refl}
 use Prim.Native.Nat.{◌+◌, ◌<◌, ℕ}
-use native.Mathlib.Decide.{ℕ_discrete}
 use native.Mathlib.Omega.{arith}
-use lib.ListN.{get_or, length, length-set, set}
-use lib.Seq.{get_or-set_other, get_or-set_same}
+use lib.ListN.{length-set, set}
+use lib.Seq.{get_or-set_other}
 use Rattle.dfa_silent.specs.inner.Settle.{Only, Steps}
-
--- what holds at the stored place of a row and at the others
-pub row-all : (Φ : ℕ → ℕ → Type 0) (ws : List ℕ) (n i v : ℕ) → n + i < length ws → Φ i v
-    → ((p : ℕ) → p ≢ i → Φ p (get_or ws (n + p) 0)) → (p : ℕ) → Φ p (get_or (set ws (n + i) v) (n + p) 0)
-row-all Φ ws n i v l new old p = go (ℕ_discrete p i)
-  where
-    go : Dec (p ≡ i) → Φ p (get_or (set ws (n + i) v) (n + p) 0)
-    go (yes q) = rw (q, get_or-set_same ws (n + i) v 0 l) new
-    go (no q) = rw (get_or-set_other ws (n + i) (n + p) v 0 (λ e. q (omega arith))) (old p q)
 
 pub only_none : (n : ℕ) (ws : List ℕ) → Only n ws ws
 only_none n ws = record { len = refl; low = λ i h. refl; high = λ i h. refl }

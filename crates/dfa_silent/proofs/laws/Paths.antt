@@ -1,18 +1,16 @@
 -- The ends of the paths are found, those of one walk at a time. Assumes nothing.
-use mathlib.Core.Bool.{cond}
 use mathlib.Core.List.{List}
 use mathlib.Core.Logic.{◌≢◌, ◌⊎◌, inl, inr}
 use mathlib.Core.Path.{◌∙◌, ◌≡◌, ap, refl, subst, sym}
 use Prim.Native.Nat.{◌+◌, ◌-◌, ◌<◌, ◌^◌, ◌≤◌, ℕ}
 use native.Mathlib.Decide.{dec_lt, ℕ_discrete}
 use native.Mathlib.Omega.{arith}
-use lib.Dec.{eqb}
-use lib.ListN.{get_or, set}
+use lib.ListN.{get_or}
 use borrow.Author.Tests.{eq-eqb, ne_eqb}
 use Rattle.dfa_silent.specs.Silent.{Settled, Silent, moved}
 use Rattle.dfa_silent.specs.inner.Settle.{Among, Begun, Only, Replaced, Replacing, Steps, Through, PathOf, PathFound}
 use Rattle.dfa_silent.specs.inner.Settle.{Paths, Whole, own}
-use Rattle.dfa_silent.proofs.laws.Only.{only-both, only_none, only_set, row-all, steps-same}
+use Rattle.dfa_silent.proofs.laws.Only.{only-both, steps-same}
 use Rattle.dfa_silent.proofs.laws.Settled.{settled_here}
 use Rattle.dfa_silent.proofs.laws.Silent.{moved-add, moved-lt, settled_back, settled-round, settled_same}
 
@@ -34,29 +32,6 @@ own-path n S p h = go (ℕ_discrete (get_or S p 0) 0)
     })
     go (no e) = rw (sym (own-none S p e)) (record
         { silent = λ z. e; small = omega arith; right = λ z. absurd (omega arith) })
-
--- begin's loop
-pub begin-first : (n : ℕ) (ws : List ℕ) → Begun n ws ws 0
-begin-first n ws = record { le = omega arith; only = only_none n ws; done = λ p h. absurd (omega arith) }
-
-own_same : (n i v : ℕ) (ws₀ ws : List ℕ) → Begun n ws₀ ws i → i < n → v ≡ own ws i → v ≡ own ws₀ i
-own_same n i v ws₀ ws b h e = e ∙ ap (λ z. cond (eqb z 0) (i + 1) 0) (b.only.low i h)
-
-pub begin-small : (n i v : ℕ) (ws₀ ws : List ℕ) → Steps n ws₀ → Begun n ws₀ ws i → i < n → v ≡ own ws i → v < 2 ^ 32
-begin-small n i v ws₀ ws s b h e =
-    let w = (own-path n ws₀ i h).small in omega (arith, s.few, own_same n i v ws₀ ws b h e)
-
-pub begin-again : (n i v : ℕ) (ws₀ ws ws' : List ℕ) → Steps n ws₀ → Begun n ws₀ ws i → i < n → v ≡ own ws i
-    → ws' ≡ set ws (n + i) v → Begun n ws₀ ws' (i + 1)
-begin-again n i v ws₀ ws ws' s b h e e' = subst (λ w. Begun n ws₀ w (i + 1)) (sym e') (record {
-  le = omega arith;
-  only = only_set n i v ws₀ ws h b.only;
-  done = row-all (λ p z. p < i + 1 → z ≡ own ws₀ p) ws n i v (omega (arith, s.room, b.only.len))
-      (λ u. own_same n i v ws₀ ws b h e) (λ p q u. b.done p (omega arith));
-})
-
-pub begin-last : (n i : ℕ) (ws₀ ws : List ℕ) → Begun n ws₀ ws i → n ≤ i → Begun n ws₀ ws n
-begin-last n i ws₀ ws b h = subst (λ k. Begun n ws₀ ws k) {x = i} {y = n} (omega (arith, b.le)) b
 
 -- an end is one by the words where only the ends have changed
 path-same : (n q v : ℕ) (ws₀ ws : List ℕ) → Silent n ws₀ → Only n ws₀ ws → q < n → PathOf ws₀ n q v → PathOf ws n q v
@@ -199,27 +174,7 @@ module _ (n p x r : ℕ) (ws₀ ws₁ : List ℕ) (w : Paths n ws₀) (h : p < n
         own (inl k) e = itself (sym k ∙ e)
         own (inr a) e = some (sym (has p (first p a)) ∙ e)
 
--- the loop of find_paths
-pub through-first : (n : ℕ) (ws : List ℕ) → Paths n ws → Through n ws ws 0
-through-first n ws w = record
-    { le = omega arith; only = only_none n ws; paths = w; done = λ p h. absurd (omega arith) }
-
-pub through-again : (n i : ℕ) (ws₀ ws ws' : List ℕ) → Through n ws₀ ws i → i < n → PathFound n i ws ws'
-    → Through n ws₀ ws' (i + 1)
-through-again n i ws₀ ws ws' t h f = record {
-  le = omega arith;
-  only = only-both n ws₀ ws ws' t.only f.only;
-  paths = f.paths;
-  done = λ p u. go p u (ℕ_discrete p i);
-}
-  where
-    go : (p : ℕ) → p < i + 1 → Dec (p ≡ i) → get_or ws' (n + p) 0 ≢ 0
-    go p u (yes q) = rw q f.itself
-    go p u (no q) = f.kept p (omega arith) (t.done p (omega arith))
-
-pub through-last : (n i : ℕ) (ws₀ ws : List ℕ) → Through n ws₀ ws i → n ≤ i → Through n ws₀ ws n
-through-last n i ws₀ ws t h = subst (λ k. Through n ws₀ ws k) {x = i} {y = n} (omega (arith, t.le)) t
-
+-- the ends found by find_paths
 pub whole_of : (n : ℕ) (ws₀ ws : List ℕ) → Through n ws₀ ws n → Whole n ws
 whole_of n ws₀ ws t = record {
   few = t.paths.steps.few;

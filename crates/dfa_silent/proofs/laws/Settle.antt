@@ -1,15 +1,13 @@
 -- The edges are led to where their targets settle, by the ends of the paths. Assumes nothing.
 use mathlib.Core.List.{List}
-use mathlib.Core.Logic.{◌≢◌}
 use mathlib.Core.Path.{◌∙◌, ◌≡◌, ap, refl, subst, sym}
 use Prim.Native.Nat.{◌*◌, ◌+◌, ◌-◌, ◌<◌, ◌≤◌, suc, zero, ℕ}
 use native.Mathlib.Decide.{dec_lt, ℕ_discrete}
 use native.Mathlib.Omega.{arith}
 use lib.ListN.{get_or, length, length-set, set}
 use lib.Seq.{ext_get_or, get_or-set_other, get_or-set_same}
-use borrow.Author.Tests.{eq-eqb, ne_eqb}
 use Rattle.dfa.specs.Graph.{Graph, rest, target}
-use Rattle.dfa_silent.specs.Silent.{Settled, Settling, Silent, stepped}
+use Rattle.dfa_silent.specs.Silent.{Settled, Settling, Silent}
 use Rattle.dfa_silent.specs.inner.Settle.{Begun, Only, Redirected, Steps, Through, Whole, ended}
 use Rattle.dfa_silent.proofs.laws.Only.{only-both}
 use Rattle.dfa.proofs.laws.Rest.{rest_at, rest-length}
@@ -119,18 +117,6 @@ redirect-first n i ws g e = let s = scan n ws g in record {
   past = λ j a b. absurd (omega arith);
   later = λ j h. refl;
 }
-
-pub redirect-last : (n i : ℕ) (ws₀ ws : List ℕ) → Redirected n ws₀ ws i → get_or ws₀ (5 * n + n) 0 ≤ i
-    → Redirected n ws₀ ws (get_or ws₀ (5 * n + n) 0)
-redirect-last n i ws₀ ws r h = subst (λ k. Redirected n ws₀ ws k) {x = i} {y = get_or ws₀ (5 * n + n) 0}
-    (omega (arith, r.le)) r
-
--- one step, as the code decides
-pub step-stay : (S : List ℕ) (x : ℕ) → get_or S x 0 ≡ 0 → x ≡ stepped S x
-step-stay S x e = sym (rw (eq-eqb (get_or S x 0) 0 e))
-
-pub step-go : (S : List ℕ) (x k : ℕ) → k ≡ get_or S x 0 → k ≢ 0 → k - 1 ≡ stepped S x
-step-go S x k e ne = sym (rw (ne_eqb (get_or S x 0) 0 (λ q. ne (e ∙ q))) (ap (λ z. z - 1) (sym e)))
 
 -- settle
 pub steps_of : (n : ℕ) (ws : List ℕ) → Graph (rest (5 * n) ws) n → Silent n ws → Steps n ws

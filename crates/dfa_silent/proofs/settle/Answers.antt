@@ -3,10 +3,6 @@ use Rattle.dfa_silent.proofs.laws.Settle.{steps_of, graph-of, settling}
 use Rattle.dfa_silent.proofs.laws.Paths.{begun-paths, whole_of}
 use Rattle.dfa_silent.proofs.settle.Goals as goal
 
-pub begin-requires : goal.begin-requires
-begin-requires c = steps_of c.args.n c.args.words.now
-    c.requires.0 c.requires.1
-
 pub find_paths-requires : goal.find_paths-requires
 find_paths-requires c = begun-paths _ _ _ (steps_of c.args.n
     c.args.words.now

@@ -44,50 +44,6 @@ module _ (n i : ℕ) (ws v : List ℕ) (P : Placed n i ws v) (h : i < n) (room :
   abbrev u₃ : List ℕ
   u₃ = set u₂ (2 * n + i) i
 
-  u₃-other : (x : ℕ) → x ≢ i → x ≢ n + i → x ≢ 2 * n + i → get_or u₃ x 0 ≡ get_or v x 0
-  u₃-other x a b c = get_or-set_other u₂ (2 * n + i) x i 0 c ∙ get_or-set_other u₁ (n + i) x i 0 b
-      ∙ get_or-set_other v i x 0 0 a
-
-  placed-more : Placed n (i + 1) ws u₃
-  placed-more = record {
-    len = length-set u₂ (2 * n + i) i ∙ length-set u₁ (n + i) i ∙ length-set v i 0 ∙ P.len;
-    class = λ p l. class p l (ℕ_discrete p i);
-    member = λ p l. member p l (ℕ_discrete p i);
-    place = λ p l. place p l (ℕ_discrete p i);
-    keeps = λ x l. u₃-other x (λ q. omega arith) (λ q. omega arith) (λ q. omega arith) ∙ P.keeps x l;
-  }
-    where
-      less : (p : ℕ) → p < i + 1 → p ≢ i → p < i
-      less p l ne = go (dec_lt p i)
-        where
-          go : Dec (p < i) → p < i
-          go (yes y) = y
-          go (no y) = absurd (ne (omega arith))
-
-      class : (p : ℕ) → p < i + 1 → Dec (p ≡ i) → class_at u₃ p ≡ 0
-      class p l (yes q) = ap (class_at u₃) q ∙ get_or-set_other u₂ (2 * n + i) i i 0 (λ y. omega arith)
-          ∙ get_or-set_other u₁ (n + i) i i 0 (λ y. omega arith) ∙ get_or-set_same v i 0 0 (omega (arith, P.len))
-      class p l (no q) = u₃-other p q (λ y. omega arith) (λ y. omega arith) ∙ P.class p (less p l q)
-
-      member : (p : ℕ) → p < i + 1 → Dec (p ≡ i) → member_at n u₃ p ≡ p
-      member p l (yes q) = ap (member_at n u₃) q ∙ get_or-set_other u₂ (2 * n + i) (n + i) i 0 (λ y. omega arith)
-          ∙ get_or-set_same u₁ (n + i) i 0 (rw length-set (omega (arith, P.len))) ∙ sym q
-      member p l (no q) = u₃-other (n + p) (λ y. omega arith) (λ y. q (omega arith)) (λ y. omega arith)
-          ∙ P.member p (less p l q)
-
-      place : (p : ℕ) → p < i + 1 → Dec (p ≡ i) → place_at n u₃ p ≡ p
-      place p l (yes q) = ap (place_at n u₃) q ∙ get_or-set_same u₂ (2 * n + i) i 0 (simp length-set (omega (
-        arith,
-        P.len,
-      )))
-          ∙ sym q
-      place p l (no q) = u₃-other (2 * n + p) (λ y. omega arith) (λ y. omega arith) (λ y. q (omega arith))
-          ∙ P.place p (less p l q)
-
-  pub placed-again : (a b c : List ℕ) → a ≡ set v i 0 → b ≡ set a (n + i) i → c ≡ set b (2 * n + i) i
-      → Placed n (i + 1) ws c
-  placed-again a b c ea eb ec = rw (ec, eb, ea) placed-more
-
 -- the first two classes
 module _ (n f : ℕ) (ws : List ℕ) (P : Placed n n ws ws) (room : 5 * n ≤ length ws) (low : f < n) (ne : f ≢ n - 1) where
   two : 2 ≤ n
@@ -152,11 +108,6 @@ module _ (n f : ℕ) (ws : List ℕ) (P : Placed n n ws ws) (room : 5 * n ≤ le
       ),
     ),
   )
-
-  pub exchange-asks₂ : (b₁ b₂ : List ℕ) → b₁ ≡ set ws (3 * n + 0) 0 → b₂ ≡ set b₁ (4 * n + 0) n → n ≤ 8192
-      → (n ≤ 8192) × ((f < n) × ((n - 1 < n) × ((5 * n ≤ length b₂) × ((member_at n b₂ f < n) × (member_at n b₂ (n - 1) <
-      n)))))
-  exchange-asks₂ b₁ b₂ e₁ e₂ few = exchange-asks b₂ (e₂ ∙ ap (λ w. set w (4 * n + 0) n) e₁) few
 
   last-low : n - 1 < n
   last-low = omega (arith, two)
@@ -384,22 +335,6 @@ module _ (n f : ℕ) (ws : List ℕ) (S : Sortable n f ws) where
 
       module _ (u : List ℕ) (L : Linking G n g v (get_or G n 0) u) where
         module _ (w : List ℕ) (P : Placed n n u w) where
-          pub start-asks : (n ≤ 8192) × ((5 * n ≤ length w) × ((f < n) × ((f ≢ n - 1) × Placed n n w w)))
-          start-asks = let z = L.sized in (
-            S.few,
-            (
-              omega (arith, P.len),
-              (
-                S.low,
-                (
-                  S.single.other,
-                  record
-                      { len = refl; class = P.class; member = P.member; place = P.place; keeps = λ x h. refl },
-                ),
-              ),
-            ),
-          )
-
           module _ (y : List ℕ) (T : Started n f w y) where
             pub refinable : Refinable G n g f y
             refinable = let z = L.sized in record {

@@ -1,29 +1,6 @@
 -- `sort_states` links the edges, begins with two classes and makes them finer.
-use native.Mathlib.Omega.{arith}
-use Rattle.dfa_sorting.proofs.laws.Starting.{end_is, g-is, linkable, refinable, sorted, start-asks, zero-asks}
+use Rattle.dfa_sorting.proofs.laws.Starting.{g-is, linkable, refinable, sorted}
 use Rattle.dfa_sorting.proofs.sort_states.Goals as goal
-
-pub overflow_mul-g-2 : goal.overflow_mul-g-2
-overflow_mul-g-2 c = let S = c.requires in omega (
-  arith,
-  S.few,
-  S.edges,
-  end_is _ _ _ S _
-      c.first_edge.ensures,
-)
-
-pub overflow_add-g-2 : goal.overflow_add-g-2
-overflow_add-g-2 c = let S = c.requires in omega (
-  arith,
-  S.few,
-  S.edges,
-  end_is _ _ _ S _
-      c.first_edge.ensures,
-)
-
-pub zero-requires : goal.zero-requires
-zero-requires c = zero-asks _ _ _ c.requires _ (g-is _ _ _
-    c.requires _ c.first_edge.ensures)
 
 pub link_edges-requires : goal.link_edges-requires
 link_edges-requires c = record {
@@ -33,28 +10,6 @@ link_edges-requires c = record {
       c.requires _
       c.first_edge.ensures) _ c.zero.ensures;
 }
-
-pub first_classes-requires : goal.first_classes-requires
-first_classes-requires c =
-    let asked = c.requires in
-    let first-edge-2 = c.first_edge in
-    let zero-2 = c.zero in
-    let Λ = linkable _ _ _
-    (asked)
-    _ (g-is _ _ _
-    (asked)
-    _
-    first-edge-2.ensures)
-    _ zero-2.ensures in
-    start-asks _ _ _
-    (asked)
-    _ (g-is _ _ _
-    (asked)
-    _
-    first-edge-2.ensures)
-    _ zero-2.ensures _
-    (c.link_edges.ensures _ Λ) _
-    c.place_states.ensures
 
 pub refine-requires : goal.refine-requires
 refine-requires c =

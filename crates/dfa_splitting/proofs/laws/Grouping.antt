@@ -30,12 +30,6 @@ module _ (G : List ℕ) (n g s : ℕ) (own : ℕ → ℕ) (count c low till : �
   top : till ≤ n
   top = omega (arith, A.to, A.parted.top c A.class)
 
-  pub group-asks : (i : ℕ) → i < till → (i < n) × ((n ≤ 8192) × (5 * n ≤ length ws₀))
-  group-asks i h = let z = A.packed.sized in (omega (arith, top), (z.few, omega arith))
-
-  pub sign-asks : (p : ℕ) → p < n → (p < n) × ((n ≤ 8192) × ((g ≤ 600000) × (g + 4 * n ≤ length ws₀)))
-  sign-asks p h = let z = A.packed.sized in (h, (z.few, (omega arith, z.room)))
-
   pub first-low : (p : ℕ) → p ≡ member_at n ws₀ low → p < n
   first-low p e = rw e (A.parted.member_low low (omega (arith, A.less, top)))
 

@@ -11,7 +11,7 @@ use Rattle.dfa.specs.Graph.{Edges, letter, look, target, δ}
 use Rattle.dfa.proofs.laws.Look.{edges-tail, look_at, look-before, look-past}
 use Rattle.dfa_smallest.specs.Classes.{SameInto}
 use Rattle.dfa.proofs.laws.Live.{no_true}
-use Rattle.dfa.proofs.laws.Edges.{edge-from, edge_to, first_edge}
+use Rattle.dfa.proofs.laws.Edges.{edge-from, edge_to}
 use Rattle.dfa_classes.specs.Places.{class_at}
 use Rattle.dfa_classes.proofs.laws.Packed.{edge-room, target-low}
 use Rattle.dfa_splitting.specs.inner.Into.{Comparing, Entering, Into-loop, LeftAlike, Skipped, Skipping, Skips}
@@ -40,12 +40,6 @@ module _ (G : List ℕ) (g n s i end : ℕ) (ws : List ℕ) (S : Skipping G g n 
     edge = record { below = S.low; from = omega (arith, S.first, K.ge); to = omega (arith, S.last) };
   }
 
-  pub skipping-small : end ≤ 262144
-  skipping-small =
-      let z = S.packed.sized in
-      let e = first_edge G n S.packed.graph (S.source + 1) n (omega (arith, S.low)) (omega arith) in
-      omega (arith, S.last)
-
 -- the edges that same_into looks at
 module _ (G : List ℕ) (g n s p q : ℕ) (ws : List ℕ) (C : Comparing G g n s p q ws) where
   skip-left : (i ie : ℕ) → ie ≡ get_or G (p + 1) 0 → get_or G p 0 ≤ i → Edges G n i ie → Skipping G g n s i ie ws
@@ -68,9 +62,6 @@ module _ (G : List ℕ) (g n s p q : ℕ) (ws : List ℕ) (C : Comparing G g n s
       let ei = e ∙ C.packed.firsts q (omega (arith, C.right)) in
       let ef = f ∙ C.packed.firsts (q + 1) (omega (arith, C.right)) in
       skip-right j je ef (omega arith) (rw (ei, ef) (C.packed.graph.edges q C.right))
-
-  pub comparing-room : (n ≤ 8192) × (6 * n < length ws)
-  comparing-room = let z = C.packed.sized in (z.few, omega arith)
 
   module _ (i ie j je : ℕ) (I : Into-loop G n p q (class_at ws) s i ie j je) where
     pub left-room : i < ie → (n ≤ 8192) × ((i < 262144) × (6 * n + 2 + 2 * i < length ws))
@@ -190,9 +181,6 @@ module _ (G : List ℕ) (n : ℕ) (cls : ℕ → ℕ) (s : ℕ) (some : 0 < s) (
   )
 
   -- next_into
-  pub skips-first : (i end : ℕ) → Edges G n i end → Skips G n cls s i end i
-  skips-first i end e = record { ge = omega arith; le = e.le; edges = e; same = λ m. ((λ x. x), (λ x. x)) }
-
   pub skips-again : (i end r : ℕ) → Skips G n cls s i end r → r < end → cls (target G n r) ≢ s
       → Skips G n cls s i end (r + 1)
   skips-again i end r S h ne =

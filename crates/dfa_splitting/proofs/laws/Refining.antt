@@ -190,9 +190,6 @@ module _ (G : List ℕ) (n g s : ℕ) (cls : ℕ → ℕ) (count m : ℕ) (ws : 
   pub few-m : m ≤ n
   few-m = omega (arith, few-u, pigeons count m (list_at n g ws) u.list_low u.list_one)
 
-  pub signs-first : SigningAll G n g s cls 0 ws ws
-  signs-first = record { len = refl; keeps = λ y h. refl; signs = λ y a i b e. absurd (omega arith) }
-
   module _ (x : ℕ) (v : List ℕ) (D : SigningAll G n g s cls x ws v) where
     z : (n ≤ 8192) × ((g ≤ 600000) × ((6 * n < g) × (g + 4 * n ≤ length v)))
     z = let y = u.packed.sized in (y.few, (omega arith, (omega arith, omega (arith, D.len))))

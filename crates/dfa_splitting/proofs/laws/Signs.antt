@@ -111,9 +111,6 @@ module _ (G : List ℕ) (n : ℕ) (cls : ℕ → ℕ) (s : ℕ) (some : 0 < s) (
 
 -- the loop of sign
 module _ (G : List ℕ) (g n p : ℕ) (cls : ℕ → ℕ) (ws : List ℕ) (S : Signing G g n p cls ws) where
-  pub signing-room : (n ≤ 8192) × (6 * n < length ws)
-  signing-room = let z = S.packed.sized in (z.few, omega arith)
-
   pub sign-first : (s i end : ℕ) → i ≡ get_or ws (5 * n + p) 0 → end ≡ get_or ws (5 * n + (p + 1)) 0
       → SignLoop G n p cls s i end 0
   sign-first s i end e f =
@@ -160,13 +157,7 @@ module _ (G : List ℕ) (g n p : ℕ) (cls : ℕ → ℕ) (ws : List ℕ) (S : S
 
 -- the loop of sign_places
 module _ (G : List ℕ) (n g s : ℕ) (cls : ℕ → ℕ) (low till : ℕ) (ws₀ : List ℕ) (A : Signable G n g cls ws₀) where
-  pub places-first : SignedTo G n g s cls low low ws₀ ws₀
-  places-first = record { len = refl; keeps = λ x h. refl; stays = λ p h. h; signs = λ x a b. absurd (omega arith) }
-
   module _ (i : ℕ) (ws : List ℕ) (D : SignedTo G n g s cls low i ws₀ ws) (h : i < n) where
-    pub places-member : (i < n) × ((n ≤ 8192) × (5 * n ≤ length ws))
-    places-member = let z = A.packed.sized in (h, (z.few, omega (arith, D.len)))
-
     module _ (p : ℕ) (e : p ≡ member_at n ws i) where
       p-is : p ≡ member_at n ws₀ i
       p-is = let z = A.packed.sized in e ∙ D.keeps (n + i) (omega arith)

@@ -1,5 +1,6 @@
 -- Edges into a class. Assumes nothing.
-use Rattle.std.specs.Prelude.{List, ◌↔◌, ◌≡◌, ◌+◌, ◌-◌, ◌<◌, ◌≤◌, ℕ, get_or}
+use Rattle.std.specs.Prelude.{List, MatchOption, Option, ◌↔◌, ◌≡◌, ◌+◌, ◌-◌, ◌<◌, ◌≤◌, ℕ, get_or}
+use Rattle.std.specs.Option.{unwrap_or}
 use Rattle.dfa.specs.Graph.{EdgeOf, Edges, look, target}
 use Rattle.dfa_classes.specs.Packed.{Packed}
 use Rattle.dfa_classes.specs.Places.{class_at}
@@ -45,6 +46,11 @@ pub record Skips (G : List ℕ) (n : ℕ) (cls : ℕ → ℕ) (s i end r : ℕ) 
 pub record Skipped (G : List ℕ) (n : ℕ) (cls : ℕ → ℕ) (s i end r : ℕ) : Type 0 where
   pub skips : Skips G n cls s i end r
   pub hit : r < end → cls (target G n r) ≡ s
+
+-- o is the first of the edges from i to end that leads into the class s, where there is one
+pub record FirstInto (G : List ℕ) (n : ℕ) (cls : ℕ → ℕ) (s i end : ℕ) (o : Option ℕ) : Type 0 where
+  pub skipped : Skipped G n cls s i end (unwrap_or o end)
+  pub low : MatchOption o (Unit {0}) (λ r. r < end)
 
 -- by the edges from i to ie and from j to je the same letters lead into the class s
 abbrev pub LeftAlike : List ℕ → ℕ → (ℕ → ℕ) → ℕ → ℕ → ℕ → ℕ → ℕ → Type 0

@@ -1,6 +1,8 @@
 -- What the comparison decides of two terms whose automata stand in the working words.
 use Rattle.std.specs.Prelude.{◌≡◌, ◌↔◌, List, [], ◌++◌, ℕ, zero, suc, ◌+◌, ◌≤◌, length, drop}
-use Rattle.std.proofs.Math.Option.{Option, none, some}
+use Rattle.std.specs.Prelude.{Option, Some, None, Result, Ok, Err}
+use Rattle.std.proofs.Math.Option as math
+use Rattle.std.proofs.Math.Option.{none, some}
 use Rattle.language.specs.declared.Numbers.{Numbers}
 use Rattle.language.specs.Ty.{Ty}
 use Rattle.language.specs.Term.{Term}
@@ -18,11 +20,8 @@ use Rattle.sheet_records.specs.declared.refusal.Cause.{Cause}
 use Rattle.serve_compare.specs.Refusals.{compare_refusal}
 use Rattle.serve_compare.specs.Look.{decision_of, whole_depth, Looked}
 use Rattle.serve_compare.specs.declared.Examined.{Examined}
-use Rattle.serve_compare.specs.declared.Examined.TheVariants.{Known, Refused as NotExamined}
-use Rattle.play_words.specs.declared.Decision.{Decision}
-use Rattle.play_words.specs.declared.Decision.TheVariants.{Same, Apart}
+use Rattle.play_words.specs.declared.Difference.{Difference}
 use Rattle.serve_compare.specs.declared.Comparison.{Comparison}
-use Rattle.serve_compare.specs.declared.Comparison.TheVariants as compared
 
 -- two terms of one type, of sizes `all` and `more`, in range, their automata in the words, and room for the play
 pub record Deciding (ws space : List ℕ) (all more : ℕ) : Type 0 where
@@ -51,30 +50,33 @@ OnlyTerm (suc zero) T M M' u = Complete T M' u × (Complete T M u → ⊥)
 OnlyTerm (suc (suc k)) T M M' u = ⊥
 
 -- the same plays of at most `most` moves, the space untouched; or the first play of exactly one, and its records
-pub data Verdicts (N : Numbers) (T : Ty) (M M' : Term) (most : ℕ) (space : List ℕ) (r : Decision) (space' : List ℕ) :
+pub data Verdicts (N : Numbers) (T : Ty) (M M' : Term) (most : ℕ) (space : List ℕ) (r : Option Difference) (space' : List ℕ) :
     Type 0 where
-  alike : r ≡ Same → ((u : Word) → length u ≤ most → Complete T M u ↔ Complete T M' u) → space' ≡ space →
+  alike : r ≡ None → ((u : Word) → length u ≤ most → Complete T M u ↔ Complete T M' u) → space' ≡ space →
       Verdicts N T M M' most space r space'
-  differ : (which : ℕ) (play : Word) → r ≡ Apart which (length play) → OnlyTerm which T M M' play →
+  differ : (which : ℕ) (play : Word) → r ≡ Some (record { sheet = which; moves = length play }) → OnlyTerm which T M M' play →
       ((v : Word) → Before N v play → Complete T M v ↔ Complete T M' v) → length play ≤ most →
       space' ≡ records N play ++ drop (length (records N play)) space → Verdicts N T M M' most space r space'
 
 -- the answer of compare, from what is decided and the names that the old and the new sheet use
-unfoldable pub answer_of : Decision → Uses → Uses → Comparison
-answer_of Same old new = compared.Same old new
-answer_of (Apart which moves) old new = compared.Apart which moves old new
+abbrev pub answer_of : Option Difference → Uses → Uses → Comparison
+answer_of d old new = record { found = d; old = old; new = new }
 
 -- what examine gives of two sheets that are accepted
-pub record Examines (old new : List ℕ) (most : ℕ) (ws space : List ℕ) (r : Examined) (ws' space' : List ℕ) : Type 0 where
+pub record Examines (old new : List ℕ) (most : ℕ) (ws space : List ℕ) (r : Result Examined Cause) (ws' space' : List ℕ) : Type 0 where
   pub looked : Looked old new most ws space ws' space'
-  pub answer : r ≡ Known (decision_of looked.found) (whole_depth looked.first_sheet looked.second_sheet)
-      (uses_of looked.first_sheet) (uses_of looked.second_sheet)
+  pub answer : r ≡ Ok (record {
+    found = decision_of looked.found;
+    whole = whole_depth looked.first_sheet looked.second_sheet;
+    old = uses_of looked.first_sheet;
+    new = uses_of looked.second_sheet;
+  })
 
 -- the promise of examine
-unfoldable pub ExaminedBy : Option Cause → List ℕ → List ℕ → ℕ → List ℕ → List ℕ → Examined → List ℕ → List ℕ → Type 0
+unfoldable pub ExaminedBy : math.Option Cause → List ℕ → List ℕ → ℕ → List ℕ → List ℕ → Result Examined Cause → List ℕ → List ℕ → Type 0
 ExaminedBy none old new most ws space r ws' space' = Examines old new most ws space r ws' space'
-ExaminedBy (some x) old new most ws space r ws' space' = (r ≡ NotExamined x) × ((ws' ≡ ws) × (space' ≡ space))
+ExaminedBy (some x) old new most ws space r ws' space' = (r ≡ Err x) × ((ws' ≡ ws) × (space' ≡ space))
 
-abbrev pub ExaminePromise : List ℕ → List ℕ → ℕ → List ℕ → List ℕ → Examined → List ℕ → List ℕ → Type 0
+abbrev pub ExaminePromise : List ℕ → List ℕ → ℕ → List ℕ → List ℕ → Result Examined Cause → List ℕ → List ℕ → Type 0
 ExaminePromise old new most ws space r ws' space' =
     ExaminedBy (compare_refusal old new (length ws) (length space)) old new most ws space r ws' space'

@@ -1,5 +1,5 @@
 -- The pass over the records of a sheet, as the code makes it. Only inner contracts cite it.
-use Rattle.std.specs.Prelude.{ℕ, zero, suc, ◌+◌, ◌≡◌, Bool, true, false, ◌&&◌, List, [], ◌∷◌, eqb, leb, ltb}
+use Rattle.std.specs.Prelude.{ℕ, zero, suc, ◌+◌, ◌≡◌, Bool, true, false, ◌&&◌, List, [], ◌∷◌, eqb, leb, ltb, Option, Some, None}
 use Rattle.language.specs.Choice.{pick}
 use Rattle.sheet_rows.specs.Class.{EXPRESSIONS}
 use Rattle.sheet_rows.specs.Row.{word}
@@ -9,8 +9,6 @@ use Rattle.sheet_written.specs.Width.{heading_width}
 use Rattle.sheet_reader.specs.Reader.{read_sheet, accepted}
 use Rattle.sheet_table.specs.inner.Seats.{Seated}
 use Rattle.serve_profile.specs.Offence.{offences}
-use Rattle.serve_profile.specs.declared.offence.Offence.{Offence}
-use Rattle.serve_profile.specs.declared.offence.Offence.TheVariants.{Nothing, At}
 use Rattle.sheet_records.specs.Kind.{shape_of, body_in}
 
 -- whether one of at most so many arguments, which stand from one place up to another, is no expression: by the classes
@@ -38,11 +36,11 @@ unfoldable pub offends_at : List ℕ → ℕ → ℕ → ℕ → Bool
 offends_at t at until kind = ltb at until && loud_at t at kind
 
 -- the first of the places
-unfoldable pub first_of : List ℕ → Offence
-first_of [] = Nothing
-first_of (p ∷ ps) = At p
+unfoldable pub first_of : List ℕ → Option ℕ
+first_of [] = None
+first_of (p ∷ ps) = Some p
 
 -- the first offending record of an accepted sheet whose term is at a place and whose rows are in the table
-pub record Finds (s t : List ℕ) (root : ℕ) (r : Offence) : Type 0 where
+pub record Finds (s t : List ℕ) (root : ℕ) (r : Option ℕ) : Type 0 where
   pub does : (S : Sheet) (ty n : ℕ) → read_sheet s ≡ accepted S ty n → root ≡ heading_width S →
       Seated S.names t [] root S.term → r ≡ first_of (offences S)

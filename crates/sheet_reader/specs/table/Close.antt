@@ -1,6 +1,6 @@
 -- The rows of records that are closed by one decision over their rule: those without parts, and those whose weight is
 -- the sum of their parts'. Only inner contracts cite it.
-use Rattle.std.specs.Prelude.{ℕ, ◌+◌, ◌<◌, ◌≡◌, List, get_or, eqb}
+use Rattle.std.specs.Prelude.{ℕ, ◌+◌, ◌<◌, ◌≡◌, List, Option, Some, None, get_or, eqb}
 use Rattle.language.specs.Choice.{pick}
 use Rattle.language.specs.Number.{code, from_byte}
 use Rattle.language.specs.declared.Numbers.{Numbers}
@@ -19,37 +19,42 @@ use Rattle.sheet_records.specs.declared.standing.Standing.{Standing}
 use Rattle.sheet_records.specs.declared.standing.Standing.TheVariants.{Free, Retired, Declared, Variable, Parameter}
 use Rattle.sheet_records.specs.declared.standing.Standing.TheVariants.{Procedure as Routine}
 use Rattle.sheet_reader.specs.declared.close.Leaf.{Leaf}
-use Rattle.sheet_reader.specs.declared.close.Leaf.TheVariants.{Is, Other}
 use Rattle.sheet_reader.specs.declared.close.Sum.{Sum}
-use Rattle.sheet_reader.specs.declared.close.Sum.TheVariants.{Is as Row, Other as NoSum}
+
+abbrev pub leaf : ℕ → ℕ → ℕ → Leaf
+leaf kind ty detail = record { kind = kind; ty = ty; detail = detail }
+
+abbrev pub sum : ℕ → ℕ → ℕ → ℕ → ℕ → Sum
+sum ty detail n first second =
+    record { ty = ty; detail = detail; parts = n; first = first; second = second }
 
 -- the row of a use without arguments: of a declared name and of a variable
-unfoldable pub leaf_use : List ℕ → Record → Standing → Leaf
-leaf_use s r Free = Other
-leaf_use s r Retired = Other
-leaf_use s r (Declared place once) = Is r.kind (get_or s (place + 2) 0) (declared_detail r.a 0 once)
-leaf_use s r (Variable binder holds) = Is PRIVATE (2 + holds) binder
-leaf_use s r (Parameter binder ty) = Other
-leaf_use s r (Routine binder place) = Other
+unfoldable pub leaf_use : List ℕ → Record → Standing → Option Leaf
+leaf_use s r Free = None
+leaf_use s r Retired = None
+leaf_use s r (Declared place once) = Some (leaf r.kind (get_or s (place + 2) 0) (declared_detail r.a 0 once))
+leaf_use s r (Variable binder holds) = Some (leaf PRIVATE (2 + holds) binder)
+leaf_use s r (Parameter binder ty) = None
+leaf_use s r (Routine binder place) = None
 
-unfoldable pub leaf_row : Rule → List ℕ → Numbers → Record → Leaf
-leaf_row Skip s N r = Is r.kind command 0
-leaf_row Diverge s N r = Is r.kind r.a 0
-leaf_row Truth s N r = Is r.kind truth r.a
-leaf_row Number s N r = Is CONSTANT number (code N (from_byte r.a))
+unfoldable pub leaf_row : Rule → List ℕ → Numbers → Record → Option Leaf
+leaf_row Skip s N r = Some (leaf r.kind command 0)
+leaf_row Diverge s N r = Some (leaf r.kind r.a 0)
+leaf_row Truth s N r = Some (leaf r.kind truth r.a)
+leaf_row Number s N r = Some (leaf CONSTANT number (code N (from_byte r.a)))
 leaf_row Use s N r = leaf_use s r (standing_of r.b)
-leaf_row Fetch s N r = Other
-leaf_row Operate s N r = Other
-leaf_row Assign s N r = Other
-leaf_row Sequence s N r = Other
-leaf_row If s N r = Other
-leaf_row While s N r = Other
-leaf_row New s N r = Other
-leaf_row Procedure s N r = Other
+leaf_row Fetch s N r = None
+leaf_row Operate s N r = None
+leaf_row Assign s N r = None
+leaf_row Sequence s N r = None
+leaf_row If s N r = None
+leaf_row While s N r = None
+leaf_row New s N r = None
+leaf_row Procedure s N r = None
 
 -- the row of a record, where it has no parts
-unfoldable pub leaf_of : List ℕ → Numbers → Record → Leaf
-leaf_of s N r = pick (eqb r.parts 0) (leaf_row r.rule s N r) Other
+unfoldable pub leaf_of : List ℕ → Numbers → Record → Option Leaf
+leaf_of s N r = pick (eqb r.parts 0) (leaf_row r.rule s N r) None
 
 -- the row of a record whose last part has type last, and how its weight is a sum in every table that has the place of
 -- its first part and the rows after its own as t has them
@@ -61,6 +66,6 @@ pub record SumIs (t : List ℕ) (N : Numbers) (r : Record) (last ty detail n fir
       ((place : ℕ) → r.place < place → word u place VALUES ≡ word t place VALUES) →
       SumKind u r.place r.kind detail n first second
 
-unfoldable pub SumRow : List ℕ → Numbers → Record → ℕ → Sum → Type 0
-SumRow t N r last (Row ty detail n first second) = SumIs t N r last ty detail n first second
-SumRow t N r last NoSum = Unit
+unfoldable pub SumRow : List ℕ → Numbers → Record → ℕ → Option Sum → Type 0
+SumRow t N r last (Some x) = SumIs t N r last x.ty x.detail x.parts x.first x.second
+SumRow t N r last None = Unit

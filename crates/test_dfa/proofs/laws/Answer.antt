@@ -12,14 +12,13 @@ use Rattle.dfa.specs.Reading.{FirstWord, reversed, walk}
 use Rattle.dfa_search.specs.Spelled.{Spelling}
 use Rattle.dfa.specs.Word.{accepting, after}
 use Rattle.dfa_difference.specs.declared.Task.{Task}
-use Rattle.dfa_difference.specs.declared.Verdict.{Verdict}
-use Rattle.dfa_difference.specs.declared.Verdict.TheVariants.{Same}
+use Rattle.std.specs.Prelude.{Option, None}
 use Rattle.test_dfa.specs.declared.checked.Answer.TheVariants.{Distinguished, Equivalent}
 use Rattle.dfa.proofs.laws.Reading.{first_word, reversed-length, reversed-reversed, walk-reversed}
 use Rattle.dfa_search.proofs.Spell.{written-take}
 use Rattle.dfa.proofs.laws.Rest.{rest_at, rest-length}
 
-pub answer-alike : (G : List ℕ) (t : Task) (ws out : List ℕ) (v : Verdict) → v ≡ Same → Outcome G t ws v
+pub answer-alike : (G : List ℕ) (t : Task) (ws out : List ℕ) (v : Option ℕ) → v ≡ None → Outcome G t ws v
     → Answered G t out Equivalent
 answer-alike G t ws out v e o w l = read t.p w
     ∙ subst (λ v. Outcome G t ws v) e o (reversed w) (omega (arith, reversed-length w)) ∙ sym (read t.q w)

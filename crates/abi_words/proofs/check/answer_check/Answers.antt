@@ -3,14 +3,14 @@ use borrow.Author.Rules.{rules}
 use Rattle.abi_words.proofs.Wording.{returned-as, words-accepted, words-not-accepted}
 use Rattle.abi_words.proofs.check.answer_check.Goals as goal
 
-pub returns-in-Accepted : goal.returns-in-Accepted
-returns-in-Accepted c =
-    let p = returned-as _ _ _ _ _ (words-accepted _ _ _ _ c.in-Accepted.is)
+pub returns-in-Ok : goal.returns-in-Ok
+returns-in-Ok c =
+    let p = returned-as _ _ _ _ _ (words-accepted _ _ _ _ c.in-Ok.is)
     c.answer.ensures.returned c.answer.ensures.written in
     record { returned = p.0; written = p.1 }
 
-pub returns-in-Refused : goal.returns-in-Refused
-returns-in-Refused c =
-    let p = returned-as _ _ _ _ _ (words-not-accepted _ _ c.in-Refused.is)
+pub returns-in-Err : goal.returns-in-Err
+returns-in-Err c =
+    let p = returned-as _ _ _ _ _ (words-not-accepted _ _ c.in-Err.is)
     c.refuse.ensures.returned c.refuse.ensures.written in
     record { returned = p.0; written = p.1 }

@@ -6,24 +6,24 @@ use Rattle.abi_words.proofs.look.answer_look.Goals as goal
 
 pub returns-in-Same : goal.returns-in-Same
 returns-in-Same c =
-    let p = returned-as _ _ _ _ _ (words-looked-same _ _ _ _ c.in-Same.is)
+    let p = returned-as _ _ _ _ _ (words-looked-same _ _ _ _ _ c.in-Ok.is c.in-Same.is)
     c.answer_depth.ensures.returned c.answer_depth.ensures.written in
     record { returned = p.0; written = p.1 }
 
 pub returns-in-Apart : goal.returns-in-Apart
 returns-in-Apart c =
-    let p = returned-as _ _ _ _ _ (words-looked-apart _ _ _ _ _ c.in-Apart.is)
+    let p = returned-as _ _ _ _ _ (words-looked-apart _ _ _ _ _ _ c.in-Ok.is c.in-Apart.is)
     c.answer_depth-in-Apart.ensures.returned c.answer_depth-in-Apart.ensures.written in
     record { returned = p.0; written = p.1 }
 
 pub returns-in-SoFar : goal.returns-in-SoFar
 returns-in-SoFar c =
-    let p = returned-as _ _ _ _ _ (words-looked-so-far _ _ _ _ c.in-SoFar.is)
+    let p = returned-as _ _ _ _ _ (words-looked-so-far _ _ _ _ _ c.in-Ok.is c.in-SoFar.is)
     c.answer_depth-in-SoFar.ensures.returned c.answer_depth-in-SoFar.ensures.written in
     record { returned = p.0; written = p.1 }
 
-pub returns-in-Refused : goal.returns-in-Refused
-returns-in-Refused c =
-    let p = returned-as _ _ _ _ _ (words-not-looked _ _ c.in-Refused.is)
+pub returns-in-Err : goal.returns-in-Err
+returns-in-Err c =
+    let p = returned-as _ _ _ _ _ (words-not-looked _ _ c.in-Err.is)
     c.refuse.ensures.returned c.refuse.ensures.written in
     record { returned = p.0; written = p.1 }

@@ -3,17 +3,6 @@ use native.Mathlib.Omega.{arith}
 use Rattle.card_bytes.proofs.laws.Moves.{move-done, record-end}
 use Rattle.card_bytes.proofs.arc.write_move.Goals as goal
 
-pub write_record-end-requires : goal.write_record-end-requires
-write_record-end-requires c = omega (arith, c.requires)
-
-pub overflow_sub-end : goal.overflow_sub-end
-overflow_sub-end c = let w = record-end _ _ _ c.write_record-end.ensures.returned in omega (arith, w.0)
-
-pub overflow_sub-end-2 : goal.overflow_sub-end-2
-overflow_sub-end-2 c =
-    let w = record-end _ _ _ c.write_record-end.ensures.returned in
-    omega (arith, w.0)
-
 pub overflow_add-end : goal.overflow_add-end
 overflow_add-end c =
     let w = record-end _ _ _ c.write_record-end.ensures.returned in

@@ -1,21 +1,6 @@
 -- `write_position` writes the bytes of a position.
-use native.Mathlib.Omega.{arith}
 use Rattle.card_bytes.proofs.laws.Positions.{position-length, position-written}
 use Rattle.card_bytes.proofs.positions.write_position.Goals as goal
-
-pub overflow_add-place : goal.overflow_add-place
-overflow_add-place c = omega (
-  arith,
-  position-length _ _ _ _ _ _
-      c.requires.1.1,
-)
-
-pub overflow_add-place-2 : goal.overflow_add-place-2
-overflow_add-place-2 c = omega (
-  arith,
-  position-length _ _ _ _ _ _
-      c.requires.1.1,
-)
 
 pub write_edges-requires : goal.write_edges-requires
 write_edges-requires c =

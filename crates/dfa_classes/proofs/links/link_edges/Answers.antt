@@ -1,33 +1,11 @@
 -- `link_edges` puts edge after edge in the list of its target.
-use mathlib.Core.Path.{subst, sym}
+use mathlib.Core.Path.{subst}
 use native.Mathlib.Omega.{arith}
 use lib.ListN.{get_or}
 use Rattle.dfa_classes.specs.inner.Linking.{Linking}
-use Rattle.dfa_classes.proofs.laws.Linking.{edge-asks, end_is, ends-asks, first-is, head-asks, link-again}
+use Rattle.dfa_classes.proofs.laws.Linking.{end_is, first-is, head-asks, link-again}
 use Rattle.dfa_classes.proofs.laws.Linking.{link-asks}
 use Rattle.dfa_classes.proofs.links.link_edges.Goals as goal
-
-pub first_edge-end-requires : goal.first_edge-end-requires
-first_edge-end-requires c = ends-asks _ _ _ _ c.requires.linking _ (omega arith)
-
-pub first_edge-e-requires : goal.first_edge-e-requires
-first_edge-e-requires c = ends-asks _ _ _ _ c.requires.linking _ (omega arith)
-
-pub loop-e-init : goal.loop-e-init
-loop-e-init c = λ G L e. subst (λ x. Linking G c.args.n
-    c.args.g c.args.words.now x
-    c.args.words.now) (sym e) L
-
-pub edge_target-t-requires : goal.edge_target-t-requires
-edge_target-t-requires c = let L₀ = c.requires.linking in
-    let L = c.loop-e.invariant _ L₀ (first-is _ _ _ _ L₀ _ c.first_edge-e.ensures)
-    in
-    edge-asks _ _ _ _ _ _ L (omega (
-      arith,
-      c.loop-e-test.true,
-      end_is _ _ _ _ L₀ _
-          c.first_edge-end.ensures,
-    ))
 
 pub head-next-requires : goal.head-next-requires
 head-next-requires c = let L₀ =
@@ -55,30 +33,6 @@ link-requires c = let L₀ =
     ))
     _ c.edge_target-t.ensures _ c.head-next.ensures
 
-pub overflow_add-e : goal.overflow_add-e
-overflow_add-e c = let L₀ =
-    c.requires.linking
-    in let z = L₀.sized in
-    omega (
-      arith,
-      c.loop-e-test.true,
-      end_is _ _ _ _ L₀
-          _
-          c.first_edge-end.ensures,
-    )
-
-pub loop-e-smaller : goal.loop-e-smaller
-loop-e-smaller c = let L₀ =
-    c.requires.linking
-    in let z = L₀.sized in
-    omega (
-      arith,
-      c.loop-e-test.true,
-      end_is _ _ _ _ L₀
-          _
-          c.first_edge-end.ensures,
-    )
-
 pub loop-e-preserved : goal.loop-e-preserved
 loop-e-preserved c = λ G L₀ e. let L = c.loop-e.invariant G
     L₀ e in
@@ -90,10 +44,6 @@ loop-e-preserved c = λ G L₀ e. let L = c.loop-e.invariant G
     ))
     _ c.edge_target-t.ensures _
     c.head-next.ensures _ c.link.ensures
-
-pub shape_of-words : goal.shape_of-words
-shape_of-words c = let L₀ = c.requires.linking in
-    let L = c.loop-e.invariant _ L₀ (first-is _ _ _ _ L₀ _ c.first_edge-e.ensures) in L.len
 
 pub returns : goal.returns
 returns c = λ G L₀. let L = c.loop-e.invariant G L₀ (first-is _ _ _ _ L₀ _ c.first_edge-e.ensures)

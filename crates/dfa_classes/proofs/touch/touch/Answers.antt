@@ -1,15 +1,9 @@
 -- `touch` brings a state to the touched ones of its class.
 use native.Mathlib.Omega.{arith}
-use Rattle.dfa_classes.proofs.laws.Touching.{class_low, class-sum, exchange-asks, listed-asks, touch-done}
+use Rattle.dfa_classes.proofs.laws.Touching.{class_low, listed-asks}
 use Rattle.dfa_classes.proofs.laws.Touching.{touch-room}
 use Rattle.dfa_classes.proofs.laws.Touching.{touched-asks, touched-more, touched-new}
 use Rattle.dfa_classes.proofs.touch.touch.Goals as goal
-
-pub at-d-requires : goal.at-d-requires
-at-d-requires c = let T = c.requires.touching in let z = T.packed.sized in omega (
-  arith,
-  c.requires.low,
-)
 
 pub touched-c-requires : goal.touched-c-requires
 touched-c-requires c = let T = c.requires.touching in (
@@ -25,67 +19,6 @@ from-requires c = let T = c.requires.touching in let z =
           c.at-d.ensures,
       (z.few, omega arith),
     )
-
-pub overflow_add-first : goal.overflow_add-first
-overflow_add-first c = let T = c.requires.touching in let z =
-    T.packed.sized in
-    omega (
-      arith,
-      class-sum _ _ _ _ _ _ _ _ T _ _ c.requires.low
-          c.at-d.ensures,
-      c.touched-c.ensures,
-      c.from.ensures,
-    )
-
-pub place-i-requires : goal.place-i-requires
-place-i-requires c = let T = c.requires.touching in let z
-    = T.packed.sized in (
-      c.requires.low,
-      (
-        z.few,
-        omega
-            arith,
-      ),
-    )
-
-pub returns-then-i-first : goal.returns-then-i-first
-returns-then-i-first c = λ G s own count T I. touch-done _ _ _ _ _ _ _ _ T _ _ _ _ _
-    c.requires.low I
-    c.at-d.ensures
-    c.touched-c.ensures (omega (
-      arith,
-      c.from.ensures,
-    )) c.place-i.ensures c.if-i-first.true
-
-pub exchange-requires : goal.exchange-requires
-exchange-requires c = let T =
-    c.requires.touching in
-    exchange-asks _ _ _ _ _ _ _ _ T _ _ _ _ _
-    c.requires.low
-    c.requires.goes
-    c.at-d.ensures
-    c.touched-c.ensures (omega (
-      arith,
-      c.from.ensures,
-    )) c.place-i.ensures c.if-i-first.false
-
-pub overflow_add-c : goal.overflow_add-c
-overflow_add-c c =
-    let asked = c.requires in
-    let T =
-    asked.touching
-    in
-    let r = touched-asks _ _ _ _ _ _ _ _ T _ _ _ _ _
-    asked.low
-    asked.goes
-    c.at-d.ensures
-    c.touched-c.ensures (omega (
-      arith,
-      c.from.ensures,
-    ))
-    c.place-i.ensures
-    c.if-i-first.false _ c.exchange.ensures in
-    omega (arith, r.1.0, r.1.1.0)
 
 pub set_touched-requires : goal.set_touched-requires
 set_touched-requires c =

@@ -1,7 +1,5 @@
 -- `touch_all` touches the sources of the edges to each state of a class.
-use mathlib.Core.Path.{◌∙◌}
-use native.Mathlib.Omega.{arith}
-use Rattle.dfa_classes.proofs.laws.Sources.{all-again, all_first, all-last, class-asks, copied-room, copy-asks}
+use Rattle.dfa_classes.proofs.laws.Sources.{all-again, all_first, all-last, class-asks}
 use Rattle.dfa_classes.proofs.laws.Sources.{t-inside, t-low}
 use Rattle.dfa_classes.proofs.touch.touch_all.Goals as goal
 
@@ -12,38 +10,8 @@ pub to-b-requires : goal.to-b-requires
 to-b-requires c = class-asks _ _ _ _ _ _ _ c.requires.touching
     c.requires.low
 
-pub copy_members-requires : goal.copy_members-requires
-copy_members-requires c = copy-asks _ _ _ _ _ _ _ c.requires.touching
-    c.requires.low _ _ c.from-a.ensures
-    c.to-b.ensures
-
-pub overflow_sub-size : goal.overflow_sub-size
-overflow_sub-size c = let C = copy-asks _ _ _ _ _ _ _
-    c.requires.touching
-    c.requires.low _ _
-    c.from-a.ensures c.to-b.ensures
-    in
-    omega (arith, C.order)
-
 pub loop-j-init : goal.loop-j-init
 loop-j-init c = λ G own count ws T l ea eb D. all_first _ _ _ _ _ _ _ T l _ _ ea eb _ D
-
-pub copied-t-requires : goal.copied-t-requires
-copied-t-requires c =
-    let asked = c.requires
-    in
-    let A = c.loop-j.invariant _ _ _ _
-    asked.touching
-    asked.low
-    c.from-a.ensures
-    c.to-b.ensures
-    c.copy_members.ensures in
-    copied-room _ _ _ _ _ _ _
-    asked.touching
-    asked.low _
-    _ c.from-a.ensures
-    c.to-b.ensures _
-    c.copy_members.ensures _ _ _ A c.loop-j-test.true
 
 pub touch_sources-k-requires : goal.touch_sources-k-requires
 touch_sources-k-requires c =
@@ -81,52 +49,6 @@ touch_sources-k-requires c =
           c.loop-j-test.true _ c.copied-t.ensures;
     }
 
-pub overflow_add-j : goal.overflow_add-j
-overflow_add-j c =
-    let asked = c.requires in
-    let from-2 = c.from-a in
-    let to-2 = c.to-b in
-    let copy-members-2 = c.copy_members in
-    let A = c.loop-j.invariant _ _ _ _
-    asked.touching
-    asked.low
-    from-2.ensures
-    to-2.ensures
-    copy-members-2.ensures in
-    let r = copied-room _ _ _ _ _ _ _
-    asked.touching
-    asked.low
-    _ _
-    from-2.ensures
-    to-2.ensures
-    _
-    copy-members-2.ensures _ _ _ A
-    c.loop-j-test.true in
-    omega (arith, r.0, r.1.0)
-
-pub loop-j-smaller : goal.loop-j-smaller
-loop-j-smaller c =
-    let asked = c.requires in
-    let from-2 = c.from-a in
-    let to-2 = c.to-b in
-    let copy-members-2 = c.copy_members in
-    let A = c.loop-j.invariant _ _ _ _
-    asked.touching
-    asked.low
-    from-2.ensures
-    to-2.ensures
-    copy-members-2.ensures in
-    let r = copied-room _ _ _ _ _ _ _
-    asked.touching
-    asked.low
-    _ _
-    from-2.ensures
-    to-2.ensures
-    _
-    copy-members-2.ensures _ _ _ A
-    c.loop-j-test.true in
-    omega (arith, r.0, r.1.0, c.loop-j-test.true)
-
 pub loop-j-preserved : goal.loop-j-preserved
 loop-j-preserved c = λ G own count ws T l ea eb D. let A =
     c.loop-j.invariant G own count ws T l ea eb D in
@@ -137,16 +59,6 @@ loop-j-preserved c = λ G own count ws T l ea eb D. let A =
     (t-inside _ _ _ _ _ _ _ T l _ _ ea eb _ D _ _ _ A
     c.loop-j-test.true _
     c.copied-t.ensures))
-
-pub shape_of-words : goal.shape_of-words
-shape_of-words c =
-    let A = c.loop-j.invariant _ _ _ _
-    c.requires.touching
-    c.requires.low
-    c.from-a.ensures
-    c.to-b.ensures
-    c.copy_members.ensures in
-    A.keeps.len ∙ c.copy_members.ensures.len
 
 pub returns : goal.returns
 returns c = λ G own count T l.

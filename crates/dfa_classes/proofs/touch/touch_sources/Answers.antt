@@ -3,17 +3,7 @@ use mathlib.Core.Path.{refl}
 use native.Mathlib.Omega.{arith}
 use Rattle.dfa_classes.proofs.laws.Sources.{edge-asks, source-asks, source_goes, sources-again, sources-first}
 use Rattle.dfa_classes.proofs.laws.Sources.{sources-last, sources-less}
-use Rattle.dfa_classes.proofs.laws.Touching.{touch-room}
 use Rattle.dfa_classes.proofs.touch.touch_sources.Goals as goal
-
-pub head-next-requires : goal.head-next-requires
-head-next-requires c = let Q = c.requires in (Q.low, touch-room _ _ _ _ _ _ _ _ Q.touching)
-
-pub loop-next-init : goal.loop-next-init
-loop-next-init c G s own count i S = S
-
-pub overflow_sub-e : goal.overflow_sub-e
-overflow_sub-e c = omega (arith, c.loop-next-test.true)
 
 pub source-p-requires : goal.source-p-requires
 source-p-requires c = let Q = c.requires in
@@ -77,11 +67,6 @@ loop-next-preserved c = λ G s own count i F. let S =
     c.loop-next-test.true _ refl _
     c.source-p.ensures i))
     c.edge_next-next.ensures
-
-pub shape_of-words : goal.shape_of-words
-shape_of-words c = let Q = c.requires in
-    let F = sources-first _ _ _ _ _ _ _ _ _ _ Q.touching Q.low c.head-next.ensures in
-    let S = c.loop-next.invariant _ _ _ _ Q.inside F in S.keeps.len
 
 pub returns : goal.returns
 returns c = λ G s own count T i. let Q = c.requires in

@@ -2,15 +2,6 @@ use native.Mathlib.Omega.{arith}
 use Rattle.dfa_difference.proofs.laws.Run.{start-state}
 use Rattle.dfa_difference.proofs.search.prepare.Goals as goal
 
-pub link-requires : goal.link-requires
-link-requires c = let n = c.requires.1.0 in
-    omega (
-      arith,
-      c.singles.auto,
-      c.requires.0,
-      c.requires.1.1,
-    )
-
 pub returns : goal.returns
 returns c = λ G s. start-state G _ s
     c.requires.1.1.1.1 c.singles.new.work

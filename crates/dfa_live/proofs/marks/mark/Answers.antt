@@ -7,22 +7,6 @@ use Rattle.dfa_live.proofs.laws.Marking.{few-queued, mark-first, mark-take, mark
 use Rattle.dfa_live.proofs.laws.Marking.{after_less, entry-low, list_low, source-low, along-place, along-room}
 use Rattle.dfa_live.proofs.marks.mark.Goals as goal
 
-pub note-tail-requires : goal.note-tail-requires
-note-tail-requires c = let b = bounds _ _ _ c.requires.held in
-    (omega arith, (omega (arith, c.requires.end), omega (arith, c.requires.end)))
-
-pub overflow_mul-n : goal.overflow_mul-n
-overflow_mul-n c = let b = bounds _ _ _ c.requires.held in omega arith
-
-pub at-end-requires : goal.at-end-requires
-at-end-requires c =
-    let b = bounds _ _ _ (mark-first _ _ _ _ _ c.requires
-    c.note-tail.ensures.1 c.note-tail.ensures.0).held in
-    omega arith
-
-pub loop-head-init : goal.loop-head-init
-loop-head-init c v U M = M
-
 pub overflow_add-tail : goal.overflow_add-tail
 overflow_add-tail c = let M = c.loop-head.invariant _ c.requires
     (mark-first _ _ _ _ _ c.requires
@@ -59,15 +43,6 @@ at-next-requires c =
     )) (ap (λ x. x % 16384) c.at-t.ensures) in
     omega (arith, M.held.room)
 
-pub overflow_add-head : goal.overflow_add-head
-overflow_add-head c =
-    let M = c.loop-head.invariant _
-    c.requires (mark-first _ _ _ _ _
-    c.requires
-    c.note-tail.ensures.1
-    c.note-tail.ensures.0) in
-    omega (arith, few-queued _ _ _ _ _ M.queued, M.taken.within, M.held.graph.few)
-
 pub loop-head-smaller-then-next-eq-NO_EDGE : goal.loop-head-smaller-then-next-eq-NO_EDGE
 loop-head-smaller-then-next-eq-NO_EDGE c =
     let M = c.loop-head.invariant _
@@ -95,9 +70,6 @@ loop-head-preserved-then-next-eq-NO_EDGE c =
     λ v U M. mark-take _ _ _ _ _ _ _ _ _ _ (c.loop-head.invariant v U M)
     c.if-next-eq-NO_EDGE.true c.loop-head-test.true
     (ap (λ x. x % 16384) c.at-t.ensures) (ap (λ x. x / 16384) c.at-next.ensures)
-
-pub overflow_sub-next : goal.overflow_sub-next
-overflow_sub-next c = omega (arith, c.if-next-eq-NO_EDGE.false)
 
 pub link_place-requires : goal.link_place-requires
 link_place-requires c =
@@ -180,13 +152,6 @@ loop-head-preserved c =
     c.link_place.ensures)
     c.at-v.ensures _ _ c.note-tail-else-next-eq-NO_EDGE.ensures.1
     c.note-tail-else-next-eq-NO_EDGE.ensures.0 U.end
-
-pub shape_of-words : goal.shape_of-words
-shape_of-words c =
-    let M = c.loop-head.invariant _ c.requires
-    (mark-first _ _ _ _ _ c.requires
-    c.note-tail.ensures.1
-    c.note-tail.ensures.0) in M.len
 
 pub returns : goal.returns
 returns c = λ U. mark-last _ _ _ _ _ _ _ _ U.single (c.loop-head.invariant _ U (mark-first _ _ _ _ _ U

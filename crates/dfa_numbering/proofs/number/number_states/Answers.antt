@@ -1,33 +1,10 @@
 -- `number_states` goes through the numbered classes.
-use mathlib.Core.Path.{◌∙◌, refl}
+use mathlib.Core.Path.{◌∙◌}
 use native.Mathlib.Omega.{arith}
-use Rattle.dfa_numbering.proofs.laws.Counting.{count-first, count-last, count_room, first-asks, noted-length}
+use Rattle.dfa_numbering.proofs.laws.Counting.{count-first, count-last, count_room}
 use Rattle.dfa_numbering.proofs.laws.Counting.{turn-again}
 use Rattle.dfa_numbering.proofs.laws.Counting.{turn-asks, turn-counting, turn-few, turn_small}
 use Rattle.dfa_numbering.proofs.number.number_states.Goals as goal
-
-pub overflow_sub-n : goal.overflow_sub-n
-overflow_sub-n c = let R = count_room _ _ _ _ _ c.requires.1.1.1 in omega (arith, R.0)
-
-pub at-dead-requires : goal.at-dead-requires
-at-dead-requires c = let R = count_room _ _ _ _ _ c.requires.1.1.1 in omega (arith, R.0, R.1.1)
-
-pub zero-requires : goal.zero-requires
-zero-requires c = let R = count_room _ _ _ _ _ c.requires.1.1.1 in
-    (omega (arith, R.1.1), omega (arith, R.1.0))
-
-pub note-tail-requires : goal.note-tail-requires
-note-tail-requires c = first-asks _ _ _ _ _
-    c.requires.1.1.1 _
-    c.zero.ensures
-
-pub loop-head-init : goal.loop-head-init
-loop-head-init c = ((λ G g own d S. S), refl)
-
-pub overflow_mul-n : goal.overflow_mul-n
-overflow_mul-n c = let R = count_room _ _ _ _ _
-    c.requires.1.1.1
-    in omega (arith, R.1.0)
 
 pub overflow_add-n : goal.overflow_add-n
 overflow_add-n c =
@@ -143,10 +120,6 @@ loop-head-preserved c =
           ∙ B.class _ (omega (arith, R.0)))).1
           ∙ c.loop-head.invariant.1),
     )
-
-pub shape_of-words : goal.shape_of-words
-shape_of-words c = c.loop-head.invariant.1 ∙ noted-length _ _ _ _ _ _ _ c.note-tail.ensures
-    ∙ c.zero.ensures.len
 
 pub returns : goal.returns
 returns c = λ G g own B. let R = count_room _ _ _ _ _ B in

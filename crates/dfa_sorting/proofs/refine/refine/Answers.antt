@@ -107,8 +107,5 @@ loop-s-preserved c = (
       c.loop-s.invariant.1),
 )
 
-pub shape_of-words : goal.shape_of-words
-shape_of-words c = c.loop-s.invariant.1
-
 pub returns : goal.returns
 returns c = λ G f R. refine-last _ _ _ R.single R.low _ _ _ _ (c.loop-s.invariant.0 G f R) c.loop-s-test.false

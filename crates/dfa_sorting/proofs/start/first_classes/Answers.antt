@@ -1,16 +1,6 @@
 -- `first_classes` makes class 1 of one state.
-use Rattle.dfa_sorting.proofs.laws.Starting.{exchange-asks₂, started}
+use Rattle.dfa_sorting.proofs.laws.Starting.{started}
 use Rattle.dfa_sorting.proofs.start.first_classes.Goals as goal
-
-pub exchange-requires : goal.exchange-requires
-exchange-requires c = exchange-asks₂ _ _ _
-    c.requires.1.1.1.1
-    c.requires.1.0
-    c.requires.1.1.0
-    c.requires.1.1.1.0 _ _
-    c.set_from.ensures
-    c.set_to.ensures
-    c.requires.0
 
 pub returns : goal.returns
 returns c =

@@ -1,4 +1,4 @@
-use Prim.Native.Nat.{◌-◌, ◌≤◌, ℕ}
+use Prim.Native.Nat.{◌≤◌, ℕ}
 use Rattle.dfa_classes.specs.Parted.{Parted}
 use Rattle.dfa_splitting.specs.inner.Renaming.{RenamedUpTo}
 use Rattle.dfa_splitting.proofs.rename.rename.Given as goal
@@ -6,6 +6,3 @@ use Rattle.dfa_splitting.proofs.rename.rename.Given as goal
 abbrev pub invariant-loop-c : goal.invariant-loop-c
 invariant-loop-c l = (own : ℕ → ℕ) → Parted l.n l.initial.words own l.k
     → (l.count ≤ l.c) × RenamedUpTo l.n own l.count l.c l.initial.words l.words
-
-abbrev pub decreases-loop-c : goal.decreases-loop-c
-decreases-loop-c l = l.k - l.c

@@ -1,11 +1,8 @@
 -- `sign_all` goes through the listed classes.
 use native.Mathlib.Omega.{arith}
-use Rattle.dfa_splitting.proofs.laws.Refining.{d-class, d-touched, few-m, signs-able, signs-again, signs-asks}
-use Rattle.dfa_splitting.proofs.laws.Refining.{signs-first, signs-last, signs-listed, till-low}
+use Rattle.dfa_splitting.proofs.laws.Refining.{d-class, d-touched, signs-able, signs-again, signs-asks}
+use Rattle.dfa_splitting.proofs.laws.Refining.{signs-last, signs-listed, till-low}
 use Rattle.dfa_splitting.proofs.split.sign_all.Goals as goal
-
-pub loop-x-init : goal.loop-x-init
-loop-x-init c G cls count T = signs-first _ _ _ _ _ _ _ _ T
 
 pub listed-d-requires : goal.listed-d-requires
 listed-d-requires c = let T = c.requires.1.touched in
@@ -45,28 +42,6 @@ sign_places-requires c = let T =
       c.touched.ensures,
     ))
 
-pub overflow_add-x : goal.overflow_add-x
-overflow_add-x c = let T =
-    c.requires.1.touched
-    in
-    omega (
-      arith,
-      c.loop-x-test.true,
-      few-m _ _ _ _ _ _ _ _ T,
-      T.touching.packed.sized.few,
-    )
-
-pub loop-x-smaller : goal.loop-x-smaller
-loop-x-smaller c = let T =
-    c.requires.1.touched
-    in
-    omega (
-      arith,
-      c.loop-x-test.true,
-      few-m _ _ _ _ _ _ _ _ T,
-      T.touching.packed.sized.few,
-    )
-
 pub loop-x-preserved : goal.loop-x-preserved
 loop-x-preserved c = λ G cls count T. let D =
     c.loop-x.invariant G cls count T
@@ -83,9 +58,6 @@ loop-x-preserved c = λ G cls count T. let D =
     (c.sign_places.ensures _ _ (signs-able _ _ _ _ _ _ _ _ T _ _ D
     c.loop-x-test.true _
     c.listed-d.ensures))
-
-pub shape_of-words : goal.shape_of-words
-shape_of-words c = let D = c.loop-x.invariant _ _ _ c.requires.1.touched in D.len
 
 pub returns : goal.returns
 returns c = λ G cls count T. signs-last _ _ _ _ _ _ _ _ T _ _ (c.loop-x.invariant G cls count T) c.loop-x-test.false

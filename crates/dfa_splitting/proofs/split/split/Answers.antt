@@ -1,9 +1,7 @@
 -- `split` carves the groups off a class, one after the other.
-use mathlib.Core.Path.{◌∙◌, ap}
-use lib.ListN.{length, length-set}
 use native.Mathlib.Omega.{arith}
 use Rattle.dfa_splitting.proofs.laws.Splitting.{carve-first, class-asks, signed-set, split-last, state-able}
-use Rattle.dfa_splitting.proofs.laws.Splitting.{state-again, state-asks, state-none, state-quick, sum-small}
+use Rattle.dfa_splitting.proofs.laws.Splitting.{state-again, state-asks, state-none, state-quick}
 use Rattle.dfa_splitting.proofs.laws.Splitting.{touched-asks}
 use Rattle.dfa_splitting.proofs.laws.Splitting.{zero-asks}
 use Rattle.dfa_splitting.proofs.split.split.Goals as goal
@@ -19,20 +17,9 @@ pub touched-requires : goal.touched-requires
 touched-requires c = let Q = c.requires in touched-asks _ _ _ _ _ _ _ _ _
     Q.splitting _ Q.low Q.some
 
-pub overflow_add-till : goal.overflow_add-till
-overflow_add-till c = let Q = c.requires in omega (
-  arith,
-  sum-small _ _ _ _ _ _ _ _ _ Q.splitting _ Q.low Q.some,
-  c.from-start.ensures,
-  c.touched.ensures,
-)
-
 pub set_touched-requires : goal.set_touched-requires
 set_touched-requires c = let Q = c.requires in zero-asks
     _ _ _ _ _ _ _ _ _ Q.splitting _ Q.low Q.some
-
-pub loop-low-init : goal.loop-low-init
-loop-low-init c G cls count S Z = S
 
 pub group-mid-requires : goal.group-mid-requires
 group-mid-requires c = let Q =
@@ -144,26 +131,6 @@ loop-low-preserved-then-mid-end c = λ G cls count F Z. let S =
     c.loop-low-test.true _ _ D
     c.if-mid-end.true _ _ c.carve-c.ensures
 
-pub loop-low-smaller : goal.loop-low-smaller
-loop-low-smaller c = let Q =
-    c.requires
-    in
-    let Z = signed-set _ _ _ _ _ _ _ _ Q.signed (class-asks _ _ _ _ _ _ _ _ _ Q.splitting _ Q.low Q.some).0
-    c.set_touched.ensures in
-    let S = c.loop-low.invariant _ _ _ (carve-first _ _ _ _ _ _ _ _ _
-    Q.splitting _ Q.low Q.some _ _ _ _
-    c.from-start.ensures
-    c.to-end.ensures
-    (omega (
-      arith,
-      c.touched.ensures,
-    ))
-    c.set_touched.ensures) Z in
-    let D = c.group-mid.ensures _ _ _ _ (state-able _ _ _ _ _ _ _ _ _ _ _ _ _ _ S
-    c.loop-low-test.true)
-    (state-quick _ _ _ _ _ _ _ _ _ _ _ _ _ _ S c.loop-low-test.true Z) in
-    omega (arith, D.start, c.loop-low-test.true)
-
 pub loop-low-preserved : goal.loop-low-preserved
 loop-low-preserved c = λ G cls count F Z. let S = c.loop-low.invariant G cls count F Z
     in
@@ -172,18 +139,6 @@ loop-low-preserved c = λ G cls count F Z. let S = c.loop-low.invariant G cls co
     (state-quick _ _ _ _ _ _ _ _ _ _ _ _ _ _ S c.loop-low-test.true Z) in
     state-none _ _ _ _ _ _ _ _ _ _ _ _ _ _ S c.loop-low-test.true _ _ D
     c.if-mid-end.false
-
-pub shape_of-words : goal.shape_of-words
-shape_of-words c = let Q =
-    c.requires in
-    let Z = signed-set _ _ _ _ _ _ _ _ Q.signed (class-asks _ _ _ _ _ _ _ _ _ Q.splitting _ Q.low Q.some).0
-    c.set_touched.ensures in
-    let S = c.loop-low.invariant _ _ _ (carve-first _ _ _ _ _ _ _ _ _ Q.splitting _ Q.low Q.some _ _ _ _
-    c.from-start.ensures
-    c.to-end.ensures
-    (omega (arith, c.touched.ensures))
-    c.set_touched.ensures) Z in
-    S.len ∙ (ap length c.set_touched.ensures ∙ simp length-set)
 
 pub returns : goal.returns
 returns c = λ G cls count cur T Z l t. let S = c.loop-low.invariant G cls count (carve-first _ _ _ _ _ _ _ _ _ T _ l t _

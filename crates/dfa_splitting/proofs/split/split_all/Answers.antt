@@ -1,12 +1,7 @@
 -- `split_all` goes through the listed classes.
-use mathlib.Core.Path.{◌∙◌}
-use native.Mathlib.Omega.{arith}
 use Rattle.dfa_splitting.proofs.laws.Refining.{d_low, d-some, listed-asks, split-again, split_done, split-first}
 use Rattle.dfa_splitting.proofs.laws.Refining.{split_from}
 use Rattle.dfa_splitting.proofs.split.split_all.Goals as goal
-
-pub sign_all-requires : goal.sign_all-requires
-sign_all-requires c = (c.args.count, c.requires)
 
 pub loop-x-init : goal.loop-x-init
 loop-x-init c G cls T Z = split-first _ _ _ _ _ _ _ _ T Z
@@ -34,23 +29,6 @@ split-k-requires c = let Q = c.requires in
           c.listed-d.ensures;
     }
 
-pub overflow_add-x : goal.overflow_add-x
-overflow_add-x c = let A = c.sign_all.ensures _
-    _ _
-    c.requires.touched
-    in let S = c.loop-x.invariant _ _ A.touched A.signed in
-    let a = listed-asks _ _ _ _ _ _ _ _ A.touched _ _ _ S
-    c.loop-x-test.true in omega (arith, a.0, a.1.0)
-
-pub loop-x-smaller : goal.loop-x-smaller
-loop-x-smaller c = let A =
-    c.sign_all.ensures _ _ _
-    c.requires.touched
-    in let S = c.loop-x.invariant _ _ A.touched A.signed in
-    let a = listed-asks _ _ _ _ _ _ _ _ A.touched _ _ _ S
-    c.loop-x-test.true in
-    omega (arith, a.0, a.1.0, c.loop-x-test.true)
-
 pub loop-x-preserved : goal.loop-x-preserved
 loop-x-preserved c = λ G cls T Z. let S = c.loop-x.invariant G cls T Z in
     split-again _ _ _ _ _ _ _ _ T _ _ _ S c.loop-x-test.true _
@@ -60,11 +38,6 @@ loop-x-preserved c = λ G cls T Z. let S = c.loop-x.invariant G cls T Z in
     c.listed-d.ensures)
     (d-some _ _ _ _ _ _ _ _ T _ _ _ S c.loop-x-test.true _
     c.listed-d.ensures))
-
-pub shape_of-words : goal.shape_of-words
-shape_of-words c = let A = c.sign_all.ensures _ _ _
-    c.requires.touched in
-    let S = c.loop-x.invariant _ _ A.touched A.signed in S.len ∙ A.len
 
 pub returns : goal.returns
 returns c = λ G cls T. let A = c.sign_all.ensures G cls _ T in

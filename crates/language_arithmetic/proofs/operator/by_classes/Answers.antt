@@ -1,8 +1,5 @@
 -- A class is below 4.
-use borrow.Author.Rules.{rules}
 use native.Mathlib.Omega.{arith}
-use mathlib.Core.Path.{◌∙◌, ap₂}
-use Rattle.language.specs.Tables.{entry}
 use Rattle.language.proofs.OperatorLaws.{class-below}
 use Rattle.language_arithmetic.proofs.operator.by_classes.Goals as goal
 
@@ -11,8 +8,3 @@ entry-requires c = (
   omega (arith, c.class_of.ensures, class-below c.args.n c.args.x),
   omega (arith, c.class_of-2.ensures, class-below c.args.n c.args.y),
 )
-
-pub returns : goal.returns
-returns c =
-    c.entry.ensures ∙ ap₂ (entry c.args.t) c.class_of.ensures
-    c.class_of-2.ensures

@@ -1,9 +1,6 @@
 -- What `count_moves` gives is what `counted` says, case by case.
-use Rattle.play_records.proofs.Counting.{count-first, count-again, count-unknown, count-short, count-last}
+use Rattle.play_records.proofs.Counting.{count-again, count-unknown, count-short, count-last}
 use Rattle.play_records.proofs.play.count_moves.Goals as goal
-
-pub loop-at-init : goal.loop-at-init
-loop-at-init c = count-first _
 
 pub returns-then-w-eq0 : goal.returns-then-w-eq0
 returns-then-w-eq0 c = count-unknown c.loop-at.invariant _ _ c.byte_at.ensures c.width_of-w.ensures c.loop-at-test.true c.if-w-eq0.true

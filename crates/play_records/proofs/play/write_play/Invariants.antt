@@ -1,9 +1,6 @@
-use Prim.Native.Nat.{◌-◌}
+use lib.ListN.{take, drop}
 use Rattle.play_records.proofs.Written.{Writing}
 use Rattle.play_records.proofs.play.write_play.Given as goal
 
-abbrev pub invariant-loop-i : goal.invariant-loop-i
-invariant-loop-i l = Writing l.words l.base l.len l.initial.s l.at l.i l.s
-
-abbrev pub decreases-loop-i : goal.decreases-loop-i
-decreases-loop-i l = l.len - l.i
+abbrev pub invariant-loop-letter : goal.invariant-loop-letter
+invariant-loop-letter l = Writing (take l.len (drop l.base l.words)) l.initial.s l.at l.letter-index l.s

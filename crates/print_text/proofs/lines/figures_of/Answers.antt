@@ -9,4 +9,4 @@ returns-in_default c =
     record { size = p.0; declared = p.1 }
 
 pub returns : goal.returns
-returns c = record { size = size-found _ c.check.ensures c.in-Accepted.is; declared = declared-found _ _ c.check.ensures c.in-Accepted.is c.declared_count.ensures }
+returns c = record { size = size-found _ c.check.ensures c.in-Ok.is; declared = declared-found _ _ c.check.ensures c.in-Ok.is c.declared_count.ensures }

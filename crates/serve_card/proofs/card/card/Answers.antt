@@ -18,14 +18,14 @@ returns-in_default c =
 
 pub lent_number-number-requires : goal.lent_number-number-requires
 lent_number-number-requires c =
-    let A = taken _ _ c.load-x.ensures c.in-Sheet.is in
+    let A = taken _ _ c.load-x.ensures c.in-Ok.is in
     omega (arith, size_small A)
 
 -- from here on d is what is known when the number has been looked at
 pub returns-then-number-ne-NOT_REFUSED : goal.returns-then-number-ne-NOT_REFUSED
 returns-then-number-ne-NOT_REFUSED c =
     let A = taken _ _ c.load-x.ensures
-    c.in-Sheet.is in
+    c.in-Ok.is in
     let F = fit-as A (sym c.numbers_of-n.ensures) refl in
     let a = c.args in
     refuses-lent F a.words.now a.space.now c.lent_number-number.ensures c.if-number-ne-NOT_REFUSED.true
@@ -34,7 +34,7 @@ returns-then-number-ne-NOT_REFUSED c =
 pub one_from_rows-requires : goal.one_from_rows-requires
 one_from_rows-requires c =
     let A = taken _ _ c.load-x.ensures
-    c.in-Sheet.is in
+    c.in-Ok.is in
     let F = fit-as A (sym c.numbers_of-n.ensures) refl in
     let a = c.args in
     one-ready F a.words.now
@@ -43,13 +43,13 @@ one_from_rows-requires c =
 pub write_heading-place-requires : goal.write_heading-place-requires
 write_heading-place-requires c =
     let A = taken _ _ c.load-x.ensures
-    c.in-Sheet.is in
+    c.in-Ok.is in
     heading-in A
 
 pub write_table-length-requires : goal.write_table-length-requires
 write_table-length-requires c =
     let A = taken _ _ c.load-x.ensures
-    c.in-Sheet.is in
+    c.in-Ok.is in
     let F = fit-as A (sym c.numbers_of-n.ensures) refl in
     let a = c.args in
     let o = c.one_from_rows in
@@ -65,7 +65,7 @@ write_table-length-requires c =
 pub returns : goal.returns
 returns c =
     let A = taken _ _ c.load-x.ensures
-    c.in-Sheet.is in
+    c.in-Ok.is in
     let F = fit-as A (sym c.numbers_of-n.ensures) refl in
     let a = c.args in
     let o = c.one_from_rows in

@@ -9,4 +9,4 @@ returns-in_default c = simp (c.of_sheet.ensures, c.refuse.ensures, c.in_default.
 
 pub returns : goal.returns
 unfolding cause_of
-returns c = simp (c.of_sheet-2.ensures, c.in-Refused.is)
+returns c = simp (c.of_sheet-2.ensures, c.in-Err.is)

@@ -9,4 +9,4 @@ returns-in_default c = simp (c.of_sheet.ensures, c.refuse.ensures, c.in_default.
 
 pub returns : goal.returns
 unfolding play_cause
-returns c = simp (c.of_sheet-2.ensures, c.refuse-2.ensures, c.in-Bad.is)
+returns c = simp (c.of_sheet-2.ensures, c.refuse-2.ensures, c.in-Err.is)

@@ -12,25 +12,24 @@ overflow_sub-t c = omega (arith, all-is _ _ _ _ c.requires)
 pub overflow_sub-t-2 : goal.overflow_sub-t-2
 overflow_sub-t-2 c = omega (arith, all-is _ _ _ _ c.requires)
 
-pub first_difference-v-requires : goal.first_difference-v-requires
-first_difference-v-requires c = setting _ _ _ _ c.requires _
+pub first_difference-requires : goal.first_difference-requires
+first_difference-requires c = setting _ _ _ _ c.requires _
 
 pub overflow_sub-all : goal.overflow_sub-all
 overflow_sub-all c = omega (arith, all-is _ _ _ _ c.requires)
 
 pub show-requires : goal.show-requires
 show-requires c = (
-  (told_of _ (task c.args.all c.args.more
-      c.args.most)
-      _ _ _ c.in-Apart.is c.first_difference-v.ensures.0).trail,
-  omega (arith, asked_low _ _ c.requires.room, c.first_difference-v.auto.words),
+  (told_of _ (task c.args.all c.args.more c.args.most) _ _ _ c.in_ok-k.was c.first_difference.ensures.0).trail,
+  omega (arith, asked_low _ _ c.requires.room, c.first_difference.auto.words),
 )
 
-pub returns-in-Same : goal.returns-in-Same
-returns-in-Same c = λ D. decided-same _ _ _ _ D _ _ _ c.in-Same.is c.first_difference-v.ensures.0
+pub returns-in_err-k : goal.returns-in_err-k
+returns-in_err-k c = λ D.
+    rw c.from_residual.ensures (decided-same _ _ _ _ D _ _ _ c.in_err-k.was c.first_difference.ensures.0)
 
-pub returns-in-Apart : goal.returns-in-Apart
-returns-in-Apart c = λ D.
+pub returns : goal.returns
+returns c = λ D.
     decided-apart _ _ _ _ D _ _ _
-    (told_of _ (task c.args.all c.args.more c.args.most) _ _ _ c.in-Apart.is c.first_difference-v.ensures.0)
+    (told_of _ (task c.args.all c.args.more c.args.most) _ _ _ c.in_ok-k.was c.first_difference.ensures.0)
     c.show.ensures

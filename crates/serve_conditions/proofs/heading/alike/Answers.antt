@@ -1,6 +1,5 @@
 -- What `alike` gives is what `matching` says, case by case.
-use borrow.Author.Rules.{rules}
-use borrow.Author.Tests.{eq-eqb, ne_eqb, not-true, not-false}
+use borrow.Author.Tests.{eq-eqb, ne_eqb}
 use Rattle.serve_conditions.specs.Pair.{matching}
 use Rattle.serve_conditions.proofs.heading.alike.Goals as goal
 

@@ -1,7 +1,6 @@
 -- The figure by whether Z is above 7.
 use native.Mathlib.Omega.{arith}
 use mathlib.Core.Path.{sym}
-use borrow.Author.Rules.{rules}
 use Rattle.serve_conditions.proofs.Figures.{old-figure, new-figure}
 use Rattle.serve_conditions.proofs.lent.words_asked.Goals as goal
 

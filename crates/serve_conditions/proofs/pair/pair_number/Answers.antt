@@ -1,6 +1,5 @@
 -- What `pair_number` gives is what `number_of` says, case by case.
-use borrow.Author.Rules.{rules}
-use borrow.Author.Tests.{lt-ltb, le-ltb, not-true, not-false}
+use borrow.Author.Tests.{lt-ltb, le-ltb}
 use Rattle.serve_conditions.specs.Pair.{number_of}
 use Rattle.serve_conditions.proofs.pair.pair_number.Goals as goal
 

@@ -11,16 +11,16 @@ pub returns-in_default : goal.returns-in_default
 returns-in_default c =
     profiled-refused _ _ c.judge_sheet-x.ensures c.in_default.is c.refusal_of.ensures c.of_sheet.ensures
 
-pub first_offence-found-requires : goal.first_offence-found-requires
-first_offence-found-requires c =
-    judged-short _ _ c.judge_sheet-x.ensures c.in-Sheet.is
+pub first_offence-requires : goal.first_offence-requires
+first_offence-requires c =
+    judged-short _ _ c.judge_sheet-x.ensures c.in-Ok.is
 
-pub returns-in-Nothing : goal.returns-in-Nothing
-returns-in-Nothing c =
-    profiled-quiet _ _ c.judge_sheet-x.ensures c.in-Sheet.is
-    c.first_offence-found.ensures c.in-Nothing.is
+pub returns : goal.returns
+returns c =
+    profiled-quiet _ _ c.judge_sheet-x.ensures c.in-Ok.is
+    c.first_offence.ensures c.in_default-first_offence.is
 
-pub returns-in-At : goal.returns-in-At
-returns-in-At c =
-    profiled-loud _ _ c.judge_sheet-x.ensures c.in-Sheet.is c.first_offence-found.ensures
-    c.in-At.is c.refuse.ensures c.of_sheet-in-At.ensures
+pub returns-in-Some : goal.returns-in-Some
+returns-in-Some c =
+    profiled-loud _ _ c.judge_sheet-x.ensures c.in-Ok.is c.first_offence.ensures
+    c.in-Some.is c.refuse.ensures c.of_sheet-in-Some.ensures

@@ -1,9 +1,7 @@
 -- An id is kept, wanting or given.
 use native.Mathlib.Omega.{arith}
 use mathlib.Core.Path.{refl}
-use borrow.Author.Tests.{not-true, not-false}
 use Rattle.serve_renumber.proofs.Choosing.{id-kept, id-none, id-given}
-use borrow.Author.Rules.{rules}
 use Rattle.serve_renumber.proofs.part.choose_id.Goals as goal
 
 pub returns-then-not-held : goal.returns-then-not-held

@@ -1,6 +1,5 @@
 -- Four bytes are written.
 use Rattle.serve_renumber.proofs.Leaves.{noted}
-use borrow.Author.Rules.{rules}
 use Rattle.serve_renumber.proofs.part.note_change.Goals as goal
 
 pub returns : goal.returns

@@ -2,7 +2,6 @@
 use native.Mathlib.Omega.{arith}
 use mathlib.Core.Path.{refl}
 use Rattle.serve_renumber.specs.Work.{named_entry}
-use borrow.Author.Rules.{rules}
 use Rattle.serve_renumber.proofs.scope.named_entry.Goals as goal
 
 pub returns : goal.returns

@@ -1,7 +1,5 @@
 -- A parameter fewer each time.
-use borrow.Author.Rules.{rules}
 use Rattle.serve_renumber.proofs.Leaves.{took-none, took_more}
-use Prim.Native.Nat.{ℕ, ◌<◌}
 use Rattle.serve_renumber.proofs.taken.+take_parameters.Goals as goal
 
 pub returns-then-count-eq0 : goal.returns-then-count-eq0

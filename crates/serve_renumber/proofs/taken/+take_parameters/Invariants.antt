@@ -1,6 +1,3 @@
-use borrow.Author.Rules.{rules}
-use Rattle.serve_renumber.proofs.Leaves.{took-none, took_more}
-use Prim.Native.Nat.{ℕ, ◌<◌}
 use Rattle.serve_renumber.proofs.taken.+take_parameters.Given as goal
 
 abbrev pub decreases-take_parameters : goal.decreases-take_parameters

@@ -1,7 +1,6 @@
 -- A name that is retired has no arguments.
 use native.Mathlib.Omega.{arith}
 use Rattle.serve_renumber.proofs.Leaves.{entry-declared, entry-retired}
-use borrow.Author.Rules.{rules}
 use Rattle.serve_renumber.proofs.taken.name_entry.Goals as goal
 
 pub returns-then-kind-eq-RETIRE : goal.returns-then-kind-eq-RETIRE

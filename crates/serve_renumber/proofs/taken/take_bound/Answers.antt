@@ -1,10 +1,7 @@
 -- Record by record.
-use Prim.Native.Nat.{◌≤◌, ◌-◌, max}
 use native.Mathlib.Omega.{arith}
 use mathlib.Core.Path.{refl}
-use lib.ListN.{length}
-use borrow.Author.Rules.{rules}
-use Rattle.serve_renumber.proofs.Bound.{Bounds, bounds-first, bounds-again, bounds-last}
+use Rattle.serve_renumber.proofs.Bound.{bounds-first, bounds-again, bounds-last}
 use Rattle.serve_renumber.proofs.taken.take_bound.Goals as goal
 
 pub loop-at-init : goal.loop-at-init

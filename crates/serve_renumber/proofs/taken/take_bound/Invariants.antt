@@ -1,9 +1,6 @@
 use Prim.Native.Nat.{◌≤◌, ◌-◌, max}
-use native.Mathlib.Omega.{arith}
-use mathlib.Core.Path.{refl}
 use lib.ListN.{length}
-use borrow.Author.Rules.{rules}
-use Rattle.serve_renumber.proofs.Bound.{Bounds, bounds-first, bounds-again, bounds-last}
+use Rattle.serve_renumber.proofs.Bound.{Bounds}
 use Rattle.serve_renumber.proofs.taken.take_bound.Given as goal
 
 abbrev pub invariant-loop-at : goal.invariant-loop-at

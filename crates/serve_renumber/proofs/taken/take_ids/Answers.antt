@@ -1,6 +1,5 @@
 -- A new binds its id, a procedure its own and those of its parameters.
 use Rattle.serve_renumber.proofs.Leaves.{took-new, took-procedure, took-nothing}
-use borrow.Author.Rules.{rules}
 use Rattle.serve_renumber.proofs.taken.take_ids.Goals as goal
 
 pub returns-then-kind-eq-NEW : goal.returns-then-kind-eq-NEW

@@ -1,9 +1,7 @@
 -- Name by name.
-use Prim.Native.Nat.{◌≤◌, ◌-◌}
 use native.Mathlib.Omega.{arith}
 use mathlib.Core.Path.{refl}
-use borrow.Author.Rules.{rules}
-use Rattle.serve_renumber.proofs.Names.{Named, named-first, named_again, named-last}
+use Rattle.serve_renumber.proofs.Names.{named-first, named_again, named-last}
 use Rattle.serve_renumber.proofs.taken.take_names.Goals as goal
 
 pub loop-at-init : goal.loop-at-init

@@ -1,8 +1,5 @@
 use Prim.Native.Nat.{◌≤◌, ◌-◌}
-use native.Mathlib.Omega.{arith}
-use mathlib.Core.Path.{refl}
-use borrow.Author.Rules.{rules}
-use Rattle.serve_renumber.proofs.Names.{Named, named-first, named_again, named-last}
+use Rattle.serve_renumber.proofs.Names.{Named}
 use Rattle.serve_renumber.proofs.taken.take_names.Given as goal
 
 abbrev pub invariant-loop-at : goal.invariant-loop-at

@@ -1,7 +1,6 @@
 -- The ids taken, the copy, and the pass.
 use mathlib.Core.Path.{refl}
 use Rattle.serve_renumber.proofs.Finishing.{worked}
-use borrow.Author.Rules.{rules}
 use Rattle.serve_renumber.proofs.work.renumber_copy.Goals as goal
 
 pub returns : goal.returns

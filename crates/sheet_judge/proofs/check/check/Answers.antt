@@ -1,5 +1,4 @@
 -- The judgement of the sheet, as the service answers it.
-use borrow.Author.Rules.{rules}
 use mathlib.Core.Path.{refl}
 use Rattle.sheet_table.proofs.Noting.{blank-made}
 use Rattle.sheet_judge.proofs.Judging.{checked_refused, checked-accepted}
@@ -13,4 +12,4 @@ returns-in_default c =
     checked_refused _ _ c.judge_sheet-x.ensures c.in_default.is c.refusal_of.ensures c.of_sheet.ensures
 
 pub returns : goal.returns
-returns c = checked-accepted _ _ c.judge_sheet-x.ensures c.in-Sheet.is
+returns c = checked-accepted _ _ c.judge_sheet-x.ensures c.in-Ok.is

@@ -1,4 +1,3 @@
-use borrow.Author.Rules.{rules}
 use Rattle.sheet_judge.specs.Judged.{refusal_in}
 use Rattle.sheet_judge.proofs.check.refusal_of.Goals as goal
 
@@ -8,4 +7,4 @@ returns-in_default c = simp (c.in_default.is, c.refuse.ensures)
 
 pub returns : goal.returns
 unfolding refusal_in
-returns c = simp c.in-Refused.is
+returns c = simp c.in-Err.is

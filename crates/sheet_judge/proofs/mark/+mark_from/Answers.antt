@@ -1,7 +1,5 @@
 -- A bit for each record: a record fewer each time.
-use Prim.Native.Nat.{ℕ, ◌<◌}
 use native.Mathlib.Omega.{arith}
-use borrow.Author.Rules.{rules}
 use Rattle.sheet_judge.proofs.Masking.{mask_fits, mask-none, mask-set, mask-unset, mask-retired, mask-part}
 use Rattle.sheet_judge.proofs.Masking.{mask-unknown}
 use Rattle.sheet_judge.proofs.mark.+mark_from.Goals as goal

@@ -1,5 +1,4 @@
 -- How many bits are set for records that declare a name.
-use borrow.Author.Rules.{rules}
 use native.Mathlib.Omega.{arith}
 use mathlib.Core.Path.{ap}
 use lib.Count.{ones}

@@ -1,5 +1,4 @@
 -- The masks, how many bits are set, and the first that is wanting.
-use borrow.Author.Rules.{rules}
 use Rattle.sheet_judge.specs.Masks.{uses_by}
 use Rattle.sheet_judge.proofs.Masking.{uses-made}
 use Rattle.sheet_judge.proofs.mark.uses_of.Goals as goal

@@ -1,5 +1,4 @@
 -- Sums and products held at 4,097.
-use borrow.Author.Rules.{rules}
 use native.Mathlib.Omega.{arith}
 use Rattle.sheet_judge.specs.Size.{size_of}
 use Rattle.sheet_judge.proofs.size.size_of.Goals as goal

@@ -1,18 +1,9 @@
 -- Truths have two values; numbers, at most 514.
-use borrow.Author.Rules.{rules}
 use borrow.Author.Tests.{ne_eqb}
 use native.Mathlib.Omega.{arith}
 use Rattle.language.proofs.NumberLaws.{numbers-within}
 use Rattle.sheet_parts.specs.Rule.{values}
 use Rattle.sheet_parts.proofs.weight.values_of.Goals as goal
-
-pub returns-in-1 : goal.returns-in-1
-unfolding values
-returns-in-1 c = (simp c.in-1.is, omega arith)
-
-pub returns-in-3 : goal.returns-in-3
-unfolding values
-returns-in-3 c = (simp c.in-3.is, omega arith)
 
 pub returns-in_default : goal.returns-in_default
 unfolding values

@@ -1,5 +1,4 @@
 -- The row is written, the use noted, and the record weighed by its kind and its detail.
-use borrow.Author.Rules.{rules}
 use Rattle.sheet_reader.proofs.Leaves.{leaf-closed}
 use Rattle.sheet_reader.proofs.close.close_leaf.Goals as goal
 

@@ -1,5 +1,4 @@
 -- The number of values of the first part, which is after the record.
-use borrow.Author.Rules.{rules}
 use native.Mathlib.Omega.{arith}
 use Rattle.sheet_reader.proofs.Sums.{operate-sum, other-sum}
 use Rattle.sheet_reader.proofs.close.operate_row.Goals as goal

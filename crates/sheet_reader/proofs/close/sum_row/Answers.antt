@@ -1,5 +1,4 @@
 -- Each rule has its own row.
-use borrow.Author.Rules.{rules}
 use Rattle.sheet_reader.proofs.Sums.{fetch-sum, sequence-sum, if-sum, while-sum, new-sum, other-sum}
 use Rattle.sheet_reader.proofs.close.sum_row.Goals as goal
 

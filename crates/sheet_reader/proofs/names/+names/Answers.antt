@@ -1,7 +1,6 @@
 -- The cycle of name records: how many are still allowed falls.
-use Prim.Native.Nat.{ℕ, ◌<◌, ◌+◌, ◌*◌}
-use borrow.Author.Rules.{rules}
 use mathlib.Core.Path.{sym, ◌∙◌}
+use Rattle.sheet_reader.proofs.Core.{handed}
 use Rattle.sheet_reader.proofs.Whole.{names-short, names-unknown, names-term, names-declare, names-retire, after-full}
 use Rattle.sheet_reader.proofs.Whole.{after-bad, after-good}
 use Rattle.sheet_reader.proofs.names.+names.Goals as goal
@@ -10,15 +9,16 @@ use Rattle.sheet_reader.proofs.names.+names.Goals as goal
 pub read_after-returns-then-left-eq0 : goal.read_after-returns-then-left-eq0
 read_after-returns-then-left-eq0 t c = λ name. rw c.refuse.ensures (after-full _ _ _ _ _ _ _ _ _ name c.if-left-eq0.true)
 
-pub read_after-returns-in-Refused : goal.read_after-returns-in-Refused
-read_after-returns-in-Refused t c =
-    λ name. after-bad _ _ _ _ _ _ _ _ _ name c.if-left-eq0.false c.in-Refused.is
+pub read_after-returns-in_err-judged : goal.read_after-returns-in_err-judged
+read_after-returns-in_err-judged t c =
+    λ name. rw (handed _ c.from_residual.ensures.1)
+    (after-bad _ _ _ _ _ _ _ _ _ name c.if-left-eq0.false c.in_err-judged.was)
 
-pub read_after-returns-in-Good : goal.read_after-returns-in-Good
-read_after-returns-in-Good t c =
+pub read_after-returns : goal.read_after-returns
+read_after-returns t c =
     λ name. after-good _ _ _ _ _ _ _ _ _ name
     c.if-left-eq0.false
-    c.in-Good.is
+    c.in_ok-judged.was
     (rw (← c.registered-next.ensures) c.read_names.ensures)
 
 -- read_names

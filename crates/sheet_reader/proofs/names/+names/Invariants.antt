@@ -1,8 +1,4 @@
-use Prim.Native.Nat.{ℕ, ◌<◌, ◌+◌, ◌*◌}
-use borrow.Author.Rules.{rules}
-use mathlib.Core.Path.{sym, ◌∙◌}
-use Rattle.sheet_reader.proofs.Whole.{names-short, names-unknown, names-term, names-declare, names-retire, after-full}
-use Rattle.sheet_reader.proofs.Whole.{after-bad, after-good}
+use Prim.Native.Nat.{◌+◌, ◌*◌}
 use Rattle.sheet_reader.proofs.names.+names.Given as goal
 
 abbrev pub decreases-read_after : goal.decreases-read_after

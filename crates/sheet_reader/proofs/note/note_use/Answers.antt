@@ -1,5 +1,4 @@
 -- The word of the id, where the record is a use of a declared name.
-use borrow.Author.Rules.{rules}
 use Rattle.sheet_reader.proofs.Notes.{note-made, note-other, note-kind}
 use Rattle.sheet_reader.proofs.note.note_use.Goals as goal
 

@@ -1,13 +1,11 @@
 -- The cycle of parts: the remaining depth and, at one depth, the number of parts left fall.
-use Prim.Native.Nat.{ℕ, ◌<◌, ◌+◌, ◌*◌}
 use borrow.Author.Rules.{rules}
-use borrow.Author.Tests.{not-true, not-false}
 use native.Mathlib.Omega.{arith}
 use mathlib.Core.Path.{sym, ◌∙◌}
 use Rattle.sheet_heads.specs.Bare.{bare}
 use Rattle.sheet_heads.proofs.HeadLaws.{head-good}
 use Rattle.sheet_reader.specs.Reader.{read_part}
-use Rattle.sheet_reader.proofs.Core.{headed, block-small, routine-small}
+use Rattle.sheet_reader.proofs.Core.{handed, headed, block-small, routine-small}
 use Rattle.sheet_reader.proofs.Steps.{part-bad, part-good, scope-nothing, scope-block, scope-routine}
 use Rattle.sheet_reader.proofs.Steps.{block_read, routine-refused, routine-more, usable-read, record-closes}
 use Rattle.sheet_reader.proofs.Steps.{record-leaf, parts_none, parts-linked, next-refused, next-wrong, next_more}
@@ -31,12 +29,13 @@ unfolding bare
 read_next-returns-in_default t c =
     let x = c.args in
     let o = c.requires.4 in
-    next-refused _ _ _ (bare x.place x.rule x.a x.b) _ _ _ _ (λ e. omega (arith, e, o))
-    c.read_part-p.ensures.reads c.in_default.is
+    rw c.in_default.is
+    (next-refused _ _ _ (bare x.place x.rule x.a x.b) _ _ _ _ (λ e. omega (arith, e, o))
+    c.read_part-p.ensures.reads c.in_default.is)
 
 pub read_next-overflow_cast-ty : goal.read_next-overflow_cast-ty
 read_next-overflow_cast-ty t c =
-    omega (arith, beyond-typed _ _ c.read_part-p.ensures.beyond c.in-Read.is)
+    omega (arith, beyond-typed _ _ c.read_part-p.ensures.beyond c.in-Ok.is)
 
 pub read_next-accepts_part-requires : goal.read_next-accepts_part-requires
 unfolding bare
@@ -51,7 +50,7 @@ read_next-returns-then-not-accepts_part t c =
     let b = c.bare_record.ensures in
     rw c.refuse.ensures
     (next-wrong _ _ _ (bare x.place x.rule x.a x.b) _ _ _ _ (λ e. omega (arith, e, o))
-    c.read_part-p.ensures.reads c.in-Read.is
+    c.read_part-p.ensures.reads c.in-Ok.is
     (sym (rw b at c.accepts_part.ensures) ∙ c.if-not-accepts_part.true))
 
 pub read_next-overflow_sub-count : goal.read_next-overflow_sub-count
@@ -64,7 +63,7 @@ read_next-overflow_add-j t c =
 
 pub read_next-read_parts-requires : goal.read_next-read_parts-requires
 read_next-read_parts-requires t c =
-    let h = beyond-within _ _ c.read_part-p.ensures.beyond c.in-Read.is in
+    let h = beyond-within _ _ c.read_part-p.ensures.beyond c.in-Ok.is in
     omega (arith, h, c.decreases, c.requires.0, c.requires.1, c.requires.2, c.requires.3, c.requires.4)
 
 pub read_next-returns : goal.read_next-returns
@@ -74,25 +73,25 @@ read_next-returns t c =
     let o = c.requires.4 in
     let b = c.bare_record.ensures in
     next_more _ _ _ (bare x.place x.rule x.a x.b) _ _ _ _ (λ e. omega (arith, e, o))
-    c.read_part-p.ensures.reads c.in-Read.is
+    c.read_part-p.ensures.reads c.in-Ok.is
     (sym (rw b at c.accepts_part.ensures) ∙ c.if-not-accepts_part.false) c.read_parts.ensures
 
 -- read_part
 pub read_part-close_leaf-requires : goal.read_part-close_leaf-requires
 read_part-close_leaf-requires t c =
-    let e = sym c.head_at-h.ensures ∙ c.in-Good.is in
+    let e = sym c.head_at.ensures ∙ c.in_ok-record.was in
     let g = head-good _ _ _ _ _ _ _ e in
     (omega (arith, g.place, g.inside, c.requires.0), omega (arith, g.next-inside, c.requires.0))
 
 pub read_part-overflow_sub-left : goal.read_part-overflow_sub-left
 read_part-overflow_sub-left t c =
-    let e = sym c.head_at-h.ensures ∙ c.in-Good.is in
+    let e = sym c.head_at.ensures ∙ c.in_ok-record.was in
     let d = (head-good _ _ _ _ _ _ _ e).depth in
     omega arith
 
 pub read_part-read_record-requires : goal.read_part-read_record-requires
 read_part-read_record-requires t c =
-    let e = sym c.head_at-h.ensures ∙ c.in-Good.is in
+    let e = sym c.head_at.ensures ∙ c.in_ok-record.was in
     let g = head-good _ _ _ _ _ _ _ e in
     let d = g.depth in
     let i = g.inside in
@@ -109,20 +108,22 @@ read_part-read_record-requires t c =
       ),
     )
 
-pub read_part-returns-in-Refused : goal.read_part-returns-in-Refused
-read_part-returns-in-Refused t c = let R = part-bad _ _ _ _ _ _ _ (sym c.head_at-h.ensures ∙ c.in-Refused.is) in
+pub read_part-returns-in_err-record : goal.read_part-returns-in_err-record
+read_part-returns-in_err-record t c =
+    let R = part-bad _ _ _ _ _ _ _ (sym c.head_at.ensures ∙ c.in_err-record.was)
+    (handed _ c.from_residual.ensures.1) in
     record { reads = R; beyond = part-beyond _ _ _ _ _ _ _ c.type_inv.s R.answer }
 
-pub read_part-returns-in-Is : goal.read_part-returns-in-Is
-read_part-returns-in-Is t c = let e = sym c.head_at-h.ensures ∙ c.in-Good.is in
-    let L = leaf-is _ _ c.args.around _ (headed _ _ _ _ _ _ _ e) (sym c.leaf_of-leaf.ensures ∙ c.in-Is.is) in
+pub read_part-returns : goal.read_part-returns
+read_part-returns t c = let e = sym c.head_at.ensures ∙ c.in_ok-record.was in
+    let L = leaf-is _ _ c.args.around _ (headed _ _ _ _ _ _ _ e) (sym c.leaf_of.ensures ∙ c.in-Some.is) in
     let C = c.close_leaf.ensures _ c.args.around L.same_kind L.same-detail L.leaf in
     let R = part-good _ _ _ _ _ _ _ e (head-good _ _ _ _ _ _ _ e).depth
     (record-leaf _ _ _ _ _ _ L.inside L.none L.same_type C) in
     record { reads = R; beyond = part-beyond _ _ _ _ _ _ _ c.type_inv.s R.answer }
 
-pub read_part-returns-in-Other : goal.read_part-returns-in-Other
-read_part-returns-in-Other t c = let e = sym c.head_at-h.ensures ∙ c.in-Good.is in
+pub read_part-returns-in_default : goal.read_part-returns-in_default
+read_part-returns-in_default t c = let e = sym c.head_at.ensures ∙ c.in_ok-record.was in
     let R = part-good _ _ _ _ _ _ _ e (head-good _ _ _ _ _ _ _ e).depth c.read_record.ensures in
     record { reads = R; beyond = part-beyond _ _ _ _ _ _ _ c.type_inv.s R.answer }
 
@@ -163,31 +164,32 @@ pub read_routine-overflow_add-around : goal.read_routine-overflow_add-around
 read_routine-overflow_add-around t c =
     search (rules, c.requires.1, c.requires.4)
 
-pub read_routine-read_parts-own-requires : goal.read_routine-read_parts-own-requires
-read_routine-read_parts-own-requires t c =
+pub read_routine-read_parts-requires : goal.read_routine-read_parts-requires
+read_routine-read_parts-requires t c =
     omega (arith, c.decreases, c.requires.0, c.requires.1, c.requires.2, c.requires.3, c.requires.4)
 
-pub read_routine-returns-in_default : goal.read_routine-returns-in_default
-read_routine-returns-in_default t c =
-    routine-refused _ _ _ _ _ _ (rw (← c.enter_parameters.ensures) c.read_parts-own.ensures) c.in_default.is
+pub read_routine-returns-in_err-own : goal.read_routine-returns-in_err-own
+read_routine-returns-in_err-own t c =
+    rw (handed _ c.from_residual.ensures.1)
+    (routine-refused _ _ _ _ _ _ (rw (← c.enter_parameters.ensures) c.read_parts.ensures) c.in_err-own.was)
 
-pub read_routine-overflow_cast-ty : goal.read_routine-overflow_cast-ty
+pub read_routine-overflow_cast-own : goal.read_routine-overflow_cast-own
 unfolding bare
-read_routine-overflow_cast-ty t c =
+read_routine-overflow_cast-own t c =
     let h = ends-typed _ (parts-end _ _ _ _ _ _ _ c.type_inv.s _ _ _ _ (omega arith) c.requires.3
-    c.read_parts-own.ensures.answer) c.in-Read.is in
+    c.read_parts.ensures.answer) c.in_ok-own.was in
     omega (arith, h)
 
 pub read_routine-read_usable-requires : goal.read_routine-read_usable-requires
 unfolding bare
 read_routine-read_usable-requires t c =
     let h = ends-within _ (parts-end _ _ _ _ _ _ _ c.type_inv.s _ _ _ _ (omega arith) c.requires.3
-    c.read_parts-own.ensures.answer) c.in-Read.is in
+    c.read_parts.ensures.answer) c.in_ok-own.was in
     omega (arith, h, c.decreases, c.requires.0, c.requires.1, c.requires.2, c.requires.3, c.requires.4)
 
 pub read_routine-returns : goal.read_routine-returns
 read_routine-returns t c =
-    routine-more _ _ _ _ _ _ (rw (← c.enter_parameters.ensures) c.read_parts-own.ensures) c.in-Read.is
+    routine-more _ _ _ _ _ _ (rw (← c.enter_parameters.ensures) c.read_parts.ensures) c.in_ok-own.was
     c.read_usable.ensures
 
 -- read_scope

@@ -1,18 +1,4 @@
-use Prim.Native.Nat.{ℕ, ◌<◌, ◌+◌, ◌*◌}
-use borrow.Author.Rules.{rules}
-use borrow.Author.Tests.{not-true, not-false}
-use native.Mathlib.Omega.{arith}
-use mathlib.Core.Path.{sym, ◌∙◌}
-use Rattle.sheet_heads.specs.Bare.{bare}
-use Rattle.sheet_heads.proofs.HeadLaws.{head-good}
-use Rattle.sheet_reader.specs.Reader.{read_part}
-use Rattle.sheet_reader.proofs.Core.{headed, block-small, routine-small}
-use Rattle.sheet_reader.proofs.Steps.{part-bad, part-good, scope-nothing, scope-block, scope-routine}
-use Rattle.sheet_reader.proofs.Steps.{block_read, routine-refused, routine-more, usable-read, record-closes}
-use Rattle.sheet_reader.proofs.Steps.{record-leaf, parts_none, parts-linked, next-refused, next-wrong, next_more}
-use Rattle.sheet_reader.proofs.Bounds.{part-beyond, beyond-within, beyond-typed, scope_ends, parts-end}
-use Rattle.sheet_reader.proofs.Bounds.{ends-within, ends-typed, ends-further}
-use Rattle.sheet_reader.proofs.Leaves.{leaf-is}
+use Prim.Native.Nat.{◌+◌, ◌*◌}
 use Rattle.sheet_reader.proofs.part.+parts.Given as goal
 
 abbrev pub decreases-read_block : goal.decreases-read_block

@@ -1,5 +1,4 @@
 -- A sequence takes its second part as it is.
-use borrow.Author.Rules.{rules}
 use Rattle.sheet_reader.proofs.Steps.{root-reads}
 use Rattle.sheet_reader.proofs.part.read_root.Goals as goal
 

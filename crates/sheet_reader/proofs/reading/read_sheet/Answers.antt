@@ -2,7 +2,6 @@
 use Prim.Native.Nat.{ℕ, ◌≤◌, ◌<◌}
 use native.Mathlib.Omega.{arith}
 use mathlib.Core.Path.{◌≡◌}
-use borrow.Author.Rules.{rules}
 use Rattle.sheet_reader.proofs.Whole.{sheet-refused, sheet-closed, closes-sheet, too_long, empty, z-zero, z-large}
 use Rattle.sheet_reader.proofs.Whole.{no-rule, rule-large, opened}
 use Rattle.sheet_reader.proofs.reading.read_sheet.Goals as goal

@@ -4,14 +4,8 @@ use Rattle.states_path.proofs.PathCode.{from_first}
 use Rattle.states_path.proofs.PathSteps.{lead_plain, lead_low, led-none, led-own}
 use Rattle.states_path.proofs.exits.led.Goals as goal
 
-pub lead-requires : goal.lead-requires
-lead-requires c = c.requires.0
-
 pub returns-then-i-own : goal.returns-then-i-own
 returns-then-i-own c = λ N s e. led-none N _ _ _ _ _ _ _ _ c.if-i-own.true (c.lead.ensures N s e)
-
-pub start_at-requires : goal.start_at-requires
-start_at-requires c = c.requires.0
 
 pub overflow_add-start_at : goal.overflow_add-start_at
 overflow_add-start_at c = omega (arith, lead_low _ _ _ c.requires.0 c.start_at.ensures, c.if-next-lt-FAR.true)

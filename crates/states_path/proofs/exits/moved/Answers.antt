@@ -7,9 +7,6 @@ use Rattle.states_path.proofs.exits.moved.Goals as goal
 pub field-requires : goal.field-requires
 field-requires c = (omega (arith, c.requires.0.few, block_within _ _ _ _ c.requires.1.1.0 (λ z. omega (arith, c.requires.1.1.1))), omega arith)
 
-pub start_at-requires : goal.start_at-requires
-start_at-requires c = c.requires.0
-
 pub overflow_add-start_at : goal.overflow_add-start_at
 overflow_add-start_at c = omega (
   arith,
@@ -23,12 +20,6 @@ start_at-requires-2 c = fewer _ _ _ c.requires.0 (block_within _ _ _ _ c.require
 
 pub overflow_sub-start_at : goal.overflow_sub-start_at
 overflow_sub-start_at c = lead-within _ _ _ _ _ _ c.requires.0 c.requires.1.0 c.start_at.ensures c.requires.1.1.0 (λ z. omega (arith, c.requires.1.1.1)) _ c.start_at-2.ensures
-
-pub far-requires : goal.far-requires
-far-requires c = c.requires.0
-
-pub returns-then-copy-ge-FAR : goal.returns-then-copy-ge-FAR
-returns-then-copy-ge-FAR c = c.far.ensures
 
 pub start_at-requires-3 : goal.start_at-requires-3
 start_at-requires-3 c = fewer _ _ _ c.requires.0 (omega (

@@ -1,16 +1,10 @@
 -- `enter` keeps what `Arrived` says.
-use mathlib.Core.Path.{sym, ◌∙◌}
+use Rattle.std.proofs.Common.{sym, ◌∙◌}
 use Rattle.states_path.proofs.PathInner.{entered}
 use Rattle.states_path.proofs.PathNarrow.{entered-narrow}
 use Rattle.states_path.proofs.PathDeeper.{goes-deeper}
 use Rattle.states_path.proofs.PathArrives.{arrives, arrives-deep}
 use Rattle.states_path.proofs.path.enter.Goals as goal
-
-pub loop-at-init : goal.loop-at-init
-loop-at-init c = (c.requires.kept_path.0, c.requires.kept_path.1.0)
-
-pub spot_at-d-requires : goal.spot_at-d-requires
-spot_at-d-requires c = record { term_rows = c.requires.term_rows; kept_path = c.loop-at.invariant.0 }
 
 pub returns-in-Here : goal.returns-in-Here
 returns-in-Here c = arrives _ _ _ _ _ _ c.loop-at-test.true c.loop-at.invariant.0 c.loop-at.invariant.1 (sym c.in-Here.is ∙ c.spot_at-d.ensures)

@@ -3,9 +3,6 @@ use Rattle.states_path.proofs.PathDeeper.{kept-fewer}
 use native.Mathlib.Omega.{arith}
 use Rattle.states_path.proofs.path.go_to.Goals as goal
 
-pub leave-left-requires : goal.leave-left-requires
-leave-left-requires c = c.requires.kept_path.0.sound
-
 pub enter-requires : goal.enter-requires
 enter-requires c = record {
   term_rows = c.requires.term_rows;
@@ -15,6 +12,3 @@ enter-requires c = record {
     (c.leave-left.ensures.1, c.requires.kept_path.1),
   );
 }
-
-pub returns : goal.returns
-returns c = c.enter.ensures

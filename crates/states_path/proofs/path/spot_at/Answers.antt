@@ -12,24 +12,9 @@ pub returns-then-c-eq0 : goal.returns-then-c-eq0
 unfolding spot_in
 returns-then-c-eq0 c = simp (← c.sheet_spot.ensures, eq-eqb _ _ c.if-c-eq0.true)
 
-pub field-part-requires : goal.field-part-requires
-field-part-requires c = (omega (arith, c.requires.kept_path.sound.few), omega arith)
-
-pub field-kind-requires : goal.field-kind-requires
-field-kind-requires c = (omega (arith, c.requires.kept_path.sound.few), omega arith)
-
-pub field-value-requires : goal.field-value-requires
-field-value-requires c = (omega (arith, c.requires.kept_path.sound.few), omega arith)
-
-pub field-requires : goal.field-requires
-field-requires c = (omega (arith, c.requires.kept_path.sound.few), omega arith)
-
 pub overflow_sub-inner : goal.overflow_sub-inner
 unfolding level_at
 overflow_sub-inner c = omega (arith, c.field.ensures, c.requires.kept_path.begun (c.args.c - 1) (omega (arith, c.if-c-eq0.false)))
-
-pub private_at-requires : goal.private_at-requires
-private_at-requires c = record { term_rows = c.requires.term_rows; sound = c.requires.kept_path.sound }
 
 pub returns-then-cell-eq-PRIVATE : goal.returns-then-cell-eq-PRIVATE
 returns-then-cell-eq-PRIVATE c = spot-private _ _ _ _ _ _ _ _ _ _ c.if-c-eq0.false c.field-part.ensures c.field-kind.ensures c.field-value.ensures c.field.ensures (sym c.cell.ensures ∙ c.if-cell-eq-PRIVATE.true) c.private_at.ensures

@@ -3,9 +3,6 @@ use native.Mathlib.Omega.{arith}
 use Rattle.states_path.proofs.PathSteps.{value-unset, value_there, block_within}
 use Rattle.states_path.proofs.path.value_at.Goals as goal
 
-pub block_at-m-requires : goal.block_at-m-requires
-block_at-m-requires c = c.requires.0
-
 pub returns-then-m-eq0 : goal.returns-then-m-eq0
 returns-then-m-eq0 c = value-unset _ _ _ _ c.block_at-m.ensures c.if-m-eq0.true
 

@@ -7,6 +7,3 @@ use Rattle.states_positions.proofs.row.part_at.Goals as goal
 pub returns-then-j : goal.returns-then-j
 returns-then-j c =
     past c.args.t.now c.args.at (5 + c.args.j) (omega arith)
-
-pub returns : goal.returns
-returns c = c.cell.ensures

@@ -1,6 +1,3 @@
-use Prim.Native.Nat.{◌-◌, ◌≤◌}
-use mathlib.Core.Path.{◌≡◌}
-use lib.ListN.{length}
 use lib.Dec.{eqb}
 use Rattle.language.specs.Choice.{pick}
 use Rattle.states_words.specs.inner.Moves.{values_to}
@@ -8,8 +5,6 @@ use Rattle.states_words.proofs.Loops.{Wrote}
 use Rattle.states_words.proofs.answers.answer_either.Given as goal
 
 abbrev pub invariant-loop-r : goal.invariant-loop-r
-invariant-loop-r l = (l.r ≤ l.all) × ((length l.words ≡ length
-    l.initial.words) × Wrote l.initial.words l.states l.e (values_to l.n l.place l.below (λ v. pick (eqb v l.value) l.yes l.no) l.r) l.next l.words)
-
-abbrev pub decreases-loop-r : goal.decreases-loop-r
-decreases-loop-r l = l.all - l.r
+invariant-loop-r l =
+    Wrote l.initial.words l.states l.e (values_to l.n l.place l.below (λ v. pick (eqb v l.value) l.yes l.no) l.r) l.next
+    l.words

@@ -8,10 +8,10 @@ returns-then-below-value c =
     let p = told (value_none _ _ _ _ _ _ _ _ _ _ _ c.code_at-value.ensures c.if-below-value.true) in
     record { returned = p.0; written = p.1 }
 
-pub exit-requires : goal.exit-requires
-exit-requires c = c.requires.answering.sound
-
 pub returns : goal.returns
 returns c =
-    let p = told (value-some _ _ _ _ _ _ _ _ _ _ _ _ _ _ _ c.code_at-value.ensures c.if-below-value.false c.letter_of.ensures (c.exit.ensures ∙ sym (c.requires.answering.exits _ c.if-below-value.false)) c.write_edge.ensures c.sum.ensures) in
+    let leads = c.exit.ensures ∙ sym (c.requires.answering.exits _ c.if-below-value.false) in
+    let p =
+    told (value-some _ _ _ _ _ _ _ _ _ _ _ _ _ _ _ c.code_at-value.ensures c.if-below-value.false c.letter_of.ensures
+    leads c.write_edge.ensures c.sum.ensures) in
     record { returned = p.0; written = p.1 }

@@ -1,22 +1,23 @@
 -- `hear_argument` writes the edges `block_edges`, and gives the number of the edge after them.
-use native.Mathlib.Omega.{arith}
 use mathlib.Core.Path.{refl}
 use Rattle.states_words.proofs.Loops.{told, wrote, block_none, block-some}
 use Rattle.states_words.proofs.HeardQuestions.{limit-question}
 use Rattle.states_words.proofs.hear.hear_argument.Goals as goal
 
-pub overflow_sub-j : goal.overflow_sub-j
-overflow_sub-j c = omega (arith, c.requires.listening.1.some)
-
 pub returns-then-below-eq0 : goal.returns-then-below-eq0
 returns-then-below-eq0 c =
-    let p = told (block_none _ _ _ _ _ _ _ _ _ (limit-question _ _ _ _ _ _ _ c.requires.listening.1 c.part_class.ensures c.part_values.ensures c.question_limit-below.ensures) c.if-below-eq0.true) in
+    let limit =
+    limit-question _ _ _ _ _ _ _ c.requires.listening.1 c.part_class.ensures c.part_values.ensures
+    c.question_limit-below.ensures in
+    let p = told (block_none _ _ _ _ _ _ _ _ _ limit c.if-below-eq0.true) in
     record { returned = p.0; written = p.1 }
-
-pub hear_values-requires : goal.hear_values-requires
-hear_values-requires c = record { long = c.requires.long; listening = c.requires.listening.0 }
 
 pub returns : goal.returns
 returns c =
-    let p = told (block-some _ _ _ _ _ _ _ _ _ _ _ _ (limit-question _ _ _ _ _ _ _ c.requires.listening.1 c.part_class.ensures c.part_values.ensures c.question_limit-below.ensures) c.if-below-eq0.false refl (wrote c.hear_values.ensures.returned c.hear_values.ensures.written)) in
+    let limit =
+    limit-question _ _ _ _ _ _ _ c.requires.listening.1 c.part_class.ensures c.part_values.ensures
+    c.question_limit-below.ensures in
+    let p =
+    told (block-some _ _ _ _ _ _ _ _ _ _ _ _ limit c.if-below-eq0.false refl
+    (wrote c.hear_values.ensures.returned c.hear_values.ensures.written)) in
     record { returned = p.0; written = p.1 }

@@ -8,10 +8,9 @@ returns-then-below-eq0 c =
     let p = told (block_none _ _ _ _ _ _ _ _ _ c.limit-below.ensures c.if-below-eq0.true) in
     record { returned = p.0; written = p.1 }
 
-pub hear_values-requires : goal.hear_values-requires
-hear_values-requires c = record { long = c.requires.long; listening = c.requires.listening }
-
 pub returns : goal.returns
 returns c =
-    let p = told (block-some _ _ _ _ _ _ _ _ _ _ _ _ c.limit-below.ensures c.if-below-eq0.false refl (wrote c.hear_values.ensures.returned c.hear_values.ensures.written)) in
+    let p =
+    told (block-some _ _ _ _ _ _ _ _ _ _ _ _ c.limit-below.ensures c.if-below-eq0.false refl
+    (wrote c.hear_values.ensures.returned c.hear_values.ensures.written)) in
     record { returned = p.0; written = p.1 }

@@ -5,9 +5,6 @@ use Rattle.states_words.proofs.Loops.{told}
 use Rattle.states_words.proofs.HeardSingle.{single-wrote}
 use Rattle.states_words.proofs.hear.hear_single.Goals as goal
 
-pub exit-requires : goal.exit-requires
-exit-requires c = c.requires.sound
-
 pub returns : goal.returns
 returns c =
     let p = told (single-wrote _ _ _ _ _ _ _ _ _ _ _ _ c.letter_of.ensures

@@ -7,9 +7,6 @@ returns-then-below-value c =
     let p = told (value_none _ _ _ _ _ _ _ _ _ _ _ c.code_at-value.ensures c.if-below-value.true) in
     record { returned = p.0; written = p.1 }
 
-pub heard-requires : goal.heard-requires
-heard-requires c = record { long = c.requires.long; listening = c.requires.listening }
-
 pub returns : goal.returns
 returns c =
     let p = told (value-some _ _ _ _ _ _ _ _ _ _ _ _ _ _ _ c.code_at-value.ensures c.if-below-value.false

@@ -2,14 +2,9 @@
 use Rattle.states_words.proofs.PathListens.{heard-start, heard-later}
 use Rattle.states_words.proofs.hear.heard.Goals as goal
 
-pub reach-requires : goal.reach-requires
-reach-requires c = c.requires.listening.sound
-
 pub returns-then-wait-eq0 : goal.returns-then-wait-eq0
-returns-then-wait-eq0 c = heard-start _ _ _ _ _ _ _ _ _ c.requires.listening c.if-wait-eq0.true c.at_start.ensures c.reach.ensures
-
-pub reach-requires-2 : goal.reach-requires-2
-reach-requires-2 c = c.requires.listening.sound
+returns-then-wait-eq0 c =
+    heard-start _ _ _ _ _ _ _ _ _ c.requires.listening c.if-wait-eq0.true c.at_start.ensures c.reach.ensures
 
 pub returns : goal.returns
 returns c = heard-later _ _ _ _ _ _ _ _ _ c.requires.listening c.if-wait-eq0.false

@@ -1,13 +1,7 @@
 -- What `write_head` leaves is what `with_head` says.
 use borrow.Author.Rules.{rules}
-use Rattle.states_words.proofs.Plain.{head-stored, still-there}
+use Rattle.states_words.proofs.Plain.{head-stored}
 use Rattle.states_words.proofs.rows.write_head.Goals as goal
-
-pub store-requires-then-i-words : goal.store-requires-then-i-words
-store-requires-then-i-words c = search (rules, still-there)
 
 pub returns-then-i-words : goal.returns-then-i-words
 returns-then-i-words c = search (rules, head-stored)
-
-pub returns : goal.returns
-returns c = search rules

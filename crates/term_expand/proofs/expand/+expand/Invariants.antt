@@ -24,7 +24,5 @@ abbrev pub decreases-expand_row : goal.decreases-expand_row
 decreases-expand_row l = 8 * l.left + 4
 
 abbrev pub invariant-expand_own-loop-turns : goal.invariant-expand_own-loop-turns
-invariant-expand_own-loop-turns l = Led l.t l.marks l.slots l.level l.left l.at l.initial.rows l.n l.own l.rows l.around l.turns l.here l.made
-
-abbrev pub decreases-expand_own-loop-turns : goal.decreases-expand_own-loop-turns
-decreases-expand_own-loop-turns l = l.turns
+invariant-expand_own-loop-turns l =
+    Led l.t l.marks l.slots l.level l.left l.at l.initial.rows l.n l.own l.rows l.around l.turns l.here l.made

@@ -1,5 +1,4 @@
 -- A sheet that is judged, and its term expanded.
-use borrow.Author.Rules.{rules}
 use mathlib.Core.Path.{refl}
 use Rattle.sheet_table.proofs.Noting.{blank-made}
 use Rattle.term_load.proofs.Loading.{judged-of, load-refused, load-sheet, shows}
@@ -13,7 +12,7 @@ returns-in_default c = load-refused _ _ _ c.judge_sheet-x.ensures c.in_default.i
 
 pub expand_root-row-requires : goal.expand_root-row-requires
 expand_root-row-requires c = let J = judged-of _ _ _ c.judge_sheet-x.ensures
-    c.in-Sheet.is in shows J c.requires
+    c.in-Ok.is in shows J c.requires
 
 pub returns : goal.returns
-returns c = let J = judged-of _ _ _ c.judge_sheet-x.ensures c.in-Sheet.is in load-sheet J c.expand_root-row.ensures c.requires
+returns c = let J = judged-of _ _ _ c.judge_sheet-x.ensures c.in-Ok.is in load-sheet J c.expand_root-row.ensures c.requires

@@ -1,7 +1,15 @@
 -- The mark at a place, as a number.
-use borrow.Author.Rules.{rules}
-use Rattle.weight_plans.proofs.Leaves.{come-read}
+use native.Mathlib.Omega.{arith}
+use Prim.Native.Nat.{◌%◌}
+use mathlib.Core.Path.{ap, sym, ◌∙◌}
+use lib.Seq.{get_or-drop}
+use Rattle.weight_theory.specs.Stack.{marks_from}
+use Rattle.weight_theory.specs.Plan.{come_at}
 use Rattle.weight_plans.proofs.mark.come_at.Goals as goal
 
 pub returns : goal.returns
-returns c = come-read c.args.t.now c.args.place _ c.short_at.ensures
+unfolding come_at
+returns c = (
+  ap (λ y. y % 128) (c.short_at.ensures ∙ sym (get_or-drop marks_from c.args.t.now c.args.place 0)),
+  omega arith,
+)

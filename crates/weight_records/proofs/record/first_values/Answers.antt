@@ -1,5 +1,4 @@
 -- After both tests, the word of that row.
-use borrow.Author.Rules.{rules}
 use Rattle.weight_records.proofs.Whole.{first_read}
 use Rattle.weight_records.proofs.record.first_values.Goals as goal
 

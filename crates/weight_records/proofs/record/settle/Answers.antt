@@ -1,5 +1,4 @@
 -- A constant twice, and the notes.
-use borrow.Author.Rules.{rules}
 use Rattle.weight_records.proofs.Whole.{settled}
 use Rattle.weight_records.proofs.record.settle.Goals as goal
 

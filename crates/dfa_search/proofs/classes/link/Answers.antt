@@ -1,9 +1,0 @@
--- What `link` leaves is what `linked` says.
-use borrow.Author.Tests.{lt-ltb, le-ltb}
-use Rattle.dfa_search.proofs.classes.link.Goals as goal
-
-pub returns-then-a-b : goal.returns-then-a-b
-returns-then-a-b c = rw (lt-ltb _ _ c.if-a-b.true) c.put.ensures
-
-pub returns-else-a-b : goal.returns-else-a-b
-returns-else-a-b c = rw (le-ltb _ _ c.if-a-b.false) c.put-else-a-b.ensures
