@@ -1,3 +1,4 @@
 pub mod Writing
 pub mod Wording
 pub mod Halves
+pub mod Numbers

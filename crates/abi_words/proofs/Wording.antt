@@ -17,6 +17,8 @@ use Rattle.abi_words.specs.Words.{kind_refused, kind_accepted, kind_follows, kin
 use Rattle.abi_words.specs.Words.{low_half, high_half, uses_words, no_uses, refusal_words, check_words, follow_words}
 use Rattle.abi_words.specs.Words.{found_words, compare_words, kind_so_far, outcome_words, look_words, renumber_words, answered, status}
 use Rattle.abi_words.specs.Words.{kind_card, card_words}
+use Rattle.sheet_records.specs.Refusal.{number_of, sheet_number}
+use Rattle.sheet_records.specs.declared.refusal.Sheets.{Sheets}
 
 -- an answer by other words for the same
 pub returned-as : (out out' ws ws₂ : List ℕ) (x : ℕ) → ws ≡ ws₂ → x ≡ status out → out' ≡ answered ws out →
@@ -24,10 +26,11 @@ pub returned-as : (out out' ws ws₂ : List ℕ) (x : ℕ) → ws ≡ ws₂ → 
 returned-as out out' ws ws₂ x e t w = rw (← e) (t, w)
 
 -- the words of each answer
-pub words-refused : (x : Cause) (low high : ℕ) → low ≡ low_half x.place → high ≡ high_half x.place →
-    ((kind_refused ∷ x.number ∷ x.sheet ∷ low ∷ high ∷ []) ++ no_uses ++ no_uses) ≡ refusal_words x
+pub words-refused : (x : Cause) (number sheet low high : ℕ) → number ≡ number_of x.reason →
+    sheet ≡ sheet_number x.sheet → low ≡ low_half x.place → high ≡ high_half x.place →
+    ((kind_refused ∷ number ∷ sheet ∷ low ∷ high ∷ []) ++ no_uses ++ no_uses) ≡ refusal_words x
 unfolding refusal_words
-words-refused x low high p q = rw (p, q)
+words-refused x number sheet low high n s p q = rw (n, s, p, q) refl
 
 pub words-accepted : (r : Result Checked Cause) (ty size : ℕ) (uses : Uses) → r ≡ Ok (record { ty = ty; size = size; uses = uses }) →
     ((kind_accepted ∷ ty ∷ size ∷ 0 ∷ 0 ∷ []) ++ uses_words uses ++ no_uses) ≡ check_words r
@@ -60,12 +63,12 @@ pub words_same : (r : Result Comparison Cause) (found : Option Difference) (old 
 unfolding compare_words found_words
 words_same r found old new e f = rw (e, f) refl
 
-pub words-apart : (r : Result Comparison Cause) (found : Option Difference) (d : Difference) (low high : ℕ)
+pub words-apart : (r : Result Comparison Cause) (found : Option Difference) (d : Difference) (sheet low high : ℕ)
     (old new : Uses) → r ≡ Ok (record { found = found; old = old; new = new }) → found ≡ Some d →
-    low ≡ low_half d.moves → high ≡ high_half d.moves →
-    ((kind_apart ∷ d.sheet ∷ low ∷ high ∷ 0 ∷ []) ++ uses_words old ++ uses_words new) ≡ compare_words r
+    sheet ≡ sheet_number d.sheet → low ≡ low_half d.moves → high ≡ high_half d.moves →
+    ((kind_apart ∷ sheet ∷ low ∷ high ∷ 0 ∷ []) ++ uses_words old ++ uses_words new) ≡ compare_words r
 unfolding compare_words found_words
-words-apart r found d low high old new e f p q = rw (e, f, p, q) refl
+words-apart r found d sheet low high old new e f s p q = rw (e, f, s, p, q) refl
 
 pub words-not-compared : (r : Result Comparison Cause) (x : Cause) → r ≡ Err x → refusal_words x ≡ compare_words r
 unfolding compare_words
@@ -82,11 +85,12 @@ pub words-looked-same : (r : Result Looking Cause) (o : Outcome) (looked : ℕ) 
 unfolding look_words outcome_words
 words-looked-same r o looked old new e f = rw (e, f) refl
 
-pub words-looked-apart : (r : Result Looking Cause) (o : Outcome) (sheet looked : ℕ) (old new : Uses) →
-    r ≡ Ok (record { outcome = o; looked = looked; old = old; new = new }) → o ≡ Apart sheet →
+pub words-looked-apart : (r : Result Looking Cause) (o : Outcome) (which : Sheets) (sheet looked : ℕ) (old new : Uses) →
+    r ≡ Ok (record { outcome = o; looked = looked; old = old; new = new }) → o ≡ Apart which →
+    sheet ≡ sheet_number which →
     ((kind_apart ∷ sheet ∷ low_half looked ∷ high_half looked ∷ 0 ∷ []) ++ uses_words old ++ uses_words new) ≡ look_words r
 unfolding look_words outcome_words
-words-looked-apart r o sheet looked old new e f = rw (e, f) refl
+words-looked-apart r o which sheet looked old new e f s = rw (e, f, s) refl
 
 pub words-looked-so-far : (r : Result Looking Cause) (o : Outcome) (looked : ℕ) (old new : Uses) →
     r ≡ Ok (record { outcome = o; looked = looked; old = old; new = new }) → o ≡ SoFar →

@@ -17,6 +17,7 @@ use Rattle.serve_compare.specs.declared.Comparison.{Comparison}
 use Rattle.serve_compare.specs.declared.Looking.{Looking}
 use Rattle.serve_compare.specs.declared.Outcome.{Outcome}
 use Rattle.serve_compare.specs.declared.Outcome.TheVariants.{Same, Apart, SoFar}
+use Rattle.sheet_records.specs.Refusal.{number_of, sheet_number}
 
 -- the kinds of answers
 abbrev pub kind_refused : ℕ
@@ -73,7 +74,7 @@ no_uses = 0 ∷ 0 ∷ 0 ∷ []
 -- a refusal: number, sheet (0 old, 1 new, 2 both) and place
 unfoldable pub refusal_words : Cause → List ℕ
 refusal_words x =
-    (kind_refused ∷ x.number ∷ x.sheet ∷ low_half x.place ∷ high_half x.place ∷ []) ++ no_uses ++ no_uses
+    (kind_refused ∷ number_of x.reason ∷ sheet_number x.sheet ∷ low_half x.place ∷ high_half x.place ∷ []) ++ no_uses ++ no_uses
 
 -- accepted: type and size, and the names used
 unfoldable pub check_words : Result Checked Cause → List ℕ
@@ -89,7 +90,7 @@ follow_words (Err x) = refusal_words x
 -- same; or apart: the sheet, 0 old or 1 new, and how many moves
 unfoldable pub found_words : Option Difference → List ℕ
 found_words None = kind_same ∷ 0 ∷ 0 ∷ 0 ∷ 0 ∷ []
-found_words (Some d) = kind_apart ∷ d.sheet ∷ low_half d.moves ∷ high_half d.moves ∷ 0 ∷ []
+found_words (Some d) = kind_apart ∷ sheet_number d.sheet ∷ low_half d.moves ∷ high_half d.moves ∷ 0 ∷ []
 
 -- either with the names that both sheets use
 unfoldable pub compare_words : Result Comparison Cause → List ℕ
@@ -99,7 +100,7 @@ compare_words (Err x) = refusal_words x
 -- looked through: same, apart with the sheet, or same so far; and how many moves were looked through
 unfoldable pub outcome_words : Outcome → ℕ → List ℕ
 outcome_words Same looked = kind_same ∷ 0 ∷ low_half looked ∷ high_half looked ∷ 0 ∷ []
-outcome_words (Apart sheet) looked = kind_apart ∷ sheet ∷ low_half looked ∷ high_half looked ∷ 0 ∷ []
+outcome_words (Apart sheet) looked = kind_apart ∷ sheet_number sheet ∷ low_half looked ∷ high_half looked ∷ 0 ∷ []
 outcome_words SoFar looked = kind_so_far ∷ 0 ∷ low_half looked ∷ high_half looked ∷ 0 ∷ []
 
 -- with the names that both sheets use

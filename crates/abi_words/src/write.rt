@@ -31,7 +31,7 @@ pub(crate) fn refuse(out: &mut [u32], x: Cause) -> u32
     ensures returned { result ≡ status out.old }
     ensures written { out.new ≡ answered (refusal_words x) out.old }
 {
-    let number = x.number as u32;
+    let number = x.reason as u32;
     let sheet = x.sheet as u32;
     let low = low_half(x.place);
     let high = high_half(x.place);

@@ -1,4 +1,5 @@
-// The words of states, classes and edges, read and stored.
+// The words of states, classes and edges, read and stored: a name for each, over at and put, as the definitions have
+// one for each. word::<FROM>(words, n, c) would be no plainer than from(words, n, c).
 ghost use Rattle.std.specs.Prelude.{◌≡◌, ◌+◌, ◌*◌, ◌<◌, ◌≤◌, ◌%◌, ◌/◌, length, get_or, set};
 ghost use Rattle.dfa_classes.specs.Places.{member_at, place_at, from_at, to_at, head_at, touched_at, list_at, copy_at};
 ghost use Rattle.dfa_classes.specs.Places.{first_at, letter_at, target_at};

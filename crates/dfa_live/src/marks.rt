@@ -37,6 +37,7 @@ pub(crate) fn mark(words: &mut [u32], n: usize, f: usize)
     let end = at(words, 6 * n);
     let mut head = 0;
     let mut next = NO_EDGE;
+    // A while: the queue grows as it is read, and a list of links is walked for each of its states.
     while head < tail + next {
         if next == NO_EDGE {
             let t = at(words, head) % STATES;

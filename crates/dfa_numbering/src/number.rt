@@ -55,6 +55,7 @@ pub fn number_states(words: &mut [u32], n: usize) -> usize
     zero(words, n, n);
     let mut tail = note(words, n, dead, 0, 0);
     let mut head = 0;
+    // A while: the queue grows as it is read.
     while head < tail {
         let p = at(words, 2 * n + head);
         tail = meet(words, n, dead, p, tail);

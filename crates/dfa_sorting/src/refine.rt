@@ -15,6 +15,7 @@ pub(crate) fn refine(words: &mut [u32], n: usize, g: usize) -> usize
 {
     let mut count = 2;
     let mut s = 1;
+    // A while: there may be more classes after each turn.
     while s < count {
         let m = touch_all(words, n, g, s);
         let k = split_all(words, n, g, s, m, count);

@@ -6,7 +6,7 @@ ghost use Rattle.language.specs.Choice.{pick};
 ghost use Rattle.language.specs.Number.{special, code, signed};
 ghost use Rattle.language.specs.Tables.{entry};
 ghost use Rattle.language.specs.Operator.{infinity_by, beyond, fit, fit_some, remainder, truth, scaled, by_classes};
-ghost use Rattle.language.specs.Operator.{compared, plus_of, minus_of, times_of, remainder_of};
+ghost use Rattle.language.specs.Operator.{settled, compared};
 ghost use Rattle.language.specs.Operator.{less_of, equal_of, operate};
 
 use language::Numbers;
@@ -36,32 +36,18 @@ const ALIKE: [[u8; 4]; 4] = [[0, 1, 1, 1], [1, 2, 1, 1], [1, 1, 2, 1], [1, 1, 1,
 // The code of a truth that holds.
 const TRUE: u16 = 1;
 
-// The code of a result.
-fn kept(n: Numbers, v: i64) -> Option<u16>
-    ensures { result ≡ Some (code n v) }
-{
-    Some(number::code(n, v))
-}
-
-// The value of a class that is not finite.
-fn outside(n: Numbers, k: u8) -> Option<u16>
-    ensures { result ≡ Some (special n k) }
-{
-    Some(number::special(n, k))
-}
-
 // The infinity of the sign of a result, and for 0 not-a-number.
 #[tactic(auto, unfolding(language::specs::Operator::infinity_by))]
 fn infinity_by(n: Numbers, v: i64) -> Option<u16>
     ensures { result ≡ Some (infinity_by n v) }
 {
     if number::absolute(v) == 0 {
-        return outside(n, number::NOT_A_NUMBER as u8);
+        return Some(number::special(n, number::NOT_A_NUMBER as u8));
     }
     if v < 0 {
-        return outside(n, number::MINUS_INFINITY as u8);
+        return Some(number::special(n, number::MINUS_INFINITY as u8));
     }
-    outside(n, number::INFINITY as u8)
+    Some(number::special(n, number::INFINITY as u8))
 }
 
 // A result outside -Z to Z.
@@ -75,7 +61,7 @@ fn beyond(n: Numbers, v: i64) -> Option<u16>
     if n.rule == number::INFINITIES {
         return infinity_by(n, v);
     }
-    kept(n, v)
+    Some(number::code(n, v))
 }
 
 // A result as the overflow rule takes it.
@@ -86,7 +72,7 @@ fn fit(n: Numbers, v: i64) -> Option<u16>
     if (n.z as u64) < number::absolute(v) {
         return beyond(n, v);
     }
-    kept(n, v)
+    Some(number::code(n, v))
 }
 
 // The sum of two numbers.
@@ -136,7 +122,7 @@ fn undivided(n: Numbers) -> Option<u16>
     if n.rule != number::INFINITIES {
         return None;
     }
-    outside(n, number::NOT_A_NUMBER as u8)
+    Some(number::special(n, number::NOT_A_NUMBER as u8))
 }
 
 // Their remainder: from 0 up to, but not including, the absolute value of the right operand.
@@ -181,52 +167,16 @@ fn by_classes(t: [[u8; 4]; 4], n: Numbers, x: u16, y: u16) -> u8
     entry(t, number::class_of(n, x), number::class_of(n, y))
 }
 
-// Plus.
-#[tactic(auto, unfolding(language::specs::Operator::plus_of, language::specs::Operator::settled))]
-fn plus(n: Numbers, x: u16, y: u16) -> Option<u16>
-    ensures { result ≡ plus_of n x y }
+// What a table gives: a class that is not finite, or the exact result.
+#[tactic(auto, unfolding(language::specs::Operator::settled))]
+fn settled(t: [[u8; 4]; 4], n: Numbers, x: u16, y: u16, exact: Option<u16>) -> Option<u16>
+    ensures { result ≡ settled n (by_classes t n x y) exact }
 {
-    let k = by_classes(SUMS, n, x, y);
+    let k = by_classes(t, n, x, y);
     if k == ARITHMETIC {
-        return sum(n, x, y);
+        return exact;
     }
-    outside(n, k)
-}
-
-// Minus.
-#[tactic(auto, unfolding(language::specs::Operator::minus_of, language::specs::Operator::settled))]
-fn minus(n: Numbers, x: u16, y: u16) -> Option<u16>
-    ensures { result ≡ minus_of n x y }
-{
-    let k = by_classes(DIFFERENCES, n, x, y);
-    if k == ARITHMETIC {
-        return difference(n, x, y);
-    }
-    outside(n, k)
-}
-
-// Times.
-#[tactic(auto, unfolding(language::specs::Operator::times_of, language::specs::Operator::settled))]
-fn times(n: Numbers, x: u16, y: u16) -> Option<u16>
-    ensures { result ≡ times_of n x y }
-{
-    let k = by_classes(PRODUCTS, n, x, y);
-    if k == ARITHMETIC {
-        return product(n, x, y);
-    }
-    outside(n, k)
-}
-
-// Remainder.
-#[tactic(auto, unfolding(language::specs::Operator::remainder_of, language::specs::Operator::settled),)]
-fn modulus(n: Numbers, x: u16, y: u16) -> Option<u16>
-    ensures { result ≡ remainder_of n x y }
-{
-    let k = by_classes(REMAINDERS, n, x, y);
-    if k == ARITHMETIC {
-        return remainder(n, x, y);
-    }
-    outside(n, k)
+    Some(number::special(n, k))
 }
 
 // The truth that a table gives, where arithmetic does not decide.
@@ -286,15 +236,15 @@ fn same_truth(x: u16, y: u16) -> Option<u16>
 }
 
 // The code of an operator's result, or no play. EQUAL_TRUTHS is what the other arms leave.
-#[tactic(auto, unfolding(language::specs::Operator::operate))]
+#[tactic(auto, unfolding(language::specs::Operator::operate, language::specs::Operator::plus_of, language::specs::Operator::minus_of, language::specs::Operator::times_of, language::specs::Operator::remainder_of))]
 pub fn operate(n: Numbers, op: u8, x: u16, y: u16) -> Option<u16>
     ensures { result ≡ operate n op x y }
 {
     match op {
-        PLUS => plus(n, x, y),
-        MINUS => minus(n, x, y),
-        TIMES => times(n, x, y),
-        REMAINDER => modulus(n, x, y),
+        PLUS => settled(SUMS, n, x, y, sum(n, x, y)),
+        MINUS => settled(DIFFERENCES, n, x, y, difference(n, x, y)),
+        TIMES => settled(PRODUCTS, n, x, y, product(n, x, y)),
+        REMAINDER => settled(REMAINDERS, n, x, y, remainder(n, x, y)),
         EQUAL => equal(n, x, y),
         LESS => less(n, x, y),
         AND => both(x, y),

@@ -5,8 +5,8 @@ ghost use Rattle.play_records.specs.Records.{parse};
 ghost use Rattle.play_records.specs.Bytes.{width_of, counted, letter_from, first_letter, record_by, records_by};
 
 use sheet_records::limits::BYTES;
-use sheet_records::read::byte_at;
-use sheet_records::store::put_byte;
+use sheet_records::read::get_or;
+use sheet_records::store;
 use states_positions::moves::{MOVE_KINDS, VALUE};
 use states_words::letters::{ARGUMENT_UNIT, ID_UNIT, KIND_UNIT, RANK_ZERO};
 
@@ -35,7 +35,7 @@ pub fn count_moves(play: &[u8]) -> Result<usize, usize>
     let mut at = 0;
     let mut count = 0;
     while at < play.len() {
-        let w = width_of(byte_at(play, at) as usize);
+        let w = width_of(get_or(play, at, 0) as usize);
         if w == 0 {
             return Err(at);
         }
@@ -64,14 +64,19 @@ fn letter_from(kind: u8, id: u8, arg: u8, value: u8) -> usize
 pub fn first_letter(s: &[u8]) -> usize
     ensures { result ≡ first_letter s.now }
 {
-    letter_from(byte_at(s, 0), byte_at(s, 1), byte_at(s, 2), byte_at(s, 3))
+    letter_from(
+        get_or(s, 0, 0),
+        get_or(s, 1, 0),
+        get_or(s, 2, 0),
+        get_or(s, 3, 0),
+    )
 }
 
 // Byte i becomes v, where there is such a byte.
 pub fn put(s: &mut [u8], i: usize, v: usize)
     ensures { s.new ≡ set s.old i (v % 256) }
 {
-    put_byte(s, i, (v % BYTES) as u8);
+    store::put(s, i, (v % BYTES) as u8);
 }
 
 // Writes the record of a letter from a place on: the place after it.

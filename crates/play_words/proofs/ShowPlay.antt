@@ -18,6 +18,8 @@ use Rattle.play_words.specs.Shown.{Shown}
 use Rattle.std.specs.Prelude.{Some}
 use lib.Seq.{sets}
 use Rattle.play_records.specs.Bytes.{records_by}
+use Rattle.sheet_records.specs.declared.refusal.Sheets.{Sheets}
+use Rattle.sheet_records.specs.declared.refusal.Sheets.TheVariants.{Old, New}
 
 module _ (n k r : ℕ) (ws ws' : List ℕ) (t : Trail n (take (5 * n) ws) k) (s : Spelling n k ws ws' r) where
   -- the word has fewer letters than there are states
@@ -42,7 +44,7 @@ module _ (n k r : ℕ) (ws ws' : List ℕ) (t : Trail n (take (5 * n) ws) k) (s 
     module _ (last f : ℕ) (space space' : List ℕ) (read : last ≡ get_or ws (n + 4 * k) 0)
         (put : space' ≡ sets space 0 (records_by (take r (drop (5 * n) ws')))) where
       -- the play is shown
-      shown : (which : ℕ) → pick (eqb (get_or ws (n + 4 * k) 0) f) 0 1 ≡ which →
+      shown : (which : Sheets) → pick (eqb (get_or ws (n + 4 * k) 0) f) Old New ≡ which →
           Shown n k f ws space (Some (record { sheet = which; moves = r })) space'
       shown which e =
           let w = trail-spelled n (take (5 * n) ws) k t in
@@ -54,9 +56,9 @@ module _ (n k r : ℕ) (ws ws' : List ℕ) (t : Trail n (take (5 * n) ws) k) (s 
           }
 
       -- as a play of the old sheet, where it ends at f
-      pub shown-old : last ≡ f → Shown n k f ws space (Some (record { sheet = 0; moves = r })) space'
-      shown-old e = shown 0 (rw (eq-eqb _ _ (sym read ∙ e)))
+      pub shown-old : last ≡ f → Shown n k f ws space (Some (record { sheet = Old; moves = r })) space'
+      shown-old e = shown Old (rw (eq-eqb _ _ (sym read ∙ e)))
 
       -- else of the new one
-      pub shown_new : (last ≡ f → ⊥) → Shown n k f ws space (Some (record { sheet = 1; moves = r })) space'
-      shown_new e = shown 1 (rw (ne_eqb _ _ (λ h. e (read ∙ h))))
+      pub shown_new : (last ≡ f → ⊥) → Shown n k f ws space (Some (record { sheet = New; moves = r })) space'
+      shown_new e = shown New (rw (ne_eqb _ _ (λ h. e (read ∙ h))))

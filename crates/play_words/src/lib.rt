@@ -1,6 +1,8 @@
 // Plays by the words of automata: how far a play's records lead, and the play that a search has found.
 #![tactic(auto)]
 
+use sheet_records::refusal::Sheets;
+
 // A play's records walked through an automaton.
 pub mod walk;
 // The play of an entry of the search, written as records.
@@ -10,6 +12,6 @@ pub mod show;
 // moves.
 #[derive(Drop)]
 pub struct Difference {
-    pub sheet: u8,
+    pub sheet: Sheets,
     pub moves: usize,
 }

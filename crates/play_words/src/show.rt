@@ -6,7 +6,7 @@ ghost use Rattle.play_words.specs.Shown.{Shown};
 use crate::Difference;
 use dfa_search::word::spell;
 use play_records::play::write_play;
-use sheet_records::refusal::{NEW_SHEET, OLD_SHEET};
+use sheet_records::refusal::Sheets;
 
 // Writes the play of entry k: its number of moves, and which sheet has it. The old sheet has it where it ends at f.
 pub fn show(words: &mut [u32], space: &mut [u8], n: usize, k: usize, f: usize) -> Option<Difference>
@@ -16,6 +16,6 @@ pub fn show(words: &mut [u32], space: &mut [u8], n: usize, k: usize, f: usize) -
     let last = words[n + 4 * k] as usize;
     let moves = spell(words, n, k);
     write_play(words, 5 * n, moves, space);
-    let sheet = if last == f { OLD_SHEET } else { NEW_SHEET };
+    let sheet = if last == f { Sheets::Old } else { Sheets::New };
     Some(Difference { sheet, moves })
 }

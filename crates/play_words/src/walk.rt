@@ -7,7 +7,7 @@ ghost use Rattle.play_words.specs.Walk.{AtLeast, Marked, Reached};
 use dfa::graph::next_state;
 use dfa_live::is_marked;
 use play_records::play::{first_letter, width_of};
-use sheet_records::read::byte_at;
+use sheet_records::read::get_or;
 
 // How many moves begin a complete play, and the state after the last move.
 #[derive(Drop)]
@@ -28,7 +28,7 @@ pub fn longest(words: &[u32], n: usize, play: &[u8], total: usize) -> Reach
     let mut count = 0;
     for i in 0..total {
         p = next_state(words, n, p, first_letter(&play[at..]));
-        at += width_of(byte_at(play, at) as usize);
+        at += width_of(get_or(play, at, 0) as usize);
         if is_marked(words, n, p) {
             count = i + 1;
         }

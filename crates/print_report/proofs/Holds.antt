@@ -52,6 +52,8 @@ use Rattle.print_report.proofs.Fits.{reported-fits}
 use Rattle.print_report.proofs.Lent.{Bounded, bounded}
 use Rattle.print_report.proofs.Short.{AtMost, all, looser, both, refused-short, sizes-short, uses-short, apart-short}
 use Rattle.print_report.proofs.Short.{plain-line, valued-line}
+use Rattle.sheet_records.specs.declared.refusal.Sheets.{Sheets}
+use Rattle.sheet_records.specs.declared.refusal.Sheets.TheVariants.{Old, New, Both}
 
 -- the line of a move's record, and what follows the record
 module _ (M N : Numbers) where
@@ -83,12 +85,12 @@ module _ (M N : Numbers) where
       rw (append_assoc (record_of M m) (records M u) s, f.1) (looser (15 * suc (length u)) (omega arith) p)
 
 -- a play that one of two sheets has
-small_of : (S T : Sheet) → Accepted S → Accepted T → (which : ℕ) (u : Word) → Only which S T u →
+small_of : (S T : Sheet) → Accepted S → Accepted T → (which : Sheets) (u : Word) → Only which S T u →
     (N : Numbers) × AllSmall N u
 unfolding Only
-small_of S T A B zero u h = (S.numbers, sheet-small S A.ordered u h.0)
-small_of S T A B (suc zero) u h = (T.numbers, sheet-small T B.ordered u h.0)
-small_of S T A B (suc (suc k)) u h = absurd h
+small_of S T A B Old u h = (S.numbers, sheet-small S A.ordered u h.0)
+small_of S T A B New u h = (T.numbers, sheet-small T B.ordered u h.0)
+small_of S T A B Both u h = absurd h
 
 -- the size that is printed is the reckoned one
 held-reckoned : {s : List ℕ} {S : Sheet} → Holds s S → size_in (read_sheet s) ≡ reckoned S

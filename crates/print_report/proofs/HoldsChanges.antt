@@ -16,13 +16,15 @@ use Rattle.print_report.specs.Changes.{renumber_text}
 use Rattle.print_report.specs.Program.{RenumberBufferHolds, RenumberPrintsWhole}
 use Rattle.print_report.proofs.Fits.{at-start}
 use Rattle.print_report.proofs.Short.{looser, refused-short, changed-short}
+use Rattle.sheet_records.specs.Refusal.{number_of}
+use Rattle.sheet_records.specs.declared.refusal.Reason.{Reason}
 
 -- a refusal's number has two digits
-small-number : (n : ℕ) → RenumberNumber n → n < 100
+small-number : (k : Reason) → RenumberNumber k → number_of k < 100
 unfolding RenumberNumber NumberOf
-small-number n (inl h) = omega (arith, h.1)
-small-number n (inr (inl h)) = omega (arith, h)
-small-number n (inr (inr h)) = omega (arith, h)
+small-number k (inl h) = omega (arith, h.1)
+small-number k (inr (inl h)) = let n = ap number_of h in omega (arith, n)
+small-number k (inr (inr h)) = let n = ap number_of h in omega (arith, n)
 
 -- THEOREM: the buffer holds every text
 renumber-buffer-holds : RenumberBufferHolds
@@ -41,7 +43,7 @@ renumber-buffer-holds s output list r output' list' p = go (outcome s (length ou
         (listed-bytes A.reads W j)) in
         rw h.0 (looser 4096 (omega (arith, few)) q).holds
     go (refused x) e h =
-        let n = small-number x.number (renumber-numbers s (length output) (length list) x e) in
+        let n = small-number x.reason (renumber-numbers s (length output) (length list) x e) in
         let q = refused-short x n (omega (arith, renumber-places s (length output) (length list) x e)) in
         rw h.0 (looser 4096 (omega arith) q).holds
 

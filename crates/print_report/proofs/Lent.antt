@@ -2,7 +2,7 @@
 -- 511 at most, and the bytes do for those. Document 01: "so that it can print 13 and never 14".
 use Prim.Native.Nat.{ℕ, ◌+◌, ◌-◌, ◌*◌, ◌≤◌}
 use native.Mathlib.Omega.{arith}
-use mathlib.Core.Path.{◌≡◌, refl, sym}
+use mathlib.Core.Path.{◌≡◌, ◌∙◌, refl, sym, ap}
 use mathlib.Core.Bool.{Bool, true, false}
 use mathlib.Core.List.{List}
 use mathlib.Core.Logic.{inl, inr}
@@ -23,24 +23,28 @@ use Rattle.serve_conditions.specs.Pair.{refusing, matching, pair_refusal}
 use Rattle.serve_compare.specs.Refusals.{on_read, compare_refusal}
 use Rattle.print_report.specs.Program.{Never14}
 use Rattle.print_text.specs.Text.{size_in}
+use Rattle.sheet_records.specs.Refusal.{number_of}
+use Rattle.sheet_records.specs.declared.refusal.Reason.{Reason}
+use Rattle.sheet_records.specs.declared.refusal.Reason.TheVariants.{HeadingsDiffer, TooFewWords, SpaceTooShort, IdEnclosed}
+use Rattle.sheet_records.specs.declared.refusal.Sheets.TheVariants.{Old, New, Both}
 
 -- sizes that add up to 511 at most; or a refusal by a number up to 16 but not 14, at a place up to 4,096
 unfoldable pub Bounded : ℕ → Option Cause → Type 0
 Bounded n none = n ≤ 511
-Bounded n (some x) = (x.number ≤ 16) × (x.number ≡ 14 → ⊥) × (x.place ≤ 4096)
+Bounded n (some x) = (number_of x.reason ≤ 16) × (x.reason ≡ SpaceTooShort → ⊥) × (x.place ≤ 4096)
 
 -- a number of check's
-from-check : {k : ℕ} → NumberOf Present k → (k ≤ 16) × (k ≡ 14 → ⊥)
+from-check : {k : Reason} → NumberOf Present k → (number_of k ≤ 16) × (k ≡ SpaceTooShort → ⊥)
 unfolding NumberOf
-from-check (inl h) = (omega (arith, h.1), λ e. omega (arith, h.1))
-from-check (inr e) = (omega arith, λ f. omega arith)
+from-check (inl h) = (omega (arith, h.1), λ e. let n = ap number_of e in omega (arith, n, h.1))
+from-check (inr e) = (let n = ap number_of e in omega (arith, n), λ f. let z : IdEnclosed ≡ SpaceTooShort = sym e ∙ f in cc)
 
 -- the words and the bytes, for sizes that add up to n
 lent : (N : Numbers) (t u v : Bool) (n : ℕ) → u ≡ ltb 16384 (words_asked N n) → v ≡ ltb 2040 (4 * (n - 1)) →
-    Bounded n (pick t (pick u (refusing 13 2 0) (pick v (refusing 14 2 0) none)) (refusing 12 2 0))
+    Bounded n (pick t (pick u (refusing TooFewWords Both 0) (pick v (refusing SpaceTooShort Both 0) none)) (refusing HeadingsDiffer Both 0))
 unfolding Bounded
-lent N false u v n d e = (omega arith, λ z. omega arith, omega arith)
-lent N true true v n d e = (omega arith, λ z. omega arith, omega arith)
+lent N false u v n d e = (omega arith, λ z. cc, omega arith)
+lent N true true v n d e = (omega arith, λ z. cc, omega arith)
 lent N true false true n d e =
     let low = asked_low N n (ltb-false 16384 (words_asked N n) (sym d)) in
     absurd (omega (arith, low, ltb-true 2040 (4 * (n - 1)) (sym e)))
@@ -57,7 +61,7 @@ bounded old new = go (read_sheet old) (read_sheet new) refl refl
 
     go : (A B : Checks) → read_sheet old ≡ A → read_sheet new ≡ B →
         Bounded (size_in A + size_in B)
-        (on_read A 0 (λ N root ty n. on_read B 1 (λ M other b m. judged N root ty n other b m)))
+        (on_read A Old (λ N root ty n. on_read B New (λ M other b m. judged N root ty n other b m)))
     go (accepted S ty n) (accepted T b m) e f =
         lent S.numbers (matching old new (heading_width S) (heading_width T) ty b) _ _ (n + m) refl refl
     go (accepted S ty n) (rejected k p) e f =

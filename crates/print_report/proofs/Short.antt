@@ -12,6 +12,9 @@ use Rattle.print_text.specs.Text.{ascii, digits, signed_digits, sheet_name, refu
 use Rattle.print_text.specs.Text.{uses_text, apart_text, value_text, move_text}
 use Rattle.print_report.specs.Changes.{change_text, change_at, changes_text, changed_text}
 use Rattle.print_text.proofs.Decimals.{digits-one, digits_more, signed_low, signed_high}
+use Rattle.sheet_records.specs.Refusal.{number_of}
+use Rattle.sheet_records.specs.declared.refusal.Sheets.{Sheets}
+use Rattle.sheet_records.specs.declared.refusal.Sheets.TheVariants.{Old, New, Both}
 
 pub record AtMost (n : ℕ) (xs : List ℕ) : Type 0 where
   pub holds : length xs ≤ n
@@ -67,17 +70,17 @@ signed-short b h =
     rw (signed_high b (ltb-false b 128 t) h) p)
 
 -- the name of a sheet
-name-short : (sheet : ℕ) → AtMost 4 (sheet_name sheet)
+name-short : (sheet : Sheets) → AtMost 4 (sheet_name sheet)
 unfolding sheet_name
-name-short zero = looser 4 (omega arith) (all (ascii "old"))
-name-short (suc zero) = looser 4 (omega arith) (all (ascii "new"))
-name-short (suc (suc n)) = all (ascii "both")
+name-short Old = looser 4 (omega arith) (all (ascii "old"))
+name-short New = looser 4 (omega arith) (all (ascii "new"))
+name-short Both = all (ascii "both")
 
 -- the lines
-pub refused-short : (x : Cause) → x.number < 100 → x.place < 10000 → AtMost 21 (refused_text x)
+pub refused-short : (x : Cause) → number_of x.reason < 100 → x.place < 10000 → AtMost 21 (refused_text x)
 unfolding refused_text
 refused-short x h l =
-    let p = both (both (both (both (both (both (all (ascii "refused ")) (two_digits x.number h)) (all (ascii " ")))
+    let p = both (both (both (both (both (both (all (ascii "refused ")) (two_digits (number_of x.reason) h)) (all (ascii " ")))
     (name-short x.sheet)) (all (ascii " "))) (four-digits x.place l)) (all (ascii "\n")) in
     p
 
@@ -102,7 +105,7 @@ uses-short used declared used' declared' h l h' l' =
     (names-short used' declared' h' l')) (all (ascii "\n")) in
     p
 
-pub apart-short : (sheet moves : ℕ) → moves < 10000 → AtMost 19 (apart_text sheet moves)
+pub apart-short : (sheet : Sheets) (moves : ℕ) → moves < 10000 → AtMost 19 (apart_text sheet moves)
 unfolding apart_text
 apart-short sheet moves h =
     let p = both (both (both (both (all (ascii "apart in ")) (name-short sheet)) (all (ascii " ")))

@@ -30,7 +30,7 @@ lent_changes = 4096
 -- no refusal that the program that compares prints has the number 14
 abbrev pub Never14 : Type 0
 Never14 = (old new : List ℕ) (x : Cause) → compare_refusal old new lent_words lent_space ≡ some x →
-    x.number ≡ space_too_short → ⊥
+    x.reason ≡ space_too_short → ⊥
 
 -- every text that it can print, of whatever two sheets, has room
 abbrev pub BufferHolds : Type 0

@@ -8,7 +8,7 @@ use print_text::lines::refused;
 use print_text::write::{decimal, text};
 use serve_renumber::renumber::{CHANGE, renumber};
 use sheet_records::limits::BYTES;
-use sheet_records::read::byte_at;
+use sheet_records::read::get_or;
 use sheet_records::refusal::Cause;
 
 // How many bytes the text has, and whether the sheet is renumbered; else it is refused.
@@ -37,10 +37,10 @@ fn change_at(out: &mut [u8], at: usize, list: &[u8], i: u32) -> usize
         ≡ pushes (change_at i list.now) (page out.old at) }
 {
     let first = CHANGE * i as usize;
-    let low = byte_at(list, first);
-    let high = byte_at(list, first + 1);
-    let old = byte_at(list, first + 2);
-    let given = byte_at(list, first + 3);
+    let low = get_or(list, first, 0);
+    let high = get_or(list, first + 1, 0);
+    let old = get_or(list, first + 2, 0);
+    let given = get_or(list, first + 3, 0);
     change_line(out, at, low as usize + BYTES * high as usize, old, given)
 }
 

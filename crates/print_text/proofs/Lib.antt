@@ -3,3 +3,4 @@ pub mod Decimals
 pub mod Printed
 pub mod Answers
 pub mod Sample
+pub mod Numbers

@@ -8,7 +8,7 @@ use lib.Seq.{take_all, drop-drop, get_or-drop}
 use borrow.Author.Tests.{lt-ltb, le-ltb}
 use Rattle.print_text.specs.Page.{Page, pushes}
 use Rattle.language.specs.Number.{from_byte}
-use Rattle.print_text.specs.Text.{ascii, signed_digits, sheet_name, value_text, first_move, first_width, moves_text}
+use Rattle.print_text.specs.Text.{ascii, signed_digits, value_text, first_move, first_width, moves_text}
 use Rattle.print_text.proofs.Pages.{pushes-append, after}
 
 -- the first byte of what follows a place
@@ -69,24 +69,6 @@ module _ (s : List ℕ) (count i place : ℕ) (p₀ p : Page)
   pub moves-end : i ≤ count → count ≤ i → p ≡ pushes (moves_text count s) p₀
   unfolding moves_text pushes
   moves-end h l = let n : count - i ≡ 0 = omega arith in rw n at inv
-
--- the names of the sheets
-pub name-old : {q : Page} (p : Page) (sheet : ℕ) → sheet ≡ 0 → q ≡ pushes (ascii "old") p →
-    q ≡ pushes (sheet_name sheet) p
-unfolding sheet_name
-name-old p sheet h e = rw h e
-
-pub name_new : {q : Page} (p : Page) (sheet : ℕ) → sheet ≡ 1 → q ≡ pushes (ascii "new") p →
-    q ≡ pushes (sheet_name sheet) p
-unfolding sheet_name
-name_new p sheet h e = rw h e
-
-pub name-both : {q : Page} (p : Page) (sheet : ℕ) → (sheet ≡ 0 → ⊥) → (sheet ≡ 1 → ⊥) → q ≡ pushes (ascii "both") p →
-    q ≡ pushes (sheet_name sheet) p
-unfolding sheet_name
-name-both p zero h l e = absurd (h refl)
-name-both p (suc zero) h l e = absurd (l refl)
-name-both p (suc (suc n)) h l e = e
 
 -- the value of a move
 pub no_value : (p : Page) (kind b : ℕ) → kind < 5 → p ≡ pushes (value_text kind b) p

@@ -5,8 +5,10 @@ use Rattle.language.specs.Number.{from_byte}
 use Rattle.sheet_records.specs.Refusal.{cause}
 use Rattle.print_text.specs.Text.{ascii, digits_in, digits, signed_digits, sheet_name, refused_text, sizes_text}
 use Rattle.print_text.specs.Text.{names_text, uses_text, apart_text, value_text, move_text, first_move, first_width, moves_text}
+use Rattle.sheet_records.specs.declared.refusal.Reason.TheVariants.{WrongType}
+use Rattle.sheet_records.specs.declared.refusal.Sheets.TheVariants.{Old}
 
-refusal : refused_text (cause 7 0 3) ≡ ascii "refused 7 old 3\n"
+refusal : refused_text (cause WrongType Old 3) ≡ ascii "refused 7 old 3\n"
 unfolding refused_text digits digits_in sheet_name
 refusal = refl
 
@@ -18,7 +20,7 @@ uses : uses_text 3 5 2 5 ≡ ascii "uses 3 of 5 and 2 of 5\n"
 unfolding uses_text names_text digits digits_in
 uses = refl
 
-apart : apart_text 0 2 ≡ ascii "apart in old 2\n"
+apart : apart_text Old 2 ≡ ascii "apart in old 2\n"
 unfolding apart_text digits digits_in sheet_name
 apart = refl
 

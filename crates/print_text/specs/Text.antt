@@ -15,6 +15,9 @@ use Rattle.sheet_judge.specs.declared.mark.Uses.{Uses}
 use Rattle.play_records.specs.Records.{valued, width}
 use Rattle.serve_compare.specs.declared.Comparison.{Comparison}
 use Rattle.play_words.specs.declared.Difference.{Difference}
+use Rattle.sheet_records.specs.Refusal.{number_of}
+use Rattle.sheet_records.specs.declared.refusal.Sheets.{Sheets}
+use Rattle.sheet_records.specs.declared.refusal.Sheets.TheVariants.{Old, New, Both}
 
 -- the bytes of a text
 abbrev pub ascii : String → List ℕ
@@ -36,15 +39,15 @@ signed_digits (pos n) = digits n
 signed_digits (negsuc n) = ascii "-" ++ digits (suc n)
 
 -- the names of the sheets
-unfoldable pub sheet_name : ℕ → List ℕ
-sheet_name zero = ascii "old"
-sheet_name (suc zero) = ascii "new"
-sheet_name (suc (suc n)) = ascii "both"
+unfoldable pub sheet_name : Sheets → List ℕ
+sheet_name Old = ascii "old"
+sheet_name New = ascii "new"
+sheet_name Both = ascii "both"
 
 -- "refused 7 old 3"
 unfoldable pub refused_text : Cause → List ℕ
 refused_text x =
-    ascii "refused " ++ digits x.number ++ ascii " " ++ sheet_name x.sheet ++ ascii " " ++ digits x.place
+    ascii "refused " ++ digits (number_of x.reason) ++ ascii " " ++ sheet_name x.sheet ++ ascii " " ++ digits x.place
     ++ ascii "\n"
 
 -- "old 4 new 4"
@@ -61,7 +64,7 @@ uses_text used declared used' declared' =
     ascii "uses " ++ names_text used declared ++ ascii " and " ++ names_text used' declared' ++ ascii "\n"
 
 -- "apart in old 2"
-unfoldable pub apart_text : ℕ → ℕ → List ℕ
+unfoldable pub apart_text : Sheets → ℕ → List ℕ
 apart_text sheet moves = ascii "apart in " ++ sheet_name sheet ++ ascii " " ++ digits moves ++ ascii "\n"
 
 -- the value of a move, where its kind has one; the byte is two's complement

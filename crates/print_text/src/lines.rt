@@ -12,8 +12,8 @@ use play_records::play::{BARE_BYTES, VALUED_BYTES};
 use sheet_judge::check::check;
 use sheet_judge::mark::{Uses, declared_count};
 use sheet_records::limits::BYTES;
-use sheet_records::read::byte_at;
-use sheet_records::refusal::{Cause, NEW_SHEET, OLD_SHEET};
+use sheet_records::read::get_or;
+use sheet_records::refusal::{Cause, Sheets};
 
 // The first kind of move that has a value.
 const VALUE: u8 = states_positions::moves::VALUE as u8;
@@ -28,17 +28,16 @@ struct Figures {
     declared: usize,
 }
 
-// The name of a sheet; any number but those of the old and the new one stands for both of them.
-fn sheet_name(out: &mut [u8], at: usize, sheet: u8) -> usize
+// The name of a sheet.
+#[tactic(auto, unfolding(crate::specs::Text::sheet_name))]
+fn sheet_name(out: &mut [u8], at: usize, sheet: Sheets) -> usize
     ensures { page out.new result ≡ pushes (sheet_name sheet) (page out.old at) }
 {
-    if sheet == OLD_SHEET {
-        return text(out, at, b"old");
+    match sheet {
+        Sheets::Old => text(out, at, b"old"),
+        Sheets::New => text(out, at, b"new"),
+        Sheets::Both => text(out, at, b"both"),
     }
-    if sheet == NEW_SHEET {
-        return text(out, at, b"new");
-    }
-    text(out, at, b"both")
 }
 
 // A refusal: number, sheet and place.
@@ -46,7 +45,7 @@ pub fn refused(out: &mut [u8], at: usize, x: Cause) -> usize
     ensures { page out.new result ≡ pushes (refused_text x) (page out.old at) }
 {
     let a = text(out, at, b"refused ");
-    let b = decimal(out, a, x.number as usize);
+    let b = decimal(out, a, x.reason as usize);
     let c = text(out, b, b" ");
     let d = sheet_name(out, c, x.sheet);
     let e = text(out, d, b" ");
@@ -129,7 +128,7 @@ pub fn sheets(out: &mut [u8], at: usize, old: &[u8], new: &[u8], first: Uses, se
 }
 
 // The sheet that has the play, and its number of moves.
-pub fn apart(out: &mut [u8], at: usize, sheet: u8, moves: usize) -> usize
+pub fn apart(out: &mut [u8], at: usize, sheet: Sheets, moves: usize) -> usize
     ensures { page out.new result ≡ pushes (apart_text sheet moves) (page out.old at) }
 {
     let a = text(out, at, b"apart in ");
@@ -182,10 +181,10 @@ fn first_move(out: &mut [u8], at: usize, s: &[u8]) -> usize
     move_line(
         out,
         at,
-        byte_at(s, 0),
-        byte_at(s, 1),
-        byte_at(s, 2),
-        byte_at(s, 3),
+        get_or(s, 0, 0),
+        get_or(s, 1, 0),
+        get_or(s, 2, 0),
+        get_or(s, 3, 0),
     )
 }
 
@@ -197,7 +196,7 @@ fn after(s: &[u8], place: usize) -> usize
         ≡ drop (first_width (drop place s.now)) (drop place s.now) }
 {
     let left = s.len() - place;
-    if byte_at(s, place) < VALUE {
+    if get_or(s, place, 0) < VALUE {
         if left < BARE_BYTES {
             return s.len();
         }

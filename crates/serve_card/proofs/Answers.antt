@@ -2,7 +2,8 @@
 use mathlib.Core.Bool.{Bool, false, true}
 use mathlib.Core.List.{List, [], ◌++◌, ◌∷◌, append_assoc}
 use mathlib.Core.Option.{Option, none, some}
-use Rattle.std.specs.Prelude.{Result, Ok, Err}
+use Rattle.std.specs.Prelude as std
+use Rattle.std.specs.Prelude.{Some, None, Result, Ok, Err}
 use mathlib.Core.Path.{◌∙◌, ◌≡◌, ap, ap₂, refl, subst, sym}
 use Prim.Native.Nat.{◌+◌, ◌≤◌, ℕ}
 use native.Mathlib.Omega.{arith}
@@ -27,8 +28,7 @@ use Rattle.term_load.specs.declared.load.Loaded.{Loaded}
 use Rattle.states_build.specs.inner.Built.{OneBuilt, OneReady}
 use Rattle.serve_conditions.specs.Lent.{words_asked}
 use Rattle.serve_compare.specs.Refusals.{on_read}
-use Rattle.serve_conditions.specs.Pair.{refusing, number_of}
-use Rattle.serve_compare.specs.inner.Causes.{cause_of}
+use Rattle.serve_conditions.specs.Pair.{refusing, reason_of}
 use Rattle.serve_compare.proofs.ReadSheets.{Fit, fit-ready, fit-type}
 use Rattle.play_records.proofs.WritingPlays.{sets-append}
 use Rattle.serve_card.specs.Promise.{CardOf, CardPromise, CardedBy, card_refusal, lent_refusal, space_for}
@@ -36,6 +36,9 @@ use Rattle.serve_card.specs.inner.Drawing.{Drawable, Drawn}
 use Rattle.serve_card.proofs.Length.{heading-short}
 use Rattle.serve_card.proofs.SameCards.{heading-within}
 use Rattle.serve_card.proofs.Fits.{card-fits}
+use Rattle.sheet_records.specs.declared.refusal.Reason.{Reason}
+use Rattle.sheet_records.specs.declared.refusal.Reason.TheVariants.{TooFewWords, SpaceTooShort}
+use Rattle.sheet_records.specs.declared.refusal.Sheets.TheVariants.{Old, Both}
 
 -- a refusal that is promised
 refuses : (s ws space : List ℕ) {x q : Cause} → card_refusal s (length ws) (length space) ≡ some x → q ≡ x
@@ -44,11 +47,11 @@ unfolding CardedBy
 refuses s ws space e f = rw e (ap Err f, (refl, refl))
 
 -- a sheet that is refused
-pub refuses-sheet : (s ws space : List ℕ) {x : Result Loaded Wrong} {z : Wrong} {q : Cause}
-    → read_sheet s ≡ rejected z.number z.place → x ≡ Err z → q ≡ cause_of x 0
+pub refuses-sheet : (s ws space : List ℕ) {z : Wrong} {q : Cause}
+    → read_sheet s ≡ rejected z.reason z.place → q ≡ cause z.reason Old z.place
     → CardPromise s ws space (Err q) ws space
-unfolding card_refusal on_read cause_of
-refuses-sheet s ws space {z = z} h e c = refuses s ws space {x = cause z.number 0 z.place} (rw h) (c ∙ rw e)
+unfolding card_refusal on_read
+refuses-sheet s ws space h c = refuses s ws space (rw h) c
 
 -- the heading of a sheet that is loaded
 pub rooted : {s : List ℕ} {root row ty all : ℕ} {v : Uses} {t : List ℕ} → load.Ready s root row ty all v t
@@ -69,19 +72,19 @@ heading-in {s} {root} {row} {ty} {all} b =
 
 -- what is lent, by whether there are too few words and whether the space is too short
 abbrev judged : Bool → Bool → Option Cause
-judged a b = pick a (refusing 13 2 0) (pick b (refusing 14 2 0) none)
+judged a b = pick a (refusing TooFewWords Both 0) (pick b (refusing SpaceTooShort Both 0) none)
 
-stopped_by : (a b : Bool) {number : ℕ} → number ≡ number_of (judged a b) → (number ≡ 0 → ⊥)
-    → judged a b ≡ some (cause number 2 0)
-unfolding number_of
-stopped_by true b e h = rw e refl
-stopped_by false true e h = rw e refl
-stopped_by false false e h = absurd (h e)
+stopped_by : (a b : Bool) {reason : Reason} → reason_of (judged a b) ≡ Some reason
+    → judged a b ≡ some (cause reason Both 0)
+unfolding reason_of
+stopped_by true b {reason} e = let z : TooFewWords ≡ reason = cc in rw z refl
+stopped_by false true {reason} e = let z : SpaceTooShort ≡ reason = cc in rw z refl
+stopped_by false false e = cc
 
-passed-by : (a b : Bool) → number_of (judged a b) ≡ 0 → (a ≡ false) × (b ≡ false)
-unfolding number_of
-passed-by true b e = absurd (omega (arith, e))
-passed-by false true e = absurd (omega (arith, e))
+passed-by : (a b : Bool) → reason_of (judged a b) ≡ None → (a ≡ false) × (b ≡ false)
+unfolding reason_of
+passed-by true b e = cc
+passed-by false true e = cc
 passed-by false false e = (refl, refl)
 
 -- an accepted sheet, by the names of the code
@@ -91,7 +94,7 @@ module _ {N : Numbers} {ty : ℕ} {s : List ℕ} {row all : ℕ} {t : List ℕ} 
   unfolding card_refusal on_read
   goes_on words space = rw (F.reads, F.numbers)
 
-  module _ (ws space : List ℕ) {number : ℕ} (e : number ≡ number_of (lent_refusal N (length ws) (length space) all)) where
+  module _ (ws space : List ℕ) {r : std.Option Reason} (e : r ≡ reason_of (lent_refusal N (length ws) (length space) all)) where
     abbrev few : Bool
     few = ltb (length ws) (words_asked N all)
 
@@ -99,13 +102,13 @@ module _ {N : Numbers} {ty : ℕ} {s : List ℕ} {row all : ℕ} {t : List ℕ} 
     short = ltb (length space) (space_for N all)
 
     -- too few words, or the space is too short
-    pub refuses-lent : (number ≡ 0 → ⊥) → {q : Cause} → q ≡ cause number 2 0
+    pub refuses-lent : {reason : Reason} → r ≡ Some reason → {q : Cause} → q ≡ cause reason Both 0
         → CardPromise s ws space (Err q) ws space
     refuses-lent h c =
-        refuses s ws space (goes_on (length ws) (length space) ∙ stopped_by few short e h) c
+        refuses s ws space (goes_on (length ws) (length space) ∙ stopped_by few short (sym e ∙ h)) c
 
     -- neither
-    module _ (h : number ≡ 0) where
+    module _ (h : r ≡ None) where
       passed : (few ≡ false) × (short ≡ false)
       passed = passed-by few short (sym e ∙ h)
 

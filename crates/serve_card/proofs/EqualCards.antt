@@ -21,6 +21,7 @@ use Rattle.serve_compare.proofs.ReadSheets.{two-first}
 use Rattle.serve_card.specs.Rules.{EqualCards}
 use Rattle.serve_card.proofs.Headings.{other-heading}
 use Rattle.serve_card.proofs.SameCards.{heading-within, matched, same_exactly}
+use Rattle.sheet_records.specs.declared.refusal.Reason.TheVariants.{HeadingsDiffer, TooFewWords, SpaceTooShort}
 
 take_at : (n i : ℕ) (s : List ℕ) → i < n → get_or (take n s) i 0 ≡ get_or s i 0
 take_at zero i s h = absurd (omega arith)
@@ -44,14 +45,15 @@ match old new root other ty b h k e t =
     sym (take_at root i old l) ∙ ap (λ (x : List ℕ). get_or x i 0) e ∙ take_at other i new (omega (arith, r)) in
     rw (eq-eqb root other r, same_first_lem root old new f, eq-eqb ty b t) refl
 
-same_number : {x y : Cause} → some x ≡ some y → x.number ≡ y.number
-same_number e = cc
+same_reason : {x y : Cause} → some x ≡ some y → x.reason ≡ y.reason
+same_reason e = cc
 
 -- what refuses two sheets that match is 13 or 14
-later : (a b : Bool) (x : Cause) → pick a (refusing 13 both_sheets 0) (pick b (refusing 14 both_sheets 0) none) ≡ some x
-    → x.number ≡ headings_differ → ⊥
-later true b x e n = omega (arith, n, same_number e)
-later false true x e n = omega (arith, n, same_number e)
+later : (a b : Bool) (x : Cause)
+    → pick a (refusing TooFewWords both_sheets 0) (pick b (refusing SpaceTooShort both_sheets 0) none) ≡ some x
+    → x.reason ≡ headings_differ → ⊥
+later true b x e n = let z : TooFewWords ≡ HeadingsDiffer = same_reason e ∙ n in cc
+later false true x e n = let z : SpaceTooShort ≡ HeadingsDiffer = same_reason e ∙ n in cc
 later false false x e n = let z : ◌≡◌ {A = ℕ} 0 1 = cc in absurd (omega arith)
 
 -- THEOREM: sheets with equal cards are not refused by 12, and have the same complete plays

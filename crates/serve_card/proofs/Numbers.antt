@@ -16,6 +16,7 @@ use Rattle.serve_conditions.specs.Pair.{refusing}
 use Rattle.serve_compare.proofs.Numbers.{numbers-only}
 use Rattle.serve_card.specs.Promise.{card_refusal, lent_refusal, space_for}
 use Rattle.serve_card.specs.Rules.{CardNumbers, LentRefused, SheetRefused}
+use Rattle.sheet_records.specs.declared.refusal.Reason.TheVariants.{TooFewWords, SpaceTooShort}
 
 same-cause : {x y : Cause} → some x ≡ some y → y ≡ x
 same-cause e = cc
@@ -24,8 +25,9 @@ no-cause : {x : Cause} → none ≡ some x → ⊥
 no-cause e = let z : ◌≡◌ {A = ℕ} 0 1 = cc in absurd (omega arith)
 
 -- 13 or 14
-lent : (a b : Bool) (x : Cause) → pick a (refusing 13 both_sheets 0) (pick b (refusing 14 both_sheets 0) none) ≡ some x
-    → (x ≡ cause 13 both_sheets 0) ⊎ (x ≡ cause 14 both_sheets 0)
+lent : (a b : Bool) (x : Cause)
+    → pick a (refusing TooFewWords both_sheets 0) (pick b (refusing SpaceTooShort both_sheets 0) none) ≡ some x
+    → (x ≡ cause TooFewWords both_sheets 0) ⊎ (x ≡ cause SpaceTooShort both_sheets 0)
 lent true b x e = inl (same-cause e)
 lent false true x e = inr (same-cause e)
 lent false false x e = absurd (no-cause e)
@@ -38,11 +40,11 @@ card-numbers s words space x e = go (read_sheet s) refl e
     go : (A : Checks) → read_sheet s ≡ A
         → on_read A old_sheet (λ N root ty size. lent_refusal N words space size) ≡ some x
         → SheetRefused s x ⊎ LentRefused s x
-    go (rejected number place) r e = inl (record {
-      number = number;
+    go (rejected reason place) r e = inl (record {
+      reason = reason;
       place = place;
       reads = r;
-      known = numbers-only.of_check s number place r;
+      known = numbers-only.of_check s reason place r;
       says = same-cause e;
     })
     go (accepted S ty size) r e = inr (record {

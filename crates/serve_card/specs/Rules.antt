@@ -5,6 +5,7 @@ use Rattle.std.proofs.Math.Option.{none, some}
 use Rattle.language.specs.Move.{Move, Word}
 use Rattle.sheet_records.specs.Refusal.{both_sheets, cause, old_sheet, headings_differ, space_too_short, too_few_words}
 use Rattle.sheet_records.specs.declared.refusal.Cause.{Cause}
+use Rattle.sheet_records.specs.declared.refusal.Reason.{Reason}
 use Rattle.sheet_written.specs.Written.{Sheet}
 use Rattle.sheet_written.specs.Width.{heading_width}
 use Rattle.sheet_judge.specs.declared.mark.Uses.{Uses}
@@ -71,11 +72,11 @@ NoPositions = (s c : List ℕ) (C : CardOf s c) → ((u : Word) → CompletePlay
 
 -- "Refused: the sheet's own, then 13, then 14": the sheet's own is check's
 pub record SheetRefused (s : List ℕ) (x : Cause) : Type 0 where
-  pub number : ℕ
+  pub reason : Reason
   pub place : ℕ
-  pub reads : read_sheet s ≡ rejected number place
-  pub known : CheckNumber number
-  pub says : x ≡ cause number old_sheet place
+  pub reads : read_sheet s ≡ rejected reason place
+  pub known : CheckNumber reason
+  pub says : x ≡ cause reason old_sheet place
 
 -- 13 and 14 are of a sheet that is accepted
 pub record LentRefused (s : List ℕ) (x : Cause) : Type 0 where
@@ -98,5 +99,5 @@ OtherHeading = (old new c d : List ℕ) (C : CardOf old c) (D : CardOf new d) �
 -- so any two sheets with equal cards are not refused by 12, whatever is lent, and have the same complete plays
 abbrev pub EqualCards : Type 0
 EqualCards = (old new c d : List ℕ) (C : CardOf old c) (D : CardOf new d) → c ≡ d
-    → ((words space : ℕ) (x : Cause) → compare_refusal old new words space ≡ some x → x.number ≡ headings_differ → ⊥)
+    → ((words space : ℕ) (x : Cause) → compare_refusal old new words space ≡ some x → x.reason ≡ headings_differ → ⊥)
     × ((u : Word) → Alike C.sheet D.sheet u)

@@ -4,16 +4,16 @@ ghost use Rattle.std.proofs.lemmas.List.Edits.{sets};
 ghost use Rattle.serve_card.specs.Promise.{CardPromise};
 ghost use Rattle.serve_card.specs.inner.Drawing.{Drawable, Drawn};
 
-use crate::lent::lent_number;
+use crate::lent::lent_reason;
 use card_bytes::positions::write_positions;
 use dfa::words::clear;
 use dfa_numbering::number::number_states;
 use dfa_sorting::sort_states;
-use serve_compare::causes::{both_cause, cause_of};
+use serve_compare::causes::both_cause;
 use sheet_reader::reading::numbers_of;
-use sheet_records::read::byte_at;
-use sheet_records::refusal::{Cause, NOT_REFUSED, OLD_SHEET};
-use sheet_records::store::put_byte;
+use sheet_records::read::get_or;
+use sheet_records::refusal::{Cause, Sheets, of_sheet};
+use sheet_records::store::put;
 use states_build::build::one_from_rows;
 use term_expand::expand::TERM_WORDS;
 use term_load::load::load;
@@ -26,9 +26,9 @@ fn write_heading(sheet: &[u8], root: usize, ty: u8, space: &mut [u8]) -> usize
         ≡ sets space.old 0 (take root sheet.now ++ (ty ∷ [])) }
 {
     for i in 0..root {
-        put_byte(space, i, byte_at(sheet, i));
+        put(space, i, get_or(sheet, i, 0));
     }
-    put_byte(space, root, ty);
+    put(space, root, ty);
     root + 1
 }
 
@@ -52,13 +52,12 @@ pub fn card(sheet: &[u8], words: &mut [u32], space: &mut [u8]) -> Result<usize, 
     let x = load(sheet, &mut t);
     // `let .. else`, not `?`: the form of document 01 in which the answer is taken apart and the refusal handed on.
     let Ok(loaded) = x else {
-        return Err(cause_of(x, OLD_SHEET));
+        return Err(of_sheet(x.err().unwrap(), Sheets::Old));
     };
     let all = loaded.size as usize;
     let n = numbers_of(sheet);
-    let number = lent_number(n, words.len(), space.len(), all);
-    if number != NOT_REFUSED {
-        return Err(both_cause(number));
+    if let Some(reason) = lent_reason(n, words.len(), space.len(), all) {
+        return Err(both_cause(reason));
     }
     one_from_rows(&t, n, loaded.row, all, words);
     let place = write_heading(sheet, loaded.root, loaded.ty, space);

@@ -1,12 +1,12 @@
-// How many bytes card asks to be lent, and by which number it refuses what is lent.
+// How many bytes card asks to be lent, and why it refuses what is lent.
 ghost use Rattle.std.specs.Prelude.{◌≡◌, ◌≤◌};
-ghost use Rattle.serve_conditions.specs.Pair.{number_of};
+ghost use Rattle.serve_conditions.specs.Pair.{reason_of};
 ghost use Rattle.serve_card.specs.Promise.{lent_refusal, space_for};
 
 use language::Numbers;
 use serve_conditions::lent::words_asked;
 use sheet_records::limits::EARLIER_Z;
-use sheet_records::refusal::{NOT_REFUSED, SPACE_TOO_SHORT, TOO_FEW_WORDS};
+use sheet_records::refusal::Reason;
 
 // The bytes of card space for each unit of size: up to document 01's greatest Z, and above it.
 const FEW_BYTES: usize = 128;
@@ -24,16 +24,16 @@ fn space_asked(n: Numbers, size: usize) -> usize
     FEW_BYTES * size
 }
 
-// The number by which an accepted sheet of this size is refused: 13, then 14; 0 where it is not refused.
-pub(crate) fn lent_number(n: Numbers, words: usize, space: usize, size: usize) -> u8
+// Why an accepted sheet of this size is refused: 13, then 14.
+pub(crate) fn lent_reason(n: Numbers, words: usize, space: usize, size: usize) -> Option<Reason>
     requires { size ≤ 4096 }
-    ensures { result ≡ number_of (lent_refusal n words space size) }
+    ensures { result ≡ reason_of (lent_refusal n words space size) }
 {
     if words < words_asked(n, size) {
-        return TOO_FEW_WORDS;
+        return Some(Reason::TooFewWords);
     }
     if space < space_asked(n, size) {
-        return SPACE_TOO_SHORT;
+        return Some(Reason::SpaceTooShort);
     }
-    NOT_REFUSED
+    None
 }

@@ -5,7 +5,7 @@ use mathlib.Core.Bool.{Bool, true, false}
 use mathlib.Core.List.{List}
 use mathlib.Core.Option as math
 use mathlib.Core.Option.{none, some}
-use Rattle.std.specs.Prelude.{Option, Result, Ok, Err}
+use Rattle.std.specs.Prelude.{Option, Some, None, Result, Ok, Err}
 use Prim.Native.Nat.{ℕ, zero, suc, ◌+◌, ◌*◌, ◌-◌, ◌≤◌, ◌<◌}
 use native.Mathlib.Omega.{arith}
 use lib.ListN.{length, get_or, replicate}
@@ -27,18 +27,21 @@ use Rattle.sheet_reader.specs.Reader.{numbers_at, read_sheet, rejected}
 use Rattle.term_load.specs.Loaded as load
 use Rattle.term_load.specs.declared.load.Loaded.{Loaded}
 use Rattle.serve_compare.specs.Plays.{Alike, Only, reckoned}
-use Rattle.serve_conditions.specs.Pair.{refusing, same_first, matching, pair_refusal, number_of}
+use Rattle.serve_conditions.specs.Pair.{refusing, same_first, matching, pair_refusal, reason_of}
 use Rattle.serve_compare.specs.Refusals.{on_read, compare_refusal}
 use Rattle.serve_compare.specs.Look.{Found, nothing, first, FoundIn, decision_of, space_after, whole_depth}
 use Rattle.serve_conditions.specs.Lent.{words_asked}
 use Rattle.states_build.specs.inner.Built.{TwoReady, TwoBuilt}
 use Rattle.serve_compare.specs.inner.Deciding.{Deciding, OnlyTerm, Verdicts, alike, differ, ExaminedBy, ExaminePromise}
-use Rattle.serve_compare.specs.inner.Causes.{cause_of}
 use Rattle.sheet_judge.specs.Mark.{uses_of}
 use Rattle.sheet_judge.specs.declared.mark.Uses.{Uses}
 use Rattle.play_words.specs.declared.Difference.{Difference}
 use Rattle.serve_compare.specs.declared.Examined.{Examined}
 use Rattle.serve_compare.proofs.ReadSheets.{heading-after, Fit, fit-as, fit-held, fit-type, fit-ready, fit-used}
+use Rattle.sheet_records.specs.declared.refusal.Reason.{Reason}
+use Rattle.sheet_records.specs.declared.refusal.Reason.TheVariants.{HeadingsDiffer, TooFewWords, SpaceTooShort}
+use Rattle.sheet_records.specs.declared.refusal.Sheets.{Sheets}
+use Rattle.sheet_records.specs.declared.refusal.Sheets.TheVariants.{Old, New, Both}
 
 -- a refusal leaves everything as it was
 refuses : (old new ws space : List ℕ) (most : ℕ) {x q : Cause} →
@@ -47,25 +50,19 @@ refuses : (old new ws space : List ℕ) (most : ℕ) {x q : Cause} →
 unfolding ExaminedBy
 refuses old new ws space most e f = rw e (ap Err f, (refl, refl))
 
--- the refusal of a sheet, handed on
-handed-on : {x : Result Loaded Wrong} {z : Wrong} {sheet : ℕ} {q : Cause} → x ≡ Err z → q ≡ cause_of x sheet →
-    q ≡ cause z.number sheet z.place
-unfolding cause_of
-handed-on e f = f ∙ rw e
-
 -- the old sheet is refused
-pub refused-old : (old new ws space : List ℕ) (most : ℕ) {x : Result Loaded Wrong} {z : Wrong} {q : Cause} →
-    read_sheet old ≡ rejected z.number z.place → x ≡ Err z → q ≡ cause_of x 0 →
+pub refused-old : (old new ws space : List ℕ) (most : ℕ) {z : Wrong} {q : Cause} →
+    read_sheet old ≡ rejected z.reason z.place → q ≡ cause z.reason Old z.place →
     ExaminePromise old new most ws space (Err q) ws space
 unfolding compare_refusal on_read
-refused-old old new ws space most h e f = refuses old new ws space most (rw h) (handed-on e f)
+refused-old old new ws space most h f = refuses old new ws space most (rw h) f
 
 -- the old sheet is read, and the new one refused
-pub refused-new : (old new ws space : List ℕ) (most : ℕ) {root row ty size : ℕ} {v : Uses} {t : List ℕ} {y : Result Loaded Wrong}
-    {z : Wrong} {q : Cause} → load.Ready old root row ty size v t → read_sheet new ≡ rejected z.number z.place →
-    y ≡ Err z → q ≡ cause_of y 1 → ExaminePromise old new most ws space (Err q) ws space
+pub refused-new : (old new ws space : List ℕ) (most : ℕ) {root row ty size : ℕ} {v : Uses} {t : List ℕ}
+    {z : Wrong} {q : Cause} → load.Ready old root row ty size v t → read_sheet new ≡ rejected z.reason z.place →
+    q ≡ cause z.reason New z.place → ExaminePromise old new most ws space (Err q) ws space
 unfolding compare_refusal on_read
-refused-new old new ws space most A h e f = refuses old new ws space most (rw (A.accepts, h)) (handed-on e f)
+refused-new old new ws space most A h f = refuses old new ws space most (rw (A.accepts, h)) f
 
 -- equal first bytes
 pub same_byte : (n : ℕ) (s u : List ℕ) → same_first n s u ≡ true → (i : ℕ) → i < n → get_or s i 0 ≡ get_or u i 0
@@ -122,11 +119,11 @@ module _ (S T : Sheet) {N : Numbers} {X : Ty} (e : S.numbers ≡ N) (f : ty_of S
   alike_as u h = rw (f, g) h
 
   -- a play of exactly one
-  only-as : (which : ℕ) (u : Word) → OnlyTerm which X (term_of S) (term_of T) u → Only which S T u
+  only-as : (which : Sheets) (u : Word) → OnlyTerm which X (term_of S) (term_of T) u → Only which S T u
   unfolding OnlyTerm Only
-  only-as zero u h = rw (f, g) h
-  only-as (suc zero) u h = rw (f, g) h
-  only-as (suc (suc k)) u h = absurd h
+  only-as Old u h = rw (f, g) h
+  only-as New u h = rw (f, g) h
+  only-as Both u h = absurd h
 
   -- the whole verdict
   decided-as : {most : ℕ} {space : List ℕ} {d : Option Difference} {space' : List ℕ} →
@@ -150,7 +147,7 @@ known_as : {d d₂ : Option Difference} {n n₂ : ℕ} {v v₂ w w₂ : Uses} �
 known_as e f g h = rw (e, f, g, h) refl
 
 -- two sheets that fit, of one type, and the names that they use
-pub record Both (N : Numbers) (old new : List ℕ) (row other all more : ℕ) (v w : Uses) (t u : List ℕ) : Type 0 where
+pub record Fits (N : Numbers) (old new : List ℕ) (row other all more : ℕ) (v w : Uses) (t u : List ℕ) : Type 0 where
   pub ty : ℕ
   pub first : Fit N ty old row all t
   pub second : Fit N ty new other more u
@@ -160,7 +157,7 @@ pub record Both (N : Numbers) (old new : List ℕ) (row other all more : ℕ) (v
 -- two sheets that are loaded, where they are comparable
 pub both : {old new : List ℕ} {root row ty all other other_row b more : ℕ} {v w : Uses} {t u : List ℕ} {k : Bool}
     {N : Numbers} → load.Ready old root row ty all v t → load.Ready new other other_row b more w u →
-    k ≡ matching old new root other ty b → k ≡ true → N ≡ numbers_at old → Both N old new row other_row all more v w t u
+    k ≡ matching old new root other ty b → k ≡ true → N ≡ numbers_at old → Fits N old new row other_row all more v w t u
 both {old} {new} {row = row} {ty} {all} {other} {other_row} {more = more} {t = t} {u = u} {N = N} A B c h n =
     let o = as_one other (heading-after A) c h in
     let F : Fit N ty old row all t = fit-as A (sym n) refl in
@@ -169,7 +166,7 @@ both {old} {new} {row = row} {ty} {all} {other} {other_row} {more = more} {t = t
 
 -- two sheets that fit
 module _ {N : Numbers} {old new : List ℕ} {row other all more : ℕ} {v w : Uses} {t u : List ℕ}
-    (P : Both N old new row other all more v w t u) where
+    (P : Fits N old new row other all more v w t u) where
   -- their type, and each of them
   abbrev ty : ℕ
   ty = P.ty
@@ -260,21 +257,22 @@ module _ {N : Numbers} {old new : List ℕ} {row other all more : ℕ} {v w : Us
 
 -- by the three tests
 abbrev judgement : Bool → Bool → Bool → math.Option Cause
-judgement p q s = pick p (pick q (refusing 13 2 0) (pick s (refusing 14 2 0) none)) (refusing 12 2 0)
+judgement p q s =
+    pick p (pick q (refusing TooFewWords Both 0) (pick s (refusing SpaceTooShort Both 0) none)) (refusing HeadingsDiffer Both 0)
 
-stopped_by : (p q s : Bool) {number : ℕ} → number ≡ number_of (judgement p q s) → (number ≡ 0 → ⊥) →
-    judgement p q s ≡ refusing number 2 0
-unfolding number_of
-stopped_by false q s e h = rw e refl
-stopped_by true true s e h = rw e refl
-stopped_by true false true e h = rw e refl
-stopped_by true false false e h = absurd (h e)
+stopped_by : (p q s : Bool) {reason : Reason} → reason_of (judgement p q s) ≡ Some reason →
+    judgement p q s ≡ refusing reason Both 0
+unfolding reason_of
+stopped_by false q s {reason} e = let z : HeadingsDiffer ≡ reason = cc in rw z refl
+stopped_by true true s {reason} e = let z : TooFewWords ≡ reason = cc in rw z refl
+stopped_by true false true {reason} e = let z : SpaceTooShort ≡ reason = cc in rw z refl
+stopped_by true false false e = cc
 
-passed-by : (p q s : Bool) → number_of (judgement p q s) ≡ 0 → (p ≡ true) × (q ≡ false) × (s ≡ false)
-unfolding number_of
-passed-by false q s e = absurd (omega (arith, e))
-passed-by true true s e = absurd (omega (arith, e))
-passed-by true false true e = absurd (omega (arith, e))
+passed-by : (p q s : Bool) → reason_of (judgement p q s) ≡ None → (p ≡ true) × (q ≡ false) × (s ≡ false)
+unfolding reason_of
+passed-by false q s e = cc
+passed-by true true s e = cc
+passed-by true false true e = cc
 passed-by true false false e = (refl, refl, refl)
 
 -- two sheets that are not refused: they match, and enough is lent for sizes that add up to n
@@ -292,35 +290,35 @@ module _ (old new ws space : List ℕ) {root row ty all other other_row b more :
   unfolding compare_refusal on_read
   judged = rw (A.accepts, B.accepts, A.rooted, B.rooted, A.numbered)
 
-  module _ {fit : Bool} {number : ℕ} {N : Numbers} (e : fit ≡ matching old new root other ty b)
+  module _ {fit : Bool} {r : Option Reason} {N : Numbers} (e : fit ≡ matching old new root other ty b)
       (f : N ≡ numbers_at old)
-      (n : number ≡ number_of (pair_refusal fit N (length ws) (length space) (all + more))) where
+      (n : r ≡ reason_of (pair_refusal fit N (length ws) (length space) (all + more))) where
     -- by the names of the code
     judged-as : compare_refusal old new (length ws) (length space) ≡
         pair_refusal fit N (length ws) (length space) (all + more)
     judged-as = judged ∙ rw (← e, ← f) refl
 
     -- they are refused together
-    pub refused-pair : (most : ℕ) {q : Cause} → (number ≡ 0 → ⊥) → q ≡ cause number both_sheets 0 →
+    pub refused-pair : (most : ℕ) {reason : Reason} {q : Cause} → r ≡ Some reason → q ≡ cause reason both_sheets 0 →
         ExaminePromise old new most ws space (Err q) ws space
     refused-pair most h k =
         refuses old new ws space most
         (judged-as ∙
         stopped_by fit (ltb (length ws) (words_asked N (all + more)))
-        (ltb (length space) (4 * (all + more - 1))) n h)
+        (ltb (length space) (4 * (all + more - 1))) (sym n ∙ h))
         k
 
     -- the tests passed
-    tests : number ≡ 0 → (fit ≡ true) × (ltb (length ws) (words_asked N (all + more)) ≡ false) ×
+    tests : r ≡ None → (fit ≡ true) × (ltb (length ws) (words_asked N (all + more)) ≡ false) ×
         (ltb (length space) (4 * (all + more - 1)) ≡ false)
     tests z =
         passed-by fit (ltb (length ws) (words_asked N (all + more))) (ltb (length space) (4 * (all + more - 1)))
         (sym n ∙ z)
 
     -- nothing is refused
-    pub passed : number ≡ 0 → Passed fit N (length ws) (length space) (all + more)
+    pub passed : r ≡ None → Passed fit N (length ws) (length space) (all + more)
     passed z = record
         { matched = (tests z).0; words-enough = ltb-false _ _ (tests z).1; space-enough = ltb-false _ _ (tests z).2 }
 
-    pub accepted-call : number ≡ 0 → compare_refusal old new (length ws) (length space) ≡ none
+    pub accepted-call : r ≡ None → compare_refusal old new (length ws) (length space) ≡ none
     accepted-call z = judged-as ∙ rw ((tests z).0, (tests z).1, (tests z).2) refl

@@ -34,6 +34,7 @@ use Rattle.play_words.specs.declared.Difference.{Difference}
 use Rattle.serve_compare.proofs.OnePlay.{plays-small}
 use Rattle.serve_compare.proofs.TwoPlays.{FoundPlay, ends, same_plays, first-play}
 use Rattle.play_records.proofs.WritingPlays.{records-written}
+use Rattle.sheet_records.specs.declared.refusal.Sheets.TheVariants.{Old, New}
 
 -- the comparison of the first states of two automata of `all` and `more` states with their ends
 abbrev pub task : ℕ → ℕ → ℕ → Task
@@ -163,7 +164,7 @@ module _ (ws space : List ℕ) (all more : ℕ) (D : Deciding ws space all more)
 
     -- the sheet that has it, by where it ends
     found-only : (p : ℕ) → p ≡ after (δ G n) 0 told.word →
-        OnlyTerm (pick (eqb p (all - 1)) 0 1) T M M' found.word
+        OnlyTerm (pick (eqb p (all - 1)) Old New) T M M' found.word
     unfolding OnlyTerm
     found-only p e = by found.only
       where
@@ -171,7 +172,7 @@ module _ (ws space : List ℕ) (all more : ℕ) (D : Deciding ws space all more)
             (Complete T M found.word × (Complete T M' found.word → ⊥))) ⊎
             ((after (δ G n) 0 told.word ≢ spots T M) ×
             (Complete T M' found.word × (Complete T M found.word → ⊥))) →
-            OnlyTerm (pick (eqb p (all - 1)) 0 1) T M M' found.word
+            OnlyTerm (pick (eqb p (all - 1)) Old New) T M M' found.word
         by (inl h) = rw (eq-eqb p (all - 1) (omega (arith, all-is))) h.1
         by (inr h) = rw (ne_eqb p (all - 1) (λ d. h.0 (omega (arith, all-is)))) h.1
 
@@ -179,7 +180,7 @@ module _ (ws space : List ℕ) (all more : ℕ) (D : Deciding ws space all more)
     pub decided-apart : {r : Option Difference} {space' : List ℕ} → Shown n k (all - 1) ws₁ space r space' →
         Verdicts N T M M' most space r space'
     decided-apart {r} {space'} s =
-        differ (pick (eqb (get_or ws₁ (n + 4 * k) 0) (all - 1)) 0 1) found.word
+        differ (pick (eqb (get_or ws₁ (n + 4 * k) 0) (all - 1)) Old New) found.word
         (rw (found.moves, ← same-letters) s.answer) (found-only (get_or ws₁ (n + 4 * k) 0) ends_there)
         found.earlier (omega (arith, found.moves, reversed-length told.word, told.within))
         (s.written ∙ rw (same-letters, ← found.spells)

@@ -18,6 +18,7 @@ use Rattle.serve_compare.specs.Demands.{Comparable, DifferShort, PlayShort}
 use Rattle.serve_compare.specs.Plays.{whole_type, Only}
 use Rattle.serve_compare.proofs.Lengths.{differ-short, play-short}
 use Rattle.serve_compare.proofs.Exactly.{not_alike}
+use Rattle.sheet_records.specs.declared.refusal.Sheets.TheVariants.{Old, New}
 
 -- comparable sheets have terms of one type
 one_type : (S T : Sheet) → Comparable S T → whole_type S ≡ whole_type T
@@ -38,7 +39,7 @@ differs S T A B c = (
       (differ-short (whole_type S) (term_of S) (term_of T) S.numbers (omega (arith, A.z_below))
       (order-typed S A) typed (type_in S.numbers A.z_above (type_of S))
       (order-range S A) in-range)
-      (λ u l p q. none 0 u l (p, q)) (λ u l p q. none 1 u l (p, q))),
+      (λ u l p q. none Old u l (p, q)) (λ u l p q. none New u l (p, q))),
 )
   where
     typed : Typed [] (term_of T) (whole_type S)

@@ -17,13 +17,15 @@ use Rattle.sheet_judge.specs.Mark.{uses_of}
 use Rattle.sheet_judge.specs.declared.mark.Uses.{Uses}
 use Rattle.serve_compare.specs.declared.Comparison.{Comparison}
 use Rattle.play_words.specs.declared.Difference.{Difference}
+use Rattle.sheet_records.specs.declared.refusal.Sheets.{Sheets}
+use Rattle.sheet_records.specs.declared.refusal.Sheets.TheVariants.{Old, New, Both}
 
 -- a play of exactly one is not alike
-pub not_alike : (which : ℕ) (S T : Sheet) (u : Word) → Only which S T u → Alike S T u → ⊥
+pub not_alike : (which : Sheets) (S T : Sheet) (u : Word) → Only which S T u → Alike S T u → ⊥
 unfolding Only
-not_alike zero S T u o a = o.1 (a.0 o.0)
-not_alike (suc zero) S T u o a = o.1 (a.1 o.0)
-not_alike (suc (suc k)) S T u o a = o
+not_alike Old S T u o a = o.1 (a.0 o.0)
+not_alike New S T u o a = o.1 (a.1 o.0)
+not_alike Both S T u o a = o
 
 -- which kind an answer is
 side : Option Difference → ℕ
@@ -35,7 +37,7 @@ kind (Ok c) = side c.found
 kind (Err x) = 2
 
 -- "apart" is not "same"
-pub not-same : (which moves : ℕ) (u v w x : Uses) → Apart which moves u v ≡ Same w x → ⊥
+pub not-same : (which : Sheets) (moves : ℕ) (u v w x : Uses) → Apart which moves u v ≡ Same w x → ⊥
 unfolding kind side
 not-same which moves u v w x e = let z : ◌≡◌ {A = ℕ} 1 0 = ap kind e in omega arith
 

@@ -35,11 +35,12 @@ use Rattle.states_build.specs.inner.Built.{OneReady, OneBuilt}
 use Rattle.states_build.proofs.Room.{asked-suffices}
 use Rattle.states_words.proofs.Filled.{most-edges}
 use Rattle.play_records.specs.Bytes.{counted}
-use Rattle.serve_compare.specs.inner.Causes.{cause_of, play_cause}
 use Rattle.play_words.specs.Walk.{AtLeast, Marked, Reached}
 use Rattle.serve_compare.proofs.ReadSheets.{Fit, fit-held, fit-fine, fit-type, fit-ready}
 use Rattle.serve_compare.proofs.FollowPlays.{built-single, counts}
 use Rattle.play_records.proofs.WritingPlays.{good-moves}
+use Rattle.sheet_records.specs.declared.refusal.Reason.TheVariants.{TooFewWords, BadPlay}
+use Rattle.sheet_records.specs.declared.refusal.Sheets.TheVariants.{Old, Both}
 
 -- a refusal that is promised
 refuses : (s play ws ws' : List ℕ) {x q : Cause} → follow_refusal s play (length ws) ≡ some x → q ≡ x → ws' ≡ ws →
@@ -48,15 +49,13 @@ unfolding FollowedBy
 refuses s play ws ws' e f k = rw e (ap Err f, k)
 
 -- a sheet that is refused
-pub refuses-sheet : (s play ws ws' : List ℕ) {x : Result Loaded Wrong} {z : Wrong} {q : Cause} →
-    read_sheet s ≡ rejected z.number z.place → x ≡ Err z → q ≡ cause_of x 0 → ws' ≡ ws →
-    FollowPromise s play ws (Err q) ws'
-unfolding follow_refusal on_read cause_of
-refuses-sheet s play ws ws' {z = z} h e c k =
-    refuses s play ws ws' {x = cause z.number 0 z.place} (rw h) (c ∙ rw e) k
+pub refuses-sheet : (s play ws ws' : List ℕ) {z : Wrong} {q : Cause} → read_sheet s ≡ rejected z.reason z.place →
+    q ≡ cause z.reason Old z.place → ws' ≡ ws → FollowPromise s play ws (Err q) ws'
+unfolding follow_refusal on_read
+refuses-sheet s play ws ws' h c k = refuses s play ws ws' (rw h) c k
 
 -- a play in whose count a bad record is met
-on-bad : (g : Given) {p : ℕ} → Err p ≡ counted 0 g → on_given g ≡ refusing 15 0 p
+on-bad : (g : Given) {p : ℕ} → Err p ≡ counted 0 g → on_given g ≡ refusing BadPlay Old p
 unfolding counted on_given
 on-bad (moves rs) e = let z : ◌≡◌ {A = ℕ} 0 1 = cc in absurd (omega arith)
 on-bad (bad q) {p} e = let a : q ≡ p = cc in rw a
@@ -78,25 +77,24 @@ counted-enough play e m =
 module _ {N : Numbers} {ty : ℕ} {s : List ℕ} {row all : ℕ} {t : List ℕ} (F : Fit N ty s row all t) where
   -- what follow goes on to
   goes_on : (play : List ℕ) (words : ℕ) → follow_refusal s play words ≡
-      pick (ltb words (words_asked N all)) (refusing 13 2 0) (on_given (parse 0 play))
+      pick (ltb words (words_asked N all)) (refusing TooFewWords Both 0) (on_given (parse 0 play))
   unfolding follow_refusal on_read
   goes_on play words = rw (F.reads, F.numbers)
 
   -- too few words
-  pub refuses-words : (play ws ws' : List ℕ) {q : Cause} → length ws < words_asked N all → q ≡ cause 13 both_sheets 0 →
-      ws' ≡ ws → FollowPromise s play ws (Err q) ws'
+  pub refuses-words : (play ws ws' : List ℕ) {q : Cause} → length ws < words_asked N all →
+      q ≡ cause TooFewWords both_sheets 0 → ws' ≡ ws → FollowPromise s play ws (Err q) ws'
   refuses-words play ws ws' h c k =
       refuses s play ws ws' (goes_on play (length ws) ∙ rw (lt-ltb (length ws) (words_asked N all) h) refl) c k
 
   -- a bad play
   pub refuses-play : (play ws ws' : List ℕ) {x : Result ℕ ℕ} {p : ℕ} {q : Cause} →
-      words_asked N all ≤ length ws → x ≡ counted 0 (parse 0 play) → x ≡ Err p → q ≡ play_cause x → ws' ≡ ws →
+      words_asked N all ≤ length ws → x ≡ counted 0 (parse 0 play) → x ≡ Err p → q ≡ cause BadPlay Old p → ws' ≡ ws →
       FollowPromise s play ws (Err q) ws'
-  unfolding play_cause
   refuses-play play ws ws' h e b c k =
       refuses s play ws ws'
       (goes_on play (length ws) ∙ rw (le-ltb (length ws) (words_asked N all) h) (on-bad (parse 0 play) (sym b ∙ e)))
-      (rw b at c) k
+      c k
 
   -- the words suffice, and the play has the records rs
   goes_through : (play ws : List ℕ) (rs : List (List ℕ)) → words_asked N all ≤ length ws → parse 0 play ≡ moves rs →

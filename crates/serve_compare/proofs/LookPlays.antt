@@ -27,6 +27,7 @@ use Rattle.serve_compare.specs.declared.Examined.{Examined}
 use Rattle.serve_compare.proofs.Demands.{differs}
 use Rattle.serve_compare.proofs.Exactly.{not_alike}
 use Rattle.serve_compare.proofs.Unique.{held-accepted, held-comparable}
+use Rattle.sheet_records.specs.declared.refusal.Sheets.{Sheets}
 
 -- two sheets in order that can be compared
 module _ (S T : Sheet) (A : Accepted S) (B : Accepted T) (c : Comparable S T) where
@@ -36,7 +37,7 @@ module _ (S T : Sheet) (A : Accepted S) (B : Accepted T) (c : Comparable S T) wh
       (differs S T A.ordered.in_order B.ordered.in_order c).1 (λ which u l o. not_alike which S T u o (h u l))
 
   -- THEOREM: the first play of exactly one has at most S + T - 1 moves
-  first_short : (which : ℕ) (play : Word) → FirstPlay S T which play → length play ≤ whole_depth S T
+  first_short : (which : Sheets) (play : Word) → FirstPlay S T which play → length play ≤ whole_depth S T
   first_short which play f = go (dec_lt (whole_depth S T) (length play))
     where
       go : Dec (whole_depth S T < length play) → length play ≤ whole_depth S T

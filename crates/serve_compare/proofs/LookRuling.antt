@@ -31,6 +31,7 @@ use Rattle.serve_compare.proofs.Exactly.{not_alike}
 use Rattle.serve_compare.proofs.LookSteps.{so-far-said, same-said}
 use Rattle.serve_compare.proofs.LookPlays.{all_alike}
 use Rattle.serve_compare.proofs.Unique.{one-sheet, held-accepted, held-comparable, one-first, only_one}
+use Rattle.sheet_records.specs.declared.refusal.Sheets.{Sheets}
 
 -- the answer to what is found
 abbrev answer_to : Found → ℕ → ℕ → Uses → Uses → Result Looking Cause
@@ -48,7 +49,7 @@ looked-all limit whole v w l = ap Ok (sym (same-said (decision_of nothing) limit
 -- two sheets in order that can be compared
 module _ (S T : Sheet) (A : Accepted S) (B : Accepted T) (c : Comparable S T) where
   -- the same play, where both find one
-  one-play : (which other : ℕ) (u v : Word) → FirstPlay S T which u → FirstPlay S T other v →
+  one-play : (which other : Sheets) (u v : Word) → FirstPlay S T which u → FirstPlay S T other v →
       first which u ≡ first other v
   one-play which other u v f g =
       let p : u ≡ v = one-first S T A B c.numbers which other u v f g in
@@ -82,7 +83,7 @@ module _ (S T : Sheet) (A : Accepted S) (B : Accepted T) (c : Comparable S T) wh
 
 -- a play that tells the sheets apart has more than L moves, where none of at most L does
 all-longer : {old new : List ℕ} {S T : Sheet} {limit : ℕ} → Holds old S → Holds new T → FoundIn limit S T nothing →
-    (S₂ T₂ : Sheet) → Holds old S₂ → Holds new T₂ → (which : ℕ) (u : Word) → Only which S₂ T₂ u → limit < length u
+    (S₂ T₂ : Sheet) → Holds old S₂ → Holds new T₂ → (which : Sheets) (u : Word) → Only which S₂ T₂ u → limit < length u
 unfolding FoundIn
 all-longer {S = S} {T} {limit} h k f S₂ T₂ h₂ k₂ which u o = go (dec_lt limit (length u))
   where

@@ -15,6 +15,10 @@ use Rattle.serve_conditions.specs.Lent.{words_asked}
 use Rattle.language.specs.Choice.{pick}
 use Rattle.sheet_records.specs.declared.edition.Edition.TheVariants.{Present}
 use Rattle.sheet_records.specs.declared.refusal.Cause.{Cause}
+use Rattle.sheet_records.specs.declared.refusal.Reason.{Reason}
+use Rattle.sheet_records.specs.declared.refusal.Reason.TheVariants.{HeadingsDiffer, TooFewWords, SpaceTooShort}
+use Rattle.sheet_records.specs.declared.refusal.Sheets.{Sheets}
+use Rattle.sheet_records.specs.declared.refusal.Sheets.TheVariants.{Old, New, Both}
 use Rattle.sheet_written.specs.Width.{heading_width}
 use Rattle.sheet_reader.specs.Reader.{Checks, accepted, rejected, read_sheet}
 use Rattle.sheet_judge.proofs.Places.{check-refused}
@@ -26,15 +30,15 @@ use Rattle.serve_compare.specs.Look.{LookedBy, LookPromise}
 use Rattle.serve_compare.specs.declared.Looking.{Looking}
 use Rattle.serve_compare.specs.Demands.{CheckNumber, FollowNumber, CompareNumber, NumbersOnly}
 
--- no refusal, or one whose number is among P
-unfoldable Among : (ℕ → Type 0) → Option Cause → Type 0
+-- no refusal, or one whose reason is among P
+unfoldable Among : (Reason → Type 0) → Option Cause → Type 0
 Among P none = Unit
-Among P (some x) = P x.number
+Among P (some x) = P x.reason
 
-from-check : (s : List ℕ) (number place : ℕ) → read_sheet s ≡ rejected number place → CheckNumber number
-from-check s number place e = (check-refused Present s e).known
+from-check : (s : List ℕ) (reason : Reason) (place : ℕ) → read_sheet s ≡ rejected reason place → CheckNumber reason
+from-check s reason place e = (check-refused Present s e).known
 
-on_read_lem : (P : ℕ → Type 0) → ((k : ℕ) → CheckNumber k → P k) → (s : List ℕ) (sheet : ℕ)
+on_read_lem : (P : Reason → Type 0) → ((k : Reason) → CheckNumber k → P k) → (s : List ℕ) (sheet : Sheets)
     (k : Numbers → ℕ → ℕ → ℕ → Option Cause) → ((N : Numbers) (root ty size : ℕ) → Among P (k N root ty size)) →
     Among P (on_read (read_sheet s) sheet k)
 unfolding on_read Among
@@ -42,14 +46,14 @@ on_read_lem P f s sheet k g = go (read_sheet s) refl
   where
     go : (A : Checks) → read_sheet s ≡ A → Among P (on_read A sheet k)
     go (accepted S ty size) e = g S.numbers (heading_width S) ty size
-    go (rejected number place) e = f number (from-check s number place e)
+    go (rejected reason place) e = f reason (from-check s reason place e)
 
-choice : (P : ℕ → Type 0) (t : Bool) (a b : Option Cause) → Among P a → Among P b → Among P (pick t a b)
+choice : (P : Reason → Type 0) (t : Bool) (a b : Option Cause) → Among P a → Among P b → Among P (pick t a b)
 choice P true a b p q = p
 choice P false a b p q = q
 
 -- follow: the sheet's, 13, 15
-from-sheet : (k : ℕ) → CheckNumber k → FollowNumber k
+from-sheet : (k : Reason) → CheckNumber k → FollowNumber k
 unfolding FollowNumber
 from-sheet k h = inl h
 
@@ -61,17 +65,17 @@ given (bad place) = inr (inr refl)
 follow-among : (s play : List ℕ) (words : ℕ) → Among FollowNumber (follow_refusal s play words)
 unfolding follow_refusal
 follow-among s play words =
-    on_read_lem FollowNumber from-sheet s 0 _ (λ N root ty size.
-    choice FollowNumber (ltb words (words_asked N size)) (refusing 13 2 0) (on_given (parse 0 play))
+    on_read_lem FollowNumber from-sheet s Old _ (λ N root ty size.
+    choice FollowNumber (ltb words (words_asked N size)) (refusing TooFewWords Both 0) (on_given (parse 0 play))
     (unfold Among FollowNumber in inr (inl refl)) (given (parse 0 play)))
 
 -- compare: the sheets', 12, 13, 14
-from-sheets : (k : ℕ) → CheckNumber k → CompareNumber k
+from-sheets : (k : Reason) → CheckNumber k → CompareNumber k
 unfolding CompareNumber
 from-sheets k h = inl h
 
 lent : (t u v : Bool) →
-    Among CompareNumber (pick t (pick u (refusing 13 2 0) (pick v (refusing 14 2 0) none)) (refusing 12 2 0))
+    Among CompareNumber (pick t (pick u (refusing TooFewWords Both 0) (pick v (refusing SpaceTooShort Both 0) none)) (refusing HeadingsDiffer Both 0))
 unfolding Among CompareNumber
 lent false u v = inr (inl refl)
 lent true true v = inr (inr (inl refl))
@@ -81,8 +85,8 @@ lent true false false = tt
 compare-among : (old new : List ℕ) (words space : ℕ) → Among CompareNumber (compare_refusal old new words space)
 unfolding compare_refusal
 compare-among old new words space =
-    on_read_lem CompareNumber from-sheets old 0 _ (λ N root ty size.
-    on_read_lem CompareNumber from-sheets new 1 _ (λ M other type-of-other size-of-other.
+    on_read_lem CompareNumber from-sheets old Old _ (λ N root ty size.
+    on_read_lem CompareNumber from-sheets new New _ (λ M other type-of-other size-of-other.
     let n = size + size-of-other in
     lent (matching old new root other ty type-of-other) (ltb words (words_asked N n)) (ltb space (4 * (n - 1)))))
 
@@ -91,13 +95,13 @@ never-refused : {a : Looking} (x : Cause) → Err x ≡ Ok a → ⊥
 never-refused x e = let z : ◌≡◌ {A = ℕ} 0 1 = cc in omega arith
 
 look-number : (old new : List ℕ) (limit : ℕ) (ws space : List ℕ) (x : Cause) (ws' space' : List ℕ) →
-    LookPromise old new limit ws space (Err x) ws' space' → CompareNumber x.number
+    LookPromise old new limit ws space (Err x) ws' space' → CompareNumber x.reason
 unfolding LookedBy Among
 look-number old new limit ws space x ws' space' p =
     go (compare_refusal old new (length ws) (length space)) (compare-among old new (length ws) (length space)) p
   where
     go : (y : Option Cause) → Among CompareNumber y → LookedBy y old new limit ws space (Err x) ws' space' →
-        CompareNumber x.number
+        CompareNumber x.reason
     go none a h = absurd (never-refused x h.answer)
     go (some y) a h = let e : x ≡ y = (let f = h.0 in cc) in rw e a
 

@@ -33,7 +33,7 @@ use Rattle.serve_compare.specs.Promise.{Holds}
 
 -- a sheet whose loading is refused
 pub refused-sheet : (s u : List ℕ) {x : Result Loaded Refusal} {z : Refusal} → LoadedBy s x u → x ≡ Err z →
-    read_sheet s ≡ rejected z.number z.place
+    read_sheet s ≡ rejected z.reason z.place
 unfolding LoadedBy
 refused-sheet s u L e = rw e at L
 

@@ -20,6 +20,8 @@ use Rattle.states_machine.specs.Action.{to, out, dead}
 use Rattle.states_machine.specs.Decide.{same-move?}
 use Rattle.states_machine.specs.Settle.{next, run}
 use Rattle.serve_compare.proofs.Listing.{all, both, Machine, State, moves_at, next-all}
+use Rattle.sheet_records.specs.declared.refusal.Sheets.{Sheets}
+use Rattle.sheet_records.specs.declared.refusal.Sheets.TheVariants.{Old, New, Both}
 
 -- whether a move is earlier than another
 unfoldable pub less_value : Numbers → List ℕ → List ℕ → Bool
@@ -319,17 +321,17 @@ module _ {K L : ℕ} (A : Machine K) (B : Machine L) where
       rw e (agree-foremost N w (next A x m) (next B y m) p.1 v (omega arith) f)
 
   -- exactly one of the machines accepts a word: 0 the first, 1 the second
-  unfoldable pub only : ℕ → State K → State L → Word → Bool
-  only zero x y w = ends (run A x w) && not (ends (run B y w))
-  only (suc zero) x y w = ends (run B y w) && not (ends (run A x w))
-  only (suc (suc k)) x y w = false
+  unfoldable pub only : Sheets → State K → State L → Word → Bool
+  only Old x y w = ends (run A x w) && not (ends (run B y w))
+  only New x y w = ends (run B y w) && not (ends (run A x w))
+  only Both x y w = false
 
   -- w is the first word that exactly one accepts
-  unfoldable pub first : Numbers → ℕ → State K → State L → Word → Bool
+  unfoldable pub first : Numbers → Sheets → State K → State L → Word → Bool
   first N which x y w = only which x y w && (agree_below (length w) x y && foremost N w x y)
 
   -- THEOREM: on the words before such a word the machines agree
-  pub first-agree : (N : Numbers) (which : ℕ) (x : State K) (y : State L) (w : Word) → first N which x y w ≡ true →
+  pub first-agree : (N : Numbers) (which : Sheets) (x : State K) (y : State L) (w : Word) → first N which x y w ≡ true →
       (only which x y w ≡ true) × ((v : Word) → Before N v w → Agree x y v)
   unfolding first
   first-agree N which x y w h =

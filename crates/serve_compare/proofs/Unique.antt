@@ -34,6 +34,8 @@ use Rattle.serve_compare.specs.declared.Comparison.{Comparison}
 use Rattle.serve_compare.proofs.ReadSheets.{two-first}
 use Rattle.serve_compare.proofs.ComparePlays.{AsOne, as_one}
 use Rattle.serve_compare.proofs.PlayOrder.{before-total}
+use Rattle.sheet_records.specs.declared.refusal.Sheets.{Sheets}
+use Rattle.sheet_records.specs.declared.refusal.Sheets.TheVariants.{Old, New, Both}
 
 -- bytes hold one sheet
 pub one-sheet : {s : List ℕ} {S T : Sheet} → Holds s S → Holds s T → S ≡ T
@@ -86,32 +88,32 @@ held-comparable {old} {new} words space {S} {T} h k e =
 -- two sheets in order of the same numbers
 module _ (S T : Sheet) (A : Accepted S) (B : Accepted T) (e : S.numbers ≡ T.numbers) where
   -- every move of a play of one of them has a letter
-  only-small : (which : ℕ) (u : Word) → Only which S T u → AllSmall S.numbers u
+  only-small : (which : Sheets) (u : Word) → Only which S T u → AllSmall S.numbers u
   unfolding Only
-  only-small zero u h = sheet-small S A.ordered u h.0
-  only-small (suc zero) u h = subst (λ N. AllSmall N u) (sym e) (sheet-small T B.ordered u h.0)
-  only-small (suc (suc k)) u h = absurd h
+  only-small Old u h = sheet-small S A.ordered u h.0
+  only-small New u h = subst (λ N. AllSmall N u) (sym e) (sheet-small T B.ordered u h.0)
+  only-small Both u h = absurd h
 
   -- a play of exactly one of them tells them apart
-  only-differ : (which : ℕ) (u : Word) → Only which S T u → Alike S T u → ⊥
+  only-differ : (which : Sheets) (u : Word) → Only which S T u → Alike S T u → ⊥
   unfolding Only
-  only-differ zero u h a = h.1 (a.0 h.0)
-  only-differ (suc zero) u h a = h.1 (a.1 h.0)
-  only-differ (suc (suc k)) u h a = absurd h
+  only-differ Old u h a = h.1 (a.0 h.0)
+  only-differ New u h a = h.1 (a.1 h.0)
+  only-differ Both u h a = absurd h
 
   -- and is one sheet's
-  pub only_one : (which other : ℕ) (u : Word) → Only which S T u → Only other S T u → which ≡ other
+  pub only_one : (which other : Sheets) (u : Word) → Only which S T u → Only other S T u → which ≡ other
   unfolding Only
-  only_one zero zero u h k = refl
-  only_one zero (suc zero) u h k = absurd (k.1 h.0)
-  only_one zero (suc (suc j)) u h k = absurd k
-  only_one (suc zero) zero u h k = absurd (h.1 k.0)
-  only_one (suc zero) (suc zero) u h k = refl
-  only_one (suc zero) (suc (suc j)) u h k = absurd k
-  only_one (suc (suc i)) other u h k = absurd h
+  only_one Old Old u h k = refl
+  only_one Old New u h k = absurd (k.1 h.0)
+  only_one Old Both u h k = absurd k
+  only_one New Old u h k = absurd (h.1 k.0)
+  only_one New New u h k = refl
+  only_one New Both u h k = absurd k
+  only_one Both other u h k = absurd h
 
   -- there is one first play
-  pub one-first : (which other : ℕ) (u v : Word) → FirstPlay S T which u → FirstPlay S T other v → u ≡ v
+  pub one-first : (which other : Sheets) (u v : Word) → FirstPlay S T which u → FirstPlay S T other v → u ≡ v
   one-first which other u v f g =
       by (before-total S.numbers (omega (arith, A.ordered.in_order.z_below)) u v (only-small which u f.only)
       (only-small other v g.only))

@@ -24,6 +24,8 @@ use Rattle.serve_compare.specs.Worked.{Result, same, apart, TableRow, Says, Work
 use Rattle.serve_compare.proofs.Listing.{all, both, Machine, State}
 use Rattle.serve_compare.proofs.Search.{ends, ends-true, coded, Agree, reached, related, related-agree, only, first}
 use Rattle.serve_compare.proofs.Search.{first-agree, found}
+use Rattle.sheet_records.specs.declared.refusal.Sheets.{Sheets}
+use Rattle.sheet_records.specs.declared.refusal.Sheets.TheVariants.{Old, New, Both}
 
 -- the states of a sheet, its machine and where it begins
 abbrev count : Sheet → ℕ
@@ -36,7 +38,7 @@ abbrev start : (S : Sheet) → State (count S)
 start S = begin (whole_type S) (term_of S)
 
 -- whether exactly one of the machines accepts a word that was found, of k moves, and no earlier one
-unfoldable pub first_found : ℕ → ℕ → Sheet → Sheet → Option Word → Bool
+unfoldable pub first_found : Sheets → ℕ → Sheet → Sheet → Option Word → Bool
 first_found which k S T none = false
 first_found which k S T (some w) =
     eqb (length w) k && first (machine S) (machine T) S.numbers which (start S) (start T) w
@@ -78,19 +80,19 @@ module _ (S T : Sheet) (A : Accepted S) (B : Accepted T) where
       ((λ c. (plays T B u).0 (sym e ∙ (plays S A u).1 c)), (λ c. (plays S A u).0 (e ∙ (plays T B u).1 c)))
 
   -- exactly one has the word
-  only-play : (which : ℕ) (u : Word) → only (machine S) (machine T) which (start S) (start T) u ≡ true →
+  only-play : (which : Sheets) (u : Word) → only (machine S) (machine T) which (start S) (start T) u ≡ true →
       Only which S T u
   unfolding only Only
-  only-play zero u e =
+  only-play Old u e =
       let p = both (ends (run (machine S) (start S) u)) _ e in
       ((plays S A u).0 p.0, no-play T B u p.1)
-  only-play (suc zero) u e =
+  only-play New u e =
       let p = both (ends (run (machine T) (start T) u)) _ e in
       ((plays T B u).0 p.0, no-play S A u p.1)
-  only-play (suc (suc k)) u e = absurd (false≢true e)
+  only-play Both u e = absurd (false≢true e)
 
   -- a word that is found is the first play of exactly one
-  found-play : (which k : ℕ) (w : Option Word) → first_found which k S T w ≡ true →
+  found-play : (which : Sheets) (k : ℕ) (w : Option Word) → first_found which k S T w ≡ true →
       (u : Word) × (FirstPlay S T which u × (length u ≡ k))
   unfolding first_found
   found-play which k none e = absurd (false≢true e)

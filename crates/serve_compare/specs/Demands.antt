@@ -5,6 +5,7 @@ use Rattle.std.proofs.Math.Option.{none, some}
 use Rattle.language.specs.Move.{Word, record_of, records}
 use Rattle.sheet_records.specs.declared.edition.Edition.TheVariants.{Present}
 use Rattle.sheet_records.specs.declared.refusal.Cause.{Cause}
+use Rattle.sheet_records.specs.declared.refusal.Reason.{Reason}
 use Rattle.sheet_written.specs.Written.{Sheet}
 use Rattle.sheet_written.specs.Meaning.{type_of}
 use Rattle.sheet_written.specs.Fine.{InOrder}
@@ -20,26 +21,27 @@ use Rattle.serve_compare.specs.Promise.{Holds, FollowPromise, Same, Apart, Compa
 use Rattle.serve_compare.specs.Look.{LookPromise}
 use Rattle.serve_compare.specs.declared.Following.{Following}
 use Rattle.serve_compare.specs.declared.Comparison.{Comparison}
+use Rattle.sheet_records.specs.declared.refusal.Sheets.{Sheets}
 
 -- Demand 1, of the numbers: check refuses by 1 to 11 and 16, follow also by 13 and 15, compare and look also by 12, 13
 -- and 14
-abbrev pub CheckNumber : ℕ → Type 0
+abbrev pub CheckNumber : Reason → Type 0
 CheckNumber k = NumberOf Present k
 
-unfoldable pub FollowNumber : ℕ → Type 0
+unfoldable pub FollowNumber : Reason → Type 0
 FollowNumber k = CheckNumber k ⊎ ((k ≡ too_few_words) ⊎ (k ≡ bad_play))
 
-unfoldable pub CompareNumber : ℕ → Type 0
+unfoldable pub CompareNumber : Reason → Type 0
 CompareNumber k = CheckNumber k ⊎ ((k ≡ headings_differ) ⊎ ((k ≡ too_few_words) ⊎ (k ≡ space_too_short)))
 
 pub record NumbersOnly : Type 0 where
-  pub of_check : (s : List ℕ) (number place : ℕ) → read_sheet s ≡ rejected number place → CheckNumber number
+  pub of_check : (s : List ℕ) (reason : Reason) (place : ℕ) → read_sheet s ≡ rejected reason place → CheckNumber reason
   pub of_follow : (s play : List ℕ) (words : ℕ) (x : Cause) → follow_refusal s play words ≡ some x →
-      FollowNumber x.number
+      FollowNumber x.reason
   pub of_compare : (old new : List ℕ) (words space : ℕ) (x : Cause) → compare_refusal old new words space ≡ some x →
-      CompareNumber x.number
+      CompareNumber x.reason
   pub of_look : (old new : List ℕ) (limit : ℕ) (ws space : List ℕ) (x : Cause) (ws' space' : List ℕ) →
-      LookPromise old new limit ws space (Err x) ws' space' → CompareNumber x.number
+      LookPromise old new limit ws space (Err x) ws' space' → CompareNumber x.reason
 
 -- Demand 1, of what is lent: a promise allows one answer and one state of everything lent
 abbrev pub FollowUnique : Type 0
@@ -54,7 +56,7 @@ CompareUnique = (old new ws space : List ℕ) (r r₂ : Result Comparison Cause)
 -- Demand 2. "Apart", with the sheet that has the first play of exactly one and its own number of moves; its records stand at
 -- the start of play space, and it has at most S + T - 1 moves
 pub record Shown (S T : Sheet) (r : Result Comparison Cause) (space : List ℕ) : Type 0 where
-  pub which : ℕ
+  pub which : Sheets
   pub play : Word
   pub answer : r ≡ Apart which (length play) (uses_of S) (uses_of T)
   pub first : FirstPlay S T which play
@@ -95,7 +97,7 @@ pub record Comparable (S T : Sheet) : Type 0 where
 abbrev pub DifferShort : Type 0
 DifferShort = (S T : Sheet) → InOrder S → InOrder T → Comparable S T →
     ((u : Word) → Alike S T u) ↔
-    ((which : ℕ) (u : Word) → length u ≤ reckoned S + reckoned T - 1 → Only which S T u → ⊥)
+    ((which : Sheets) (u : Word) → length u ≤ reckoned S + reckoned T - 1 → Only which S T u → ⊥)
 
 -- a sheet has a complete play exactly when it has one of at most S - 1 moves
 abbrev pub PlayShort : Type 0

@@ -17,11 +17,12 @@ use Rattle.play_words.specs.declared.Difference.{Difference}
 use Rattle.serve_compare.specs.declared.Looking.{Looking}
 use Rattle.serve_compare.specs.declared.Outcome.{Outcome}
 use Rattle.serve_compare.specs.declared.Outcome.TheVariants.{Same, Apart, SoFar}
+use Rattle.sheet_records.specs.declared.refusal.Sheets.{Sheets}
 
 -- what is found within a number of moves: no play that tells the sheets apart; or the first, and which sheet has it
 pub data Found : Type 0 where
   nothing : Found
-  first : ℕ → Word → Found
+  first : Sheets → Word → Found
 
 -- "if some play of at most L moves tells the sheets apart, with the play compare would show"; "if there is none"
 unfoldable pub FoundIn : ℕ → Sheet → Sheet → Found → Type 0
@@ -39,7 +40,7 @@ decision_of (first which play) = Some (record { sheet = which; moves = length pl
 
 -- the three answers: "apart", with the sheet that has the play and its number of moves; "same"; "same so far"
 pub data Ruling : Type 0 where
-  apart : ℕ → ℕ → Ruling
+  apart : Sheets → ℕ → Ruling
   same : Ruling
   so_far : Ruling
 

@@ -12,11 +12,12 @@ use Rattle.serve_compare.specs.Look.{whole_depth, telling, LookPromise}
 use Rattle.serve_compare.specs.declared.Comparison.{Comparison}
 use Rattle.serve_compare.specs.declared.Looking.{Looking}
 use Rattle.serve_compare.specs.declared.Outcome.TheVariants.{Same, Apart, SoFar}
+use Rattle.sheet_records.specs.declared.refusal.Sheets.{Sheets}
 
 -- look says what compare says, of the same sheet, moves and names; or refuses as it does
 pub data Agrees : Result Looking Cause → Result Comparison Cause → Type 0 where
   same : (looked : ℕ) (old new : Uses) → Agrees (Ok (telling Same looked old new)) (compared.Same old new)
-  apart : (which moves : ℕ) (old new : Uses) →
+  apart : (which : Sheets) (moves : ℕ) (old new : Uses) →
       Agrees (Ok (telling (Apart which) moves old new)) (compared.Apart which moves old new)
   refused : (x : Cause) → Agrees (Err x) (Err x)
 
@@ -25,7 +26,7 @@ pub record Open (old new : List ℕ) (limit : ℕ) (r : Result Looking Cause) : 
   pub old_uses : Uses
   pub new_uses : Uses
   pub answer : r ≡ Ok (telling SoFar limit old_uses new_uses)
-  pub longer : (S T : Sheet) → Holds old S → Holds new T → (which : ℕ) (u : Word) → Only which S T u →
+  pub longer : (S T : Sheet) → Holds old S → Holds new T → (which : Sheets) (u : Word) → Only which S T u →
       limit < length u
 
 -- look against compare, with everything lent; or "same so far"

@@ -13,6 +13,7 @@ use Rattle.play_records.specs.Records.{moves, parse}
 use Rattle.serve_compare.specs.Refusals.{follow_refusal, compare_refusal}
 use Rattle.serve_compare.specs.declared.Following.{Following}
 use Rattle.serve_compare.specs.declared.Comparison.{Comparison}
+use Rattle.sheet_records.specs.declared.refusal.Sheets.{Sheets}
 
 -- the sheet that the bytes hold
 pub record Holds (s : List ℕ) (S : Sheet) : Type 0 where
@@ -70,7 +71,7 @@ FollowPromise s play ws r ws' = FollowedBy (follow_refusal s play (length ws)) s
 abbrev pub Same : Uses → Uses → Result Comparison Cause
 Same old new = Ok (record { found = None; old = old; new = new })
 
-abbrev pub Apart : ℕ → ℕ → Uses → Uses → Result Comparison Cause
+abbrev pub Apart : Sheets → ℕ → Uses → Uses → Result Comparison Cause
 Apart which many old new = Ok (record { found = Some (record { sheet = which; moves = many }); old = old; new = new })
 
 -- "same": the sheets have the same complete plays; "same" leaves play space untouched. Document 02 [6]: "Compare passes
@@ -83,7 +84,7 @@ pub record SamePlays (S T : Sheet) (space : List ℕ) (r : Result Comparison Cau
 -- "apart": the sheet that has the first play, its number of moves, and its records at the start of play space, the rest
 -- of it untouched
 pub record ApartPlays (S T : Sheet) (space : List ℕ) (r : Result Comparison Cause) (space' : List ℕ) : Type 0 where
-  pub which : ℕ
+  pub which : Sheets
   pub play : Word
   pub answer : r ≡ Apart which (length play) (uses_of S) (uses_of T)
   pub first : FirstPlay S T which play

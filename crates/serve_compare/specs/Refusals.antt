@@ -1,4 +1,4 @@
--- The refusals of follow and compare: number, sheet and place. Document 01, "Three services": "Compare finishes the
+-- The refusals of follow and compare: reason, sheet and place. Document 01, "Three services": "Compare finishes the
 -- old sheet before the new one, then 12, 13, 14. Follow: the sheet, 13, 15. A service on one sheet names it "old"; 13
 -- and 14 are always "both"." SHEETS 9.1 and 9.3.
 use Rattle.std.specs.Prelude.{ℕ, ◌+◌, List, ltb}
@@ -7,6 +7,7 @@ use Rattle.language.specs.Choice.{pick}
 use Rattle.language.specs.declared.Numbers.{Numbers}
 use Rattle.sheet_records.specs.Refusal.{old_sheet, new_sheet, both_sheets, too_few_words}
 use Rattle.sheet_records.specs.declared.refusal.Cause.{Cause}
+use Rattle.sheet_records.specs.declared.refusal.Sheets.{Sheets}
 use Rattle.sheet_written.specs.Width.{heading_width}
 use Rattle.sheet_reader.specs.Reader.{Checks, accepted, rejected, read_sheet}
 use Rattle.play_records.specs.Records.{Given, moves, bad, parse}
@@ -16,9 +17,9 @@ use Rattle.sheet_records.specs.Refusal.{bad_play}
 
 -- what an accepted sheet goes on to, by its range and rule, the length of its heading, its type and its size; or its
 -- refusal
-unfoldable pub on_read : Checks → ℕ → (Numbers → ℕ → ℕ → ℕ → Option Cause) → Option Cause
+unfoldable pub on_read : Checks → Sheets → (Numbers → ℕ → ℕ → ℕ → Option Cause) → Option Cause
 on_read (accepted S ty size) sheet k = k S.numbers (heading_width S) ty size
-on_read (rejected number place) sheet k = refusing number sheet place
+on_read (rejected reason place) sheet k = refusing reason sheet place
 
 unfoldable pub on_given : Given → Option Cause
 on_given (moves rs) = none

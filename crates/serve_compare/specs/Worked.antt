@@ -5,12 +5,14 @@ use Rattle.language.specs.Move.{Word}
 use Rattle.sheet_written.specs.Written.{Sheet}
 use Rattle.sheet_reader.specs.Reader.{read_sheet, accepted}
 use Rattle.serve_compare.specs.Plays.{Alike, FirstPlay}
+use Rattle.sheet_records.specs.declared.refusal.Sheets.{Sheets}
+use Rattle.sheet_records.specs.declared.refusal.Sheets.TheVariants.{Old, New}
 
 -- the same complete plays; or which sheet has the first complete play of exactly one, 0 old or 1 new, and its number
 -- of moves
 pub data Result : Type 0 where
   same : Result
-  apart : ℕ → ℕ → Result
+  apart : Sheets → ℕ → Result
 
 -- a row: the bytes and the sizes of both sheets, and the result
 pub record TableRow : Type 0 where
@@ -74,7 +76,7 @@ row heading old new S T r =
 abbrev pub table : List TableRow
 table =
     -- old skip, new diverge
-    row plain (16 ∷ []) (17 ∷ 0 ∷ []) 4 4 (apart 0 2) ∷
+    row plain (16 ∷ []) (17 ∷ 0 ∷ []) 4 4 (apart Old 2) ∷
     -- old while true do skip, new diverge
     row plain (26 ∷ 18 ∷ 1 ∷ 16 ∷ []) (17 ∷ 0 ∷ []) 5 4 same ∷
     -- old c; diverge, new diverge
@@ -82,17 +84,17 @@ table =
     -- old new number v in c, new c
     row with_c (27 ∷ 1 ∷ 2 ∷ 20 ∷ 8 ∷ []) (20 ∷ 8 ∷ []) 9 5 same ∷
     -- old c; c, new c
-    row with_c (24 ∷ 20 ∷ 8 ∷ 20 ∷ 8 ∷ []) (20 ∷ 8 ∷ []) 7 5 (apart 1 4) ∷
+    row with_c (24 ∷ 20 ∷ 8 ∷ 20 ∷ 8 ∷ []) (20 ∷ 8 ∷ []) 7 5 (apart New 4) ∷
     -- old e + 0, new e
     row with_e (22 ∷ 0 ∷ 20 ∷ 9 ∷ 19 ∷ 0 ∷ []) (20 ∷ 9 ∷ []) 10 7 same ∷
     -- old e - e, new 0
-    row with_e (22 ∷ 1 ∷ 20 ∷ 9 ∷ 20 ∷ 9 ∷ []) (19 ∷ 0 ∷ []) 13 6 (apart 1 2) ∷
+    row with_e (22 ∷ 1 ∷ 20 ∷ 9 ∷ 20 ∷ 9 ∷ []) (19 ∷ 0 ∷ []) 13 6 (apart New 2) ∷
     -- old new v in (v := 0; f(v := 1); if !v = 1 then diverge else skip), new f(diverge)
     row (with_f 0) (27 ∷ 1 ∷ 2 ∷ snaps) (20 ∷ 7 ∷ 17 ∷ 0 ∷ []) 75 7 same ∷
     -- old new v in f(v := !v + 1), new f(skip), rule 1
     row (with_f 1) (27 ∷ 1 ∷ 2 ∷ counts) (20 ∷ 7 ∷ 16 ∷ []) 45 7 same ∷
     -- the same, rule 0
-    row (with_f 0) (27 ∷ 1 ∷ 2 ∷ counts) (20 ∷ 7 ∷ 16 ∷ []) 45 7 (apart 1 8) ∷
+    row (with_f 0) (27 ∷ 1 ∷ 2 ∷ counts) (20 ∷ 7 ∷ 16 ∷ []) 45 7 (apart New 8) ∷
     []
 
 -- the claim: every row of the table holds

@@ -1,3 +1,2 @@
 -- What the code computes and keeps, cited by inner contracts only.
-pub mod Causes
 pub mod Deciding

@@ -3,16 +3,16 @@ ghost use Rattle.std.specs.Prelude.{◌+◌};
 ghost use Rattle.serve_compare.specs.inner.Deciding.{Deciding, Verdicts, ExaminePromise};
 
 use crate::Examined;
-use crate::causes::{both_cause, cause_of};
+use crate::causes::both_cause;
 use dfa::words::clear;
 use dfa_difference::Task;
 use dfa_difference::search::first_difference;
 use play_words::Difference;
 use play_words::show::show;
 use serve_conditions::heading::alike;
-use serve_conditions::pair::pair_number;
+use serve_conditions::pair::pair_reason;
 use sheet_reader::reading::numbers_of;
-use sheet_records::refusal::{Cause, NEW_SHEET, NOT_REFUSED, OLD_SHEET};
+use sheet_records::refusal::{Cause, Sheets, of_sheet};
 use states_build::build::two_from_rows;
 use term_expand::expand::TERM_WORDS;
 use term_load::load::load;
@@ -59,20 +59,19 @@ pub(crate) fn examine(
     let x = load(old, &mut t);
     // `let .. else`, not `?`: the form of document 01 in which the answer is taken apart and the refusal handed on.
     let Ok(first) = x else {
-        return Err(cause_of(x, OLD_SHEET));
+        return Err(of_sheet(x.err().unwrap(), Sheets::Old));
     };
     let mut u = [0u16; TERM_WORDS];
     let y = load(new, &mut u);
     let Ok(second) = y else {
-        return Err(cause_of(y, NEW_SHEET));
+        return Err(of_sheet(y.err().unwrap(), Sheets::New));
     };
     let all = first.size as usize;
     let more = second.size as usize;
     let matching = alike(old, new, first.root, second.root, first.ty, second.ty);
     let n = numbers_of(old);
-    let number = pair_number(matching, n, words.len(), space.len(), all + more);
-    if number != NOT_REFUSED {
-        return Err(both_cause(number));
+    if let Some(reason) = pair_reason(matching, n, words.len(), space.len(), all + more) {
+        return Err(both_cause(reason));
     }
     two_from_rows(&t, &u, n, first.row, second.row, all, more, words);
     let found = decide(words, space, all, more, most);

@@ -3,6 +3,7 @@
 
 use play_words::Difference;
 use sheet_judge::mark::Uses;
+use sheet_records::refusal::Sheets;
 
 // Refusals, handed on.
 pub mod causes;
@@ -49,7 +50,7 @@ pub struct Comparison {
 #[derive(Drop)]
 pub enum Outcome {
     Same,
-    Apart { sheet: u8 },
+    Apart { sheet: Sheets },
     SoFar,
 }
 

@@ -1,16 +1,19 @@
 -- The refusals of two sheets together, each of which is read. Document 01, "Three services": "then 12, 13, 14"; "13 and
 -- 14 are always "both"". SHEETS 9.1 and 9.3.
 use Rattle.std.specs.Prelude.{ℕ, zero, suc, Bool, true, false, List, get_or, eqb, ltb}
+use Rattle.std.specs.Prelude as std
 use Rattle.std.proofs.Math.Option.{Option, none, some}
 use Rattle.language.specs.Choice.{pick}
 use Rattle.language.specs.declared.Numbers.{Numbers}
-use Rattle.sheet_records.specs.Refusal.{cause, both_sheets, not_refused, headings_differ, too_few_words, space_too_short}
+use Rattle.sheet_records.specs.Refusal.{cause, both_sheets, headings_differ, too_few_words, space_too_short}
+use Rattle.sheet_records.specs.declared.refusal.Reason.{Reason}
+use Rattle.sheet_records.specs.declared.refusal.Sheets.{Sheets}
 use Rattle.sheet_records.specs.declared.refusal.Cause.{Cause}
 use Rattle.serve_conditions.specs.Lent.{words_asked, bytes_asked}
 
--- the refusal with a number, a sheet and a place
-abbrev pub refusing : ℕ → ℕ → ℕ → Option Cause
-refusing number sheet place = some (cause number sheet place)
+-- the refusal with a reason, a sheet and a place
+abbrev pub refusing : Reason → Sheets → ℕ → Option Cause
+refusing reason sheet place = some (cause reason sheet place)
 
 -- whether the first n bytes are the same
 unfoldable pub same_first : ℕ → List ℕ → List ℕ → Bool
@@ -31,7 +34,7 @@ pair_refusal same N words space n =
     (pick (ltb space (bytes_asked n)) (refusing space_too_short both_sheets 0) none))
     (refusing headings_differ both_sheets 0)
 
--- the number alone, 0 where nothing is refused
-unfoldable pub number_of : Option Cause → ℕ
-number_of none = not_refused
-number_of (some x) = x.number
+-- the reason alone, as the code gives it
+unfoldable pub reason_of : Option Cause → std.Option Reason
+reason_of none = std.None
+reason_of (some x) = std.Some x.reason

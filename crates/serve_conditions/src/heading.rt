@@ -2,14 +2,14 @@
 ghost use Rattle.std.specs.Prelude.{◌≡◌};
 ghost use Rattle.serve_conditions.specs.Pair.{same_first, matching};
 
-use sheet_records::read::byte_at;
+use sheet_records::read::get_or;
 
 // Whether the first n bytes are the same.
 fn same_first(a: &[u8], b: &[u8], n: usize) -> bool
     ensures { result ≡ same_first n a.now b.now }
 {
     for i in 0..n {
-        if byte_at(a, i) != byte_at(b, i) {
+        if get_or(a, i, 0) != get_or(b, i, 0) {
             return false;
         }
     }

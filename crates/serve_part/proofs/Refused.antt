@@ -36,6 +36,7 @@ use Rattle.sheet_reader.proofs.Whole as opening
 use Rattle.serve_part.specs.Part.{part_sheet}
 use Rattle.serve_part.specs.Rules.{PartRefused}
 use Rattle.serve_part.proofs.Sheets.{Nearly, part-in-order}
+use Rattle.sheet_records.specs.declared.refusal.Reason.{Reason}
 
 -- more than n names were read; refused by 9
 unfoldable More : ℕ → Answer Whole → Type 0
@@ -59,8 +60,8 @@ name-nine : (n at : ℕ) (a : Name) (b : Bool) (j : Result (Unit {0}) Refusal) (
 unfolding More Nine on_judged bind with_name
 name-nine n at a true j A B f h = absurd h
 name-nine n at a false (Err x) A B f h = absurd h
-name-nine n at a false (Ok u) (refused k p) B f h = absurd h
-name-nine n at a false (Ok u) (got (whole ns root t) ty end) B f h =
+name-nine n at a false (Ok y) (refused k p) B f h = absurd h
+name-nine n at a false (Ok y) (got (whole ns root t) ty end) B f h =
     by-test (eqb n 0) (λ e. rw e refl)
     (λ e. let z = eqb-false n 0 e in
     let k : n ≡ suc (n - 1) = omega arith in
@@ -170,7 +171,7 @@ part-refused S C m A e n p h =
     sized true T ty k e = cc
     sized false T ty k e = let z : ◌≡◌ {A = ℕ} 0 1 = cc in absurd (omega arith)
 
-    either : {k : ℕ} → (k ≡ too_long) ⊎ (k ≡ too_many_names) → n ≡ k →
+    either : {k : Reason} → (k ≡ too_long) ⊎ (k ≡ too_many_names) → n ≡ k →
         (n ≡ too_long) ⊎ ((n ≡ too_many_names) ⊎ (n ≡ too_large))
     either (inl x) e = inl (e ∙ x)
     either (inr x) e = inr (inl (e ∙ x))

@@ -20,6 +20,7 @@ use Rattle.serve_compare.specs.declared.Comparison.{Comparison}
 use Rattle.serve_part.specs.Around.{Around, filled}
 use Rattle.serve_part.specs.Part.{PartOf, part_sheet, Lists, Differ}
 use Rattle.serve_part.specs.Bytes.{StandsAt}
+use Rattle.sheet_records.specs.declared.refusal.Reason.{Reason}
 
 -- Of plays: two parts "of one type" that have the same complete plays as sheets of their own make whole sheets that
 -- have the same complete plays
@@ -83,5 +84,5 @@ PartAccepted = (S : Sheet) (C : Around) (m : Written) → Accepted S → S.term 
 
 -- If it is refused, then by one of these three numbers
 abbrev pub PartRefused : Type 0
-PartRefused = (S : Sheet) (C : Around) (m : Written) → Accepted S → S.term ≡ filled C m → (n p : ℕ) →
+PartRefused = (S : Sheet) (C : Around) (m : Written) → Accepted S → S.term ≡ filled C m → (n : Reason) (p : ℕ) →
     read_sheet (encode_sheet (part_sheet S C m)) ≡ rejected n p → (n ≡ too_long) ⊎ ((n ≡ too_many_names) ⊎ (n ≡ too_large))

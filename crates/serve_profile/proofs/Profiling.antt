@@ -11,7 +11,7 @@ use Rattle.sheet_records.specs.declared.refusal.Cause.{Cause}
 use Rattle.sheet_reader.specs.Reader.{read_sheet}
 use Rattle.sheet_reader.proofs.Right.{gives}
 use Rattle.sheet_judge.specs.Check.{answered, checked_of}
-use Rattle.sheet_judge.specs.Judged.{Judged, JudgedBy, refusal_in}
+use Rattle.sheet_judge.specs.Judged.{Judged, JudgedBy}
 use Rattle.sheet_judge.specs.declared.judge.Judgement.{Judgement}
 use Rattle.sheet_judge.specs.declared.check.Checked.{Checked}
 use Rattle.serve_profile.specs.Offence.{offences}
@@ -30,10 +30,10 @@ held-loud p [] h x = cc
 held-loud p (q ∷ ps) h x = let e : p ≡ q = cc in rw e refl
 
 -- a sheet that check refuses
-pub profiled-refused : (s u : List ℕ) {y : Result Judgement Refusal} {x z : Refusal} {q : Cause} →
-    JudgedBy Present s y u → y ≡ Err x → z ≡ refusal_in y → q ≡ cause z.number old_sheet z.place → Err q ≡ profiled_of (read_sheet s)
-unfolding JudgedBy profiled_of checked_of refusal_in
-profiled-refused s u J e f g = let j = rw e at J in rw (g, f, e, j) refl
+pub profiled-refused : (s u : List ℕ) {y : Result Judgement Refusal} {x : Refusal} {q : Cause} →
+    JudgedBy Present s y u → y ≡ Err x → q ≡ cause x.reason old_sheet x.place → Err q ≡ profiled_of (read_sheet s)
+unfolding JudgedBy profiled_of checked_of
+profiled-refused s u J e g = let j = rw e at J in rw (g, j) refl
 
 module _ (s u : List ℕ) {y : Result Judgement Refusal} {x : Judgement} (J : JudgedBy Present s y u) (e : y ≡ Ok x)
   where
@@ -60,7 +60,7 @@ module _ (s u : List ℕ) {y : Result Judgement Refusal} {x : Judgement} (J : Ju
 
     -- a record offends
     pub profiled-loud : {r : Option ℕ} {p : ℕ} {z : Refusal} {q : Cause} → Finds s u x.root r → r ≡ Some p →
-        z ≡ refusal not_quiet p → q ≡ cause z.number old_sheet z.place → Err q ≡ profiled_of (read_sheet s)
+        z ≡ refusal not_quiet p → q ≡ cause z.reason old_sheet z.place → Err q ≡ profiled_of (read_sheet s)
     unfolding profiled_of
     profiled-loud {p = p} F n f g =
         rw (judged.accepts, g, f) (held-loud p (offences judged.sheet) (sym n ∙ found F) _)

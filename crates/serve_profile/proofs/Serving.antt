@@ -84,7 +84,7 @@ refused-rule s x e = go (read_sheet s) refl e
               reads = r;
               others = ps;
               first = o ∙ ap (λ (y : Cause). y.place ∷ ps) f;
-              number = sym (ap (λ (y : Cause). y.number) f);
+              number = sym (ap (λ (y : Cause). y.reason) f);
               named = sym (ap (λ (y : Cause). y.sheet) f);
             })
 

@@ -42,7 +42,7 @@ pub record Offended (s : List ℕ) (x : Cause) : Type 0 where
   pub reads : read_sheet s ≡ accepted sheet type size
   pub others : List ℕ
   pub first : offences sheet ≡ x.place ∷ others
-  pub number : x.number ≡ not_quiet
+  pub number : x.reason ≡ not_quiet
   pub named : x.sheet ≡ old_sheet
 
 unfoldable pub RefusedRule : Type 0
@@ -52,7 +52,7 @@ RefusedRule =
 
 -- the numbers of profile's refusals: those of check, and 18; and no place is above 4,096
 pub record WellRefused (x : Cause) : Type 0 where
-  pub numbered : NumberOf Present x.number ⊎ (x.number ≡ not_quiet)
+  pub numbered : NumberOf Present x.reason ⊎ (x.reason ≡ not_quiet)
   pub placed : x.place ≤ most_bytes
 
 unfoldable pub ProfileNumbers : Type 0

@@ -5,7 +5,7 @@ ghost use Rattle.serve_profile.specs.inner.Pass.{loud_from, loud_at, reach_at, o
 
 use sheet_records::kind::{PROCEDURE, SEQUENCE, USE, body_of};
 use sheet_records::limits::MOST_ARGUMENTS;
-use sheet_records::read::byte_at;
+use sheet_records::read::get_or;
 use sheet_rows::row::{CLASS, END, TABLE, word_of};
 
 // The class of expressions.
@@ -32,6 +32,7 @@ fn any_loud(t: &[u16], left: usize, at: usize, end: usize) -> bool
 }
 
 // Whether the record of a kind at a place may not stand inside an expression.
+#[tactic(auto, unfolding(crate::specs::inner::Pass::loud_at))]
 fn is_loud(t: &[u16], at: usize, kind: u8) -> bool
     requires { at ≤ 4096 }
     ensures { result ≡ loud_at t.now at kind }
@@ -52,6 +53,7 @@ fn is_loud(t: &[u16], at: usize, kind: u8) -> bool
 
 // Where the outermost expression ends that has the record at a place, or the last one before it, which ended at
 // `until`.
+#[tactic(auto, unfolding(crate::specs::inner::Pass::reach_at))]
 fn reach(t: &[u16], at: usize, until: usize) -> usize
     requires { at ≤ 4096 }
     ensures { result ≡ reach_at t.now at until }
@@ -67,6 +69,7 @@ fn reach(t: &[u16], at: usize, until: usize) -> usize
 
 // Whether the record of a kind at a place offends, where the outermost expression around it, or the last one before it,
 // ends at `until`.
+#[tactic(auto, unfolding(crate::specs::inner::Pass::offends_at))]
 fn offends(t: &[u16], at: usize, until: usize, kind: u8) -> bool
     requires { at ≤ 4096 }
     ensures { result ≡ offends_at t.now at until kind }
@@ -84,8 +87,9 @@ pub(crate) fn first_offence(s: &[u8], t: &[u16; TABLE], root: usize) -> Option<u
 {
     let mut at = root;
     let mut until = 0;
+    // A while: a record is as wide as its kind says.
     while at < s.len() {
-        let kind = byte_at(s, at);
+        let kind = get_or(s, at, 0);
         until = reach(t, at, until);
         if offends(t, at, until, kind) {
             return Some(at);

@@ -23,7 +23,6 @@ use Rattle.sheet_reader.specs.Encoding.{encode, encode_names, encode_sheet}
 use Rattle.sheet_reader.specs.Reader.{accepted, rejected}
 use Rattle.sheet_records.specs.declared.edition.Edition.TheVariants.{Earlier as Former}
 use Rattle.sheet_reader.proofs.Right.{gives}
-use Rattle.sheet_judge.specs.Judged.{refusal_in}
 use Rattle.sheet_judge.specs.declared.judge.Judgement.{Judgement}
 use Rattle.serve_renumber.specs.Outcome.{read_earlier, listed, written, checked, outcome, RenumberedBy, RenumberPromise}
 use Rattle.serve_renumber.specs.Work.{Takes, Scoped, held_in, becomes_in, arguments_in, arity, Lies, Rewrites}
@@ -33,6 +32,8 @@ use Rattle.std.specs.Prelude.{Result, Ok, Err}
 use Rattle.serve_renumber.proofs.Lists.{notes-listed, listed-length}
 use Rattle.sheet_reader.proofs.Widths.{wide, wide-heading}
 use Rattle.serve_renumber.proofs.Finding.{found-so, not_full, done-changes}
+use Rattle.sheet_records.specs.declared.refusal.Reason.TheVariants.{SpaceTooShort, NoIdLeft}
+use Rattle.sheet_records.specs.declared.refusal.Sheets.TheVariants.{Old, Both}
 
 -- nothing is taken or in scope at first
 takes-nothing : Takes (replicate 255 0) (λ id. false)
@@ -232,7 +233,7 @@ same_place p q e = cc
 
 -- the answers
 pub renumbers-full : (s b l b' l' out list : List ℕ) (root p : ℕ) (x : Answer) → Worked s root b l x b' l' → x ≡ Err p →
-    AcceptedAt s root → length b ≡ 4096 → {z : Cause} → z ≡ cause 17 0 p → Renumbers s root (Err z) out out list list
+    AcceptedAt s root → length b ≡ 4096 → {z : Cause} → z ≡ cause NoIdLeft Old p → Renumbers s root (Err z) out out list list
 unfolding Found written RenumberedBy
 renumbers-full s b l b' l' out list root p x W d A h {z = z} f = record {
   does = λ S ty n e r. go S (renumber_sheet S) (W.does S ty n e r (omega (arith, h, accepted-short A)));
@@ -241,7 +242,7 @@ renumbers-full s b l b' l' out list root p x W d A h {z = z} f = record {
     go : (S : Sheet) (a : Renumbering Written) → Found (WroteSheet S b) a 0 l x b' l' W.taken →
         RenumberedBy (written S a) (Err z) out out list list
     go S (renumbered T cs then) F = not_full x F.value (0 + length cs) p F.answer d
-    go S (none_left q) F = (ap Err (f ∙ ap (cause 17 0) (same_place p q (sym d ∙ F))), refl, refl)
+    go S (none_left q) F = (ap Err (f ∙ ap (cause NoIdLeft Old) (same_place p q (sym d ∙ F))), refl, refl)
 
 pub renumbers-done : (s b l b' l' out out' list list' : List ℕ) (root v n m : ℕ) (x : Answer) → Worked s root b l x b'
     l' →
@@ -273,25 +274,23 @@ unfolding EarlierJudged
 accepted-of s y x E e = rw e at E
 
 turned : (s : List ℕ) (y : Result Judgement Refusal) (x : Refusal) → EarlierJudged s y → y ≡ Err x →
-    read_earlier s ≡ rejected x.number x.place
+    read_earlier s ≡ rejected x.reason x.place
 unfolding EarlierJudged
 turned s y x E e = rw e at E
 
-pub service-refused : (s out list : List ℕ) (y : Result Judgement Refusal) (x : Refusal) {v : Refusal} {z : Cause} →
-    EarlierJudged s y → y ≡ Err x → v ≡ refusal_in y → z ≡ cause v.number 0 v.place →
+pub service-refused : (s out list : List ℕ) (y : Result Judgement Refusal) (x : Refusal) {z : Cause} →
+    EarlierJudged s y → y ≡ Err x → z ≡ cause x.reason Old x.place →
     RenumberPromise s (Err z) out out list list
-unfolding outcome checked RenumberedBy refusal_in
-service-refused s out list y x E e f g =
-    rw (turned s y x E e)
-    (ap Err (g ∙ ap (λ (u : Refusal). cause u.number 0 u.place) (f ∙ ap refusal_in e)), refl, refl)
+unfolding outcome checked RenumberedBy
+service-refused s out list y x E e g = rw (turned s y x E e) (ap Err g, refl, refl)
 
 pub service-short : (s out list : List ℕ) (root : ℕ) (x : Cause) → AcceptedAt s root → length out < length s →
-    x ≡ cause 14 2 0 → RenumberPromise s (Err x) out out list list
+    x ≡ cause SpaceTooShort Both 0 → RenumberPromise s (Err x) out out list list
 unfolding outcome checked RenumberedBy
 service-short s out list root x A h e = rw (A.reads, lt-ltb (length out) (length s) h) (ap Err e, refl, refl)
 
 pub service-narrow : (s out list : List ℕ) (root : ℕ) (x : Cause) → AcceptedAt s root → length s ≤ length out →
-    length list < 1020 → x ≡ cause 14 2 0 → RenumberPromise s (Err x) out out list list
+    length list < 1020 → x ≡ cause SpaceTooShort Both 0 → RenumberPromise s (Err x) out out list list
 unfolding outcome checked RenumberedBy
 service-narrow s out list root x A h g e =
     rw (A.reads, le-ltb (length out) (length s) h, lt-ltb (length list) 1020 g) (ap Err e, refl, refl)

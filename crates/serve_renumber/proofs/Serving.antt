@@ -34,6 +34,9 @@ use Rattle.serve_renumber.specs.Service.{RenumberNumber, RenumberNumbers, Renumb
 use Rattle.serve_renumber.proofs.Lists.{listed-length, listed_small}
 use Rattle.sheet_reader.proofs.Widths.{wide, wide-heading}
 use Rattle.sheet_written.proofs.Places.{Within}
+use Rattle.sheet_records.specs.declared.refusal.Reason.{Reason}
+use Rattle.sheet_records.specs.declared.refusal.Reason.TheVariants.{SpaceTooShort, NoIdLeft}
+use Rattle.sheet_records.specs.declared.refusal.Sheets.TheVariants.{Old, Both}
 
 -- what was written and changed
 record Made (S : Sheet) (a : Renumbering Written) (b : List ℕ) (cs : List Change) : Type 0 where
@@ -62,11 +65,11 @@ from-written S (renumbered W ds then) b cs e =
       renumbers = ap (λ (x : List Change). renumbered W x then) (done-list B b ds cs e);
       bytes = done-bytes B b ds cs e;
     }
-from-written S (none_left p) b cs e = clash (cause 17 0 p) b cs e
+from-written S (none_left p) b cs e = clash (cause NoIdLeft Old p) b cs e
 
 from-lengths : (S : Sheet) (t : Bool) (a : Renumbering Written) (b : List ℕ) (cs : List Change) →
-    pick t (refused (cause 14 2 0)) (written S a) ≡ done b cs → Made S a b cs
-from-lengths S true a b cs e = clash (cause 14 2 0) b cs e
+    pick t (refused (cause SpaceTooShort Both 0)) (written S a) ≡ done b cs → Made S a b cs
+from-lengths S true a b cs e = clash (cause SpaceTooShort Both 0) b cs e
 from-lengths S false a b cs e = from-written S a b cs e
 
 made : (s : List ℕ) (room space : ℕ) (b : List ℕ) (cs : List Change) (S : Sheet) (ty n : ℕ) →
@@ -133,7 +136,7 @@ accepted-rule s room space b cs o = go (read_earlier s) refl
   where
     go : (c : Checks) → read_earlier s ≡ c → EarlierAccepted s
     go (accepted S ty n) e = record { sheet = S; type = ty; size = n; reads = e }
-    go (rejected n p) e = clash (cause n 0 p) b cs (sym (ap (checked (length s) room space) e) ∙ o)
+    go (rejected n p) e = clash (cause n Old p) b cs (sym (ap (checked (length s) room space) e) ∙ o)
 
 -- THEOREM: a sheet with nothing to change
 pub unaltered-service : UnalteredService
@@ -143,25 +146,25 @@ unaltered-service s room space S ty n e h l g =
     ∙ ap (λ (x : List ℕ). done x []) (sym (gives Earlier s S ty n e).0)
 
 -- THEOREM: the numbers of refusals
-refused-number : (x y : Cause) → refused x ≡ refused y → x.number ≡ y.number
-refused-number x y e = let f : x ≡ y = cc in ap (λ (z : Cause). z.number) f
+refused-number : (x y : Cause) → refused x ≡ refused y → x.reason ≡ y.reason
+refused-number x y e = let f : x ≡ y = cc in ap (λ (z : Cause). z.reason) f
 
 pub renumber-numbers : RenumberNumbers
 unfolding RenumberNumbers RenumberNumber outcome checked written
 renumber-numbers s room space x o = go (read_earlier s) refl
   where
-    of : (S : Sheet) (t : Bool) (a : Renumbering Written) → pick t (refused (cause 14 2 0)) (written S a) ≡ refused x →
-        RenumberNumber x.number
-    of S true a e = inr (inl (sym (refused-number (cause 14 2 0) x e)))
-    of S false (none_left p) e = inr (inr (sym (refused-number (cause 17 0 p) x e)))
+    of : (S : Sheet) (t : Bool) (a : Renumbering Written) → pick t (refused (cause SpaceTooShort Both 0)) (written S a) ≡ refused x →
+        RenumberNumber x.reason
+    of S true a e = inr (inl (sym (refused-number (cause SpaceTooShort Both 0) x e)))
+    of S false (none_left p) e = inr (inr (sym (refused-number (cause NoIdLeft Old p) x e)))
     of S false (renumbered W cs then) e = clash x (encode_sheet (with_term S W)) cs (sym e)
 
-    go : (c : Checks) → read_earlier s ≡ c → RenumberNumber x.number
+    go : (c : Checks) → read_earlier s ≡ c → RenumberNumber x.reason
     go (accepted S ty n) e =
         of S (ltb room (length s) || ltb space 1020) (renumber_sheet S) (sym (ap (checked (length s) room space) e) ∙ o)
     go (rejected n p) e =
-        let z : n ≡ x.number = refused-number (cause n 0 p) x (sym (ap (checked (length s) room space) e) ∙ o) in
-        inl (subst (λ (k : ℕ). NumberOf Earlier k) z (check-refused Earlier s e).known)
+        let z : n ≡ x.reason = refused-number (cause n Old p) x (sym (ap (checked (length s) room space) e) ∙ o) in
+        inl (subst (λ (k : Reason). NumberOf Earlier k) z (check-refused Earlier s e).known)
 
 -- and their places: within a sheet that may be read
 refused-place : (x y : Cause) → refused x ≡ refused y → x.place ≡ y.place
@@ -177,13 +180,13 @@ unfolding outcome checked written Within
 renumber-places s room space x o = go (read_earlier s) refl
   where
     of : (S : Sheet) → fine.AcceptedUnder Earlier S → (t : Bool) (a : Renumbering Written) → renumber_sheet S ≡ a →
-        pick t (refused (cause 14 2 0)) (written S a) ≡ refused x → x.place ≤ 4096
-    of S A true a r e = omega (arith, refused-place (cause 14 2 0) x e)
+        pick t (refused (cause SpaceTooShort Both 0)) (written S a) ≡ refused x → x.place ≤ 4096
+    of S A true a r e = omega (arith, refused-place (cause SpaceTooShort Both 0) x e)
     of S A false (none_left p) r e =
         let h : ℕ = heading_width S in
         let w : Within {X = Written} h (h + width S.term) (none_left p) =
         subst (λ (y : Renumbering Written). Within h (h + width S.term) y) r (within-sheet S A.ordered) in
-        omega (arith, refused-place (cause 17 0 p) x e, w.1, sheet-end S, A.short)
+        omega (arith, refused-place (cause NoIdLeft Old p) x e, w.1, sheet-end S, A.short)
     of S A false (renumbered W cs then) r e = clash x (encode_sheet (with_term S W)) cs (sym e)
 
     go : (c : Checks) → read_earlier s ≡ c → x.place ≤ 4096
@@ -193,7 +196,7 @@ renumber-places s room space x o = go (read_earlier s) refl
     go (rejected n p) e =
         omega (
           arith,
-          refused-place (cause n 0 p) x (sym (ap (checked (length s) room space) e) ∙ o),
+          refused-place (cause n Old p) x (sym (ap (checked (length s) room space) e) ∙ o),
           (check-refused Earlier s e).within,
         )
 

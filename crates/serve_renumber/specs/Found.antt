@@ -161,7 +161,7 @@ pub record AcceptedAt (s : List ℕ) (root : ℕ) : Type 0 where
 
 unfoldable pub EarlierJudged : List ℕ → Result Judgement Refusal → Type 0
 EarlierJudged s (Ok x) = AcceptedAt s x.root
-EarlierJudged s (Err x) = read_earlier s ≡ rejected x.number x.place
+EarlierJudged s (Err x) = read_earlier s ≡ rejected x.reason x.place
 
 -- the heading: the ids of its names are taken, and the scope has their arguments
 pub record Headed (s : List ℕ) (root : ℕ) (k scope k' scope' : List ℕ) : Type 0 where

@@ -1,6 +1,7 @@
 -- What document 02 [4] says of renumber, as statements.
 use Rattle.std.specs.Prelude.{ℕ, ◌≤◌, ◌≡◌, ◌⊎◌, List, [], length, Bool, Result}
 use Rattle.sheet_records.specs.Refusal.{space_too_short, no_id_left}
+use Rattle.sheet_records.specs.declared.refusal.Reason.{Reason}
 use Rattle.sheet_records.specs.declared.refusal.Cause.{Cause}
 use Rattle.sheet_written.specs.Written.{Sheet, Written}
 use Rattle.sheet_written.specs.Hiding.{Apart}
@@ -54,12 +55,12 @@ UnalteredService =
     length s ≤ room → list_space ≤ space → outcome s room space ≡ done s []
 
 -- the numbers of renumber's refusals: those of check under the earlier rule, 14 and 17
-unfoldable pub RenumberNumber : ℕ → Type 0
+unfoldable pub RenumberNumber : Reason → Type 0
 RenumberNumber n = NumberOf Earlier n ⊎ ((n ≡ space_too_short) ⊎ (n ≡ no_id_left))
 
 unfoldable pub RenumberNumbers : Type 0
 RenumberNumbers =
-    (s : List ℕ) (room space : ℕ) (x : Cause) → outcome s room space ≡ refused x → RenumberNumber x.number
+    (s : List ℕ) (room space : ℕ) (x : Cause) → outcome s room space ≡ refused x → RenumberNumber x.reason
 
 -- the promise allows one answer, and one state of all that is lent
 unfoldable pub RenumberUnique : Type 0

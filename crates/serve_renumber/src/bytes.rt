@@ -1,14 +1,15 @@
-// Bytes and words at a place, past the end as well, as numbers.
+// Bytes and words at a place, past the end as well, as numbers. Those of a byte and those of a word promise and ask
+// different bounds; one over the type of an item could say them only by that type's own Into and TryFrom.
 ghost use Rattle.std.specs.Prelude.{◌≡◌, ◌++◌, ◌≤◌, ◌<◌, length, get_or, set, take, drop};
 
-use sheet_records::read::{byte_at, short_at};
-use sheet_records::store::put_byte;
+use sheet_records::read::get_or;
+use sheet_records::store;
 
 // The byte at a place, 0 past the end.
 pub(crate) fn byte(s: &[u8], i: usize) -> usize
     ensures { (result ≡ get_or s.now i 0) × (result < 256) }
 {
-    byte_at(s, i) as usize
+    get_or(s, i, 0) as usize
 }
 
 // The byte at a place becomes v.
@@ -16,14 +17,14 @@ pub(crate) fn put(s: &mut [u8], i: usize, v: usize)
     requires { v < 256 }
     ensures { s.new ≡ set s.old i v }
 {
-    put_byte(s, i, v as u8);
+    store::put(s, i, v as u8);
 }
 
 // The word at a place, 0 past the end.
 pub(crate) fn word(t: &[u16], i: usize) -> usize
     ensures { (result ≡ get_or t.now i 0) × (result < 65536) }
 {
-    short_at(t, i) as usize
+    get_or(t, i, 0) as usize
 }
 
 // The word at a place becomes v.
@@ -31,7 +32,7 @@ pub(crate) fn put_word(t: &mut [u16], i: usize, v: usize)
     requires { v < 65536 }
     ensures { t.new ≡ set t.old i v }
 {
-    sheet_rows::row::put(t, i, v as u16);
+    store::put(t, i, v as u16);
 }
 
 // The first n bytes of one slice become those of another.

@@ -12,7 +12,7 @@ use crate::step::Step;
 use crate::taken::{IDS, TAKEN, lowest_free};
 use sheet_records::kind::{COUNT, ID, NEW, PARAMETER_IDS, PROCEDURE, USE, body_of, parts_of};
 use sheet_records::limits::{MOST_ARGUMENTS, MOST_BYTES};
-use sheet_records::read::byte_at;
+use sheet_records::read::get_or;
 use weight_forms::set::least;
 
 // The bytes of a parameter.
@@ -131,7 +131,7 @@ pub(crate) fn renumber_part(
     if MOST_BYTES <= at {
         return Err(at);
     }
-    let kind = byte_at(s, at);
+    let kind = get_or(s, at, 0);
     if kind == NEW {
         return renumber_block(s, scope, bytes, list, taken, left - 1, at, n);
     }

@@ -7,13 +7,10 @@ ghost use Rattle.serve_renumber.specs.Found.{AcceptedAt, Renumbers, EarlierJudge
 use crate::bytes::copy;
 use crate::step::Step;
 use crate::work::renumber_copy;
-use sheet_judge::check::refusal_of;
 use sheet_judge::judge::{Judgement, judge_sheet};
 use sheet_records::edition::Edition;
 use sheet_records::limits::MOST_BYTES;
-use sheet_records::refusal::{
-    BOTH_SHEETS, Cause, NO_ID_LEFT, OLD_SHEET, Refusal, SPACE_TOO_SHORT, of_sheet, refuse,
-};
+use sheet_records::refusal::{Cause, Reason, Refusal, Sheets, of_sheet, refuse};
 use sheet_rows::row::TABLE;
 
 // The bytes of a list space, and of a change in it.
@@ -33,14 +30,14 @@ fn judge_earlier(s: &[u8]) -> Result<Judgement, Refusal>
 fn too_short() -> Cause
     ensures { result ≡ cause space_too_short both_sheets 0 }
 {
-    of_sheet(refuse(SPACE_TOO_SHORT, 0), BOTH_SHEETS)
+    of_sheet(refuse(Reason::SpaceTooShort, 0), Sheets::Both)
 }
 
 // The refusal at the place of an id byte for which no id is left.
 fn no_id(place: usize) -> Cause
     ensures { result ≡ cause no_id_left old_sheet place }
 {
-    of_sheet(refuse(NO_ID_LEFT, place), OLD_SHEET)
+    of_sheet(refuse(Reason::NoIdLeft, place), Sheets::Old)
 }
 
 // Renumbers an accepted sheet whose term begins at the root. Nothing lent is written before it is known that no id is
@@ -67,7 +64,7 @@ pub fn renumber(s: &[u8], out: &mut [u8], list: &mut [u8]) -> Result<u32, Cause>
     let x = judge_earlier(s);
     // `let .. else`, not `?`: the form of document 01 in which the answer is taken apart and the refusal handed on.
     let Ok(judgement) = x else {
-        return Err(of_sheet(refusal_of(x), OLD_SHEET));
+        return Err(of_sheet(x.err().unwrap(), Sheets::Old));
     };
     if out.len() < s.len() {
         return Err(too_short());

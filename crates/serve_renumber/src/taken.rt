@@ -8,7 +8,7 @@ use crate::bytes::{byte, put, put_word};
 use crate::scope::named_entry;
 use sheet_records::kind::{COUNT, ID, NEW, PARAMETER_IDS, PROCEDURE, RETIRE, body_of};
 use sheet_records::limits::{FIRST_RECORD, MOST_ARGUMENTS};
-use sheet_records::read::byte_at;
+use sheet_records::read::get_or;
 use weight_forms::set::least;
 
 // The mark of an id that is taken.
@@ -67,8 +67,9 @@ pub(crate) fn take_names(s: &[u8], root: usize, taken: &mut [u8; IDS], scope: &m
         scope.new }
 {
     let mut at = FIRST_RECORD;
+    // A while: a record is as wide as its kind says.
     while at < root {
-        let kind = byte_at(s, at);
+        let kind = get_or(s, at, 0);
         let id = byte(s, at + ID);
         put(taken, id, TAKEN);
         put_word(scope, id, name_entry(kind, byte(s, at + COUNT)));
@@ -93,8 +94,9 @@ pub(crate) fn take_bound(s: &[u8], root: usize, taken: &mut [u8; IDS])
     ensures { Taken s.now root taken.old taken.new }
 {
     let mut at = root;
+    // A while: a record is as wide as its kind says.
     while at < s.len() {
-        let kind = byte_at(s, at);
+        let kind = get_or(s, at, 0);
         take_ids(s, taken, at, kind);
         at += 1 + body_of(kind);
     }

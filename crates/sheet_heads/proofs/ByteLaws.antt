@@ -12,6 +12,7 @@ use Rattle.sheet_records.specs.Refusal.{refusal}
 use Rattle.sheet_heads.specs.declared.head.Record.{Record}
 use Rattle.std.specs.Prelude.{Result, Ok, Err}
 use Rattle.sheet_records.specs.declared.refusal.Refusal.{Refusal}
+use Rattle.sheet_records.specs.declared.refusal.Reason.TheVariants.{CutShort, OutOfRange}
 
 pub bad-good : {x : Refusal} {r : Record} → Err x ≡ Ok r → ⊥
 bad-good h = cc
@@ -27,7 +28,7 @@ unfolding byte_of on_byte
 byte-good s at limit k r = go (leb (length s) at) (leb limit (get_or s at 0)) refl refl
   where
     go : (t u : Bool) → leb (length s) at ≡ t → leb limit (get_or s at 0) ≡ u →
-        on_byte (pick t (Err (refusal 2 (length s))) (pick u (Err (refusal 3 at)) (Ok (get_or s at 0)))) k ≡ Ok r →
+        on_byte (pick t (Err (refusal CutShort (length s))) (pick u (Err (refusal OutOfRange at)) (Ok (get_or s at 0)))) k ≡ Ok r →
         (at < length s) × (get_or s at 0 < limit) × (k (get_or s at 0) ≡ Ok r)
     go true u e f h = absurd (bad-good h)
     go false true e f h = absurd (bad-good h)

@@ -11,11 +11,8 @@ use language::Numbers;
 use sheet_judgements::judgement::{is_hiding, judge_procedure};
 use sheet_records::edition::Edition;
 use sheet_records::kind::{COUNT, ID, Rule, Shape, shape_of};
-use sheet_records::read::{byte_at, standing_of};
-use sheet_records::refusal::{
-    CUT_SHORT, ID_ENCLOSED, ID_RETIRED, ID_TAKEN, ID_UNKNOWN, OUT_OF_RANGE, Refusal, TOO_DEEP,
-    refuse,
-};
+use sheet_records::read::{get_or, standing_of};
+use sheet_records::refusal::{Reason, Refusal, refuse};
 use sheet_records::standing::{FREE, RETIRED, count_of, is_named};
 
 // A record of a part: its place and kind, the rule and the number of parts that the kind gives, its body and the place
@@ -52,11 +49,11 @@ fn byte_below(s: &[u8], at: usize, limit: u16) -> Result<u8, Refusal>
     ensures { result ≡ byte_of s.now at limit }
 {
     if s.len() <= at {
-        return Err(refuse(CUT_SHORT, s.len()));
+        return Err(refuse(Reason::CutShort, s.len()));
     }
     let b = s[at];
     if limit <= b as u16 {
-        return Err(refuse(OUT_OF_RANGE, at));
+        return Err(refuse(Reason::OutOfRange, at));
     }
     Ok(b)
 }
@@ -90,7 +87,7 @@ fn constant_body(s: &[u8], n: Numbers, r: Record) -> Result<Record, Refusal>
     if language_codes::number::in_range(n, byte) {
         return Ok(with_body(r, byte, 0));
     }
-    Err(refuse(OUT_OF_RANGE, at))
+    Err(refuse(Reason::OutOfRange, at))
 }
 
 // A use of an id whose standing is `c`, neither free nor retired.
@@ -117,10 +114,10 @@ fn use_body(s: &[u8], st: &[u32; 255], r: Record) -> Result<Record, Refusal>
     let id = byte_below(s, at, IDS)?;
     let c = standing_of(st, id);
     if c == FREE {
-        return Err(refuse(ID_UNKNOWN, at));
+        return Err(refuse(Reason::IdUnknown, at));
     }
     if c == RETIRED {
-        return Err(refuse(ID_RETIRED, at));
+        return Err(refuse(Reason::IdRetired, at));
     }
     Ok(used_record(s, r, id, c))
 }
@@ -134,7 +131,7 @@ fn data_body(s: &[u8], r: Record, id: u8) -> Result<Record, Refusal>
     let data_at = r.place + 2;
     let data = byte_below(s, data_at, DATA_TYPES)?;
     if data == 0 {
-        return Err(refuse(OUT_OF_RANGE, data_at));
+        return Err(refuse(Reason::OutOfRange, data_at));
     }
     Ok(with_body(r, id, data as u32))
 }
@@ -149,10 +146,10 @@ fn new_body(edition: Edition, s: &[u8], st: &[u32; 255], r: Record) -> Result<Re
     let id = byte_below(s, id_at, IDS)?;
     let c = standing_of(st, id);
     if is_named(c) {
-        return Err(refuse(ID_TAKEN, id_at));
+        return Err(refuse(Reason::IdTaken, id_at));
     }
     if is_hiding(edition, c) {
-        return Err(refuse(ID_ENCLOSED, id_at));
+        return Err(refuse(Reason::IdEnclosed, id_at));
     }
     data_body(s, r, id)
 }
@@ -164,8 +161,8 @@ fn procedure_body(edition: Edition, s: &[u8], st: &[u32; 255], r: Record) -> Res
     ensures { result ≡ procedure_head edition s.now st.now r }
 {
     judge_procedure(edition, s, st, r.place)?;
-    let id = byte_at(s, r.place + ID);
-    let count = byte_at(s, r.place + COUNT);
+    let id = get_or(s, r.place + ID, 0);
+    let count = get_or(s, r.place + COUNT, 0);
     Ok(with_body(r, id, count as u32))
 }
 
@@ -232,21 +229,21 @@ pub fn bare_record(place: usize, rule: Rule, a: u8, b: u32) -> Record
     }
 }
 
-// The number of the refusal of a kind where no depth is left: range comes before depth.
+// Why a kind is refused where no depth is left: range comes before depth.
 #[tactic(auto, unfolding(crate::specs::Head::head_of_shape))]
-fn deep_number(shape: Shape) -> u8
+fn deep_reason(shape: Shape) -> Reason
     ensures { (at : ℕ) → Err (refusal result at)
         ≡ head_of_shape shape at (λ body parts rule. Err (refusal too_deep at)) }
 {
     match shape {
-        Shape::Unknown => OUT_OF_RANGE,
-        Shape::Declare { body: _, once: _ } => OUT_OF_RANGE,
-        Shape::Retire { body: _ } => OUT_OF_RANGE,
+        Shape::Unknown => Reason::OutOfRange,
+        Shape::Declare { body: _, once: _ } => Reason::OutOfRange,
+        Shape::Retire { body: _ } => Reason::OutOfRange,
         Shape::Part {
             body: _,
             parts: _,
             rule: _,
-        } => TOO_DEEP,
+        } => Reason::TooDeep,
     }
 }
 
@@ -256,10 +253,10 @@ fn too_deep(s: &[u8], at: usize) -> Result<Record, Refusal>
     ensures { (ed : Edition) (st : List ℕ) (N : Numbers) → result ≡ head_of ed s.now st N 0 at }
 {
     if s.len() <= at {
-        return Err(refuse(CUT_SHORT, s.len()));
+        return Err(refuse(Reason::CutShort, s.len()));
     }
     let shape = shape_of(s[at]);
-    Err(refuse(deep_number(shape), at))
+    Err(refuse(deep_reason(shape), at))
 }
 
 // The record of the part at a place, with `left` levels of depth left. No depth is a case of its own, so that nothing is
@@ -280,14 +277,14 @@ pub fn head_at(
         return too_deep(s, at);
     }
     if s.len() <= at {
-        return Err(refuse(CUT_SHORT, s.len()));
+        return Err(refuse(Reason::CutShort, s.len()));
     }
     let kind = s[at];
     let shape = shape_of(kind);
     match shape {
-        Shape::Unknown => Err(refuse(OUT_OF_RANGE, at)),
-        Shape::Declare { body: _, once: _ } => Err(refuse(OUT_OF_RANGE, at)),
-        Shape::Retire { body: _ } => Err(refuse(OUT_OF_RANGE, at)),
+        Shape::Unknown => Err(refuse(Reason::OutOfRange, at)),
+        Shape::Declare { body: _, once: _ } => Err(refuse(Reason::OutOfRange, at)),
+        Shape::Retire { body: _ } => Err(refuse(Reason::OutOfRange, at)),
         Shape::Part { body, parts, rule } => body_at(
             edition,
             rule,

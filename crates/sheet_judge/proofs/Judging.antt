@@ -1,5 +1,6 @@
 -- What judging a sheet says, from what was read and what it weighs.
-use Rattle.std.specs.Prelude.{Result, Ok, Err}
+use Rattle.std.specs.Prelude.{Option, Some, Result, Ok, Err}
+use Rattle.std.specs.Result.{result_err}
 use Prim.Native.Nat.{ℕ, zero, suc, ◌*◌, ◌≤◌, ◌<◌, min}
 use native.Mathlib.Omega.{arith}
 use native.Mathlib.Nat.{mul-le-mul, zero-mul, min-eq_left}
@@ -31,7 +32,7 @@ use Rattle.sheet_reader.specs.table.Notes.{Blank}
 use Rattle.sheet_judge.specs.Masks.{uses_at}
 use Rattle.sheet_table.specs.Tabled.{Tabled, TabledBy}
 use Rattle.sheet_table.proofs.Tabling.{tabled}
-use Rattle.sheet_judge.specs.Judged.{JudgedBy, refusal_in}
+use Rattle.sheet_judge.specs.Judged.{JudgedBy}
 use Rattle.sheet_reader.specs.declared.names.Reading.{Reading}
 use Rattle.sheet_judge.specs.declared.judge.Judgement.{Judgement}
 use Rattle.sheet_judge.specs.declared.check.Checked.{Checked}
@@ -111,7 +112,7 @@ module _ (ed : Edition) (s u : List ℕ) (root ty next : ℕ) (T : Tabled ed s r
 
 -- a sheet that is refused while it is read
 refused_as : (s : List ℕ) (A : Answer Whole) {x : Refusal} → Err x ≡ erase_sheet A →
-    checks s A ≡ rejected x.number x.place
+    checks s A ≡ rejected x.reason x.place
 unfolding erase_sheet checks
 refused_as s (got (whole ns root t) ty end) e = cc
 refused_as s (refused n p) {x} e = let h : x ≡ refusal n p = cc in rw h refl
@@ -128,12 +129,17 @@ pub tabled-read : (ed : Edition) (s t u : List ℕ) {y : Result Reading Refusal}
 unfolding TabledBy
 tabled-read ed s t u B R e = let T = tabled ed s t u B R in rw e at T
 
+-- an answer of which a refusal is taken
+pub is-err : {T E : Type 0} {x : Result T E} {o : Option E} {z : E} → o ≡ result_err x → o ≡ Some z → x ≡ Err z
+is-err {x = Ok y} e f = cc
+is-err {x = Err y} {z = z} e f = let h : y ≡ z = cc in rw h refl
+
 -- the answer of check
-pub checked_refused : (s u : List ℕ) {y : Result Judgement Refusal} {x z : Refusal} {q : Cause} →
-    JudgedBy Present s y u → y ≡ Err x → z ≡ refusal_in y → q ≡ cause z.number old_sheet z.place →
+pub checked_refused : (s u : List ℕ) {y : Result Judgement Refusal} {x : Refusal} {q : Cause} →
+    JudgedBy Present s y u → y ≡ Err x → q ≡ cause x.reason old_sheet x.place →
     Err q ≡ checked_of (read_sheet s)
-unfolding JudgedBy checked_of refusal_in
-checked_refused s u J e f g = let j = rw e at J in rw (g, f, e, j) refl
+unfolding JudgedBy checked_of
+checked_refused s u J e g = let j = rw e at J in rw (g, j) refl
 
 pub checked-accepted : (s u : List ℕ) {y : Result Judgement Refusal} {x : Judgement} →
     JudgedBy Present s y u → y ≡ Ok x → answered x.ty x.size x.uses ≡ checked_of (read_sheet s)

@@ -7,7 +7,7 @@ use mathlib.Core.Bool.{Bool, true, false}
 use mathlib.Core.List.{List, [], ◌∷◌, ◌++◌, append_assoc}
 use lib.ListN.{length, get_or, drop}
 use lib.Pow.{pow_mono}
-use lib.Count.{ones, ones-le}
+use lib.Count.{ones}
 use Rattle.language.specs.Term.{Often, freely, once, onces}
 use Rattle.sheet_records.specs.Kind.{shape_of}
 use Rattle.sheet_records.specs.declared.kind.Rule.{Rule}
@@ -169,10 +169,6 @@ bits-named f g earlier (declare often id ty tys ∷ ns) F e h =
     (bits-named f g (declare often id ty tys ∷ earlier) ns F.5 e h)
 bits-named f g earlier (retire id ∷ ns) F e h =
     ap₂ (λ b m. bit b + 2 * m) (h id) (bits-named f g (retire id ∷ earlier) ns F.2 e h)
-
--- how many bits are set is a small number
-pub count_small : (f : ℕ → Bool) (s : List ℕ) {m : ℕ} → m ≡ mask f 32 s 2 → ones m ≤ 32
-count_small f s {m} e = ones-le 32 m (subst (λ x. x < 2 ^ 32) (sym e) (mask_below f 32 s 2))
 
 -- what the code makes of the masks
 pub uses-made : (s t : List ℕ) {mark declared : ℕ} → mark ≡ mask (is_noted t) 32 s 2 → declared ≡ mask every 32 s 2 →

@@ -13,9 +13,10 @@ use borrow.Author.Tests.{leb-false, ltb-false}
 use Rattle.language.specs.Choice.{pick}
 use Rattle.language.specs.Number.{in_range}
 use Rattle.language.specs.declared.Numbers.{Numbers}
+use Rattle.sheet_records.specs.declared.refusal.Reason.{Reason}
 use Rattle.sheet_records.specs.declared.refusal.Refusal.{Refusal}
 use Rattle.sheet_records.specs.Limits.{greatest_z, greatest_rule}
-use Rattle.sheet_records.specs.Refusal.{refusal, too_deep, too_large}
+use Rattle.sheet_records.specs.Refusal.{refusal, number_of, too_deep, too_large, id_enclosed}
 use Rattle.sheet_records.specs.Kind.{shape_of}
 use Rattle.sheet_records.specs.Standing.{standing_of, is_named, declared_standing}
 use Rattle.sheet_judgements.specs.Judge.{and_then, below, unused, bound, hides, apart, earlier, unlike, parameter_id, pair}
@@ -46,6 +47,7 @@ use Rattle.sheet_reader.proofs.Answers.{HeadAll}
 use Rattle.sheet_reader.proofs.Heads.{Heads, h-skip, h-diverge, h-truth, h-number, h-use, h-fetch, h-operate, h-assign}
 use Rattle.sheet_reader.proofs.Heads.{h-sequence, h-if, h-while, h-new, h-procedure, heads}
 use Rattle.sheet_reader.proofs.Bodies.{body-within}
+use Rattle.sheet_records.specs.declared.refusal.Reason.TheVariants.{OutOfRange, TooManyNames}
 
 -- a choice by a test, of which each side may use what the test says
 either : {X : Type 0} (P : X → Type 0) (t : Bool) {a b : X} → (t ≡ true → P a) → (t ≡ false → P b) → P (pick t a b)
@@ -58,34 +60,34 @@ then-then (Ok x) b c = refl
 then-then (Err x) b c = refl
 
 -- a number of document 01's table
-listed : (ed : Edition) (k : ℕ) → 1 ≤ k → k ≤ 11 → NumberOf ed k
+listed : (ed : Edition) (k : Reason) → 1 ≤ number_of k → number_of k ≤ 11 → NumberOf ed k
 unfolding NumberOf
 listed Earlier k h l = (h, l)
 listed Present k h l = inl (h, l)
 
 -- where an id is refused because it hides, the rule is the present one
-hidden : (ed : Edition) (c : Standing) → hides ed c ≡ true → NumberOf ed 16
+hidden : (ed : Edition) (c : Standing) → hides ed c ≡ true → NumberOf ed id_enclosed
 unfolding hides NumberOf
 hidden Earlier c e = let z : ◌≡◌ {A = ℕ} 0 1 = cc in absurd (omega arith)
 hidden Present c e = inr refl
 
 module _ (ed : Edition) (n : ℕ) where
-  -- a refusal's number is one of check's, and its place is within n
-  pub record RefusedIn (number place : ℕ) : Type 0 where
-    pub known : NumberOf ed number
+  -- a refusal's reason is one of check's, and its place is within n
+  pub record RefusedIn (reason : Reason) (place : ℕ) : Type 0 where
+    pub known : NumberOf ed reason
     pub within : place ≤ n
 
-  old : {k p : ℕ} → 1 ≤ k → k ≤ 11 → p ≤ n → RefusedIn k p
+  old : {k : Reason} {p : ℕ} → 1 ≤ number_of k → number_of k ≤ 11 → p ≤ n → RefusedIn k p
   old {k} h l w = record { known = listed ed k h l; within = w }
 
   -- a head whose refusal is so
   unfoldable HeadIn : Result Record Refusal → Type 0
   HeadIn (Ok r) = Unit
-  HeadIn (Err x) = RefusedIn x.number x.place
+  HeadIn (Err x) = RefusedIn x.reason x.place
 
   unfoldable JudgedIn : Result (Unit {0}) Refusal → Type 0
   JudgedIn (Ok x) = Unit
-  JudgedIn (Err x) = RefusedIn x.number x.place
+  JudgedIn (Err x) = RefusedIn x.reason x.place
 
   -- what was read ends within n, or its refusal is so
   unfoldable In : {X : Type 0} → Answer X → Type 0
@@ -123,7 +125,7 @@ module _ (ed : Edition) (s : List ℕ) where
   abbrev n : ℕ
   n = length s
 
-  told : {k p : ℕ} → 1 ≤ k → k ≤ 11 → p ≤ n → RefusedIn ed n k p
+  told : {k : Reason} {p : ℕ} → 1 ≤ number_of k → number_of k ≤ 11 → p ≤ n → RefusedIn ed n k p
   told = old ed n
 
   abbrev Headed : Result Record Refusal → Type 0
@@ -377,7 +379,7 @@ module _ (ed : Edition) (s : List ℕ) where
           (λ body asks. name_of rec left s st at body (declared_standing at asks) (declare_of s st at) (declare_at s at asks))
           (λ body. name_of rec left s st at body 1 (retire_of s st at) (retire_at s at))
           (bind (read_part ed 32 N s st 0 at) (λ t ty end. got (whole [] at t) ty end))
-          (refused 3 at))
+          (refused OutOfRange at))
       go h (Declare b asks) =
           name_in rec (f h) left st at b (declared_standing at asks) (declare_of s st at) (declare_at s at asks) h
           (declare-in st at h)
@@ -388,7 +390,7 @@ module _ (ed : Edition) (s : List ℕ) where
 
   names_in : (left : ℕ) (N : Numbers) (st : List ℕ) (at : ℕ) → Within (names_of ed left N s st at)
   unfolding names_of In
-  names_in zero N st at = step_in (λ st' at'. refused 9 at) 0 N st at
+  names_in zero N st at = step_in (λ st' at'. refused TooManyNames at) 0 N st at
       (λ h st' at'. told (omega arith) (omega arith) (omega arith))
   names_in (suc left) N st at = step_in (names_of ed left N s) (suc left) N st at (λ h st' at'. names_in left N st' at')
 
@@ -408,7 +410,7 @@ module _ (ed : Edition) (s : List ℕ) where
   lower (got x ty next) h p = omega arith
   lower (refused a b) h p = record { known = p.known; within = omega (arith, p.within) }
 
-  first-in : {k p : ℕ} → 1 ≤ k → k ≤ 11 → p ≤ 4096 → RefusedIn ed 4096 k p
+  first-in : {k : Reason} {p : ℕ} → 1 ≤ number_of k → number_of k ≤ 11 → p ≤ 4096 → RefusedIn ed 4096 k p
   first-in = old ed 4096
 
   sheet-in : Small (whole_of ed s)
@@ -424,32 +426,32 @@ module _ (ed : Edition) (s : List ℕ) where
       lower (closed s (names_of ed 32 (numbers_at s) s nothing 2)) h
       (closed_in (names_of ed 32 (numbers_at s) s nothing 2) (names_in 32 (numbers_at s) nothing 2))))))))
 
--- the number and the place of a refusal, but for the size
+-- the reason and the place of a refusal, but for the size
 whole-refused :
-    (ed : Edition) (s : List ℕ) {number place : ℕ} → whole_of ed s ≡ refused number place →
-    RefusedIn ed 4096 number place
+    (ed : Edition) (s : List ℕ) {reason : Reason} {place : ℕ} → whole_of ed s ≡ refused reason place →
+    RefusedIn ed 4096 reason place
 unfolding In
 whole-refused ed s e = rw e at (sheet-in ed s)
 
 -- THEOREM: the number and the place of a refusal by check
 pub check-refused :
-    (ed : Edition) (s : List ℕ) {number place : ℕ} → read_under ed s ≡ rejected number place →
-    RefusedIn ed 4096 number place
+    (ed : Edition) (s : List ℕ) {reason : Reason} {place : ℕ} → read_under ed s ≡ rejected reason place →
+    RefusedIn ed 4096 reason place
 unfolding read_under checks
-check-refused ed s {number} {place} e = go (whole_of ed s) refl e
+check-refused ed s {reason} {place} e = go (whole_of ed s) refl e
   where
     sized : (x : Whole) (ty : ℕ) (u : Bool) →
-        pick u (rejected too_large 0) (accepted (sheet_in s x) ty (size_in s x ty)) ≡ rejected number place →
-        RefusedIn ed 4096 number place
+        pick u (rejected too_large 0) (accepted (sheet_in s x) ty (size_in s x ty)) ≡ rejected reason place →
+        RefusedIn ed 4096 reason place
     sized x ty true h =
         let z : 0 ≡ place = cc in
-        let k : too_large ≡ number = cc in
-        old ed 4096 (omega arith) (omega arith) (omega arith)
+        let k : too_large ≡ reason = cc in
+        rw (← k) (old ed 4096 (omega arith) (omega arith) (omega arith))
     sized x ty false h = let z : ◌≡◌ {A = ℕ} 0 1 = cc in absurd (omega arith)
 
-    go : (A : Answer Whole) → whole_of ed s ≡ A → checks s A ≡ rejected number place → RefusedIn ed 4096 number place
+    go : (A : Answer Whole) → whole_of ed s ≡ A → checks s A ≡ rejected reason place → RefusedIn ed 4096 reason place
     go (got x ty end) w h = sized x ty (ltb 4096 (size_in s x ty)) h
     go (refused k p) w h =
         let z : p ≡ place = cc in
-        let j : k ≡ number = cc in
+        let j : k ≡ reason = cc in
         rw (z, j) at (whole-refused ed s w)

@@ -2,7 +2,6 @@
 -- row at the place of each record's kind byte, and the marks are those of its parts; or why it is refused. Only inner
 -- contracts cite it.
 use Rattle.std.specs.Prelude.{ℕ, ◌≡◌, List, [], Result, Ok, Err}
-use Rattle.sheet_records.specs.Refusal.{refusal, not_refused}
 use Rattle.sheet_records.specs.declared.edition.Edition.{Edition}
 use Rattle.sheet_records.specs.declared.refusal.Refusal.{Refusal}
 use Rattle.sheet_written.specs.Written as written
@@ -33,9 +32,4 @@ pub record Judged (ed : Edition) (s : List ℕ) (root ty size : ℕ) (uses : Use
 
 unfoldable pub JudgedBy : Edition → List ℕ → Result Judgement Refusal → List ℕ → Type 0
 JudgedBy ed s (Ok x) u = Judged ed s x.root x.ty x.size x.uses u
-JudgedBy ed s (Err x) u = read_under ed s ≡ rejected x.number x.place
-
--- the refusal of a sheet that is judged; its number is 0 where the sheet is not refused
-unfoldable pub refusal_in : Result Judgement Refusal → Refusal
-refusal_in (Ok x) = refusal not_refused 0
-refusal_in (Err x) = x
+JudgedBy ed s (Err x) u = read_under ed s ≡ rejected x.reason x.place

@@ -2,12 +2,11 @@
 ghost use Rattle.std.specs.Prelude.{◌≡◌};
 ghost use Rattle.sheet_reader.specs.Reader.{read_sheet};
 ghost use Rattle.sheet_judge.specs.Check.{checked_of};
-ghost use Rattle.sheet_judge.specs.Judged.{refusal_in};
 
-use crate::judge::{Judgement, judge_sheet};
+use crate::judge::judge_sheet;
 use crate::mark::Uses;
 use sheet_records::edition::Edition;
-use sheet_records::refusal::{Cause, NOT_REFUSED, OLD_SHEET, Refusal, of_sheet, refuse};
+use sheet_records::refusal::{Cause, Sheets, of_sheet};
 use sheet_rows::row::TABLE;
 
 // What check finds of a sheet that it accepts: its type, its size and which names it uses.
@@ -18,16 +17,6 @@ pub struct Checked {
     pub uses: Uses,
 }
 
-// The refusal of a sheet that is judged, its number 0 where the sheet is not refused.
-pub fn refusal_of(x: Result<Judgement, Refusal>) -> Refusal
-    ensures { result ≡ refusal_in x }
-{
-    let Err(refusal) = x else {
-        return refuse(NOT_REFUSED, 0);
-    };
-    refusal
-}
-
 // The service check: the type and the size of a sheet and which names it uses, or why it is refused.
 pub fn check(s: &[u8]) -> Result<Checked, Cause>
     ensures { result ≡ checked_of (read_sheet s.now) }
@@ -36,7 +25,7 @@ pub fn check(s: &[u8]) -> Result<Checked, Cause>
     let x = judge_sheet(Edition::Present, s, &mut t);
     // `let .. else`, not `?`: the form of document 01 in which the answer is taken apart and the refusal handed on.
     let Ok(judgement) = x else {
-        return Err(of_sheet(refusal_of(x), OLD_SHEET));
+        return Err(of_sheet(x.err().unwrap(), Sheets::Old));
     };
     Ok(Checked {
         ty: judgement.ty,

@@ -7,7 +7,7 @@ use crate::size::size_of;
 use sheet_reader::reading::{numbers_of, read_sheet};
 use sheet_records::edition::Edition;
 use sheet_records::limits::GREATEST_SIZE;
-use sheet_records::refusal::{Refusal, TOO_LARGE, refuse};
+use sheet_records::refusal::{Reason, Refusal, refuse};
 use sheet_rows::row::TABLE;
 use weight_plans::term::weight_of;
 
@@ -29,7 +29,7 @@ pub fn judge_sheet(edition: Edition, s: &[u8], t: &mut [u16; TABLE]) -> Result<J
     let weight = weight_of(t);
     let size = size_of(numbers_of(s), sheet.ty, weight);
     if GREATEST_SIZE < size {
-        return Err(refuse(TOO_LARGE, 0));
+        return Err(refuse(Reason::TooLarge, 0));
     }
     let uses = uses_of(s, t);
     Ok(Judgement {

@@ -6,7 +6,7 @@ ghost use Rattle.sheet_reader.specs.table.Notes.{is_noted};
 use sheet_reader::note::is_noted;
 use sheet_records::kind::{ID, Shape, shape_of};
 use sheet_records::limits::{FIRST_RECORD, MOST_NAMES};
-use sheet_records::read::byte_at;
+use sheet_records::read::get_or;
 
 // The mark of a sheet, how many of its bits are set, and the number of the first declared record without one, or 32.
 #[derive(Drop)]
@@ -24,7 +24,7 @@ fn mark_from(s: &[u8], t: &[u16], left: u8, at: usize) -> u32
     if left == 0 {
         return 0;
     }
-    let kind = byte_at(s, at);
+    let kind = get_or(s, at, 0);
     let shape = shape_of(kind);
     match shape {
         Shape::Unknown => 0,
@@ -36,7 +36,7 @@ fn mark_from(s: &[u8], t: &[u16], left: u8, at: usize) -> u32
         Shape::Retire { body } => 2 * mark_from(s, t, left - 1, at + 1 + body as usize),
         Shape::Declare { body, once: _ } => {
             let rest = mark_from(s, t, left - 1, at + 1 + body as usize);
-            let id = byte_at(s, at + ID);
+            let id = get_or(s, at + ID, 0);
             if is_noted(t, id) {
                 return 1 + 2 * rest;
             }
@@ -53,7 +53,7 @@ fn declared_from(s: &[u8], left: u8, at: usize) -> u32
     if left == 0 {
         return 0;
     }
-    let kind = byte_at(s, at);
+    let kind = get_or(s, at, 0);
     let shape = shape_of(kind);
     match shape {
         Shape::Unknown => 0,
@@ -83,6 +83,7 @@ pub(crate) fn uses_of(s: &[u8], t: &[u16]) -> Uses
 }
 
 // How many records of a sheet's heading declare a name.
+#[tactic(auto, unfolding(crate::specs::Masks::declared_at))]
 pub fn declared_count(s: &[u8]) -> usize
     ensures { result ≡ declared_at s.now }
 {

@@ -6,6 +6,7 @@ use language::Numbers;
 use sheet_parts::weight::{answers_of, questions_of, sat_add, sat_mul};
 
 // The size of a term of type ty, held at 4,097.
+#[tactic(auto, unfolding(crate::specs::Size::size_of))]
 pub fn size_of(n: Numbers, ty: u8, weight: u32) -> u32
     ensures { result ≡ min (size_of n ty weight) 4097 }
 {

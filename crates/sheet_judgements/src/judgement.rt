@@ -8,8 +8,8 @@ ghost use Rattle.sheet_judgements.specs.Judge.{pair, procedure_of};
 use sheet_records::edition::Edition;
 use sheet_records::kind::{COUNT, ID, PARAMETER_IDS, PARAMETER_TYPES, RESULT};
 use sheet_records::limits::{COUNTS, IDS, NOT_THERE, TYPES};
-use sheet_records::read::{byte_at, standing_of};
-use sheet_records::refusal::{CUT_SHORT, ID_ENCLOSED, ID_TAKEN, OUT_OF_RANGE, Refusal, refuse};
+use sheet_records::read::{get_or, standing_of};
+use sheet_records::refusal::{Reason, Refusal, refuse};
 use sheet_records::standing::{is_held, is_named};
 
 // A byte below a limit.
@@ -18,10 +18,10 @@ pub fn judge_below(s: &[u8], at: usize, limit: u8) -> Result<(), Refusal>
     ensures { result ≡ below s.now at limit }
 {
     if s.len() <= at {
-        return Err(refuse(CUT_SHORT, s.len()));
+        return Err(refuse(Reason::CutShort, s.len()));
     }
     if limit <= s[at] {
-        return Err(refuse(OUT_OF_RANGE, at));
+        return Err(refuse(Reason::OutOfRange, at));
     }
     Ok(())
 }
@@ -32,12 +32,12 @@ pub fn judge_unused(s: &[u8], at: usize) -> Result<(), Refusal>
     ensures { result ≡ unused s.now at }
 {
     if s.len() <= at {
-        return Err(refuse(CUT_SHORT, s.len()));
+        return Err(refuse(Reason::CutShort, s.len()));
     }
     if s[at] == NOT_THERE {
         return Ok(());
     }
-    Err(refuse(OUT_OF_RANGE, at))
+    Err(refuse(Reason::OutOfRange, at))
 }
 
 // The id of a binder, which is neither declared nor retired.
@@ -46,9 +46,9 @@ fn judge_bound(s: &[u8], st: &[u32; 255], at: usize) -> Result<(), Refusal>
     ensures { result ≡ bound s.now st.now at }
 {
     judge_below(s, at, IDS)?;
-    let id = byte_at(s, at);
+    let id = get_or(s, at, 0);
     if is_named(standing_of(st, id)) {
-        return Err(refuse(ID_TAKEN, at));
+        return Err(refuse(Reason::IdTaken, at));
     }
     Ok(())
 }
@@ -69,9 +69,9 @@ pub fn is_hiding(edition: Edition, c: u32) -> bool
 fn judge_apart(edition: Edition, s: &[u8], st: &[u32; 255], at: usize) -> Result<(), Refusal>
     ensures { result ≡ apart edition s.now st.now at }
 {
-    let id = byte_at(s, at);
+    let id = get_or(s, at, 0);
     if is_hiding(edition, standing_of(st, id)) {
-        return Err(refuse(ID_ENCLOSED, at));
+        return Err(refuse(Reason::IdEnclosed, at));
     }
     Ok(())
 }
@@ -82,7 +82,7 @@ fn is_earlier(s: &[u8], place: usize, j: u8, id: u8) -> bool
     ensures { result ≡ earlier s.now place j id }
 {
     for i in (0..j).rev() {
-        if byte_at(s, place + PARAMETER_IDS + 2 * (i as usize)) == id {
+        if get_or(s, place + PARAMETER_IDS + 2 * (i as usize), 0) == id {
             return true;
         }
     }
@@ -96,9 +96,9 @@ fn judge_unlike(s: &[u8], place: usize, j: u8) -> Result<(), Refusal>
     ensures { result ≡ unlike s.now place j }
 {
     let at = place + PARAMETER_IDS + 2 * (j as usize);
-    let id = byte_at(s, at);
+    let id = get_or(s, at, 0);
     if is_earlier(s, place, j, id) {
-        return Err(refuse(ID_TAKEN, at));
+        return Err(refuse(Reason::IdTaken, at));
     }
     Ok(())
 }
@@ -135,7 +135,7 @@ fn judge_pair(
 {
     let id_at = place + PARAMETER_IDS + 2 * (j as usize);
     let type_at = place + PARAMETER_TYPES + 2 * (j as usize);
-    if j < byte_at(s, place + COUNT) {
+    if j < get_or(s, place + COUNT, 0) {
         judge_parameter_id(edition, s, st, place, j)?;
         return judge_below(s, type_at, TYPES);
     }

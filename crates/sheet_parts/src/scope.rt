@@ -4,7 +4,7 @@ ghost use Rattle.sheet_parts.specs.Scope.{opens, entered, passed, usable};
 
 use sheet_heads::head::Record;
 use sheet_records::kind::{PARAMETER_IDS, PARAMETER_TYPES, Rule};
-use sheet_records::read::byte_at;
+use sheet_records::read::get_or;
 use sheet_records::standing::{parameter_standing, procedure_standing, variable_standing};
 
 // Which scopes a record opens: none, that of a new's block, or those of a procedure's two terms.
@@ -76,8 +76,8 @@ pub fn enter_parameters(s: &[u8], place: usize, number: u8, count: u8, st: &mut 
     ensures { st.new ≡ passed s.now place number count st.old }
 {
     for j in 0..count {
-        let id = byte_at(s, place + PARAMETER_IDS + 2 * (j as usize));
-        let ty = byte_at(s, place + PARAMETER_TYPES + 2 * (j as usize));
+        let id = get_or(s, place + PARAMETER_IDS + 2 * (j as usize), 0);
+        let ty = get_or(s, place + PARAMETER_TYPES + 2 * (j as usize), 0);
         put_standing(st, id, parameter_standing(number + j, ty));
     }
 }

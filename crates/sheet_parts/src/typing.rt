@@ -5,7 +5,7 @@ ghost use Rattle.sheet_parts.specs.Rule.{operand_type, result_type, accepts_part
 use language::operator::{AND, EQUAL};
 use sheet_heads::head::Record;
 use sheet_records::kind::{RESULT, Rule};
-use sheet_records::read::byte_at;
+use sheet_records::read::get_or;
 use sheet_records::standing::{argument_of, result_of};
 
 // The types.
@@ -19,7 +19,8 @@ pub const TRUTH_VARIABLE: u8 = 3;
 
 const NUMBER_VARIABLE: u8 = 4;
 
-// The type of an operator's operands: those below AND take numbers.
+// The type of an operator's operands: those below AND take numbers. Two rules of two definitions: number_below(op, AND)
+// at the uses would be no plainer.
 #[tactic(auto, unfolding(crate::specs::Rule::operand_type))]
 fn operand_type(op: u8) -> u8
     ensures { result ≡ operand_type op }
@@ -67,7 +68,7 @@ pub fn accepts_part(rule: Rule, s: &[u8], r: Record, j: u8, prev: u8, ty: u8) ->
         Rule::While => if j == 0 { ty == TRUTH } else { ty == COMMAND },
         Rule::New => ty == COMMAND,
         Rule::Procedure => if j == 0 {
-            ty == byte_at(s, r.place + RESULT)
+            ty == get_or(s, r.place + RESULT, 0)
         } else {
             true
         },

@@ -5,6 +5,7 @@ use mathlib.Core.Path.{◌≡◌, refl}
 use mathlib.Core.Bool.{Bool, true, false}
 use mathlib.Core.List.{List}
 use Rattle.language.specs.Choice.{pick}
+use Rattle.sheet_records.specs.declared.refusal.Reason.{Reason}
 use Rattle.sheet_records.specs.declared.refusal.Refusal.{Refusal}
 use Rattle.sheet_parts.specs.Rule.{accepts_part, part_type}
 use Rattle.sheet_parts.specs.Scope.{opens}
@@ -15,7 +16,7 @@ use Rattle.sheet_reader.specs.Reader.{read_record}
 -- P of what was read, nothing of a refusal
 pub data All {X : Type 0} (P : X → ℕ → ℕ → Type 0) : Answer X → Type 0 where
   one : {x : X} {ty n : ℕ} → P x ty n → All P (got x ty n)
-  none' : {a b : ℕ} → All P (refused a b)
+  none' : {a : Reason} {b : ℕ} → All P (refused a b)
 
 unfoldable pub Holds : {X : Type 0} → (X → ℕ → ℕ → Type 0) → Answer X → Type 0
 Holds P (got x ty n) = P x ty n
@@ -58,7 +59,7 @@ head-all P Q (Ok r) k p f = f r p
 head-all P Q (Err x) k p f = none'
 
 pub head-refused :
-    {X : Type 0} (Q : X → ℕ → ℕ → Type 0) (h : Result Record Refusal) (n p : ℕ) → All Q (on_head h (λ r. refused n p))
+    {X : Type 0} (Q : X → ℕ → ℕ → Type 0) (h : Result Record Refusal) (n : Reason) (p : ℕ) → All Q (on_head h (λ r. refused n p))
 unfolding on_head
 head-refused Q (Ok r) n p = none'
 head-refused Q (Err x) n p = none'

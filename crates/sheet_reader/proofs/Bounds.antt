@@ -31,6 +31,7 @@ use Rattle.sheet_reader.proofs.Answers.{pick_all}
 use Rattle.sheet_reader.proofs.Core.{headed}
 use Rattle.sheet_reader.proofs.Heads.{Heads, h-skip, h-diverge, h-truth, h-number, h-use, h-fetch, h-operate}
 use Rattle.sheet_reader.proofs.Heads.{h-assign, h-sequence, h-if, h-while, h-new, h-procedure}
+use Rattle.sheet_records.specs.declared.refusal.Reason.TheVariants.{TooDeep}
 
 -- every word is a byte
 abbrev Bytes : List ℕ → Type 0
@@ -151,7 +152,7 @@ module _ (s : List ℕ) where
       Bytes s → (ed : Edition) (N : Numbers) (left : ℕ) (st : List ℕ) (around at : ℕ) →
       Whole at (read_part ed left N s st around at)
   unfolding read_part Next
-  part-next b ed N zero st around at = on-head at (head_of ed s st N 0 at) (λ r. refused 8 at) (λ r e. tt)
+  part-next b ed N zero st around at = on-head at (head_of ed s st N 0 at) (λ r. refused TooDeep at) (λ r e. tt)
   part-next b ed N (suc left) st around at =
       on-head at (head_of ed s st N (suc left) at) _ (λ r e.
       let g = head-good ed s st N (suc left) at r e in

@@ -8,10 +8,9 @@ use native.Mathlib.Numerals.{sub-one}
 use mathlib.Core.Path.{◌≡◌, refl, sym, ap, ◌∙◌}
 use mathlib.Core.List.{List}
 use lib.Dec.{eqb, eqb-suc-zero}
-use borrow.Author.Tests.{eq-eqb, ne_eqb}
+use borrow.Author.Tests.{ne_eqb}
 use Rattle.language.specs.Choice.{pick}
 use Rattle.language.specs.declared.Numbers.{Numbers}
-use Rattle.sheet_records.specs.Standing.{standing_of}
 use Rattle.sheet_records.specs.declared.refusal.Refusal.{Refusal}
 use Rattle.sheet_heads.specs.Head.{head_of}
 use Rattle.sheet_parts.specs.Rule.{accepts_part, part_type}
@@ -26,11 +25,12 @@ use Rattle.sheet_reader.specs.Reader.{Tree, node, Trees, branch, Answer, got, re
 use Rattle.sheet_reader.specs.Reader.{read_record, read_part}
 use Rattle.sheet_reader.specs.table.Fill.{fill, fills, erase, Leaves, Reads, closed_answer, closed_table}
 use Rattle.sheet_reader.specs.table.Notes.{noted}
-use Rattle.sheet_reader.specs.table.Number.{number_in, used_number}
+use Rattle.sheet_reader.specs.table.Number.{used_number}
 use Rattle.sheet_reader.specs.declared.part.Part.{Part}
 use Rattle.sheet_reader.proofs.Answers.{HeadAll}
 use Rattle.sheet_reader.proofs.Heads.{Heads, h-skip, h-diverge, h-truth, h-number, h-use, h-fetch, h-operate}
 use Rattle.sheet_reader.proofs.Heads.{h-assign, h-sequence, h-if, h-while, h-new, h-procedure, heads}
+use Rattle.sheet_records.specs.declared.refusal.Reason.TheVariants.{WrongType, TooDeep}
 
 -- the refusal that a `?` hands on
 pub handed : {T : Type 0} (r : Result T Refusal) {x : Refusal} → IsErrAnd r (λ y. y ≡ x) → r ≡ Err x
@@ -61,7 +61,7 @@ reads_then (refused n p) k R e h = cc R.answer
 pub part_step :
     (ed : Edition) (left : ℕ) (N : Numbers) (s st : List ℕ) (around at : ℕ) →
     read_part ed left N s st around at ≡ on_head (head_of ed s st N left at) (λ r.
-    pick (eqb left 0) (refused 8 at) (read_record (read_part ed (left - 1) N s) s st around r))
+    pick (eqb left 0) (refused TooDeep at) (read_record (read_part ed (left - 1) N s) s st around r))
 unfolding read_part
 part_step ed zero N s st around at = refl
 part_step ed (suc left) N s st around at = simp (sub-one, eqb-suc-zero)
@@ -72,7 +72,7 @@ pub parts-step :
     parts_of rec s r n j prev at ≡ bind (rec at) (λ t ty next.
     pick (accepts_part r.rule s r j prev ty)
     (bind (parts_of rec s r (n - 1) (j + 1) ty next) (λ ts last end. got (branch at t ts) last end))
-    (refused 7 at))
+    (refused WrongType at))
 unfolding parts_of
 parts-step rec s r zero j prev at h = absurd (h refl)
 parts-step rec s r (suc n) j prev at h = simp sub-one
@@ -95,10 +95,6 @@ pub closed-as :
 closed-as N s around r t e C = rw e C
 
 -- the number of the procedure that a record uses
-pub number-used : (r : Record) {k : ℕ} → r.kind ≡ 20 → k ≡ number_in (standing_of r.b) → k ≡ used_number r
-unfolding used_number
-number-used r e f = f ∙ rw (eq-eqb r.kind 20 e) refl
-
 pub number-none : (r : Record) → (r.kind ≡ 20 → ⊥) → 0 ≡ used_number r
 unfolding used_number
 number-none r e = rw (ne_eqb r.kind 20 e) refl

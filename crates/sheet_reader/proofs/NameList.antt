@@ -30,6 +30,7 @@ use Rattle.sheet_reader.proofs.Heads.{Shaped, s-declare, s-once, s-retire, shape
 use Rattle.sheet_reader.proofs.Parse.{parse-all}
 use Rattle.sheet_reader.proofs.Judgement.{JudgedAll, good, bad, declare-all, retire-all}
 use Rattle.sheet_reader.proofs.NameBytes.{often-again, good-declares, good-types, good-bytes, retire-bytes}
+use Rattle.sheet_records.specs.declared.refusal.Reason.TheVariants.{OutOfRange}
 
 -- what an id means by earlier name records, else by later ones
 unfoldable pub or_else : Meaning → Meaning → Meaning
@@ -216,7 +217,7 @@ module _ (ed : Edition) (N : Numbers) (s : List ℕ) (π : ℕ → ℕ) where
             (λ body asks. name_of rec n s st at body (declared_standing at asks) (declare_of s st at) (declare_at s at asks))
             (λ body. name_of rec n s st at body 1 (retire_of s st at) (retire_at s at))
             (bind (read_part ed 32 N s st 0 at) (λ t ty end. got (whole [] at t) ty end))
-            (refused 3 at))
+            (refused OutOfRange at))
         go (Part body parts rule) l h = reads-term
         go (Declare body asks) l (s-declare e) = unfold onces declare_kind in reads-declare freely (l, e)
         go (Declare body asks) l (s-once e) = unfold onces declare_kind in reads-declare once (l, e)

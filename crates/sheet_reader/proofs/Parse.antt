@@ -40,6 +40,7 @@ use Rattle.sheet_reader.proofs.Heads.{made, Heads, h-skip, h-diverge, h-truth, h
 use Rattle.sheet_reader.proofs.Heads.{h-assign, h-sequence, h-if, h-while, h-new, h-procedure, heads}
 use Rattle.sheet_reader.proofs.Pairs.{inside-length}
 use Rattle.sheet_reader.proofs.Parameters.{body-pairs, body-apart, pairs-at, pairs-procedures}
+use Rattle.sheet_records.specs.declared.refusal.Reason.TheVariants.{TooDeep}
 
 stands :
     {s : List ℕ} {at kind parts a b n : ℕ} (body : ℕ) {rule : Rule} → Byte s at kind → n ≡ at + 1 + body →
@@ -392,7 +393,7 @@ pub parse-all :
     (at : ℕ) → Matches s ns bs π st → length bs + 4 * left ≤ 128 →
     All (λ t ty n. Parsed ed N s ns left bs π at t ty n) (read_part ed left N s st (length bs) at)
 unfolding read_part
-parse-all ed N s ns zero bs π st at M l = head-refused _ (head_of ed s st N 0 at) 8 at
+parse-all ed N s ns zero bs π st at M l = head-refused _ (head_of ed s st N 0 at) TooDeep at
 parse-all ed N s ns (suc left) bs π st at M l =
     let sub = parse-all ed N s ns left in
     head-all (Heads ed s st N at) _ (head_of ed s st N (suc left) at) _ (heads ed s st N at left)

@@ -27,6 +27,7 @@ use Rattle.sheet_reader.specs.table.Number.{used_number}
 use Rattle.sheet_reader.specs.declared.part.Part.{Part}
 use Rattle.sheet_reader.proofs.Bare.{core, parts-core}
 use Rattle.sheet_reader.proofs.Core.{reads-hand, reads_then, part_step, parts-step, closes}
+use Rattle.sheet_records.specs.declared.refusal.Reason.TheVariants.{WrongType}
 
 module _ (ed : Edition) (left : ℕ) (N : Numbers) (s st : List ℕ) (around at : ℕ) where
   -- read_part
@@ -52,7 +53,7 @@ module _ (N : Numbers) (p at : ℕ) where
 
   abbrev First : Bool → Tree → ℕ → ℕ → Answer Trees
   First ok x ty next =
-      pick ok (bind (got leaf ty next) (λ ts last end. got (branch at x ts) last end)) (refused 7 at)
+      pick ok (bind (got leaf ty next) (λ ts last end. got (branch at x ts) last end)) (refused WrongType at)
 
   joins-first :
       (ok : Bool) (x : Tree) (ty next : ℕ) (B : ℕ → ℕ → Answer Trees) {q y : Result Part Refusal} {z : Part}
@@ -156,15 +157,15 @@ Parts at ok rest A =
     bind A (λ t ty next.
     pick (ok ty)
     (bind (rest ty next) (λ ts last end. got (branch at t ts) last end))
-    (refused 7 at))
+    (refused WrongType at))
 
 module _ (N : Numbers) (p j at : ℕ) where
   linked-rest :
       (x : Tree) (b : Bool) (A : Answer Trees) {q : Result Part Refusal} {t y u : List ℕ} → y ≡ linked p j at t →
       Reads (λ ts. fills_next N ts p j)
-      (pick b (bind A (λ ts last end. got (branch at x ts) last end)) (refused 7 at)) q y u →
+      (pick b (bind A (λ ts last end. got (branch at x ts) last end)) (refused WrongType at)) q y u →
       Reads (λ ts. fills N ts p j)
-      (pick b (bind A (λ ts last end. got (branch at x ts) last end)) (refused 7 at)) q t u
+      (pick b (bind A (λ ts last end. got (branch at x ts) last end)) (refused WrongType at)) q t u
   unfolding bind erase Leaves fills fills_next
   linked-rest x true (got ts last end) l R = record { answer = R.answer; table = R.table ∙ rw l }
   linked-rest x true (refused m i) l R = record { answer = R.answer; table = tt }
@@ -215,7 +216,7 @@ module _ (rec : ℕ → Answer Tree) (N : Numbers) (s : List ℕ) (r : Record) (
   next-refused z R e = rw (parts-step rec s r n j prev at z) (reads-hand (rec at) _ R e)
 
   pub next-wrong : {p : Result Part Refusal} {x : Part} {t u v : List ℕ} → (n ≡ 0 → ⊥) → Reads (fill N) (rec at) p t u →
-      p ≡ Ok x → accepts_part r.rule s r j prev x.ty ≡ false → Next (Err (refusal 7 at)) v u
+      p ≡ Ok x → accepts_part r.rule s r j prev x.ty ≡ false → Next (Err (refusal WrongType at)) v u
   unfolding erase Leaves
   next-wrong z R e f =
       rw (parts-step rec s r n j prev at z)
@@ -248,7 +249,7 @@ module _ (N : Numbers) (s : List ℕ) (at : ℕ) where
       (bind A (λ x ty next.
       pick (accepts_part Sequence s (bare 0 Sequence 0 0) 1 0 ty)
       (bind (got leaf ty next) (λ ts last end. got (branch at x ts) last end))
-      (refused 7 at)))
+      (refused WrongType at)))
       p t u →
       Reads (fill N) A p t u
   unfolding bind erase Leaves fills fills_next accepts_part

@@ -12,6 +12,7 @@ use Rattle.language.specs.Choice.{pick}
 use Rattle.language.specs.declared.Numbers.{Numbers}
 use Rattle.sheet_records.specs.Limits.{greatest_z, greatest_rule}
 use Rattle.sheet_records.specs.Refusal.{refusal}
+use Rattle.sheet_records.specs.declared.refusal.Reason.{Reason}
 use Rattle.sheet_records.specs.declared.refusal.Refusal.{Refusal}
 use Rattle.sheet_records.specs.Kind.{shape_of}
 use Rattle.sheet_records.specs.Standing.{declared_standing}
@@ -26,6 +27,7 @@ use Rattle.sheet_reader.specs.table.Fill.{sheet, fill, erase, Leaves, Reads, ter
 use Rattle.sheet_reader.specs.table.Fill.{closed_reading}
 use Rattle.sheet_reader.specs.declared.part.Part.{Part}
 use Rattle.sheet_reader.specs.declared.names.Reading.{Reading}
+use Rattle.sheet_records.specs.declared.refusal.Reason.TheVariants.{TooLong, CutShort, OutOfRange, TooManyNames, LeftOver}
 
 -- the term
 module _ (N : Numbers) (at : ℕ) where
@@ -48,7 +50,7 @@ module _ (N : Numbers) (at : ℕ) where
   term-refused (refused n p) R e = let h = sym R.answer ∙ e in record { answer = cc; table = tt }
 
 -- a refusal
-refuses : (N : Numbers) (n p : ℕ) {t u : List ℕ} → ReadsSheet N (refused n p) (Err (refusal n p)) t u
+refuses : (N : Numbers) (n : Reason) (p : ℕ) {t u : List ℕ} → ReadsSheet N (refused n p) (Err (refusal n p)) t u
 unfolding erase_sheet LeavesSheet
 refuses N n p = record { answer = refl; table = tt }
 
@@ -67,13 +69,13 @@ module _ (ed : Edition) (N : Numbers) (n : ℕ) (s st : List ℕ) (at : ℕ) whe
   abbrev After : ℕ → ℕ → Result (Unit {0}) Refusal → Name → Answer Whole
   After body c judged name = name_of (names_of ed (n - 1) N s) n s st at body c judged name
 
-  pub names-short : {t : List ℕ} → length s ≤ at → Names (Err (refusal 2 (length s))) t t
+  pub names-short : {t : List ℕ} → length s ≤ at → Names (Err (refusal CutShort (length s))) t t
   unfolding names_step
-  names-short h = rw (names-step, le-leb _ _ h) (refuses N 2 (length s))
+  names-short h = rw (names-step, le-leb _ _ h) (refuses N CutShort (length s))
 
-  pub names-unknown : {t : List ℕ} → at < length s → shape_of (get_or s at 0) ≡ Unknown → Names (Err (refusal 3 at)) t t
+  pub names-unknown : {t : List ℕ} → at < length s → shape_of (get_or s at 0) ≡ Unknown → Names (Err (refusal OutOfRange at)) t t
   unfolding names_step whole_of_shape
-  names-unknown h e = rw (names-step, lt-leb _ _ h, e) (refuses N 3 at)
+  names-unknown h e = rw (names-step, lt-leb _ _ h, e) (refuses N OutOfRange at)
 
   pub names-term : {body parts : ℕ} {rule : Rule} {x : Result Reading Refusal} {t u : List ℕ} → at < length s →
       shape_of (get_or s at 0) ≡ PartShape body parts rule → ReadsSheet N (term_at ed N s st at) x t u → Names x t u
@@ -103,13 +105,13 @@ module _ (N : Numbers) (rec : List ℕ → ℕ → Answer Whole) (n : ℕ) (s st
   abbrev Record : Result Reading Refusal → List ℕ → List ℕ → Type 0
   Record = ReadsSheet N (name_of rec n s st at body c judged name)
 
-  pub after-full : {t : List ℕ} → n ≡ 0 → Record (Err (refusal 9 at)) t t
+  pub after-full : {t : List ℕ} → n ≡ 0 → Record (Err (refusal TooManyNames at)) t t
   unfolding name_of
-  after-full e = rw (eq-eqb _ _ e) (refuses N 9 at)
+  after-full e = rw (eq-eqb _ _ e) (refuses N TooManyNames at)
 
   pub after-bad : {x : Refusal} {t : List ℕ} → (n ≡ 0 → ⊥) → judged ≡ Err x → Record (Err x) t t
   unfolding name_of on_judged
-  after-bad {x} z e = rw (ne_eqb _ _ z, e) (refuses N x.number x.place)
+  after-bad {x} z e = rw (ne_eqb _ _ z, e) (refuses N x.reason x.place)
 
   pub after-good : {x : Result Reading Refusal} {t u : List ℕ} → (n ≡ 0 → ⊥) → judged ≡ Ok tt →
       ReadsSheet N (rec (set st (get_or s (at + 1) 0) c) (at + 1 + body)) x t u → Record x t u
@@ -118,8 +120,8 @@ module _ (N : Numbers) (rec : List ℕ → ℕ → Answer Whole) (n : ℕ) (s st
 
 -- the end of a sheet
 ends : (N : Numbers) (x : Whole) (ty end : ℕ) (a : Bool) {t u : List ℕ} {y : Result Reading Refusal} →
-    y ≡ erase_sheet (pick a (refused 10 end) (got x ty end)) → LeavesSheet N (got x ty end) t u →
-    ReadsSheet N (pick a (refused 10 end) (got x ty end)) y t u
+    y ≡ erase_sheet (pick a (refused LeftOver end) (got x ty end)) → LeavesSheet N (got x ty end) t u →
+    ReadsSheet N (pick a (refused LeftOver end) (got x ty end)) y t u
 unfolding LeavesSheet
 ends N x ty end true e l = record { answer = e; table = tt }
 ends N (whole ns root x) ty end false e l = record { answer = e; table = l }
@@ -132,14 +134,14 @@ closes-sheet N s (got (whole ns root x) ty end) R e =
     ends N (whole ns root x) ty end (ltb end (length s)) (e ∙ rw R.answer (split (ltb end (length s)))) R.table
   where
     split : (a : Bool) →
-        pick a (Err (refusal 10 end)) (sheet root ty end) ≡
-        erase_sheet (pick a (refused 10 end) (got (whole ns root x) ty end))
+        pick a (Err (refusal LeftOver end)) (sheet root ty end) ≡
+        erase_sheet (pick a (refused LeftOver end) (got (whole ns root x) ty end))
     split true = refl
     split false = refl
 closes-sheet N s (refused n p) R e = record { answer = e ∙ rw R.answer; table = tt }
 
 -- the whole sheet
-pub sheet-refused : (ed : Edition) (N : Numbers) (s : List ℕ) {n p : ℕ} {t : List ℕ} → whole_of ed s ≡ refused n p →
+pub sheet-refused : (ed : Edition) (N : Numbers) (s : List ℕ) {n : Reason} {p : ℕ} {t : List ℕ} → whole_of ed s ≡ refused n p →
     ReadsSheet N (whole_of ed s) (Err (refusal n p)) t t
 sheet-refused ed N s {n} {p} e = rw e (refuses N n p)
 
@@ -150,32 +152,32 @@ sheet-closed ed N s A e R = rw e R
 
 -- the first two bytes
 module _ (ed : Edition) (s : List ℕ) where
-  pub too_long : 4096 < length s → whole_of ed s ≡ refused 1 4096
+  pub too_long : 4096 < length s → whole_of ed s ≡ refused TooLong 4096
   unfolding whole_by
   too_long a = rw (lt-ltb _ _ a)
 
   module _ (a : length s ≤ 4096) where
-    pub empty : length s ≤ 0 → whole_of ed s ≡ refused 2 (length s)
+    pub empty : length s ≤ 0 → whole_of ed s ≡ refused CutShort (length s)
     unfolding whole_by
     empty b = rw (le-ltb _ _ a, le-leb _ _ b)
 
     module _ (b : 0 < length s) where
-      pub z-zero : get_or s 0 0 ≡ 0 → whole_of ed s ≡ refused 3 0
+      pub z-zero : get_or s 0 0 ≡ 0 → whole_of ed s ≡ refused OutOfRange 0
       unfolding whole_by
       z-zero c = rw (le-ltb _ _ a, lt-leb _ _ b, eq-eqb _ _ c)
 
       module _ (c : get_or s 0 0 ≡ 0 → ⊥) where
-        pub z-large : greatest_z < get_or s 0 0 → whole_of ed s ≡ refused 3 0
+        pub z-large : greatest_z < get_or s 0 0 → whole_of ed s ≡ refused OutOfRange 0
         unfolding whole_by
         z-large d = rw (le-ltb _ _ a, lt-leb _ _ b, ne_eqb _ _ c, lt-ltb _ _ d)
 
         module _ (d : get_or s 0 0 ≤ greatest_z) where
-          pub no-rule : length s ≤ 1 → whole_of ed s ≡ refused 2 (length s)
+          pub no-rule : length s ≤ 1 → whole_of ed s ≡ refused CutShort (length s)
           unfolding whole_by
           no-rule e = rw (le-ltb _ _ a, lt-leb _ _ b, ne_eqb _ _ c, le-ltb _ _ d, le-leb _ _ e)
 
           module _ (e : 1 < length s) where
-            pub rule-large : greatest_rule < get_or s 1 0 → whole_of ed s ≡ refused 3 1
+            pub rule-large : greatest_rule < get_or s 1 0 → whole_of ed s ≡ refused OutOfRange 1
             unfolding whole_by
             rule-large f = rw (le-ltb _ _ a, lt-leb _ _ b, ne_eqb _ _ c, le-ltb _ _ d, lt-leb _ _ e, lt-ltb _ _ f)
 

@@ -5,6 +5,7 @@ use Rattle.std.specs.Prelude.{ℕ, zero, suc, ◌+◌, List, [], ◌∷◌, leng
 use Rattle.language.specs.Choice.{pick}
 use Rattle.language.specs.Weight.{size}
 use Rattle.language.specs.declared.Numbers.{Numbers}
+use Rattle.sheet_records.specs.declared.refusal.Reason.{Reason}
 use Rattle.sheet_records.specs.declared.refusal.Refusal.{Refusal}
 use Rattle.sheet_records.specs.Limits.{greatest_z, greatest_rule, most_bytes, most_names, greatest_depth, greatest_size, ids}
 use Rattle.sheet_records.specs.Refusal.{too_long, cut_short, out_of_range, wrong_type, too_deep, too_many_names}
@@ -39,10 +40,10 @@ mutual
     leaf : Trees
     branch : ℕ → Tree → Trees → Trees
 
--- something read, with its type and the place after it; or the refusal's number and place
+-- something read, with its type and the place after it; or the refusal's reason and place
 pub data Answer (X : Type 0) : Type 0 where
   got : X → ℕ → ℕ → Answer X
-  refused : ℕ → ℕ → Answer X
+  refused : Reason → ℕ → Answer X
 
 unfoldable pub bind : {X Y : Type 0} → Answer X → (X → ℕ → ℕ → Answer Y) → Answer Y
 bind (got x ty next) k = k x ty next
@@ -50,11 +51,11 @@ bind (refused n p) k = refused n p
 
 unfoldable pub on_head : {X : Type 0} → Result Record Refusal → (Record → Answer X) → Answer X
 on_head (Ok r) k = k r
-on_head (Err x) k = refused x.number x.place
+on_head (Err x) k = refused x.reason x.place
 
 unfoldable pub on_judged : {X : Type 0} → Result (Unit {0}) Refusal → Answer X → Answer X
 on_judged (Ok x) k = k
-on_judged (Err x) k = refused x.number x.place
+on_judged (Err x) k = refused x.reason x.place
 
 -- the parts of record r from part j on, n of them, the part before them of type prev: "A part's type is judged when its last byte
 -- is read"
@@ -196,10 +197,10 @@ unfoldable mutual
   writtens s leaf = none
   writtens s (branch at t ts) = more (written s t) (writtens s ts)
 
--- what check finds of a sheet: the sheet, its type and its size; or the refusal's number and place
+-- what check finds of a sheet: the sheet, its type and its size; or the refusal's reason and place
 pub data Checks : Type 0 where
   accepted : Sheet → ℕ → ℕ → Checks
-  rejected : ℕ → ℕ → Checks
+  rejected : Reason → ℕ → Checks
 
 unfoldable pub sheet_in : List ℕ → Whole → Sheet
 sheet_in s (whole ns root t) = record { numbers = numbers_at s; names = ns; term = written s t }

@@ -20,7 +20,7 @@ use sheet_heads::head::Record;
 use sheet_parts::typing::{COMMAND, NUMBER, TRUTH, result_type};
 use sheet_parts::weight::values_of;
 use sheet_records::kind::{ASSIGN, FETCH, IF, NEW, OPERATE, RESULT, Rule, SEQUENCE, WHILE};
-use sheet_records::read::byte_at;
+use sheet_records::read::get_or;
 use sheet_records::standing::{Standing, VARIABLE_TYPE};
 use sheet_rows::row::{name_detail, write_typed};
 use sheet_rows::short_kind::{CONSTANT, PRIVATE};
@@ -44,7 +44,7 @@ fn leaf_use(s: &[u8], r: Record) -> Option<Leaf>
         Standing::Retired => None,
         Standing::Declared { place, once } => Some(Leaf {
             kind: r.kind as u16,
-            ty: byte_at(s, place as usize + RESULT),
+            ty: get_or(s, place as usize + RESULT, 0),
             detail: name_detail(r.a, 0, once),
         }),
         Standing::Variable { number, holds } => Some(Leaf {

@@ -5,8 +5,8 @@ ghost use Rattle.sheet_reader.specs.Heading.{fresh, argument, arguments, declare
 use sheet_judgements::judgement::{judge_below, judge_unused};
 use sheet_parts::scope::with_standing;
 use sheet_records::limits::{COUNTS, IDS, TYPES};
-use sheet_records::read::{byte_at, standing_of};
-use sheet_records::refusal::{ID_TAKEN, Refusal, refuse};
+use sheet_records::read::{get_or, standing_of};
+use sheet_records::refusal::{Reason, Refusal, refuse};
 use sheet_records::standing::FREE;
 
 // An id that is neither declared nor retired.
@@ -15,11 +15,11 @@ pub(crate) fn judge_fresh(s: &[u8], st: &[u32; 255], at: usize) -> Result<(), Re
     ensures { result ≡ fresh s.now st.now at }
 {
     judge_below(s, at, IDS)?;
-    let id = byte_at(s, at);
+    let id = get_or(s, at, 0);
     if standing_of(st, id) == FREE {
         return Ok(());
     }
-    Err(refuse(ID_TAKEN, at))
+    Err(refuse(Reason::IdTaken, at))
 }
 
 // The type of argument j of the record at a place.
@@ -29,7 +29,7 @@ fn judge_argument(s: &[u8], at: usize, j: u8) -> Result<(), Refusal>
     ensures { result ≡ argument s.now at j }
 {
     let place = at + 4 + j as usize;
-    if j < byte_at(s, at + 3) {
+    if j < get_or(s, at + 3, 0) {
         return judge_below(s, place, TYPES);
     }
     judge_unused(s, place)
@@ -64,7 +64,7 @@ pub(crate) fn registered(s: &[u8], st: &[u32; 255], at: usize, c: u32) -> [u32; 
     requires { at < 65536 }
     ensures { result ≡ set st.now (get_or s.now (at + 1) 0) c }
 {
-    let id = byte_at(s, at + 1);
+    let id = get_or(s, at + 1, 0);
     let all = *st;
     with_standing(all, id, c)
 }

@@ -9,7 +9,7 @@ use crate::part::read_root;
 use language::Numbers;
 use sheet_records::edition::Edition;
 use sheet_records::kind::{Shape, shape_of};
-use sheet_records::refusal::{CUT_SHORT, OUT_OF_RANGE, Refusal, TOO_MANY_NAMES, refuse};
+use sheet_records::refusal::{Reason, Refusal, refuse};
 use sheet_records::standing::{RETIRED, declared_standing};
 
 // What reading a sheet gives: the place of the term, its type and the place after it.
@@ -57,12 +57,12 @@ pub(crate) fn read_names(
         t.old t.new }
 {
     if s.len() <= at {
-        return Err(refuse(CUT_SHORT, s.len()));
+        return Err(refuse(Reason::CutShort, s.len()));
     }
     let kind = s[at];
     let shape = shape_of(kind);
     match shape {
-        Shape::Unknown => Err(refuse(OUT_OF_RANGE, at)),
+        Shape::Unknown => Err(refuse(Reason::OutOfRange, at)),
         Shape::Part {
             body: _,
             parts: _,
@@ -100,7 +100,7 @@ fn read_after(
         t.old t.new }
 {
     if left == 0 {
-        return Err(refuse(TOO_MANY_NAMES, at));
+        return Err(refuse(Reason::TooManyNames, at));
     }
     judged?;
     let next = registered(s, st, at, c);

@@ -7,7 +7,8 @@ ghost use Rattle.sheet_reader.specs.table.Notes.{is_name_standing, noted, is_not
 use sheet_heads::head::Record;
 use sheet_records::kind::USE;
 use sheet_records::standing::{FIRST_VARIABLE, RETIRED};
-use sheet_rows::row::{NOTES, put};
+use sheet_records::store::put;
+use sheet_rows::row::NOTES;
 
 // The note of a name that is used.
 const NOTED: u16 = 1;

@@ -18,7 +18,7 @@ use sheet_parts::typing::{accepts_part, type_of};
 use sheet_records::edition::Edition;
 use sheet_records::kind::Rule;
 use sheet_records::limits::GREATEST_DEPTH;
-use sheet_records::refusal::{Refusal, WRONG_TYPE, refuse};
+use sheet_records::refusal::{Reason, Refusal, refuse};
 use sheet_rows::row::{link, write_row};
 use weight_records::record::weigh_record;
 
@@ -360,7 +360,7 @@ fn read_next(
     let ty = part.ty as u8;
     let next = part.next;
     if !accepts_part(rule, s, bare_record(place, rule, a, b), j, prev, ty) {
-        return Err(refuse(WRONG_TYPE, at));
+        return Err(refuse(Reason::WrongType, at));
     }
     read_parts(
         edition,

@@ -7,8 +7,8 @@ use crate::names::{Reading, read_names};
 use language::Numbers;
 use sheet_records::edition::Edition;
 use sheet_records::limits::{FIRST_RECORD, GREATEST_RULE, GREATEST_Z, MOST_BYTES, MOST_NAMES};
-use sheet_records::read::byte_at;
-use sheet_records::refusal::{CUT_SHORT, LEFT_OVER, OUT_OF_RANGE, Refusal, TOO_LONG, refuse};
+use sheet_records::read::get_or;
+use sheet_records::refusal::{Reason, Refusal, refuse};
 
 // Nothing after the term.
 #[tactic(auto, unfolding(crate::specs::table::Fill::closed_reading))]
@@ -20,7 +20,7 @@ fn close_sheet(s: &[u8], x: Result<Reading, Refusal>) -> Result<Reading, Refusal
         return x;
     };
     if sheet.next < s.len() {
-        return Err(refuse(LEFT_OVER, sheet.next));
+        return Err(refuse(Reason::LeftOver, sheet.next));
     }
     Ok(sheet)
 }
@@ -31,24 +31,24 @@ pub fn read_sheet(edition: Edition, s: &[u8], t: &mut [u16]) -> Result<Reading, 
         t.old t.new }
 {
     if MOST_BYTES < s.len() {
-        return Err(refuse(TOO_LONG, MOST_BYTES));
+        return Err(refuse(Reason::TooLong, MOST_BYTES));
     }
     if s.len() == 0 {
-        return Err(refuse(CUT_SHORT, s.len()));
+        return Err(refuse(Reason::CutShort, s.len()));
     }
     let z = s[0];
     if z == 0 {
-        return Err(refuse(OUT_OF_RANGE, 0));
+        return Err(refuse(Reason::OutOfRange, 0));
     }
     if GREATEST_Z < z {
-        return Err(refuse(OUT_OF_RANGE, 0));
+        return Err(refuse(Reason::OutOfRange, 0));
     }
     if s.len() <= 1 {
-        return Err(refuse(CUT_SHORT, s.len()));
+        return Err(refuse(Reason::CutShort, s.len()));
     }
     let rule = s[1];
     if GREATEST_RULE < rule {
-        return Err(refuse(OUT_OF_RANGE, 1));
+        return Err(refuse(Reason::OutOfRange, 1));
     }
     let n = Numbers { z, rule };
     let st = [0u32; 255];
@@ -60,7 +60,7 @@ pub fn read_sheet(edition: Edition, s: &[u8], t: &mut [u16]) -> Result<Reading, 
 pub fn numbers_of(s: &[u8]) -> Numbers
     ensures { result ≡ numbers_at s.now }
 {
-    let z = byte_at(s, 0);
-    let rule = byte_at(s, 1);
+    let z = get_or(s, 0, 0);
+    let rule = get_or(s, 1, 0);
     Numbers { z, rule }
 }

@@ -4,7 +4,7 @@ ghost use Rattle.sheet_records.specs.Standing.{declared_standing, variable_stand
 ghost use Rattle.sheet_records.specs.Standing.{procedure_standing, standing_of, is_named, is_held, result_of, count_of, argument_of};
 
 use crate::kind::{ARGUMENT_TYPES, COUNT, PARAMETER_TYPES, RESULT};
-use crate::read::byte_at;
+use crate::read::get_or;
 
 pub const FREE: u32 = 0;
 
@@ -159,10 +159,10 @@ pub fn result_of(s: &[u8], c: u32) -> u8
     match Standing::from(c) {
         Standing::Free => 0,
         Standing::Retired => 0,
-        Standing::Declared { place, once: _ } => byte_at(s, place as usize + RESULT),
+        Standing::Declared { place, once: _ } => get_or(s, place as usize + RESULT, 0),
         Standing::Variable { number: _, holds } => VARIABLE_TYPE + holds,
         Standing::Parameter { number: _, ty } => ty,
-        Standing::Procedure { number: _, place } => byte_at(s, place as usize + RESULT),
+        Standing::Procedure { number: _, place } => get_or(s, place as usize + RESULT, 0),
     }
 }
 
@@ -174,13 +174,13 @@ pub fn count_of(s: &[u8], c: u32) -> u8
     match Standing::from(c) {
         Standing::Free => 0,
         Standing::Retired => 0,
-        Standing::Declared { place, once: _ } => byte_at(s, place as usize + COUNT),
+        Standing::Declared { place, once: _ } => get_or(s, place as usize + COUNT, 0),
         Standing::Variable {
             number: _,
             holds: _,
         } => 0,
         Standing::Parameter { number: _, ty: _ } => 0,
-        Standing::Procedure { number: _, place } => byte_at(s, place as usize + COUNT),
+        Standing::Procedure { number: _, place } => get_or(s, place as usize + COUNT, 0),
     }
 }
 
@@ -192,18 +192,20 @@ pub fn argument_of(s: &[u8], c: u32, j: u8) -> u8
     match Standing::from(c) {
         Standing::Free => 0,
         Standing::Retired => 0,
-        Standing::Declared { place, once: _ } => byte_at(
+        Standing::Declared { place, once: _ } => get_or(
             s,
             place as usize + ARGUMENT_TYPES + j as usize,
+            0,
         ),
         Standing::Variable {
             number: _,
             holds: _,
         } => 0,
         Standing::Parameter { number: _, ty: _ } => 0,
-        Standing::Procedure { number: _, place } => byte_at(
+        Standing::Procedure { number: _, place } => get_or(
             s,
             place as usize + PARAMETER_TYPES + 2 * (j as usize),
+            0,
         ),
     }
 }

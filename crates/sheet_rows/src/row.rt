@@ -12,8 +12,9 @@ use sheet_heads::head::Record;
 use sheet_parts::typing::{COMMAND, TRUTH_VARIABLE};
 use sheet_parts::weight::values_of;
 use sheet_records::kind::Rule;
-use sheet_records::read::short_at;
+use sheet_records::read::get_or;
 use sheet_records::standing::Standing;
+use sheet_records::store::put;
 
 // The words of a row: the kind of the part, the place after it, the class of its type and the number of values of its
 // data, a detail by its kind, and the places of its parts.
@@ -64,15 +65,6 @@ const COUNT_SPAN: u8 = crate::pack::COUNT_SPAN as u8;
 
 const ONCE: u16 = crate::pack::ONCE as u16;
 
-// Stores v at i, if the table reaches that far.
-pub fn put(t: &mut [u16], i: usize, v: u16)
-    ensures { t.new ≡ set t.old i v }
-{
-    if i < t.len() {
-        t[i] = v;
-    }
-}
-
 // Word i of the row at a place.
 fn cell_at(place: usize, i: usize) -> usize
     requires { (place < 65536) × (i < 65536) }
@@ -86,7 +78,7 @@ pub fn word_of(t: &[u16], place: usize, i: usize) -> usize
     requires { (place < 65536) × (i < ROW-WORDS) }
     ensures { (result ≡ word t.now place i) × (result < 65536) }
 {
-    short_at(t, ROW_WORDS * place + i) as usize
+    get_or(t, ROW_WORDS * place + i, 0) as usize
 }
 
 // Stores v in word i of the row at a place, if the table reaches that far.

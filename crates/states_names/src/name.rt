@@ -27,7 +27,7 @@ const WAIT: usize = 1;
 
 const INNER: usize = 2;
 
-// Where the arguments of a name begin.
+// Where the arguments of a name begin. Two names of two definitions over sum: spent(t, at, INNER) would be no plainer.
 #[tactic(auto, unfolding(crate::specs::Name::inner_of))]
 fn inner(t: &[u16; TERM_WORDS], at: usize) -> usize
     requires { Long t.now }

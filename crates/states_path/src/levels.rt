@@ -44,13 +44,6 @@ const UP: usize = 12;
 // All words.
 pub const PATH_WORDS: usize = 79885;
 
-// A word as a number.
-fn wide(x: u32) -> usize
-    ensures { result ≡ x }
-{
-    x as usize
-}
-
 // Word j of level i.
 #[tactic(auto, unfolding(crate::specs::Levels::field_of))]
 pub(crate) fn field(p: &[u32; PATH_WORDS], i: usize, j: usize) -> usize
@@ -58,7 +51,7 @@ pub(crate) fn field(p: &[u32; PATH_WORDS], i: usize, j: usize) -> usize
     ensures { result ≡ field_of p.now i j }
 {
     let at = FIELDS * i + j;
-    wide(p[at])
+    p[at] as usize
 }
 
 // The frame of level i.

@@ -5,7 +5,7 @@ ghost use Rattle.states_names.specs.Name.{no_move};
 ghost use Rattle.states_step.specs.walk.Down.{in_private};
 ghost use Rattle.states_path.specs.Path.{store_of};
 ghost use Rattle.states_path.specs.Levels.{frames_of, Sound};
-ghost use Rattle.states_path.specs.Kept.{spot_in, start_of, stop_of, least_of, until_of, child_of, KeptPath, Covers};
+ghost use Rattle.states_path.specs.Kept.{spot_in, start_of, stop_of, until_of, child_of, KeptPath, Covers};
 ghost use Rattle.states_path.specs.Kept.{Arrived};
 ghost use Rattle.states_positions.specs.Row.{Long};
 ghost use Rattle.states_step.specs.walk.Shows.{TermRows};
@@ -115,24 +115,16 @@ fn stop_at(t: &[u16; TERM_WORDS], root: usize, p: &[u32; PATH_WORDS], c: usize) 
     field(p, c - 1, END)
 }
 
-// The lesser of two numbers.
-#[tactic(auto, unfolding(crate::specs::Kept::least_of))]
-fn least(a: usize, b: usize) -> usize
-    ensures { result ≡ least_of a b }
-{
-    a.min(b)
-}
-
 // The end of a part's states: past k, and within the whole's.
-#[tactic(auto, unfolding(crate::specs::Kept::until_of))]
+#[tactic(auto, unfolding(crate::specs::Kept::least_of, crate::specs::Kept::until_of))]
 fn until(k: usize, past: usize, end: usize) -> usize
     requires { k < 65536 }
     ensures { result ≡ until_of k past end }
 {
     if past <= k {
-        return least(k + 1, end);
+        return (k + 1).min(end);
     }
-    least(past, end)
+    past.min(end)
 }
 
 // The level of a part of the innermost of c levels.

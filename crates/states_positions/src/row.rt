@@ -13,13 +13,6 @@ const SUM_LIMIT: usize = 2147483648;
 
 const FACTOR_LIMIT: usize = 65536;
 
-// A word as a number.
-fn wide(x: u16) -> usize
-    ensures { result ≡ x }
-{
-    x as usize
-}
-
 // Word i of the row at a place, 0 past the end of the rows. They are an array and not a slice because a slice, which is
 // two words, goes through memory at every call, and its length would be divided at every word.
 pub fn cell(t: &[u16; TERM_WORDS], at: usize, i: usize) -> usize
@@ -34,7 +27,7 @@ pub fn cell(t: &[u16; TERM_WORDS], at: usize, i: usize) -> usize
         return 0;
     }
     let index = row + i;
-    wide(t[index])
+    t[index] as usize
 }
 
 // The place of part j.
@@ -48,7 +41,7 @@ pub fn part_at(t: &[u16; TERM_WORDS], at: usize, j: usize) -> usize
     cell(t, at, PARTS + j)
 }
 
-// The weight of part j.
+// The weight of part j. Three names of three definitions over cell: part_word(t, at, j, WEIGHT) would be no plainer.
 #[tactic(auto, unfolding(crate::specs::Row::part_weight))]
 pub fn part_weight(t: &[u16; TERM_WORDS], at: usize, j: usize) -> usize
     requires { Long t.now }

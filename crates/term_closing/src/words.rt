@@ -4,8 +4,9 @@ ghost use Rattle.sheet_rows.specs.Row.{cell, word};
 ghost use Rattle.sheet_rows.specs.PartKind.{ONCE};
 ghost use Rattle.term_closing.specs.Close.{come_of, used_of, more_of, first_bits, passed_slots};
 
-use sheet_records::read::short_at;
-use sheet_rows::row::{ROW_WORDS, put};
+use sheet_records::read::get_or;
+use sheet_records::store::put;
+use sheet_rows::row::ROW_WORDS;
 
 // The words of a row by number: the kind of a part, its weight (of a row of the expansion), the class of its type, the
 // number of values of its data, a detail by its kind, and its parts.
@@ -45,7 +46,7 @@ pub(crate) fn place_of(r: u16, i: u16) -> usize
 pub fn word_at(t: &[u16], r: u16, i: u16) -> u16
     ensures { result ≡ word t.now r i }
 {
-    short_at(t, place_of(r, i))
+    get_or(t, place_of(r, i), 0)
 }
 
 // Word i of row r becomes v, if the table reaches that far.
@@ -60,7 +61,7 @@ pub(crate) fn put_word(t: &mut [u16], r: u16, i: u16, v: u16)
 fn mark_at(marks: &[u16], at: u16) -> u16
     ensures { result ≡ get_or marks.now at 0 }
 {
-    short_at(marks, at as usize)
+    get_or(marks, at as usize, 0)
 }
 
 // What the part at a place comes down to: 0, or 1 and the number of a parameter.
@@ -83,7 +84,7 @@ pub fn used_at(marks: &[u16], at: u16) -> u16
 pub fn slot_at(slots: &[u16; 128], s: u16) -> u16
     ensures { result ≡ get_or slots.now s 0 }
 {
-    short_at(slots, s as usize)
+    get_or(slots, s as usize, 0)
 }
 
 // Slot s becomes the row v.

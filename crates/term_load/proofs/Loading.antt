@@ -22,7 +22,7 @@ use Rattle.term_expand.proofs.Places.{shown-row}
 use Rattle.term_expand.proofs.Automaton.{rows-represent}
 use Rattle.sheet_reader.specs.Reader.{numbers_at}
 use Rattle.sheet_table.specs.Tabled.{places}
-use Rattle.sheet_judge.specs.Judged.{Judged, JudgedBy, refusal_in}
+use Rattle.sheet_judge.specs.Judged.{Judged, JudgedBy}
 use Rattle.sheet_judge.specs.declared.mark.Uses.{Uses}
 use Rattle.sheet_judge.specs.declared.judge.Judgement.{Judgement}
 use Rattle.sheet_reader.proofs.Right.{gives}
@@ -45,10 +45,10 @@ root-small {s = s} {u = u} J =
     omega (arith, r.before, r.within)
 
 -- one that is refused
-pub load-refused : (s u after : List ℕ) {x : Result Judgement Refusal} {y z : Refusal} → JudgedBy Present s x u →
-    x ≡ Err y → z ≡ refusal_in x → LoadedBy s (Err z) after
-unfolding JudgedBy LoadedBy refusal_in
-load-refused s u after J e f = let j = rw e at J in rw (f, e) j
+pub load-refused : (s u after : List ℕ) {x : Result Judgement Refusal} {y : Refusal} → JudgedBy Present s x u →
+    x ≡ Err y → LoadedBy s (Err y) after
+unfolding JudgedBy LoadedBy
+load-refused s u after J e = rw e at J
 
 module _ {s u : List ℕ} {root ty size : ℕ} {uses : Uses} (J : Judged Present s root ty size uses u) where
   abbrev S : written.Sheet

@@ -44,4 +44,4 @@ pub record Ready (s : List ℕ) (root row ty size : ℕ) (uses : Uses) (u : List
 
 unfoldable pub LoadedBy : List ℕ → Result Loaded Refusal → List ℕ → Type 0
 LoadedBy s (Ok x) u = Ready s x.root x.row x.ty x.size x.uses u
-LoadedBy s (Err x) u = read_sheet s ≡ rejected x.number x.place
+LoadedBy s (Err x) u = read_sheet s ≡ rejected x.reason x.place

@@ -2,14 +2,14 @@
 ghost use Rattle.term_load.specs.Loaded.{MarksOf, Expanded, LoadedBy, Shows};
 ghost use Rattle.std.specs.Prelude.{◌≡◌, length};
 
-use sheet_judge::check::refusal_of;
 use sheet_judge::judge::judge_sheet;
 use sheet_judge::mark::Uses;
 use sheet_records::edition::Edition;
 use sheet_records::limits::MOST_BYTES;
-use sheet_records::read::short_at;
+use sheet_records::read::get_or;
 use sheet_records::refusal::Refusal;
-use sheet_rows::row::{MARKS, TABLE, put};
+use sheet_records::store::put;
+use sheet_rows::row::{MARKS, TABLE};
 use term_expand::expand::{TERM_WORDS, expand_term};
 
 // A sheet that is loaded: the place of its term, the row of the term, its type, the sheet's size and which names it
@@ -29,7 +29,7 @@ fn copy_marks(t: &[u16], marks: &mut [u16])
     ensures { MarksOf t.now marks.new 4096 }
 {
     for i in 0..MOST_BYTES {
-        put(marks, i, short_at(t, MARKS + i));
+        put(marks, i, get_or(t, MARKS + i, 0));
     }
 }
 
@@ -53,7 +53,7 @@ pub fn load(s: &[u8], rows: &mut [u16; TERM_WORDS]) -> Result<Loaded, Refusal>
     let x = judge_sheet(Edition::Present, s, &mut t);
     // `let .. else`, not `?`: the form of document 01 in which the answer is taken apart and the refusal handed on.
     let Ok(judgement) = x else {
-        return Err(refusal_of(x));
+        return Err(x.err().unwrap());
     };
     let row = expand_root(&t, rows, judgement.root);
     Ok(Loaded {

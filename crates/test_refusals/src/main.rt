@@ -3,7 +3,7 @@
 #![tactic(auto)]
 
 use sheet_judge::check::check;
-use sheet_records::refusal::{NEW_SHEET, OLD_SHEET};
+use sheet_records::refusal::Sheets;
 
 fn say(rt: &impl Print, s: &[u8]) {
     let _ = rt.write_all(s);
@@ -13,16 +13,16 @@ fn number(rt: &impl Print, n: u64) {
     let _ = rt.print(n);
 }
 
-// Writes the name of the sheet that a refusal names; any other number stands for both.
-fn name(rt: &impl Print, sheet: u8) {
+// Writes the name of the sheet that a refusal names.
+fn name(rt: &impl Print, sheet: Sheets) {
     match sheet {
-        OLD_SHEET => {
+        Sheets::Old => {
             say(rt, b" old ");
         }
-        NEW_SHEET => {
+        Sheets::New => {
             say(rt, b" new ");
         }
-        _ => {
+        Sheets::Both => {
             say(rt, b" both ");
         }
     }
@@ -39,7 +39,7 @@ fn show(rt: &impl Print, s: &[u8]) {
         }
         Err(x) => {
             say(rt, b"refused ");
-            number(rt, x.number as u64);
+            number(rt, x.reason as u64);
             name(rt, x.sheet);
             number(rt, x.place as u64);
         }

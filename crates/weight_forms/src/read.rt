@@ -5,7 +5,7 @@ ghost use Rattle.weight_theory.specs.Stack.{form_word, coefficient_of};
 use crate::table::{COEFFICIENTS, CONSTANT, COUNT};
 use crate::words::word_at;
 
-// How many coefficients a form has.
+// How many coefficients a form has. Two names over word_at: word_at(t, row, COUNT) at the uses would be no plainer.
 pub fn width(t: &[u16], row: usize) -> usize
     requires { row < 65536 }
     ensures { (result ≡ form_word t.now row 0) × (result < 65536) }

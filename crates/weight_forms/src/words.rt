@@ -3,8 +3,9 @@ ghost use Rattle.std.specs.Prelude.{◌≡◌, ◌<◌, set};
 ghost use Rattle.weight_theory.specs.Stack.{spot, form_word, cleared, copied};
 
 use crate::table::{CONSTANT, WIDTH};
-use sheet_records::read::short_at;
-use sheet_rows::row::{FORMS, put};
+use sheet_records::read::get_or;
+use sheet_records::store::put;
+use sheet_rows::row::FORMS;
 
 // Where word i of a form stands.
 #[tactic(auto, unfolding(weight_theory::specs::Stack::spot))]
@@ -22,7 +23,7 @@ pub(crate) fn word_at(t: &[u16], row: usize, i: usize) -> u16
     ensures { result ≡ form_word t.now row i }
 {
     let at = spot(row, i);
-    short_at(t, at)
+    get_or(t, at, 0)
 }
 
 // Stores v in word i of a form, if the table reaches that far.

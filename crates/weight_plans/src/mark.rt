@@ -5,7 +5,7 @@ ghost use Rattle.weight_theory.specs.Stack.{marks_in, coefficient_of};
 ghost use Rattle.weight_theory.specs.Plan.{come_at, argument_of, through_of, come_of, used_of};
 
 use crate::row::term_place;
-use sheet_records::read::short_at;
+use sheet_records::read::get_or;
 use sheet_rows::kind::{PARAMETER, ROUTINE};
 use sheet_rows::pack::COME_SPAN;
 use sheet_rows::row::{MARKS, PARTS, word_of};
@@ -19,7 +19,7 @@ pub fn come_at(t: &[u16], place: usize) -> usize
     requires { place < 65536 }
     ensures { (result ≡ come_at (marks_in t.now) place) × (result < 128) }
 {
-    short_at(t, MARKS + place) as usize % COME_SPAN
+    get_or(t, MARKS + place, 0) as usize % COME_SPAN
 }
 
 // What argument j of the use at a place comes down to.

@@ -3,13 +3,14 @@ ghost use Rattle.std.specs.Prelude.{◌≡◌, ◌<◌};
 ghost use Rattle.weight_theory.specs.Plan.{parts_of, own_of, factor_of, extra_of};
 ghost use Rattle.weight_theory.specs.Step.{started};
 
-use crate::row::{answers_at, questions_at, short, term_form, values_at};
+use crate::row::{short, short_of, term_form};
 use sheet_records::limits::MOST_ARGUMENTS;
+use sheet_rows::class::{answers_by, questions_by};
 use sheet_rows::kind::{
     ASSIGN, FETCH, IF, NAME, NEW, OPERATE, PARAMETER, PRIVATE, ROUTINE, SEQUENCE, WHILE,
 };
 use sheet_rows::pack::{COUNT_SPAN, ID_SPAN, ONCE, PLACE_SPAN};
-use sheet_rows::row::{PARTS, word_of};
+use sheet_rows::row::{CLASS, PARTS, VALUES, word_of};
 use weight_forms::read::coefficient;
 use weight_forms::set::{set_constant, set_lower, set_unit};
 
@@ -82,12 +83,12 @@ pub fn factor_of(
     match kind {
         // operators (definition 14)
         OPERATE if j == 0 => 1,
-        OPERATE => values_at(t, word_of(t, at, PARTS)),
+        OPERATE => short_of(t, word_of(t, at, PARTS), VALUES),
         // application (definition 22), and uses of procedures
-        NAME => questions_at(t, place),
+        NAME => questions_by(short_of(t, place, CLASS), short_of(t, place, VALUES)),
         ROUTINE => coefficient(t, term_form(t, detail), k + j),
         // variables (definitions 24 to 26): assign and new
-        ASSIGN if j == 0 => values_at(t, place),
+        ASSIGN if j == 0 => short_of(t, place, VALUES),
         NEW => short(detail),
         _ => 1,
     }
@@ -100,7 +101,7 @@ pub fn extra_of(t: &[u16], kind: usize, place: usize) -> u32
     ensures { result ≡ extra_of t.now kind place }
 {
     if kind == NAME {
-        return answers_at(t, place);
+        return answers_by(short_of(t, place, CLASS), short_of(t, place, VALUES));
     }
     0
 }

@@ -1,15 +1,13 @@
 // Rows of the table of parts, what a use's row says of the procedure, and the stack of forms.
 ghost use Rattle.std.specs.Prelude.{◌≡◌, ◌<◌};
-ghost use Rattle.sheet_rows.specs.PartKind.{CLASS, VALUES};
+ghost use Rattle.sheet_rows.specs.PartKind.{ROW-WORDS};
 ghost use Rattle.sheet_rows.specs.Row.{word};
-ghost use Rattle.sheet_rows.specs.Class.{questions_by, answers_by};
 ghost use Rattle.weight_theory.specs.Plan.{term_place, term_form};
 ghost use Rattle.weight_theory.specs.Stack.{height_of, slot_of};
 
-use sheet_records::read::short_at;
-use sheet_rows::class::{answers_by, questions_by};
+use sheet_records::read::get_or;
 use sheet_rows::pack::PLACE_SPAN;
-use sheet_rows::row::{CLASS, HEIGHT, PARTS, SLOTS, VALUES, word_of};
+use sheet_rows::row::{HEIGHT, PARTS, SLOTS, word_of};
 
 // A word as a number of 32 bits.
 pub(crate) fn short(x: usize) -> u32
@@ -19,38 +17,12 @@ pub(crate) fn short(x: usize) -> u32
     x as u32
 }
 
-// The number of values of the data of the part at a place.
-pub fn values_at(t: &[u16], place: usize) -> u32
-    requires { place < 65536 }
-    ensures { (result ≡ word t.now place VALUES) × (result < 65536) }
+// Word i of the row at a place, as a number of 32 bits.
+pub fn short_of(t: &[u16], place: usize, i: usize) -> u32
+    requires { (place < 65536) × (i < ROW-WORDS) }
+    ensures { (result ≡ word t.now place i) × (result < 65536) }
 {
-    short(word_of(t, place, VALUES))
-}
-
-// The class of the type of the part at a place.
-fn class_at(t: &[u16], place: usize) -> u32
-    requires { place < 65536 }
-    ensures { (result ≡ word t.now place CLASS) × (result < 65536) }
-{
-    short(word_of(t, place, CLASS))
-}
-
-// The questions of the type of the part at a place.
-#[tactic(auto, unfolding(sheet_rows::specs::Class::questions_by))]
-pub(crate) fn questions_at(t: &[u16], place: usize) -> u32
-    requires { place < 65536 }
-    ensures { result ≡ questions_by (word t.now place CLASS) (word t.now place VALUES) }
-{
-    questions_by(class_at(t, place), values_at(t, place))
-}
-
-// The answers to them in all.
-#[tactic(auto, unfolding(sheet_rows::specs::Class::answers_by))]
-pub(crate) fn answers_at(t: &[u16], place: usize) -> u32
-    requires { place < 65536 }
-    ensures { result ≡ answers_by (word t.now place CLASS) (word t.now place VALUES) }
-{
-    answers_by(class_at(t, place), values_at(t, place))
+    short(word_of(t, place, i))
 }
 
 // How many forms are on the stack.
@@ -58,7 +30,7 @@ pub(crate) fn answers_at(t: &[u16], place: usize) -> u32
 pub fn height_of(t: &[u16]) -> usize
     ensures { (result ≡ height_of t.now) × (result < 65536) }
 {
-    short_at(t, HEIGHT) as usize
+    get_or(t, HEIGHT, 0) as usize
 }
 
 // Which form is that of the part at a place.
@@ -67,7 +39,7 @@ fn slot_of(t: &[u16], place: usize) -> usize
     requires { place < 65536 }
     ensures { (result ≡ slot_of t.now place) × (result < 65536) }
 {
-    short_at(t, SLOTS + place) as usize
+    get_or(t, SLOTS + place, 0) as usize
 }
 
 // Where the term of the procedure stands that a use with the given detail means.

@@ -10,16 +10,17 @@ ghost use Rattle.weight_records.specs.inner.Sum.{SumOf};
 
 use sheet_parts::weight::{sat_add, sat_mul};
 use sheet_records::limits::MOST_BYTES;
+use sheet_records::store::put;
 use sheet_rows::kind::PROCEDURE;
 use sheet_rows::pack::COME_SPAN;
-use sheet_rows::row::{DETAIL, HEIGHT, KIND, MARKS, PARTS, SLOTS, put, word_of};
+use sheet_rows::row::{DETAIL, HEIGHT, KIND, MARKS, PARTS, SLOTS, VALUES, word_of};
 use weight_forms::read::{constant, width};
 use weight_forms::set::{has_form, set_constant, set_lower};
 use weight_forms::sum::add;
 use weight_forms::table::{MOST_FORMS, MOST_PARAMETERS};
 use weight_plans::mark::{come_at, come_of, used_of};
 use weight_plans::plan::{extra_of, factor_of, own_of, parts_of, start};
-use weight_plans::row::{height_of, values_at};
+use weight_plans::row::{height_of, short_of};
 
 // How many parts a procedure has.
 const TERMS: usize = 2;
@@ -182,7 +183,7 @@ pub fn first_values(t: &[u16], at: usize) -> u32
     if MOST_BYTES <= place {
         return 0;
     }
-    values_at(t, place)
+    short_of(t, place, VALUES)
 }
 
 // The constant of a form, where it has no coefficients.

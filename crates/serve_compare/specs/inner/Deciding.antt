@@ -22,6 +22,8 @@ use Rattle.serve_compare.specs.Look.{decision_of, whole_depth, Looked}
 use Rattle.serve_compare.specs.declared.Examined.{Examined}
 use Rattle.play_words.specs.declared.Difference.{Difference}
 use Rattle.serve_compare.specs.declared.Comparison.{Comparison}
+use Rattle.sheet_records.specs.declared.refusal.Sheets.{Sheets}
+use Rattle.sheet_records.specs.declared.refusal.Sheets.TheVariants.{Old, New, Both}
 
 -- two terms of one type, of sizes `all` and `more`, in range, their automata in the words, and room for the play
 pub record Deciding (ws space : List ℕ) (all more : ℕ) : Type 0 where
@@ -44,17 +46,17 @@ pub record Deciding (ws space : List ℕ) (all more : ℕ) : Type 0 where
   pub built : TwoBuilt numbers type term other_term (all + more + 1) ws
 
 -- exactly one of two terms has the play: 0 the first, 1 the second
-unfoldable pub OnlyTerm : ℕ → Ty → Term → Term → Word → Type 0
-OnlyTerm zero T M M' u = Complete T M u × (Complete T M' u → ⊥)
-OnlyTerm (suc zero) T M M' u = Complete T M' u × (Complete T M u → ⊥)
-OnlyTerm (suc (suc k)) T M M' u = ⊥
+unfoldable pub OnlyTerm : Sheets → Ty → Term → Term → Word → Type 0
+OnlyTerm Old T M M' u = Complete T M u × (Complete T M' u → ⊥)
+OnlyTerm New T M M' u = Complete T M' u × (Complete T M u → ⊥)
+OnlyTerm Both T M M' u = ⊥
 
 -- the same plays of at most `most` moves, the space untouched; or the first play of exactly one, and its records
 pub data Verdicts (N : Numbers) (T : Ty) (M M' : Term) (most : ℕ) (space : List ℕ) (r : Option Difference) (space' : List ℕ) :
     Type 0 where
   alike : r ≡ None → ((u : Word) → length u ≤ most → Complete T M u ↔ Complete T M' u) → space' ≡ space →
       Verdicts N T M M' most space r space'
-  differ : (which : ℕ) (play : Word) → r ≡ Some (record { sheet = which; moves = length play }) → OnlyTerm which T M M' play →
+  differ : (which : Sheets) (play : Word) → r ≡ Some (record { sheet = which; moves = length play }) → OnlyTerm which T M M' play →
       ((v : Word) → Before N v play → Complete T M v ↔ Complete T M' v) → length play ≤ most →
       space' ≡ records N play ++ drop (length (records N play)) space → Verdicts N T M M' most space r space'
 

@@ -1,5 +1,6 @@
 -- The words that `answer_look` writes are `look_words`, where there is room for them.
 use borrow.Author.Rules.{rules}
+use Rattle.abi_words.proofs.Numbers.{sheets-number}
 use Rattle.abi_words.proofs.Wording.{returned-as, words-looked-same, words-looked-apart, words-looked-so-far}
 use Rattle.abi_words.proofs.Wording.{words-not-looked}
 use Rattle.abi_words.proofs.look.answer_look.Goals as goal
@@ -12,7 +13,7 @@ returns-in-Same c =
 
 pub returns-in-Apart : goal.returns-in-Apart
 returns-in-Apart c =
-    let p = returned-as _ _ _ _ _ (words-looked-apart _ _ _ _ _ _ c.in-Ok.is c.in-Apart.is)
+    let p = returned-as _ _ _ _ _ (words-looked-apart _ _ _ _ _ _ _ c.in-Ok.is c.in-Apart.is (sheets-number _))
     c.answer_depth-in-Apart.ensures.returned c.answer_depth-in-Apart.ensures.written in
     record { returned = p.0; written = p.1 }
 

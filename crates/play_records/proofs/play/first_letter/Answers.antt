@@ -4,4 +4,4 @@ use Rattle.play_records.proofs.play.first_letter.Goals as goal
 
 pub returns : goal.returns
 unfolding first_letter
-returns c = simp (← c.byte_at.ensures, ← c.byte_at-2.ensures, ← c.byte_at-3.ensures, ← c.byte_at-4.ensures, ← c.letter_from.ensures)
+returns c = simp (← c.get_or.ensures, ← c.get_or-2.ensures, ← c.get_or-3.ensures, ← c.get_or-4.ensures, ← c.letter_from.ensures)

@@ -14,14 +14,14 @@ loop-i-init c = search-first _ _ _ _ c.requires.0 c.requires.1
 pub overflow_add-at : goal.overflow_add-at
 overflow_add-at c =
     let h = (walked-again _ _ _ _ _ _ _ _ _ _ _ c.requires.0 c.loop-i.invariant.walked
-    c.loop-i-test.true c.first_letter.ensures c.next_state-p.ensures c.byte_at.ensures
+    c.loop-i-test.true c.first_letter.ensures c.next_state-p.ensures c.get_or.ensures
     c.width_of-at.ensures).within in
     omega (arith, h, c.well_formed)
 
 pub is_marked-requires : goal.is_marked-requires
 is_marked-requires c =
     let W = walked-again _ _ _ _ _ _ _ _ _ _ _ c.requires.0 c.loop-i.invariant.walked
-    c.loop-i-test.true c.first_letter.ensures c.next_state-p.ensures c.byte_at.ensures c.width_of-at.ensures in
+    c.loop-i-test.true c.first_letter.ensures c.next_state-p.ensures c.get_or.ensures c.width_of-at.ensures in
     let r = rest-length (5 * c.args.n)
     c.args.words.now in (
       c.requires.0.few,
@@ -35,7 +35,7 @@ is_marked-requires c =
 pub loop-i-preserved : goal.loop-i-preserved
 loop-i-preserved c =
     let W = walked-again _ _ _ _ _ _ _ _ _ _ _ c.requires.0 c.loop-i.invariant.walked
-    c.loop-i-test.true c.first_letter.ensures c.next_state-p.ensures c.byte_at.ensures c.width_of-at.ensures in
+    c.loop-i-test.true c.first_letter.ensures c.next_state-p.ensures c.get_or.ensures c.width_of-at.ensures in
     elim c.if-is_marked.branch [
       | then-is_marked w ↦ rw w.count-is (search-marked _ _ _ _ _ _ _ _ _ _ c.loop-i.invariant W c.loop-i-test.true
           (c.is_marked.ensures.0 w.if-is_marked.true))

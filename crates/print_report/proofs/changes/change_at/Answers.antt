@@ -5,5 +5,5 @@ use Rattle.print_report.proofs.changes.change_at.Goals as goal
 
 pub returns : goal.returns
 returns c =
-    change-found _ _ _ _ _ _ _ c.byte_at-low.ensures c.byte_at-high.ensures c.byte_at-old.ensures c.byte_at-given.ensures
+    change-found _ _ _ _ _ _ _ c.get_or-low.ensures c.get_or-high.ensures c.get_or-old.ensures c.get_or-given.ensures
     c.change_line.ensures

@@ -5,5 +5,5 @@ use Rattle.print_text.proofs.lines.first_move.Goals as goal
 
 pub returns : goal.returns
 returns c =
-    move-line _ _ _ _ _ _ c.byte_at.ensures c.byte_at-2.ensures c.byte_at-3.ensures c.byte_at-4.ensures
+    move-line _ _ _ _ _ _ c.get_or.ensures c.get_or-2.ensures c.get_or-3.ensures c.get_or-4.ensures
     c.move_line.ensures

@@ -9,13 +9,13 @@ loop-i-init c = headed-first _ _
 
 pub loop-i-preserved : goal.loop-i-preserved
 loop-i-preserved c =
-    headed-again _ _ _ _ c.loop-i.invariant _ _ c.put_byte.ensures
+    headed-again _ _ _ _ c.loop-i.invariant _ _ c.put.ensures
     (omega (arith, c.loop-i-test.true, c.requires.0))
-    c.byte_at.ensures
+    c.get_or.ensures
 
 pub returns : goal.returns
 returns c = record {
   returned = refl;
   written = headed-last _ _ _ _ _ c.loop-i.auto.i-end c.loop-i-test.false c.loop-i.invariant _ _
-      c.put_byte-2.ensures;
+      c.put-2.ensures;
 }

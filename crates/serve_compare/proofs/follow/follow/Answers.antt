@@ -3,6 +3,7 @@ use borrow.Author.Rules.{rules}
 use native.Mathlib.Omega.{arith}
 use mathlib.Core.Path.{refl, sym, ap, ◌∙◌}
 use lib.ListN.{replicate}
+use Rattle.sheet_judge.proofs.Judging.{is-err}
 use Rattle.serve_compare.proofs.ReadSheets.{refused-sheet, taken, fit-as, size_small}
 use Rattle.serve_compare.proofs.FollowAnswers.{
   refuses-sheet,
@@ -16,7 +17,8 @@ use Rattle.serve_compare.proofs.follow.follow.Goals as goal
 
 pub returns-in_default : goal.returns-in_default
 returns-in_default c =
-    refuses-sheet c.args.sheet.now c.args.play.now c.args.words.now _ (refused-sheet _ _ c.load-x.ensures c.in_default.is) c.in_default.is c.cause_of.ensures refl
+    refuses-sheet c.args.sheet.now c.args.play.now c.args.words.now _
+    (refused-sheet _ _ c.load-x.ensures (is-err c.err.ensures.value c.unwrap.ensures)) c.of_sheet.ensures refl
 
 pub words_asked-requires : goal.words_asked-requires
 words_asked-requires c = omega (arith, size_small (taken _ _ c.load-x.ensures c.in-Ok.is))
@@ -32,7 +34,7 @@ pub returns-in_default-parsed : goal.returns-in_default-parsed
 returns-in_default-parsed c =
     let F = fit-as (taken _ _ c.load-x.ensures c.in-Ok.is) (sym c.numbers_of-n.ensures) refl in
     refuses-play F c.args.play.now c.args.words.now _ (rw c.words_asked.ensures at c.if-words-words_asked.false)
-    c.count_moves-parsed.ensures c.in_default-parsed.is c.play_cause.ensures refl
+    c.count_moves-parsed.ensures (is-err c.err-in_default-parsed.ensures.value c.unwrap-in_default-parsed.ensures) c.play_cause.ensures refl
 
 pub one_from_rows-requires : goal.one_from_rows-requires
 one_from_rows-requires c =

@@ -11,7 +11,7 @@ pub returns-then-offends : goal.returns-then-offends
 returns-then-offends c =
     let a = c.args in
     walks-found a.s.now a.t.now a.root _ _ _ _ 0 0 c.loop-at.invariant.1
-    c.loop-at-test.true c.byte_at-kind.ensures c.reach-until.ensures _
+    c.loop-at-test.true c.get_or-kind.ensures c.reach-until.ensures _
     c.offends.ensures c.if-offends.true
 
 pub loop-at-preserved : goal.loop-at-preserved
@@ -19,7 +19,7 @@ loop-at-preserved c =
     let a = c.args in (
       omega (arith, c.body_of.ensures.1),
       walks-on a.s.now a.t.now a.root _ _ c.loop-at.at _ _ _ c.loop-at.invariant.1 c.loop-at-test.true
-          c.byte_at-kind.ensures c.reach-until.ensures _ c.offends.ensures
+          c.get_or-kind.ensures c.reach-until.ensures _ c.offends.ensures
           c.if-offends.false c.body_of.ensures.0 refl,
     )
 

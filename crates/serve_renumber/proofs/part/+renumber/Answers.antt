@@ -46,23 +46,23 @@ renumber_part-returns-then-at-ge-MOST_BYTES t c = part-past _ _ _ _ _ _ _ _ c.if
 pub renumber_part-returns-then-kind-eq-NEW : goal.renumber_part-returns-then-kind-eq-NEW
 renumber_part-returns-then-kind-eq-NEW t c =
     let e : c.args.left ≡ suc (c.args.left - 1) = omega (arith, c.if-left-eq0.false) in
-    part-block _ _ _ _ _ _ _ _ _ _ _ _ _ _ e c.byte_at-kind.ensures c.if-kind-eq-NEW.true c.renumber_block.ensures
+    part-block _ _ _ _ _ _ _ _ _ _ _ _ _ _ e c.get_or-kind.ensures c.if-kind-eq-NEW.true c.renumber_block.ensures
 
 pub renumber_part-returns-then-kind-eq-PROCEDURE : goal.renumber_part-returns-then-kind-eq-PROCEDURE
 renumber_part-returns-then-kind-eq-PROCEDURE t c =
     let e : c.args.left ≡ suc (c.args.left - 1) = omega (arith, c.if-left-eq0.false) in
-    part-routine _ _ _ _ _ _ _ _ _ _ _ _ _ _ e c.byte_at-kind.ensures c.if-kind-eq-PROCEDURE.true
+    part-routine _ _ _ _ _ _ _ _ _ _ _ _ _ _ e c.get_or-kind.ensures c.if-kind-eq-PROCEDURE.true
     c.renumber_routine.ensures
 
 pub renumber_part-returns-then-kind-eq-USE : goal.renumber_part-returns-then-kind-eq-USE
 renumber_part-returns-then-kind-eq-USE t c =
     let e : c.args.left ≡ suc (c.args.left - 1) = omega (arith, c.if-left-eq0.false) in
-    part-call _ _ _ _ _ _ _ _ _ _ _ _ _ _ e c.byte_at-kind.ensures c.if-kind-eq-USE.true c.renumber_call.ensures
+    part-call _ _ _ _ _ _ _ _ _ _ _ _ _ _ e c.get_or-kind.ensures c.if-kind-eq-USE.true c.renumber_call.ensures
 
 pub renumber_part-returns : goal.renumber_part-returns
 renumber_part-returns t c =
     let e : c.args.left ≡ suc (c.args.left - 1) = omega (arith, c.if-left-eq0.false) in
-    part-plain _ _ _ _ _ _ _ _ _ _ _ _ _ _ _ _ e c.byte_at-kind.ensures c.if-kind-eq-USE.false c.if-kind-eq-NEW.false
+    part-plain _ _ _ _ _ _ _ _ _ _ _ _ _ _ _ _ e c.get_or-kind.ensures c.if-kind-eq-USE.false c.if-kind-eq-NEW.false
     c.if-kind-eq-PROCEDURE.false c.body_of.ensures.0 c.parts_of.ensures.0 c.renumber_parts.ensures
 
 -- renumber_parts

@@ -1,11 +1,12 @@
 -- By what reading says, and by the lengths.
+use Rattle.sheet_judge.proofs.Judging.{is-err}
 use Rattle.serve_renumber.proofs.Finishing.{accepted-of, service-refused, service-short, service-narrow, service-done}
 use Rattle.serve_renumber.proofs.renumber.renumber.Goals as goal
 
 pub returns-in_default : goal.returns-in_default
 returns-in_default c =
-    service-refused c.args.s.now c.args.out.now c.args.list.now _ _ c.judge_earlier-x.ensures c.in_default.is
-    c.refusal_of.ensures c.of_sheet.ensures
+    service-refused c.args.s.now c.args.out.now c.args.list.now _ _ c.judge_earlier-x.ensures
+    (is-err c.err.ensures.value c.unwrap.ensures) c.of_sheet.ensures
 
 pub returns-then-out-s : goal.returns-then-out-s
 returns-then-out-s c =

@@ -10,7 +10,7 @@ loop-at-init c = (omega arith, bounds-first c.args.s.now _ _)
 pub loop-at-preserved : goal.loop-at-preserved
 loop-at-preserved c = (
   omega (arith, c.body_of.ensures.1),
-  bounds-again c.args.s.now c.args.root _ _ _ c.loop-at.at _ _ _ c.loop-at.invariant.1 c.loop-at-test.true c.byte_at-kind.ensures
+  bounds-again c.args.s.now c.args.root _ _ _ c.loop-at.at _ _ _ c.loop-at.invariant.1 c.loop-at-test.true c.get_or-kind.ensures
       c.take_ids.ensures c.body_of.ensures.0 refl,
 )
 

@@ -6,4 +6,4 @@ use Rattle.sheet_heads.proofs.head.too_deep.Goals as goal
 pub returns : goal.returns
 unfolding head_of
 returns c = λ ed st N.
-    rw (c.refuse-2.ensures, lt-leb _ _ c.if-s-at.false, ← c.shape_of-shape.ensures) (c.deep_number.ensures _)
+    rw (c.refuse-2.ensures, lt-leb _ _ c.if-s-at.false, ← c.shape_of-shape.ensures) (c.deep_reason.ensures _)

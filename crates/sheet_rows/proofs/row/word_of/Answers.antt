@@ -6,4 +6,4 @@ use Rattle.sheet_rows.proofs.RowSteps.{word_read}
 use Rattle.sheet_rows.proofs.row.word_of.Goals as goal
 
 pub returns : goal.returns
-returns c = (c.short_at.ensures ∙ word_read _ _ _, omega arith)
+returns c = (c.get_or.ensures ∙ word_read _ _ _, omega arith)

@@ -1,6 +1,7 @@
 -- A sheet that is judged, and its term expanded.
 use mathlib.Core.Path.{refl}
 use Rattle.sheet_table.proofs.Noting.{blank-made}
+use Rattle.sheet_judge.proofs.Judging.{is-err}
 use Rattle.term_load.proofs.Loading.{judged-of, load-refused, load-sheet, shows}
 use Rattle.term_load.proofs.load.load.Goals as goal
 
@@ -8,7 +9,7 @@ pub judge_sheet-x-requires : goal.judge_sheet-x-requires
 judge_sheet-x-requires c = blank-made 58313 refl
 
 pub returns-in_default : goal.returns-in_default
-returns-in_default c = load-refused _ _ _ c.judge_sheet-x.ensures c.in_default.is c.refusal_of.ensures
+returns-in_default c = load-refused _ _ _ c.judge_sheet-x.ensures (is-err c.err.ensures.value c.unwrap.ensures)
 
 pub expand_root-row-requires : goal.expand_root-row-requires
 expand_root-row-requires c = let J = judged-of _ _ _ c.judge_sheet-x.ensures

@@ -10,6 +10,6 @@ use Rattle.weight_plans.proofs.mark.come_at.Goals as goal
 pub returns : goal.returns
 unfolding come_at
 returns c = (
-  ap (λ y. y % 128) (c.short_at.ensures ∙ sym (get_or-drop marks_from c.args.t.now c.args.place 0)),
+  ap (λ y. y % 128) (c.get_or.ensures ∙ sym (get_or-drop marks_from c.args.t.now c.args.place 0)),
   omega arith,
 )
