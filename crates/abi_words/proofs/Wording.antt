@@ -25,6 +25,12 @@ pub returned-as : (out out' ws ws₂ : List ℕ) (x : ℕ) → ws ≡ ws₂ → 
     (x ≡ status out) × (out' ≡ answered ws₂ out)
 returned-as out out' ws ws₂ x e t w = rw (← e) (t, w)
 
+-- a refusal by its numbers
+pub words-numbered : (number sheet place low high : ℕ) → low ≡ low_half place → high ≡ high_half place →
+    ((kind_refused ∷ number ∷ sheet ∷ low ∷ high ∷ []) ++ no_uses ++ no_uses) ≡
+    ((kind_refused ∷ number ∷ sheet ∷ low_half place ∷ high_half place ∷ []) ++ no_uses ++ no_uses)
+words-numbered number sheet place low high p q = rw (p, q) refl
+
 -- the words of each answer
 pub words-refused : (x : Cause) (number sheet low high : ℕ) → number ≡ number_of x.reason →
     sheet ≡ sheet_number x.sheet → low ≡ low_half x.place → high ≡ high_half x.place →

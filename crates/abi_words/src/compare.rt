@@ -1,6 +1,7 @@
 // The answer of compare.
 ghost use Rattle.std.specs.Prelude.{◌≡◌, [], ◌∷◌, ◌++◌};
-ghost use Rattle.abi_words.specs.Words.{uses_words, compare_words, answered, status};
+ghost use Rattle.abi_words.specs.Words.{kind_apart, low_half, high_half, uses_words};
+ghost use Rattle.abi_words.specs.Words.{compare_words, answered, status};
 
 use crate::half::{high_half, low_half};
 use crate::kind::{APART, SAME};
@@ -31,6 +32,18 @@ pub(crate) fn answer_names(
     )
 }
 
+// Writes the answer that two sheets are apart, by the number of a sheet, be it that of one or not.
+pub fn answer_apart(out: &mut [u32], sheet: u32, moves: usize, old: Uses, new: Uses) -> u32
+    ensures returned { result ≡ status out.old }
+    ensures written { out.new
+        ≡ answered
+        ((kind_apart ∷ sheet ∷ low_half moves ∷ high_half moves ∷ 0 ∷ []) ++ uses_words old ++ uses_words new) out.old }
+{
+    let low = low_half(moves);
+    let high = high_half(moves);
+    answer_names(out, APART, sheet, low, high, old, new)
+}
+
 // Writes the answer of compare.
 pub fn answer_compare(out: &mut [u32], r: Result<Comparison, Cause>) -> u32
     ensures returned { result ≡ status out.old }
@@ -39,12 +52,7 @@ pub fn answer_compare(out: &mut [u32], r: Result<Comparison, Cause>) -> u32
     match r {
         Ok(Comparison { found, old, new }) => match found {
             None => answer_names(out, SAME, 0, 0, 0, old, new),
-            Some(first) => {
-                let which = first.sheet as u32;
-                let low = low_half(first.moves);
-                let high = high_half(first.moves);
-                answer_names(out, APART, which, low, high, old, new)
-            }
+            Some(first) => answer_apart(out, first.sheet as u32, first.moves, old, new),
         },
         Err(x) => refuse(out, x),
     }

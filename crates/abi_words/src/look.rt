@@ -2,9 +2,9 @@
 ghost use Rattle.std.specs.Prelude.{◌≡◌, [], ◌∷◌, ◌++◌};
 ghost use Rattle.abi_words.specs.Words.{low_half, high_half, uses_words, look_words, answered, status};
 
-use crate::compare::answer_names;
+use crate::compare::{answer_apart, answer_names};
 use crate::half::{high_half, low_half};
-use crate::kind::{APART, SAME, SO_FAR};
+use crate::kind::{SAME, SO_FAR};
 use crate::write::refuse;
 use serve_compare::{Looking, Outcome};
 use sheet_judge::mark::Uses;
@@ -37,10 +37,7 @@ pub fn answer_look(out: &mut [u32], r: Result<Looking, Cause>) -> u32
             },
         ) => match outcome {
             Outcome::Same => answer_depth(out, SAME, 0, looked, old, new),
-            Outcome::Apart { sheet } => {
-                let which = sheet as u32;
-                answer_depth(out, APART, which, looked, old, new)
-            }
+            Outcome::Apart { sheet } => answer_apart(out, sheet as u32, looked, old, new),
             Outcome::SoFar => answer_depth(out, SO_FAR, 0, looked, old, new),
         },
         Err(x) => refuse(out, x),

@@ -1,5 +1,6 @@
 // An answer written, where there is room for it; a refusal, which every service may give.
-ghost use Rattle.std.specs.Prelude.{◌≡◌};
+ghost use Rattle.std.specs.Prelude.{◌≡◌, [], ◌∷◌, ◌++◌};
+ghost use Rattle.abi_words.specs.Words.{kind_refused, low_half, high_half, no_uses};
 ghost use Rattle.abi_words.specs.Words.{refusal_words, answered, status};
 
 use crate::half::{high_half, low_half};
@@ -26,14 +27,21 @@ pub(crate) fn answer(out: &mut [u32], words: [u32; ANSWER_WORDS]) -> u32
     WRITTEN
 }
 
+// Writes a refusal by its numbers, be they those of a reason and of sheets or not.
+pub fn answer_refusal(out: &mut [u32], number: u32, sheet: u32, place: usize) -> u32
+    ensures returned { result ≡ status out.old }
+    ensures written { out.new
+        ≡ answered ((kind_refused ∷ number ∷ sheet ∷ low_half place ∷ high_half place ∷ []) ++ no_uses ++ no_uses) out.old }
+{
+    let low = low_half(place);
+    let high = high_half(place);
+    answer(out, [REFUSED, number, sheet, low, high, 0, 0, 0, 0, 0, 0])
+}
+
 // Writes a refusal.
 pub(crate) fn refuse(out: &mut [u32], x: Cause) -> u32
     ensures returned { result ≡ status out.old }
     ensures written { out.new ≡ answered (refusal_words x) out.old }
 {
-    let number = x.reason as u32;
-    let sheet = x.sheet as u32;
-    let low = low_half(x.place);
-    let high = high_half(x.place);
-    answer(out, [REFUSED, number, sheet, low, high, 0, 0, 0, 0, 0, 0])
+    answer_refusal(out, x.reason as u32, x.sheet as u32, x.place)
 }

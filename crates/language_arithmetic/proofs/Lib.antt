@@ -1,1 +1,2 @@
 pub mod OperatorSteps
+pub mod RemainderSteps

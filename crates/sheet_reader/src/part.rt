@@ -25,11 +25,11 @@ use weight_records::record::weigh_record;
 // The number of the second part of a record.
 const SECOND: u8 = 1;
 
-// What was read: its type and the place after it. The type is as wide as the place because an answer is copied with all
-// bytes between its fields: with a type of 8 bits a check of a long sheet takes a third more time.
+// What was read: its type and the place after it. The type has 32 bits because an answer is copied with all bytes
+// between its fields, and these are then copied fastest.
 #[derive(Drop)]
 pub(crate) struct Part {
-    pub ty: usize,
+    pub ty: u32,
     pub next: usize,
 }
 
@@ -55,7 +55,7 @@ fn close_record(
     let next = last.next;
     if let Some(closed) = close_sum(t, n, r, ty, next) {
         return Ok(Part {
-            ty: closed as usize,
+            ty: closed as u32,
             next,
         });
     }
@@ -66,7 +66,7 @@ fn close_record(
     let k = used_number(r);
     weigh_record(t, r.place, k);
     Ok(Part {
-        ty: own as usize,
+        ty: own as u32,
         next,
     })
 }
@@ -95,7 +95,7 @@ fn read_part(
     };
     close_leaf(t, n, record, row.kind, row.ty, row.detail);
     Ok(Part {
-        ty: row.ty as usize,
+        ty: row.ty as u32,
         next: record.next,
     })
 }
@@ -316,7 +316,7 @@ fn read_parts(
 {
     if count == 0 {
         return Ok(Part {
-            ty: prev as usize,
+            ty: prev as u32,
             next: at,
         });
     }

@@ -64,7 +64,11 @@ fn expand(
 {
     let kind = word_at(t, at, KIND);
     if !stays(kind) {
-        return expand_own(t, marks, slots, rows, level, left, n, at);
+        let own = expand_own(t, marks, slots, rows, level, left, n, at);
+        return Made {
+            row: own.row,
+            count: own.count,
+        };
     }
     if left == 0 {
         return Made {

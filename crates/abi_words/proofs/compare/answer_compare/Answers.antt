@@ -1,5 +1,6 @@
 -- The words that `answer_compare` writes are `compare_words`, where there is room for them.
 use borrow.Author.Rules.{rules}
+use mathlib.Core.Path.{refl}
 use Rattle.abi_words.proofs.Numbers.{sheets-number}
 use Rattle.abi_words.proofs.Wording.{returned-as, words_same, words-apart, words-not-compared}
 use Rattle.abi_words.proofs.compare.answer_compare.Goals as goal
@@ -12,7 +13,8 @@ returns-in-None c =
 
 pub returns-in-Some : goal.returns-in-Some
 returns-in-Some c =
-    let p = returned-as _ _ _ _ _ (words-apart _ _ _ _ _ _ _ _ c.in-Ok.is c.in-Some.is (sheets-number _) c.low_half-low.ensures c.high_half-high.ensures) c.answer_names-in-Some.ensures.returned c.answer_names-in-Some.ensures.written in
+    let p = returned-as _ _ _ _ _ (words-apart _ _ _ _ _ _ _ _ c.in-Ok.is c.in-Some.is (sheets-number _) refl refl)
+    c.answer_apart.ensures.returned c.answer_apart.ensures.written in
     record { returned = p.0; written = p.1 }
 
 pub returns-in-Err : goal.returns-in-Err

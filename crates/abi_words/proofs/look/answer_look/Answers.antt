@@ -14,7 +14,7 @@ returns-in-Same c =
 pub returns-in-Apart : goal.returns-in-Apart
 returns-in-Apart c =
     let p = returned-as _ _ _ _ _ (words-looked-apart _ _ _ _ _ _ _ c.in-Ok.is c.in-Apart.is (sheets-number _))
-    c.answer_depth-in-Apart.ensures.returned c.answer_depth-in-Apart.ensures.written in
+    c.answer_apart.ensures.returned c.answer_apart.ensures.written in
     record { returned = p.0; written = p.1 }
 
 pub returns-in-SoFar : goal.returns-in-SoFar
