@@ -5,7 +5,7 @@ ghost use Rattle.abi_words.specs.Words.{compare_words, answered, status};
 
 use crate::half::{high_half, low_half};
 use crate::kind::{APART, SAME};
-use crate::write::{answer, refuse};
+use crate::write::{Worded, answer, refuse};
 use serve_compare::Comparison;
 use sheet_judge::mark::Uses;
 use sheet_records::refusal::Cause;
@@ -32,8 +32,26 @@ pub(crate) fn answer_names(
     )
 }
 
+// That two sheets are apart, by the number of a sheet, be it that of one or not.
+#[derive(Drop)]
+pub struct Apart {
+    pub sheet: u32,
+    pub moves: usize,
+    pub old: Uses,
+    pub new: Uses,
+}
+
+impl Worded for Apart {
+    ghost words = { λ x.
+        (kind_apart ∷ x.sheet ∷ low_half x.moves ∷ high_half x.moves ∷ 0 ∷ []) ++ uses_words x.old ++ uses_words x.new };
+
+    fn tell(self, out: &mut [u32]) -> u32 {
+        answer_apart(out, self.sheet, self.moves, self.old, self.new)
+    }
+}
+
 // Writes the answer that two sheets are apart, by the number of a sheet, be it that of one or not.
-pub fn answer_apart(out: &mut [u32], sheet: u32, moves: usize, old: Uses, new: Uses) -> u32
+pub(crate) fn answer_apart(out: &mut [u32], sheet: u32, moves: usize, old: Uses, new: Uses) -> u32
     ensures returned { result ≡ status out.old }
     ensures written { out.new
         ≡ answered
@@ -44,16 +62,25 @@ pub fn answer_apart(out: &mut [u32], sheet: u32, moves: usize, old: Uses, new: U
     answer_names(out, APART, sheet, low, high, old, new)
 }
 
-// Writes the answer of compare.
-pub fn answer_compare(out: &mut [u32], r: Result<Comparison, Cause>) -> u32
-    ensures returned { result ≡ status out.old }
-    ensures written { out.new ≡ answered (compare_words r) out.old }
-{
-    match r {
-        Ok(Comparison { found, old, new }) => match found {
-            None => answer_names(out, SAME, 0, 0, 0, old, new),
-            Some(first) => answer_apart(out, first.sheet as u32, first.moves, old, new),
-        },
-        Err(x) => refuse(out, x),
+impl Worded for Result<Comparison, Cause> {
+    ghost words = { compare_words };
+
+    fn tell(self, out: &mut [u32]) -> u32 {
+        match self {
+            Ok(Comparison { found, old, new }) => match found {
+                None => answer_names(out, SAME, 0, 0, 0, old, new),
+                Some(first) => answer_apart(out, first.sheet as u32, first.moves, old, new),
+            },
+            Err(x) => refuse(out, x),
+        }
     }
+}
+
+// Writes the answer of compare, or by numbers a refusal or that sheets are apart. Of one line, so that each service has a
+// name.
+pub fn answer_compare<R: Worded>(out: &mut [u32], r: R) -> u32
+    ensures returned { result ≡ status out.old }
+    ensures written { out.new ≡ answered (R.words r) out.old }
+{
+    r.tell(out)
 }

@@ -1,5 +1,5 @@
 // An answer written, where there is room for it; a refusal, which every service may give.
-ghost use Rattle.std.specs.Prelude.{◌≡◌, [], ◌∷◌, ◌++◌};
+ghost use Rattle.std.specs.Prelude.{◌≡◌, ℕ, List, [], ◌∷◌, ◌++◌};
 ghost use Rattle.abi_words.specs.Words.{kind_refused, low_half, high_half, no_uses};
 ghost use Rattle.abi_words.specs.Words.{refusal_words, answered, status};
 
@@ -15,6 +15,34 @@ pub const NO_ROOM: u32 = 0;
 
 const WRITTEN: u32 = 1;
 
+// An answer as words: that of a service; or, by numbers, a refusal or that sheets are apart.
+pub trait Worded {
+    // Its words.
+    ghost words: { Self → List ℕ };
+
+    // Writes them, if there is room for them.
+    fn tell(self, out: &mut [u32]) -> u32
+        ensures returned { result ≡ status out.old }
+        ensures written { out.new ≡ answered (words self) out.old };
+}
+
+// A refusal by its numbers, be they those of a reason and of sheets or not.
+#[derive(Drop)]
+pub struct Refused {
+    pub number: u32,
+    pub sheet: u32,
+    pub place: usize,
+}
+
+impl Worded for Refused {
+    ghost words = { λ x.
+        (kind_refused ∷ x.number ∷ x.sheet ∷ low_half x.place ∷ high_half x.place ∷ []) ++ no_uses ++ no_uses };
+
+    fn tell(self, out: &mut [u32]) -> u32 {
+        answer_refusal(out, self.number, self.sheet, self.place)
+    }
+}
+
 // Writes an answer, if there is room for it.
 pub(crate) fn answer(out: &mut [u32], words: [u32; ANSWER_WORDS]) -> u32
     ensures returned { result ≡ status out.old }
@@ -28,7 +56,7 @@ pub(crate) fn answer(out: &mut [u32], words: [u32; ANSWER_WORDS]) -> u32
 }
 
 // Writes a refusal by its numbers, be they those of a reason and of sheets or not.
-pub fn answer_refusal(out: &mut [u32], number: u32, sheet: u32, place: usize) -> u32
+pub(crate) fn answer_refusal(out: &mut [u32], number: u32, sheet: u32, place: usize) -> u32
     ensures returned { result ≡ status out.old }
     ensures written { out.new
         ≡ answered ((kind_refused ∷ number ∷ sheet ∷ low_half place ∷ high_half place ∷ []) ++ no_uses ++ no_uses) out.old }

@@ -1,9 +1,9 @@
--- The words that `answer_compare` writes are `compare_words`, where there is room for them.
+-- The words that an answer of compare is told by are `compare_words`, where there is room for them.
 use borrow.Author.Rules.{rules}
 use mathlib.Core.Path.{refl}
 use Rattle.abi_words.proofs.Numbers.{sheets-number}
 use Rattle.abi_words.proofs.Wording.{returned-as, words_same, words-apart, words-not-compared}
-use Rattle.abi_words.proofs.compare.answer_compare.Goals as goal
+use Rattle.abi_words.proofs.compare.ResultComparisonCauseWorded.tell.Goals as goal
 
 pub returns-in-None : goal.returns-in-None
 returns-in-None c =

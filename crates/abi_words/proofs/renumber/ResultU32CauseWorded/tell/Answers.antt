@@ -1,7 +1,7 @@
--- The words that `answer_renumber` writes are `renumber_words`, where there is room for them.
+-- The words that an answer of renumber is told by are `renumber_words`, where there is room for them.
 use borrow.Author.Rules.{rules}
 use Rattle.abi_words.proofs.Wording.{returned-as, words-renumbered, words-not-renumbered}
-use Rattle.abi_words.proofs.renumber.answer_renumber.Goals as goal
+use Rattle.abi_words.proofs.renumber.ResultU32CauseWorded.tell.Goals as goal
 
 pub returns-in-Ok : goal.returns-in-Ok
 returns-in-Ok c =

@@ -1,9 +1,9 @@
--- The words that `answer_look` writes are `look_words`, where there is room for them.
+-- The words that an answer of look is told by are `look_words`, where there is room for them.
 use borrow.Author.Rules.{rules}
 use Rattle.abi_words.proofs.Numbers.{sheets-number}
 use Rattle.abi_words.proofs.Wording.{returned-as, words-looked-same, words-looked-apart, words-looked-so-far}
 use Rattle.abi_words.proofs.Wording.{words-not-looked}
-use Rattle.abi_words.proofs.look.answer_look.Goals as goal
+use Rattle.abi_words.proofs.look.ResultLookingCauseWorded.tell.Goals as goal
 
 pub returns-in-Same : goal.returns-in-Same
 returns-in-Same c =

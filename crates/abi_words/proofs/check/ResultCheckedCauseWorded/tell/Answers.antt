@@ -1,7 +1,7 @@
--- The words that `answer_check` writes are `check_words`, where there is room for them.
+-- The words that an answer of check is told by are `check_words`, where there is room for them.
 use borrow.Author.Rules.{rules}
 use Rattle.abi_words.proofs.Wording.{returned-as, words-accepted, words-not-accepted}
-use Rattle.abi_words.proofs.check.answer_check.Goals as goal
+use Rattle.abi_words.proofs.check.ResultCheckedCauseWorded.tell.Goals as goal
 
 pub returns-in-Ok : goal.returns-in-Ok
 returns-in-Ok c =

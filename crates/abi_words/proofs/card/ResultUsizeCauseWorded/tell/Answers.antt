@@ -1,7 +1,7 @@
--- The words that `answer_card` writes are `card_words`, where there is room for them.
+-- The words that an answer of card is told by are `card_words`, where there is room for them.
 use borrow.Author.Rules.{rules}
 use Rattle.abi_words.proofs.Wording.{returned-as, words-card, words-no-card}
-use Rattle.abi_words.proofs.card.answer_card.Goals as goal
+use Rattle.abi_words.proofs.card.ResultUsizeCauseWorded.tell.Goals as goal
 
 pub returns-in-Ok : goal.returns-in-Ok
 returns-in-Ok c =

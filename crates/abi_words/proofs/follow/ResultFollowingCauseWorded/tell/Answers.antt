@@ -1,7 +1,7 @@
--- The words that `answer_follow` writes are `follow_words`, where there is room for them.
+-- The words that an answer of follow is told by are `follow_words`, where there is room for them.
 use borrow.Author.Rules.{rules}
 use Rattle.abi_words.proofs.Wording.{returned-as, words-complete, words-begun, words-not-followed}
-use Rattle.abi_words.proofs.follow.answer_follow.Goals as goal
+use Rattle.abi_words.proofs.follow.ResultFollowingCauseWorded.tell.Goals as goal
 
 pub returns-then-complete : goal.returns-then-complete
 returns-then-complete c =
